@@ -1,0 +1,56 @@
+//! Names of executions.
+
+ghost use Rattle.std.specs.Prelude.{◌≡◌, ◌≤◌, ◌<◌, ◌↔◌, IsTrue, IfOk, length, take, IsErrOf, ◌⊎◌};
+ghost use Rattle.hla_base.specs.declared.fault.Fault.TheVariants.{LimitReached};
+
+use crate::fault::Fault;
+use std::marker::Model;
+
+/// The name of a federation execution: 1 to 64 bytes, kept inline.
+#[derive(Clone, Copy, Debug)]
+pub struct ExecutionName {
+    bytes: [u8; 64],
+    len: usize,
+}
+
+impl Model for ExecutionName {
+    ghost use Rattle.std.specs.Prelude.{◌≡◌, List, ℕ, length, take};
+    ghost use Rattle.std.proofs.Common.{ap};
+
+    ghost Value = { List ℕ };
+
+    ghost use Rattle.hla_base.specs.Name.{IsName, padded};
+
+    ghost view = { λ n. take n.len n.bytes };
+
+    ghost invariant = { λ n. IsName n.bytes n.len };
+
+    ghost inverse = { λ bs. record { bytes = padded bs; len = length bs } };
+
+    ghost inverse_ok = { λ n h.
+        let e : (padded (take n.len n.bytes), length (take n.len n.bytes)) ≡ (n.bytes, n.len) = Prim.cc in
+        ap (λ (p : List ℕ × ℕ). record { bytes = p.0; len = p.1 }) e };
+}
+
+impl ExecutionName {
+    /// The name of these bytes; `LimitReached` where there are none, or more than 64.
+    pub fn new(name: &[u8]) -> Result<ExecutionName, Fault>
+        ensures ok { IfOk result (λ n. n ≡ name.now) }
+        ensures long { IsErrOf result Fault.LimitReached ↔ ((length name.now < 1) ⊎ (64 < length name.now)) }
+    {
+        let len = name.len();
+        if len == 0 || len > 64 {
+            return Err(Fault::LimitReached);
+        }
+        let mut bytes = [0u8; 64];
+        bytes[..len].copy_from_slice(name);
+        Ok(ExecutionName { bytes, len })
+    }
+
+    /// The bytes.
+    pub fn as_slice(&self) -> &[u8]
+        ensures { result.now ≡ self.now }
+    {
+        &self.bytes[..self.len]
+    }
+}
