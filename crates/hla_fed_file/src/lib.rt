@@ -1,0 +1,8 @@
+//! FED files of HLA 1.3: the catalogue of a federation's object classes, interaction classes, attributes and parameters.
+#![tactic(auto)]
+
+mod catalogue;
+mod declared;
+
+pub use catalogue::Catalogue;
+pub use declared::{Attribute, InteractionClass, ObjectClass, Order, Parameter, Transport};
