@@ -4,21 +4,14 @@ ghost use Rattle.std.specs.Prelude.{◌≡◌};
 
 use crate::fault::Fault;
 use crate::list::List;
-use crate::number::{AttributeNo, ClassNo, FederateNo, ObjectNo, ParameterNo, Serial, Ticks};
+use crate::number::{ClassNo, FederateNo, ObjectNo, Serial, Ticks};
 use crate::plain::Plain;
 use crate::value::Value;
 
-/// An attribute with its value.
+/// An attribute or a parameter, by its number, with its value.
 #[derive(Debug, Drop)]
-pub struct AttributeValue {
-    pub attribute: AttributeNo,
-    pub value: Value,
-}
-
-/// A parameter with its value.
-#[derive(Debug, Drop)]
-pub struct ParameterValue {
-    pub parameter: ParameterNo,
+pub struct HandleValuePair {
+    pub handle: u32,
     pub value: Value,
 }
 
@@ -28,12 +21,12 @@ pub enum Content {
     /// An interaction, at the class at which the receiver gets it.
     Interaction {
         class: ClassNo,
-        values: List<ParameterValue>,
+        values: List<HandleValuePair>,
     },
     /// An update of attributes of an object.
     Reflection {
         object: ObjectNo,
-        values: List<AttributeValue>,
+        values: List<HandleValuePair>,
     },
     /// The deletion of an object.
     Removal {
@@ -61,27 +54,14 @@ pub struct Discovery {
     pub name: List<u8>,
 }
 
-impl Plain for AttributeValue {
-    fn is_same(&self, other: &AttributeValue) -> bool {
-        self.attribute == other.attribute && self.value.is_same(&other.value)
+impl Plain for HandleValuePair {
+    fn is_same(&self, other: &HandleValuePair) -> bool {
+        self.handle == other.handle && self.value.is_same(&other.value)
     }
 
-    fn copy(&self) -> Result<AttributeValue, Fault> {
-        Ok(AttributeValue {
-            attribute: self.attribute,
-            value: self.value.copy()?,
-        })
-    }
-}
-
-impl Plain for ParameterValue {
-    fn is_same(&self, other: &ParameterValue) -> bool {
-        self.parameter == other.parameter && self.value.is_same(&other.value)
-    }
-
-    fn copy(&self) -> Result<ParameterValue, Fault> {
-        Ok(ParameterValue {
-            parameter: self.parameter,
+    fn copy(&self) -> Result<HandleValuePair, Fault> {
+        Ok(HandleValuePair {
+            handle: self.handle,
             value: self.value.copy()?,
         })
     }

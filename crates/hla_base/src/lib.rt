@@ -10,7 +10,7 @@ mod plain;
 mod row;
 mod value;
 
-pub use content::{AttributeValue, Content, Discovery, Event, ParameterValue};
+pub use content::{Content, Discovery, Event, HandleValuePair};
 pub use fault::Fault;
 pub use list::List;
 pub use name::ExecutionName;

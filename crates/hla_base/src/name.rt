@@ -4,6 +4,7 @@ ghost use Rattle.std.specs.Prelude.{◌≡◌, ◌≤◌, ◌<◌, ◌↔◌, Is
 ghost use Rattle.hla_base.specs.declared.fault.Fault.TheVariants.{LimitReached};
 
 use crate::fault::Fault;
+use crate::plain::Plain;
 use std::marker::Model;
 
 /// The name of a federation execution: 1 to 64 bytes, kept inline.
@@ -52,5 +53,15 @@ impl ExecutionName {
         ensures { result.now ≡ self.now }
     {
         &self.bytes[..self.len]
+    }
+}
+
+impl Plain for ExecutionName {
+    fn is_same(&self, other: &ExecutionName) -> bool {
+        self.as_slice() == other.as_slice()
+    }
+
+    fn copy(&self) -> Result<ExecutionName, Fault> {
+        Ok(*self)
     }
 }

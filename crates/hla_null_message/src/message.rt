@@ -1,0 +1,17 @@
+//! Messages between components.
+
+use hla_base::{Discovery, Event, Serial, Ticks};
+
+/// A message from one component to another.
+#[derive(Debug, Drop)]
+pub enum Message {
+    /// An interaction, an update or a deletion.
+    Event(Event),
+    /// A null message (Chandy and Misra 1979, Bryant 1977): the sender will send nothing more below this bound, as long
+    /// as it regulates in this epoch.
+    Null { epoch: u64, bound: Ticks },
+    /// The sender takes back its message with this serial.
+    Retraction(Serial),
+    /// An object that the receiver is to discover.
+    Discovery(Discovery),
+}
