@@ -1,2 +1,5 @@
 pub mod Tables
 pub mod Lookup
+pub mod Names
+pub mod Indexes
+pub mod Fault

@@ -3,6 +3,10 @@
 
 mod catalogue;
 mod declared;
+mod fault;
+mod lookup;
+mod names;
 
 pub use catalogue::Catalogue;
 pub use declared::{Attribute, InteractionClass, ObjectClass, Order, Parameter, Transport};
+pub use fault::{FedFault, FedFaultKind};
