@@ -3,3 +3,7 @@ pub mod Lookup
 pub mod Names
 pub mod Indexes
 pub mod Fault
+pub mod Lexical
+pub mod Tokens
+pub mod Keywords
+pub mod Declaring

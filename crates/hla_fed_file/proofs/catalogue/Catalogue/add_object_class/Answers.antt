@@ -2,7 +2,7 @@ use Rattle.std.proofs.Common.{◌∷◌, [], length, ◌<◌, ap, arith}
 use Rattle.std.proofs.lemmas.List.{length-append}
 use Rattle.hla_fed_file.specs.declared.declared.ObjectClass.{ObjectClass}
 use Rattle.hla_fed_file.specs.Tables.{Tables}
-use Rattle.hla_fed_file.proofs.Naming.{paths_added}
+use Rattle.hla_fed_file.proofs.NameLemmas.{paths_added}
 use Rattle.hla_fed_file.proofs.catalogue.Catalogue.add_object_class.Goals as goal
 
 pub invariant_of-self-in-Ok-note : goal.invariant_of-self-in-Ok-note

@@ -1,6 +1,6 @@
 use Rattle.std.proofs.Common.{[], ◌∷◌, ◌++◌, ap, ◌∙◌}
 use Rattle.hla_fed_file.specs.Names.{number_in, numbered}
-use Rattle.hla_fed_file.proofs.Naming.{number_added}
+use Rattle.hla_fed_file.proofs.NameLemmas.{number_added}
 use Rattle.hla_fed_file.proofs.names.FirstNumbers.add.Goals as goal
 
 pub returns-clause-ok : goal.returns-clause-ok

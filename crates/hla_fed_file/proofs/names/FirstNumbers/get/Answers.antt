@@ -1,6 +1,6 @@
 use Rattle.std.proofs.Common.{ap, ◌∙◌}
 use Rattle.hla_fed_file.specs.Names.{number_in}
-use Rattle.hla_fed_file.proofs.Naming.{number_found}
+use Rattle.hla_fed_file.proofs.NameLemmas.{number_found}
 use Rattle.hla_fed_file.proofs.names.FirstNumbers.get.Goals as goal
 
 pub returns : goal.returns
