@@ -3,6 +3,13 @@
 
 mod catalogue;
 mod declared;
+mod fault;
+mod lexer;
+mod lookup;
+mod names;
+mod place;
+mod reader;
 
 pub use catalogue::Catalogue;
 pub use declared::{Attribute, InteractionClass, ObjectClass, Order, Parameter, Transport};
+pub use fault::{FedFault, FedFaultKind};
