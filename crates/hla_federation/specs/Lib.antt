@@ -3,3 +3,5 @@ pub mod Federation
 pub mod Next
 pub mod CentralOf
 pub mod Headline
+pub mod Flags
+pub mod Members
