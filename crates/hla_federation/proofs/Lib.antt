@@ -1,1 +1,2 @@
 mod TakeBack
+mod PairLemmas

@@ -50,9 +50,9 @@ module _ (c : Tables) (from serial class : ℕ) (values : List HandleValuePair) 
       → length new ≡ length old → new ≡ old
   taken_back_all wires put back len = ext_get_or no_member new old len (λ k b. at_place k (let in_old : k < length old = omega (arith, len) in wires k in_old) (cases_Bool (ltb k end && is_peer from k)))
     where
-    at_place : (k : ℕ) → from - 1 < length (member_at old k).incoming → (ltb k end && is_peer from k ≡ true) ⊎ (ltb k end && is_peer from k ≡ false) → member_at new k ≡ member_at old k
-    at_place k w test = ⊎_elim
-        (λ (y : ltb k end && is_peer from k ≡ true).
-        back k ∙ rw y refl ∙ ap (taken_back c from class) (put k ∙ rw y refl) ∙ taken_back-offered c from serial class values (member_at old k) w)
-        (λ (n : ltb k end && is_peer from k ≡ false). back k ∙ rw n refl ∙ put k ∙ rw n refl)
-        test
+      at_place : (k : ℕ) → from - 1 < length (member_at old k).incoming → (ltb k end && is_peer from k ≡ true) ⊎ (ltb k end && is_peer from k ≡ false) → member_at new k ≡ member_at old k
+      at_place k w test = ⊎_elim
+          (λ (y : ltb k end && is_peer from k ≡ true).
+          back k ∙ rw y refl ∙ ap (taken_back c from class) (put k ∙ rw y refl) ∙ taken_back-offered c from serial class values (member_at old k) w)
+          (λ (n : ltb k end && is_peer from k ≡ false). back k ∙ rw n refl ∙ put k ∙ rw n refl)
+          test

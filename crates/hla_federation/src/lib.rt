@@ -4,6 +4,7 @@
 mod class_set;
 mod headline;
 mod member;
+mod pairs;
 mod sending;
 mod wires;
 
