@@ -4,4 +4,5 @@ pub mod Next
 pub mod CentralOf
 pub mod Headline
 pub mod Flags
+pub mod MemberValue
 pub mod Members

@@ -1,6 +1,6 @@
 //! The wires to one federate.
 
-ghost use Rattle.std.specs.Prelude.{◌≡◌, ◌<◌, ◌≤◌, ◌-◌, ◌++◌, ◌∷◌, [], List, length, replicate, IfOk, IfErr, OnOk, OnErr, slice_set, slice_index_or, option_to_list, IsTrue, ◌↔◌, take};
+ghost use Rattle.std.specs.Prelude.{◌≡◌, ◌<◌, ◌≤◌, ◌-◌, ◌++◌, ◌∷◌, [], List, length, replicate, IfOk, IfErr, OnOk, OnErr, slice_set, slice_index_or, drop, slice_get, IsTrue, ◌↔◌, take};
 ghost use Rattle.hla_null_message.specs.declared.message.Message.{Message};
 ghost use Rattle.hla_base.specs.declared.fault.Fault.TheVariants.{OutOfMemory};
 
@@ -58,7 +58,8 @@ impl Wires {
     pub fn take_first(&mut self, from: FederateNo) -> Option<Message>
         requires some { 0 < from }
         requires within { from ≤ length self.old }
-        ensures { (rest : List Message) → slice_index_or self.old (from - 1) [] ≡ option_to_list result ++ rest → self.new ≡ slice_set self.old (from - 1) rest }
+        ensures first { result ≡ slice_get (slice_index_or self.old (from - 1) []) 0 }
+        ensures rest { self.new ≡ slice_set self.old (from - 1) (drop 1 (slice_index_or self.old (from - 1) [])) }
     {
         self.wires[from as usize - 1].take_first()
     }

@@ -1,6 +1,6 @@
 //! The receive-order queue.
 
-ghost use Rattle.std.specs.Prelude.{◌≡◌, ◌++◌, ◌∷◌, ◌<◌, ◌≤◌, [], List, OnOk, OnErr, IfErr, option_to_list, length};
+ghost use Rattle.std.specs.Prelude.{◌≡◌, ◌++◌, ◌∷◌, ◌<◌, ◌≤◌, [], List, OnOk, OnErr, IfErr, slice_get, drop};
 ghost use Rattle.hla_base.specs.declared.content.Event.{Event};
 ghost use Rattle.hla_base.specs.declared.fault.Fault.TheVariants.{OutOfMemory};
 
@@ -60,7 +60,8 @@ impl RoQueue {
 
     /// Takes the oldest event, if there is one.
     pub fn take_first(&mut self) -> Option<Event>
-        ensures { self.old.events ≡ option_to_list result ++ self.new.events }
+        ensures first { result ≡ slice_get self.old.events 0 }
+        ensures rest { self.new.events ≡ drop 1 self.old.events }
     {
         self.events.pop_front()
     }
