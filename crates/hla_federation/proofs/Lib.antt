@@ -1,2 +1,4 @@
 mod TakeBack
 mod PairLemmas
+mod States
+mod Declaring

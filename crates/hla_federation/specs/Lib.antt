@@ -6,3 +6,5 @@ pub mod Headline
 pub mod Flags
 pub mod MemberValue
 pub mod Members
+pub mod FederationValue
+pub mod State

@@ -6,6 +6,7 @@ mod headline;
 mod member;
 mod pairs;
 mod sending;
+mod services;
 mod wires;
 
 pub use class_set::ClassSet;
