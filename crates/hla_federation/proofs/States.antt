@@ -21,11 +21,29 @@ use Rattle.hla_federation.specs.State.{item, is_number, state_from, state_of_mem
 abbrev pub state_with : Tables → ℕ → (ℕ → Bool) → (ℕ → List ℕ) → (ℕ → ℕ → Bool) → (ℕ → ℕ → Bool) → (ℕ → ℕ) → (ℕ → List Event) → (ℕ → ℕ → List Message) → Federation
 state_with c n joined name published subscribed serial ro wire = record {
   directory = record {
-    catalogue = c; next_federate = n; joined = joined; name = name; published = λ _ _. None; subscribed = λ _ _. None;
-    published_interaction = published; subscribed_interaction = subscribed; next_object = 1; object = λ _. no_object; known = λ _ _. false;
+    catalogue = c;
+    next_federate = n;
+    joined = joined;
+    name = name;
+    published = λ _ _. None;
+    subscribed = λ _ _. None;
+    published_interaction = published;
+    subscribed_interaction = subscribed;
+    next_object = 1;
+    object = λ _. no_object;
+    known = λ _ _. false;
   };
-  row = λ _. new_row; serial = serial; ro = ro; tso = λ _. []; controls = λ _. []; wire = wire;
-  bound = λ _ _. forever; known_epoch = λ _ _. 0; last = λ _. forever; epoch = λ _. 0; sent = λ _ _. no_event;
+  row = λ _. new_row;
+  serial = serial;
+  ro = ro;
+  tso = λ _. [];
+  controls = λ _. [];
+  wire = wire;
+  bound = λ _ _. forever;
+  known_epoch = λ _ _. 0;
+  last = λ _. forever;
+  epoch = λ _. 0;
+  sent = λ _ _. no_event;
 }
 
 -- two of them with the same tables are one

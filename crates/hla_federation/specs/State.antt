@@ -75,6 +75,10 @@ pub record IsWhole (classes : ℕ) (members : List MemberValue) : Type 0 where
   pub few : length members ≤ 16
   pub each : (k : ℕ) → k < length members → IsMember classes (member_at members k)
 
+-- nothing is under way from a federate that has not joined
+abbrev pub IsQuiet : List MemberValue → Type 0
+IsQuiet members = (f : ℕ) → item [] (item no_member members f).incoming (length members + 1) ≡ []
+
 -- ---- what a step ends in: it does what the next-state function says, is refused as it says, or is refused for memory
 abbrev pub Does : Tables → List MemberValue → Step → Result Answer Fault → List MemberValue → Type 0
 Does c old step (Ok a) new = next (state_of_members c old) step ≡ answers a (state_of_members c new)

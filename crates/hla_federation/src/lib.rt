@@ -5,6 +5,7 @@ mod class_set;
 mod headline;
 mod member;
 mod pairs;
+mod refusals;
 mod sending;
 mod services;
 mod wires;

@@ -40,6 +40,7 @@ impl Model for Member {
 }
 
 /// An interaction on its way to its receivers, with its values by rising handle.
+#[derive(Clone, Copy)]
 pub struct Interaction<'a> {
     pub from: FederateNo,
     pub serial: Serial,
