@@ -1,2 +1,3 @@
 pub mod NameLemmas
 pub mod Lexing
+pub mod ReadingLemmas

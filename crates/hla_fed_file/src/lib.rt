@@ -9,7 +9,9 @@ mod lookup;
 mod names;
 mod place;
 mod reader;
+mod reading;
 
 pub use catalogue::Catalogue;
 pub use declared::{Attribute, InteractionClass, ObjectClass, Order, Parameter, Transport};
 pub use fault::{FedFault, FedFaultKind};
+pub use reading::read;
