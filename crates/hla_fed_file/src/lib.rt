@@ -15,3 +15,6 @@ pub use catalogue::Catalogue;
 pub use declared::{Attribute, InteractionClass, ObjectClass, Order, Parameter, Transport};
 pub use fault::{FedFault, FedFaultKind};
 pub use reading::read;
+
+#[cfg(test)]
+mod tests;
