@@ -1,3 +1,4 @@
 pub mod NameLemmas
 pub mod Lexing
 pub mod ReadingLemmas
+pub mod Described
