@@ -444,7 +444,7 @@ attribute_named : (n : List ℕ) (d : ℕ) (l : List ℕ) (c : Tables) (next : R
     → AttributeFits l n c × (next ≡ half (at.AttributeOptions stage.Named) d l (kept_of l n c) c)
 attribute_named n d l c next ok =
     let k = kept_room (has_attribute_named c l n) (nat_le 4096 (length c.attributes)) 4096 (length c.attributes) (half (at.AttributeOptions stage.Named) d l None c)
-      (half (at.AttributeOptions stage.Named) d l (Some (record { class = innermost l; name = n; transport = transport.Reliable; order = order.Receive })) c) next refl ok in
+    (half (at.AttributeOptions stage.Named) d l (Some (record { class = innermost l; name = n; transport = transport.Reliable; order = order.Receive })) c) next refl ok in
     (k.0, k.1 ∙ chosen (has_attribute_named c l n) (Some (record { class = innermost l; name = n; transport = transport.Reliable; order = order.Receive })))
   where
     chosen : (b : Bool) (some : Option Attribute) → cond b (half (at.AttributeOptions stage.Named) d l None c) (half (at.AttributeOptions stage.Named) d l some c) ≡ half (at.AttributeOptions stage.Named) d l (cond b None some) c

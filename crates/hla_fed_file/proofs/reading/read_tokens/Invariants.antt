@@ -1,7 +1,7 @@
 use Rattle.std.proofs.Common.{◌≡◌, ◌+◌, ◌≤◌, length}
 use Rattle.hla_fed_file.specs.Lexical.{tokens, tokens_from, Between}
 use Rattle.hla_fed_file.specs.Reading.{reading, start}
-use Rattle.hla_fed_file.proofs.reading.read.Given as goal
+use Rattle.hla_fed_file.proofs.reading.read_tokens.Given as goal
 
 abbrev pub invariant-loop-rest : goal.invariant-loop-rest
 invariant-loop-rest l = record {
