@@ -3,3 +3,4 @@ pub mod Lexing
 pub mod ReadingLemmas
 pub mod Described
 pub mod Sound
+pub mod GroupLemmas
