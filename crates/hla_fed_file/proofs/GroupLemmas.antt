@@ -109,8 +109,8 @@ declared_as-append class_of name_of n (y ∷ xs) x name =
     let e : n + length (y ∷ xs) ≡ n + 1 + length xs = omega arith in
     let later = declared_as-append class_of name_of (n + 1) xs x name in
     elim (bytes_eq (name_of y) name) as (λ b. cond b (record { class = class_of y; number = n } ∷ declared_as class_of name_of (n + 1) (xs ++ x ∷ []) name) (declared_as class_of name_of (n + 1) (xs ++ x ∷ []) name)
-        ≡ cond (bytes_eq (name_of x) name) (cond b (record { class = class_of y; number = n } ∷ declared_as class_of name_of (n + 1) xs name) (declared_as class_of name_of (n + 1) xs name) ++ record { class = class_of x; number = n + length (y ∷ xs) } ∷ [])
-          (cond b (record { class = class_of y; number = n } ∷ declared_as class_of name_of (n + 1) xs name) (declared_as class_of name_of (n + 1) xs name))) [
+    ≡ cond (bytes_eq (name_of x) name) (cond b (record { class = class_of y; number = n } ∷ declared_as class_of name_of (n + 1) xs name) (declared_as class_of name_of (n + 1) xs name) ++ record { class = class_of x; number = n + length (y ∷ xs) } ∷ [])
+    (cond b (record { class = class_of y; number = n } ∷ declared_as class_of name_of (n + 1) xs name) (declared_as class_of name_of (n + 1) xs name))) [
       | true ↦ rw (e, later) (either (bytes_eq (name_of x) name) _ _)
       | false ↦ rw (e, later) refl
     ]
@@ -151,3 +151,13 @@ on_ok (Err e) f h = h
 pub on_err : {A E : Type 0} {P Q : Type 0} (r : Result A E) → (P → Q) → OnErr r P → OnErr r Q
 on_err (Ok x) f h = h
 on_err (Err e) f h = f h
+
+-- the index of one more declaration
+pub declared_added : {X : Type 0} (class_of : X → ℕ) (name_of : X → List ℕ) (old new : Grouped) (xs : List X) (x : X) → ((name : List ℕ) → group_in old name ≡ declared_as class_of name_of 1 xs name)
+    → IsNoted old new (name_of x) (record { class = class_of x; number = length xs + 1 }) → (name : List ℕ) → group_in new name ≡ declared_as class_of name_of 1 (xs ++ x ∷ []) name
+declared_added class_of name_of old new xs x h noted name =
+    let e : length xs + 1 ≡ 1 + length xs = omega arith in
+    noted name
+    ∙ ap (λ ds. cond (bytes_eq (name_of x) name) (ds ++ record { class = class_of x; number = length xs + 1 } ∷ []) ds) (h name)
+    ∙ ap (λ n. cond (bytes_eq (name_of x) name) (declared_as class_of name_of 1 xs name ++ record { class = class_of x; number = n } ∷ []) (declared_as class_of name_of 1 xs name)) e
+    ∙ sym (declared_as-append class_of name_of 1 xs x name)

@@ -280,3 +280,8 @@ FailsAs line k read = read ≡ Err (record { line = line; kind = k })
 abbrev pub Gives : Result Tables FedFault → Outcome → Type 0
 Gives (Ok c) read = read ≡ Ok c
 Gives (Err e) read = FailsAs e.line e.kind read
+
+-- what is left behind all tokens, or the first fault
+abbrev pub Takes : Result ℕ FedFault → Outcome → Reader → Type 0
+Takes (Ok line) read new = read ≡ ends line new
+Takes (Err e) read new = FailsAs e.line e.kind read
