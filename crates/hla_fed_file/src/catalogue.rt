@@ -269,10 +269,10 @@ impl Plain for Catalogue {
 
     fn copy(&self) -> Result<Catalogue, Fault> {
         let mut copy = Catalogue::new(self.alloc);
-        copy.add_object_classes(self.object_classes.as_slice())?;
-        copy.add_interaction_classes(self.interaction_classes.as_slice())?;
-        copy.add_attributes(self.attributes.as_slice())?;
-        copy.add_parameters(self.parameters.as_slice())?;
+        copy.add_object_classes(self.object_classes())?;
+        copy.add_interaction_classes(self.interaction_classes())?;
+        copy.add_attributes(self.attributes())?;
+        copy.add_parameters(self.parameters())?;
         Ok(copy)
     }
 }
