@@ -1,4 +1,4 @@
-use Rattle.std.proofs.Common.{ℕ, ◌+◌, List, ◌∷◌, [], ◌++◌, length, ◌<◌, ap, arith}
+use Rattle.std.proofs.Common.{◌+◌, ◌∷◌, [], length, ◌<◌, ap, arith}
 use Rattle.std.proofs.lemmas.List.{length-append}
 use Rattle.hla_fed_file.specs.Groups.{IsNoted}
 use Rattle.hla_fed_file.specs.declared.declared.Parameter.{Parameter}

@@ -1,7 +1,7 @@
 use Rattle.std.proofs.Common.{List, ap, ◌∙◌}
 use Rattle.std.specs.List.{find}
 use Rattle.std.specs.Option.{option_map}
-use Rattle.hla_fed_file.specs.Lookup.{contains_number, number_at}
+use Rattle.hla_fed_file.specs.Lookup.{contains_number}
 use Rattle.hla_fed_file.specs.Groups.{number_of}
 use Rattle.hla_fed_file.specs.Tables.{Tables}
 use Rattle.hla_fed_file.specs.Declaring.{parameter_among}

@@ -1,7 +1,6 @@
-use Rattle.std.proofs.Common.{[], ◌∷◌, ◌++◌, None, ◌≡◌, sym, ap, ◌∙◌}
+use Rattle.std.proofs.Common.{[], ◌∷◌, ◌++◌, None, ◌≡◌, ap, ◌∙◌}
 use Rattle.std.specs.Map.{lookup}
 use Rattle.indexmap.specs.IndexMap.{insert_entry}
-use Rattle.hla_fed_file.specs.Groups.{grouped}
 use Rattle.hla_fed_file.proofs.GroupLemmas.{noted_more, noted_first, set_same, on_ok, on_err, is_key, same_key}
 use Rattle.hla_fed_file.proofs.groups.Groups.note.Goals as goal
 
