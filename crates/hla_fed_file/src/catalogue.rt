@@ -207,7 +207,7 @@ impl Catalogue {
         }
     }
 
-    /// Adds copies of object classs.
+    /// Adds copies of object classes.
     fn add_object_classes(&mut self, object_classes: &[ObjectClass]) -> Result<(), Fault>
         requires { length self.old.object_classes + length object_classes.now ≤ 512 }
         ensures ok { OnOk result (self.new ≡ record self.old { object_classes = self.old.object_classes ++ object_classes.now }) }
@@ -219,7 +219,7 @@ impl Catalogue {
         Ok(())
     }
 
-    /// Adds copies of interaction classs.
+    /// Adds copies of interaction classes.
     fn add_interaction_classes(
         &mut self,
         interaction_classes: &[InteractionClass],

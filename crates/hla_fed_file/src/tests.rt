@@ -79,11 +79,13 @@ fn fault_of(outcome: Result<Catalogue, FedFault>) -> (usize, FedFaultKind) {
 
 #[test]
 fn finds_faults(rt: HostRuntime) {
-    let cases: [(&[u8], usize, FedFaultKind); 44] = [
+    let cases: [(&[u8], usize, FedFaultKind); 46] = [
         (b"(FED\n(objects\n(class Ob", 3, FedFaultKind::UnexpectedEnd),
         (b"", 1, FedFaultKind::UnexpectedEnd),
         (b"(FED) \"a", 1, FedFaultKind::UnexpectedEnd),
         (b"(FED \x01)", 1, FedFaultKind::BadByte),
+        (b"(FED\n(foo\x01", 2, FedFaultKind::BadByte),
+        (b"(FED) a\x7fb", 1, FedFaultKind::BadByte),
         (b"(FED ; \x01\n)\x7f", 2, FedFaultKind::BadByte),
         (b"(FED (Federation \"a\nb\"))", 1, FedFaultKind::BadByte),
         (b"FED", 1, FedFaultKind::ExpectedOpen),
