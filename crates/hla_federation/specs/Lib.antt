@@ -2,4 +2,5 @@ pub mod Messages
 pub mod Federation
 pub mod Next
 pub mod CentralOf
+pub mod Invariant
 pub mod Headline
