@@ -10,6 +10,7 @@ pub mod Objects
 pub mod Directories
 pub mod Bounds
 pub mod Bags
+pub mod Tests
 pub mod Laws
 pub mod Picks
 pub mod Steps

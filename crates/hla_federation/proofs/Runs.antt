@@ -58,7 +58,7 @@ done_step s (Tick f) inv none c = pick_step s f _ inv.kept inv.laws none (pick_t
 -- the laws of the machine are kept by each of its steps
 with_laws : (s : Federation) (step : Step) (o : Outcomes) → Laws (central s) → IsKeptStep s step o → IsStep s step o
 with_laws s step o laws k = record {
-  kept = record { kept = k.kept; laws = subst Laws (sym k.follows) (laws_after (central s) step o.outcome o.choice laws) };
+  kept = record { kept = k.kept; laws = subst Laws (sym k.follows) (laws_after (central s) step o.outcome o.choice k.allowed laws) };
   machine = record { allowed = k.allowed; follows = k.follows };
 }
 
@@ -102,6 +102,7 @@ inv_start catalogue = record {
     plain = λ _ _ _ _ e. absurd (cc);
     followed = λ _ _ _ _ e. absurd (cc);
     told = λ _ _ _ _ e. absurd (cc);
+    marked = λ _ _ r. absurd (cc);
     unsent = λ _ _ _. refl;
     unused = λ _ _ _ _ e. absurd (cc);
   };

@@ -29,7 +29,8 @@ use Rattle.hla_machine.specs.Directory.{Directory, Outgoing, Body, AnInteraction
 use Rattle.hla_machine.specs.Central.{Central}
 use Rattle.hla_machine.specs.Sends.{is_ordered, kept_stamp, is_some_ordered, copy_for}
 use Rattle.hla_machine.specs.Sends as machine
-use Rattle.hla_machine.specs.Refusals.{Test, Seen, first_fault, tests, refusal, is_bad_stamp, not_joined, call_tests}
+use Rattle.hla_machine.specs.Refusals.{refusal, is_bad_stamp}
+use Rattle.hla_federation.proofs.Tests.{caller_joined, clear_call}
 use Rattle.hla_federation.specs.Messages.{events, discoveries, discoveries_from, retractions, handle_of}
 use Rattle.hla_federation.specs.Federation.{Federation, fresh_in, fresh, local_bound}
 use Rattle.hla_federation.specs.Next.{Outcomes, does, set_directory, put, put_event, event_of, sent_one, sent_all, sends, calls, done, seen, comes, carried_event, event_came, next}
@@ -45,26 +46,6 @@ use Rattle.hla_federation.proofs.Directories.{directory_published, directory_pub
 use Rattle.hla_federation.proofs.Bounds.{on_wire, wire_from, option_map-some}
 use Rattle.hla_federation.proofs.Each.{EachOf-weaker}
 use Rattle.hla_federation.proofs.Bags.{central_ext, bag_sent, bag_same_wires, bag_event, copy_came}
-
--- ---- tests
--- where a step is not refused no test applies
-abbrev pub AllClear : List Test → Type 0
-AllClear [] = Unit {0}
-AllClear (t ∷ ts) = (t.applies ≡ false) × AllClear ts
-
-pub all_clear : (ts : List Test) → first_fault ts ≡ None → AllClear ts
-all_clear [] h = tt
-all_clear (t ∷ ts) h = cond_both t.applies (Some t.fault) (first_fault ts) (λ o. o ≡ None → (t.applies ≡ false) × AllClear ts) (λ _ e. absurd (cc)) (λ n e. (n, all_clear ts e)) h
-
-not-is-false : (b : Bool) → not b ≡ false → b ≡ true
-not-is-false true h = refl
-not-is-false false h = absurd (cc)
-
-pub caller_joined : (s : Federation) (f : ℕ) (service : Service) → refusal (seen s) (Call f service) ≡ None → s.directory.joined f ≡ true
-caller_joined s f service none = not-is-false (s.directory.joined f) (all_clear (not_joined s.directory f ∷ call_tests (seen s) f service) none).0
-
-pub clear_call : (s : Federation) (f : ℕ) (service : Service) → refusal (seen s) (Call f service) ≡ None → AllClear (call_tests (seen s) f service)
-clear_call s f service none = (all_clear (not_joined s.directory f ∷ call_tests (seen s) f service) none).1
 
 -- ---- the directory alone
 pub kept_directory : (s : Federation) (d : Directory) → Kept s → DirectoryInv d → Grows s.directory d → d.joined ≡ s.directory.joined → d.next_federate ≡ s.directory.next_federate → Kept (set_directory s d)
@@ -100,7 +81,7 @@ module _ (s : Federation) (f class : ℕ) (kept : Kept s) where
 
   pub step_unsubscribe_class : refusal (seen s) (Call f (service.UnsubscribeObjectClass class)) ≡ None → IsKeptStep s (Call f (service.UnsubscribeObjectClass class)) (done s (Call f (service.UnsubscribeObjectClass class)))
   step_unsubscribe_class none = record {
-    kept = kept_directory s _ kept (directory_unsubscribed s.directory f class kept.directory (caller_joined s f (service.UnsubscribeObjectClass class) none)) (steady s _ (λ _. refl) (λ _ _ k. k) (omega arith)) refl refl;
+    kept = kept_directory s _ kept (directory_unsubscribed s.directory f class kept.directory (caller_joined (seen s) f (service.UnsubscribeObjectClass class) none)) (steady s _ (λ _. refl) (λ _ _ k. k) (omega arith)) refl refl;
     allowed = (none, tt);
     follows = refl;
   }
@@ -235,8 +216,8 @@ pub step_send_interaction : (s : Federation) (f class : ℕ) (values : List Hand
     → IsKeptStep s (Call f (service.SendInteraction class values stamp)) (done s (Call f (service.SendInteraction class values stamp)))
 step_send_interaction s f class values stamp kept none =
     let outs = interaction_sent s.directory class values in
-    let member = caller_joined s f (service.SendInteraction class values stamp) none in
-    let clear = clear_call s f (service.SendInteraction class values stamp) none in
+    let member = caller_joined (seen s) f (service.SendInteraction class values stamp) none in
+    let clear = clear_call (seen s) f (service.SendInteraction class values stamp) none in
     let fine : is_bad_stamp (s.row f) stamp outs ≡ false = clear.1.1.1.0 in
     let may : EachOf (IsSendable s f stamp) outs = (record { high = (high_stamps (s.row f) stamp outs fine).0; told = λ k x _ is. interaction_told s.directory f k class (by_handle values) x is }, tt) in
     record {
