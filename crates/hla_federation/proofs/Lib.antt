@@ -16,4 +16,7 @@ pub mod Picks
 pub mod Steps
 pub mod Ticks
 pub mod Joins
+pub mod Epochs
+pub mod TimeSteps
+pub mod Entries
 pub mod Runs

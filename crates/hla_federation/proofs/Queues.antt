@@ -134,7 +134,7 @@ find-occurs g m e (x ∷ xs) f = ⊎_elim
     (λ (n : is_event g m x ≡ false). rw n (omega (arith, find-occurs g m e xs (grind arith))))
     (cases_Bool (is_event g m x))
 
-Above-filter : (v : ℕ) (p : Event → Bool) (xs : List Event) → Above v xs → Above v (filter p xs)
+pub Above-filter : (v : ℕ) (p : Event → Bool) (xs : List Event) → Above v xs → Above v (filter p xs)
 Above-filter v p [] h = tt
 Above-filter v p (x ∷ xs) h = cond_both (p x) (x ∷ filter p xs) (filter p xs) (Above v) (λ _. (h.0, Above-filter v p xs h.1)) (λ _. Above-filter v p xs h.1)
 
@@ -164,7 +164,7 @@ find-remove_other g m h k (x ∷ xs) apart = ⊎_elim
     (λ (n : is_event g m x ≡ false). rw n (ap (λ o. cond (is_event h k x) (Some x) o) (find-remove_other g m h k xs apart)))
     (cases_Bool (is_event g m x))
 
-Above-remove : (v g m : ℕ) (xs : List Event) → Above v xs → Above v (remove_event g m xs)
+pub Above-remove : (v g m : ℕ) (xs : List Event) → Above v xs → Above v (remove_event g m xs)
 unfolding remove_event
 Above-remove v g m [] h = tt
 Above-remove v g m (x ∷ xs) h = cond_both (is_event g m x) xs (x ∷ remove_event g m xs) (Above v) (λ _. h.1) (λ _. (h.0, Above-remove v g m xs h.1))

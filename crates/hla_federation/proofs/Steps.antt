@@ -115,7 +115,7 @@ module _ (s : Federation) (f class : ℕ) (kept : Kept s) where
   }
 
 -- ---- sending
-regulator_from : (r : Role) → is_enabled r ≡ true → not (is_disabled r) ≡ true
+pub regulator_from : (r : Role) → is_enabled r ≡ true → not (is_disabled r) ≡ true
 regulator_from Disabled e = absurd (cc)
 regulator_from Pending e = refl
 regulator_from Enabled e = refl
