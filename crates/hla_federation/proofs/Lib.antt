@@ -19,4 +19,6 @@ pub mod Joins
 pub mod Epochs
 pub mod TimeSteps
 pub mod Entries
+pub mod Demotions
+pub mod Advances
 pub mod Runs
