@@ -44,11 +44,11 @@ whole-put classes from e m room whole = record {
   subscribed = whole.subscribed;
   wires = length-set m.incoming (from - 1) _ ∙ whole.wires;
   events = λ g. ⊎_elim
-    (λ (y : eqb (g - 1) (from - 1) ≡ true). let e : g - 1 ≡ from - 1 = grind (arith, nat_tests) in
-    rw (e, get_or-set_same m.incoming (from - 1) _ [] room) (only-push (wire_from from m) _ (whole.events from)))
-    (λ (n : eqb (g - 1) (from - 1) ≡ false). let ne : g - 1 ≢ from - 1 = grind (arith, nat_tests) in
-    rw (get_or-set_other m.incoming (from - 1) (g - 1) _ [] ne) (whole.events g))
-    (cases_Bool (eqb (g - 1) (from - 1)));
+      (λ (y : eqb (g - 1) (from - 1) ≡ true). let e : g - 1 ≡ from - 1 = grind (arith, nat_tests) in
+      rw (e, get_or-set_same m.incoming (from - 1) _ [] room) (only-push (wire_from from m) _ (whole.events from)))
+      (λ (n : eqb (g - 1) (from - 1) ≡ false). let ne : g - 1 ≢ from - 1 = grind (arith, nat_tests) in
+      rw (get_or-set_other m.incoming (from - 1) (g - 1) _ [] ne) (whole.events g))
+      (cases_Bool (eqb (g - 1) (from - 1)));
 }
 
 module _ (c : Tables) (from serial class : ℕ) (values : List HandleValuePair) where
@@ -66,17 +66,18 @@ module _ (c : Tables) (from serial class : ℕ) (values : List HandleValuePair) 
     each = λ k b. at_place k (let same = length-set new (from - 1) x in omega (arith, same, len)) (cases_Bool (eqb (from - 1) k));
   }
     where
-    kept : (k : ℕ) → k < length old → IsMember classes (member_at new k)
-    kept k b = let old_is = whole.each k b in let room : from - 1 < length (member_at old k).incoming = (let w = old_is.wires in let few = whole.few in omega (arith, w, few)) in
-        subst (IsMember classes) (sym (peers k)) (⊎_elim
-        (λ (y : ltb k (length old) && is_peer from k ≡ true). rw y (whole-offered classes (member_at old k) room old_is))
-        (λ (n : ltb k (length old) && is_peer from k ≡ false). rw n old_is)
-        (cases_Bool (ltb k (length old) && is_peer from k)))
-    at_place : (k : ℕ) → k < length old → (eqb (from - 1) k ≡ true) ⊎ (eqb (from - 1) k ≡ false) → IsMember classes (member_at (set new (from - 1) x) k)
-    at_place k b test = ⊎_elim
-        (λ (y : eqb (from - 1) k ≡ true). let e : k ≡ from - 1 = grind (arith, nat_tests) in rw (e, get_or-set_same new (from - 1) x no_member (omega (arith, len))) m)
-        (λ (n : eqb (from - 1) k ≡ false). let ne : k ≢ from - 1 = grind (arith, nat_tests) in rw (get_or-set_other new (from - 1) k x no_member ne) (kept k b))
-        test
+      kept : (k : ℕ) → k < length old → IsMember classes (member_at new k)
+      kept k b = let old_is = whole.each k b in let room : from - 1 < length (member_at old k).incoming = (let w = old_is.wires in let few = whole.few in omega (arith, w, few)) in
+          subst (IsMember classes) (sym (peers k)) (⊎_elim
+          (λ (y : ltb k (length old) && is_peer from k ≡ true). rw y (whole-offered classes (member_at old k) room old_is))
+          (λ (n : ltb k (length old) && is_peer from k ≡ false). rw n old_is)
+          (cases_Bool (ltb k (length old) && is_peer from k)))
+
+      at_place : (k : ℕ) → k < length old → (eqb (from - 1) k ≡ true) ⊎ (eqb (from - 1) k ≡ false) → IsMember classes (member_at (set new (from - 1) x) k)
+      at_place k b test = ⊎_elim
+          (λ (y : eqb (from - 1) k ≡ true). let e : k ≡ from - 1 = grind (arith, nat_tests) in rw (e, get_or-set_same new (from - 1) x no_member (omega (arith, len))) m)
+          (λ (n : eqb (from - 1) k ≡ false). let ne : k ≢ from - 1 = grind (arith, nat_tests) in rw (get_or-set_other new (from - 1) k x no_member ne) (kept k b))
+          test
 
 -- ---- without a stamp nothing goes in the order of stamps
 unordered : (out : Outgoing) → is_ordered new_row None out ≡ false
@@ -173,8 +174,8 @@ module _ (c : Tables) (old new : List MemberValue) (f class : ℕ) (given : List
   unfolding plain
   sent-is = λ i. record plain { sent = fun_ext (λ g. fun_ext (λ m. unsent g m)) i }
     where
-    unsent : (g m : ℕ) → upd2 (λ _ _. no_event) f serial (sent_event (state_of_members c old).directory new_row f None out) g m ≡ no_event
-    unsent g m = ap (λ (e : SentEvent). upd2 (λ _ _. no_event) f serial e g m) (unkept (state_of_members c old).directory f out) ∙ same2 no_event f serial g m
+      unsent : (g m : ℕ) → upd2 (λ _ _. no_event) f serial (sent_event (state_of_members c old).directory new_row f None out) g m ≡ no_event
+      unsent g m = ap (λ (e : SentEvent). upd2 (λ _ _. no_event) f serial e g m) (unkept (state_of_members c old).directory f out) ∙ same2 no_event f serial g m
 
   wires : (k l : ℕ) → upd (λ g. item [] (item no_member new g).incoming k) f (item [] x.incoming k) l
       ≡ upd_row (λ g l. item [] (item no_member old l).incoming g) (is_number (length old)) f (λ g. put_event f serial new_row None out (content_for (state_of_members c old).directory out.body g)) k l
@@ -184,22 +185,24 @@ module _ (c : Tables) (old new : List MemberValue) (f class : ℕ) (given : List
       (upd_same (λ g. item [] (item no_member new g).incoming k) f (item [] x.incoming k) ∙ own ∙ at_sender)
       (λ l ne. upd_other (λ g. item [] (item no_member new g).incoming k) f (item [] x.incoming k) l ne ∙ ap (λ (m : MemberValue). item [] m.incoming k) (new_item l ne) ∙ at_peer l ne (cases_Bool (is_number (length old) l)))
     where
-    own : item [] x.incoming k ≡ item [] (item no_member old f).incoming k
-    own = ap (λ (m : MemberValue). item [] m.incoming k) x_is ∙ ap (λ (m : MemberValue). item [] m.incoming k) y_is
-    at_sender : item [] (item no_member old f).incoming k ≡ cond (eqb f k && is_other (is_number (length old)) f f)
-        (put_event f serial new_row None out (content_for (state_of_members c old).directory out.body f) (item [] (item no_member old f).incoming k)) (item [] (item no_member old f).incoming k)
-    at_sender = let self : eqb f f ≡ true = grind (arith, nat_tests) in rw (self, and-false (eqb f k)) refl
-    at_peer : (l : ℕ) → f ≢ l → (is_number (length old) l ≡ true) ⊎ (is_number (length old) l ≡ false)
-        → item [] (cond (is_number (length old) l) (changed (item no_member old l)) (item no_member old l)).incoming k ≡ cond (eqb f k && is_other (is_number (length old)) f l)
-        (put_event f serial new_row None out (content_for (state_of_members c old).directory out.body l) (item [] (item no_member old l).incoming k)) (item [] (item no_member old l).incoming k)
-    at_peer l ne test = let other : eqb f l ≡ false = grind (arith, nat_tests) in ⊎_elim
-        (λ (b : is_number (length old) l ≡ true).
-        let m = whole_item (length c.interaction_classes) old l whole b in
-        let room : f ≤ length (item no_member old l).incoming = (let w = m.wires in let few = whole.few in omega (arith, w, few, within)) in
-        rw (b, other) (offered_wire_at c f serial class values out (item no_member old l) (served_at c class (item no_member old l)) k some room
-        ∙ ⊎_elim (λ (z : eqb f k ≡ true). rw z refl) (λ (z : eqb f k ≡ false). rw z refl) (cases_Bool (eqb f k))))
-        (λ (n : is_number (length old) l ≡ false). rw (n, other, and-false (eqb f k)) refl)
-        test
+      own : item [] x.incoming k ≡ item [] (item no_member old f).incoming k
+      own = ap (λ (m : MemberValue). item [] m.incoming k) x_is ∙ ap (λ (m : MemberValue). item [] m.incoming k) y_is
+
+      at_sender : item [] (item no_member old f).incoming k ≡ cond (eqb f k && is_other (is_number (length old)) f f)
+          (put_event f serial new_row None out (content_for (state_of_members c old).directory out.body f) (item [] (item no_member old f).incoming k)) (item [] (item no_member old f).incoming k)
+      at_sender = let self : eqb f f ≡ true = grind (arith, nat_tests) in rw (self, and-false (eqb f k)) refl
+
+      at_peer : (l : ℕ) → f ≢ l → (is_number (length old) l ≡ true) ⊎ (is_number (length old) l ≡ false)
+          → item [] (cond (is_number (length old) l) (changed (item no_member old l)) (item no_member old l)).incoming k ≡ cond (eqb f k && is_other (is_number (length old)) f l)
+          (put_event f serial new_row None out (content_for (state_of_members c old).directory out.body l) (item [] (item no_member old l).incoming k)) (item [] (item no_member old l).incoming k)
+      at_peer l ne test = let other : eqb f l ≡ false = grind (arith, nat_tests) in ⊎_elim
+          (λ (b : is_number (length old) l ≡ true).
+          let m = whole_item (length c.interaction_classes) old l whole b in
+          let room : f ≤ length (item no_member old l).incoming = (let w = m.wires in let few = whole.few in omega (arith, w, few, within)) in
+          rw (b, other) (offered_wire_at c f serial class values out (item no_member old l) (served_at c class (item no_member old l)) k some room
+          ∙ ⊎_elim (λ (z : eqb f k ≡ true). rw z refl) (λ (z : eqb f k ≡ false). rw z refl) (cases_Bool (eqb f k))))
+          (λ (n : is_number (length old) l ≡ false). rw (n, other, and-false (eqb f k)) refl)
+          test
 
   sent_state : state_of_members c (set new (f - 1) x) ≡ plain
   unfolding plain
@@ -215,13 +218,13 @@ module _ (c : Tables) (old new : List MemberValue) (f class : ℕ) (given : List
       (kept_field (λ m. m.received) (kept_by c f serial class values (λ m. m.received) (λ m k. refl)) (ap (λ (m : MemberValue). m.received) x_old))
       wires
     where
-    serials : (g : ℕ) → upd (λ h. (item no_member new h).next_serial) f x.next_serial g ≡ upd (λ h. (item no_member old h).next_serial) f (serial + 1) g
-    serials = by_number f (λ g. upd (λ h. (item no_member new h).next_serial) f x.next_serial g ≡ upd (λ h. (item no_member old h).next_serial) f (serial + 1) g)
-        (upd_same (λ h. (item no_member new h).next_serial) f x.next_serial ∙ ap (λ (m : MemberValue). m.next_serial) x_is ∙ ap (λ (m : MemberValue). m.next_serial + 1) y_is ∙ sym (upd_same (λ h. (item no_member old h).next_serial) f (serial + 1)))
-        (λ g ne. upd_other (λ h. (item no_member new h).next_serial) f x.next_serial g ne
-        ∙ ap (λ (m : MemberValue). m.next_serial) (new_item g ne)
-        ∙ field_of (λ m. m.next_serial) (kept_by c f serial class values (λ m. m.next_serial) (λ m k. refl)) (is_number (length old) g) (item no_member old g)
-        ∙ sym (upd_other (λ h. (item no_member old h).next_serial) f (serial + 1) g ne))
+      serials : (g : ℕ) → upd (λ h. (item no_member new h).next_serial) f x.next_serial g ≡ upd (λ h. (item no_member old h).next_serial) f (serial + 1) g
+      serials = by_number f (λ g. upd (λ h. (item no_member new h).next_serial) f x.next_serial g ≡ upd (λ h. (item no_member old h).next_serial) f (serial + 1) g)
+          (upd_same (λ h. (item no_member new h).next_serial) f x.next_serial ∙ ap (λ (m : MemberValue). m.next_serial) x_is ∙ ap (λ (m : MemberValue). m.next_serial + 1) y_is ∙ sym (upd_same (λ h. (item no_member old h).next_serial) f (serial + 1)))
+          (λ g ne. upd_other (λ h. (item no_member new h).next_serial) f x.next_serial g ne
+          ∙ ap (λ (m : MemberValue). m.next_serial) (new_item g ne)
+          ∙ field_of (λ m. m.next_serial) (kept_by c f serial class values (λ m. m.next_serial) (λ m k. refl)) (is_number (length old) g) (item no_member old g)
+          ∙ sym (upd_other (λ h. (item no_member old h).next_serial) f (serial + 1) g ne))
 
   pub sent : refusal (seen (state_of_members c old)) (Call f (service.SendInteraction class given None)) ≡ None
       → next (state_of_members c old) (Call f (service.SendInteraction class given None)) ≡ answers (answer.Sent None) (state_of_members c (set new (f - 1) x))
@@ -253,8 +256,9 @@ module _ (c : Tables) (old new : List MemberValue) (f class : ℕ) (given values
       let joined = joined_of c old f class given none in
       let is : serial ≡ (item no_member old f).next_serial = serial_is ∙ ap (λ (m : MemberValue). m.next_serial) (item_read old f z joined was) in
       let peers : ChangesPeers (offered c f (item no_member old f).next_serial class (by_handle given)) f (length old) old new =
-          subst (λ (vs : List HandleValuePair). ChangesPeers (offered c f (item no_member old f).next_serial class vs) f (length old) old new) values_is
-          (subst (λ (n : ℕ). ChangesPeers (offered c f n class values) f (length old) old new) is put) in
-      (whole-sent c f (item no_member old f).next_serial class (by_handle given) (length c.interaction_classes) old new x whole len (number_some (length old) f joined) (number_within (length old) f joined) peers
-      (whole_sender c old new f class given y x joined whole len peers read x_is),
-      sent c old new f class given y x joined whole len peers read x_is none)
+      subst (λ (vs : List HandleValuePair). ChangesPeers (offered c f (item no_member old f).next_serial class vs) f (length old) old new) values_is
+      (subst (λ (n : ℕ). ChangesPeers (offered c f n class values) f (length old) old new) is put) in (
+        whole-sent c f (item no_member old f).next_serial class (by_handle given) (length c.interaction_classes) old new x whole len (number_some (length old) f joined) (number_within (length old) f joined) peers
+            (whole_sender c old new f class given y x joined whole len peers read x_is),
+        sent c old new f class given y x joined whole len peers read x_is none,
+      )

@@ -12,8 +12,8 @@ ghost use Rattle.hla_federation.specs.MemberValue.{MemberValue};
 ghost use Rattle.hla_federation.specs.Next.{seen};
 ghost use Rattle.hla_federation.specs.State.{is_number, state_of_members};
 
+use crate::incoming::MAX_FEDERATES;
 use crate::member::Member;
-use crate::wires::MAX_FEDERATES;
 use hla_base::{ClassNo, Fault, FederateNo, HandleValuePair, MAX_TIME};
 use hla_fed_file::Catalogue;
 
