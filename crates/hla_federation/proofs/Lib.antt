@@ -21,4 +21,6 @@ pub mod TimeSteps
 pub mod Entries
 pub mod Demotions
 pub mod Advances
+pub mod Queries
+pub mod Retractions
 pub mod Runs
