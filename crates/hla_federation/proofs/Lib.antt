@@ -23,4 +23,6 @@ pub mod Demotions
 pub mod Advances
 pub mod Queries
 pub mod Retractions
+pub mod Discoveries
+pub mod Registrations
 pub mod Runs

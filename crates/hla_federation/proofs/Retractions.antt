@@ -104,39 +104,39 @@ step_retract s f event kept laws none =
     }
 
 -- ---- controls
-same_key_one : (g m : ℕ) → one_if (eqb g g && eqb m m) ≡ 1
+pub same_key_one : (g m : ℕ) → one_if (eqb g g && eqb m m) ≡ 1
 same_key_one g m = rw (eq-eqb g g refl, eq-eqb m m refl) refl
 
-key_turned : (g m h k : ℕ) → (eqb h g && eqb k m) ≡ is_key g m h k
+pub key_turned : (g m h k : ℕ) → (eqb h g && eqb k m) ≡ is_key g m h k
 key_turned g m h k = grind (arith, nat_tests)
 
-dues-retract : (g m : ℕ) (e : EventHandle) (ks : List Control) → dues g m (ToRetract e ∷ ks) ≡ one_if (eqb g e.sender && eqb m e.serial) + dues g m ks
+pub dues-retract : (g m : ℕ) (e : EventHandle) (ks : List Control) → dues g m (ToRetract e ∷ ks) ≡ one_if (eqb g e.sender && eqb m e.serial) + dues g m ks
 unfolding dues
 dues-retract g m e ks = refl
 
-dues-discover : (g m h : ℕ) (d : Discovery) (ks : List Control) → dues g m (ToDiscover h d ∷ ks) ≡ dues g m ks
+pub dues-discover : (g m h : ℕ) (d : Discovery) (ks : List Control) → dues g m (ToDiscover h d ∷ ks) ≡ dues g m ks
 unfolding dues
 dues-discover g m h d ks = refl
 
-dues-append : (g m : ℕ) (xs ys : List Control) → dues g m (xs ++ ys) ≡ dues g m xs + dues g m ys
+pub dues-append : (g m : ℕ) (xs ys : List Control) → dues g m (xs ++ ys) ≡ dues g m xs + dues g m ys
 unfolding dues
 dues-append g m [] ys = omega arith
 dues-append g m (ToRetract e ∷ xs) ys = omega (arith, dues-append g m xs ys)
 dues-append g m (ToDiscover h d ∷ xs) ys = dues-append g m xs ys
 
-dues-nil : (g m : ℕ) → dues g m [] ≡ 0
+pub dues-nil : (g m : ℕ) → dues g m [] ≡ 0
 unfolding dues
 dues-nil g m = refl
 
-from-retract : (g : ℕ) (e : EventHandle) (ks : List Control) → discoveries_from g (ToRetract e ∷ ks) ≡ discoveries_from g ks
+pub from-retract : (g : ℕ) (e : EventHandle) (ks : List Control) → discoveries_from g (ToRetract e ∷ ks) ≡ discoveries_from g ks
 unfolding discoveries_from
 from-retract g e ks = refl
 
-from-discover : (g h : ℕ) (d : Discovery) (ks : List Control) → discoveries_from g (ToDiscover h d ∷ ks) ≡ cond (eqb g h) (d ∷ discoveries_from g ks) (discoveries_from g ks)
+pub from-discover : (g h : ℕ) (d : Discovery) (ks : List Control) → discoveries_from g (ToDiscover h d ∷ ks) ≡ cond (eqb g h) (d ∷ discoveries_from g ks) (discoveries_from g ks)
 unfolding discoveries_from
 from-discover g h d ks = refl
 
-from-append : (g : ℕ) (xs ys : List Control) → discoveries_from g (xs ++ ys) ≡ discoveries_from g xs ++ discoveries_from g ys
+pub from-append : (g : ℕ) (xs ys : List Control) → discoveries_from g (xs ++ ys) ≡ discoveries_from g xs ++ discoveries_from g ys
 unfolding discoveries_from
 from-append g [] ys = refl
 from-append g (ToRetract e ∷ xs) ys = from-append g xs ys
@@ -145,7 +145,7 @@ from-append g (ToDiscover h d ∷ xs) ys = ⊎_elim
     (λ (n : eqb g h ≡ false). rw n (from-append g xs ys))
     (cases_Bool (eqb g h))
 
-from-nil : (g : ℕ) → discoveries_from g [] ≡ []
+pub from-nil : (g : ℕ) → discoveries_from g [] ≡ []
 unfolding discoveries_from
 from-nil g = refl
 
