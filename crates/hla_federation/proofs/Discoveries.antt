@@ -157,7 +157,7 @@ each_made : {X : Type 0} (P : X → Type 0) (h : ℕ → Option X) (ns : List �
 each_made P h [] all = tt
 each_made P h (n ∷ ns) all = each_cons P (h n) (filter_map h ns) (each_made P h ns all) (all n)
 
-when_some : {X : Type 0} (b : Bool) (o : Option X) (x : X) → when b o ≡ Some x → (b ≡ true) × (o ≡ Some x)
+pub when_some : {X : Type 0} (b : Bool) (o : Option X) (x : X) → when b o ≡ Some x → (b ≡ true) × (o ≡ Some x)
 when_some true o x h = (refl, h)
 when_some false o x h = absurd (cc)
 

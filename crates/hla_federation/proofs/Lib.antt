@@ -25,4 +25,6 @@ pub mod Queries
 pub mod Retractions
 pub mod Discoveries
 pub mod Registrations
+pub mod Updates
+pub mod Resigns
 pub mod Runs
