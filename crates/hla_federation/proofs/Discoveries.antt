@@ -1,42 +1,40 @@
 -- Discoveries: carried, given, and made by subscriptions and registrations
-use Rattle.std.proofs.Common.{◌≡◌, ◌≢◌, ◌⊎◌, ℕ, ◌+◌, ◌-◌, ◌≤◌, ◌<◌, cond, eqb, ltb, not, ◌&&◌, ◌||◌, Bool, true, false, refl, sym, ap, ◌∙◌, inl, inr, subst, ⊎_elim, arith, eqb-true, eq-eqb, ne_eqb, is_some, List, [], ◌∷◌, ◌++◌, Option, Some, None, option_map, drop}
-use Rattle.std.proofs.lemmas.Bool.{cases_eq, cond_both, and_parts, and_from, or_right, not-true, not_from_false, cases_Bool, lt-ltb}
+use Rattle.std.proofs.Common.{◌≡◌, ◌≢◌, ◌⊎◌, ℕ, ◌<◌, cond, eqb, not, ◌&&◌, Bool, true, false, refl, sym, ap, ◌∙◌, inl, inr, subst, ⊎_elim, arith, eqb-true, eq-eqb, ne_eqb, is_some, List, [], ◌∷◌, ◌++◌, Option, Some, None, option_map, drop}
+use Rattle.std.proofs.lemmas.Bool.{and_parts, and_from, or_right, not-true, not_from_false, cases_Bool, lt-ltb}
 use Rattle.std.proofs.lemmas.List.{append_assoc, append-nil}
 use Rattle.std.proofs.lemmas.List.Folds.{Any-from_list_any}
 use Rattle.std.specs.List.{Any, list_any, filter_map, cons_option}
 use Rattle.hla_base.specs.declared.content.Content.{Content}
 use Rattle.hla_base.specs.declared.content.Discovery.{Discovery}
-use Rattle.hla_base.specs.declared.content.Event.{Event}
 use Rattle.hla_base.specs.declared.number.EventHandle.{EventHandle}
 use Rattle.hla_null_message.specs.declared.message.Message.{Message}
 use Rattle.hla_null_message.specs.declared.message.Message.TheVariants as message
-use Rattle.hla_base.specs.Tables.{is_other, numbers_below, upd, upd2, upd_row, when}
+use Rattle.hla_base.specs.Tables.{numbers_below, upd, upd2, when}
 use Rattle.hla_machine.specs.declared.service.Service.TheVariants as service
 use Rattle.hla_machine.specs.declared.step.Step.TheVariants.{Call, Carry, Tick}
-use Rattle.hla_machine.specs.Directory.{Directory, served_object, discovery_at, discovery_of, discoveries_of, discovered_by, discovered_by_all, with_subscribed, with_object, name_or_default}
+use Rattle.hla_machine.specs.Directory.{Directory, served_object, discovery_at, discovery_of, discoveries_of, discovered_by, with_subscribed}
 use Rattle.hla_machine.specs.Central.{is_key}
 use Rattle.hla_machine.specs.Callbacks.{IsNextDiscovery}
 use Rattle.hla_machine.specs.Machine.{after_subscribe}
 use Rattle.hla_machine.specs.Refusals.{refusal}
-use Rattle.hla_federation.specs.Messages.{Control, ToDiscover, ToRetract, events, discoveries, discoveries_from, retractions, dues}
+use Rattle.hla_federation.specs.Messages.{Control, ToDiscover, ToRetract, events, discoveries, discoveries_from, retractions}
 use Rattle.hla_federation.specs.Federation.{Federation, PickControl}
-use Rattle.hla_federation.specs.Next.{seen, done, put_discoveries, subscribes, registers, discovery_came, comes, picks}
+use Rattle.hla_federation.specs.Next.{seen, done, put_discoveries, subscribes, comes, picks}
 use Rattle.hla_federation.specs.CentralOf.{central}
-use Rattle.hla_federation.specs.Invariant.{EachOf, Tells, IsTold, IsBehind, IsKnownOf, IsControl, is_wire, IsWired, DirectoryInv, Kept}
+use Rattle.hla_federation.specs.Invariant.{EachOf, Tells, IsTold, IsBehind, IsKnownOf, IsControl, is_wire, Kept}
 use Rattle.hla_federation.specs.Headline.{IsKeptStep}
-use Rattle.hla_federation.proofs.Tables.{by_number, by_pair, upd_same, upd_other, upd2_same, upd2_other, upd2_each, upd_each, upd_row_each, upd_row_here, upd_row_self, upd_row_other}
-use Rattle.hla_federation.proofs.Each.{EachOf-append, EachOf-weaker}
+use Rattle.hla_federation.proofs.Tables.{by_number, upd_same, upd_other, upd2_same, upd2_other, upd2_each, upd_each}
 use Rattle.hla_federation.proofs.Wires.{events-put_discoveries, events-discovery, discoveries-put_discoveries, discoveries-discovery, retractions-put_discoveries, retractions-discovery}
 use Rattle.hla_federation.proofs.Carries.{Carries-discover}
 use Rattle.hla_federation.proofs.Times.{CarriesIn, time_wires, time_discovery_came}
 use Rattle.hla_federation.proofs.Copies.{copies_wires}
-use Rattle.hla_federation.proofs.Objects.{Grows, AreNew, objects_shift, objects_controls, objects_discovery_came, behind_put, tells_discover, tells_grows}
-use Rattle.hla_federation.proofs.Directories.{directory_subscribed, grows_subscribed, directory_registered, grows_registered}
+use Rattle.hla_federation.proofs.Objects.{AreNew, objects_shift, objects_controls, objects_discovery_came, behind_put, tells_discover, tells_grows}
+use Rattle.hla_federation.proofs.Directories.{directory_subscribed, grows_subscribed}
 use Rattle.hla_federation.proofs.Bounds.{option_map-some}
 use Rattle.hla_federation.proofs.Bags.{by_key, at3_here, at3_else, central_ext, bag_same_wires}
 use Rattle.hla_federation.proofs.Retractions.{same_key_one, key_turned, dues-retract, dues-discover, dues-append, dues-nil, from-retract, from-discover, from-append, from-nil}
 use Rattle.hla_federation.proofs.Tests.{caller_joined}
-use Rattle.hla_federation.proofs.Steps.{wired_taken, wired_row}
+use Rattle.hla_federation.proofs.Steps.{wired_taken}
 
 -- ---- what waits among the controls is given
 module _ (s : Federation) (f : ℕ) (rest : List Control) (kept : Kept s) where

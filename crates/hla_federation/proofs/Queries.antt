@@ -1,5 +1,5 @@
 -- Queries and look-ups
-use Rattle.std.proofs.Common.{◌≡◌, ◌⊎◌, ℕ, ◌≤◌, min, cond, not, ◌&&◌, ◌||◌, Bool, true, false, refl, sym, le_trans, subst, ⊎_elim, arith, is_some, List, [], ◌∷◌, Option, Some, None, unwrap_or}
+use Rattle.std.proofs.Common.{◌≡◌, ℕ, ◌≤◌, min, cond, not, ◌&&◌, ◌||◌, Bool, true, false, refl, le_trans, ⊎_elim, arith, is_some, List, [], ◌∷◌, Option, Some, None, unwrap_or}
 use Rattle.std.proofs.lemmas.Bool.{cond_both, and_parts, cases_Bool}
 use Rattle.std.specs.List.{find, list_any}
 use Rattle.hla_base.specs.declared.content.Event.{Event}
@@ -8,7 +8,7 @@ use Rattle.hla_base.specs.Tables.{forever, numbers_below}
 use Rattle.hla_base.specs.Rows.{is_constrained}
 use Rattle.hla_machine.specs.declared.service.Service.TheVariants as service
 use Rattle.hla_machine.specs.declared.step.Step.TheVariants.{Call}
-use Rattle.hla_machine.specs.Central.{Copy, Ro, Tso, Demoted}
+use Rattle.hla_machine.specs.Central.{Ro, Tso, Demoted}
 use Rattle.hla_machine.specs.Machine.{BelowAllDemoted}
 use Rattle.hla_machine.specs.Refusals.{refusal, is_known}
 use Rattle.hla_federation.specs.Messages.{find_event, events, first_stamp, least_ordered, is_event}

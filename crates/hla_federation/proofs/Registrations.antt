@@ -1,14 +1,14 @@
 -- A federate registers an object
-use Rattle.std.proofs.Common.{◌≡◌, ◌≢◌, ◌⊎◌, ℕ, ◌+◌, ◌≤◌, ◌<◌, cond, eqb, not, ◌&&◌, Bool, true, false, refl, sym, ap, ◌∙◌, inl, inr, subst, ⊎_elim, arith, eqb-true, eq-eqb, ne_eqb, is_some, List, [], ◌∷◌, ◌++◌, Option, Some, None}
-use Rattle.std.proofs.lemmas.Bool.{cases_eq, cond_both, and_parts, and_from, cases_Bool}
+use Rattle.std.proofs.Common.{◌≡◌, ◌≢◌, ℕ, eqb, ◌&&◌, true, false, refl, sym, subst, ⊎_elim, arith, eq-eqb, is_some, List, ◌++◌, Option, None}
+use Rattle.std.proofs.lemmas.Bool.{cases_eq, and_parts, and_from, cases_Bool}
 use Rattle.std.proofs.lemmas.List.{append_assoc}
 use Rattle.hla_base.specs.declared.content.Content.{Content}
 use Rattle.hla_base.specs.declared.content.Discovery.{Discovery}
 use Rattle.hla_null_message.specs.declared.message.Message.{Message}
-use Rattle.hla_base.specs.Tables.{is_other, upd, upd2, upd_row}
+use Rattle.hla_base.specs.Tables.{is_other, upd_row}
 use Rattle.hla_machine.specs.declared.service.Service.TheVariants as service
 use Rattle.hla_machine.specs.declared.step.Step.TheVariants.{Call}
-use Rattle.hla_machine.specs.Directory.{Directory, Object, discovery_of, discoveries_of, discovered_by_all, served_object, with_object, name_or_default}
+use Rattle.hla_machine.specs.Directory.{Directory, discovery_of, discoveries_of, discovered_by_all, served_object, with_object, name_or_default}
 use Rattle.hla_machine.specs.Machine.{after_register}
 use Rattle.hla_machine.specs.Refusals.{refusal}
 use Rattle.hla_federation.specs.Messages.{events, discoveries, discoveries_from, retractions}
@@ -17,12 +17,12 @@ use Rattle.hla_federation.specs.Next.{seen, done, put_discoveries, registers}
 use Rattle.hla_federation.specs.CentralOf.{central}
 use Rattle.hla_federation.specs.Invariant.{EachOf, Tells, IsTold, IsBehind, IsKnownOf, Kept}
 use Rattle.hla_federation.specs.Headline.{IsKeptStep}
-use Rattle.hla_federation.proofs.Tables.{by_number, upd_same, upd_other, upd2_each, upd_row_each, upd_row_here, upd_row_self, upd_row_other}
+use Rattle.hla_federation.proofs.Tables.{by_number, upd_other, upd2_each, upd_row_each, upd_row_here, upd_row_self, upd_row_other}
 use Rattle.hla_federation.proofs.Wires.{events-put_discoveries, discoveries-put_discoveries, retractions-put_discoveries}
 use Rattle.hla_federation.proofs.Carries.{Carries-discover}
 use Rattle.hla_federation.proofs.Times.{CarriesIn, time_wires}
 use Rattle.hla_federation.proofs.Copies.{copies_wires}
-use Rattle.hla_federation.proofs.Objects.{Grows, AreNew, objects_shift, behind_put, tells_discover, tells_grows}
+use Rattle.hla_federation.proofs.Objects.{AreNew, objects_shift, behind_put, tells_discover, tells_grows}
 use Rattle.hla_federation.proofs.Directories.{directory_registered, grows_registered}
 use Rattle.hla_federation.proofs.Bags.{central_ext, bag_same_wires}
 use Rattle.hla_federation.proofs.Discoveries.{discovery_tells, each_discovery}

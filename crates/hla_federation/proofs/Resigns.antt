@@ -1,13 +1,10 @@
 -- A federate resigns
-use Rattle.std.proofs.Common.{◌≡◌, ◌≢◌, ◌⊎◌, ℕ, ◌+◌, ◌≤◌, ◌<◌, cond, eqb, ltb, not, ◌&&◌, Bool, true, false, refl, sym, ap, ◌∙◌, inl, inr, subst, ⊎_elim, arith, eqb-true, is_some, List, [], ◌∷◌, ◌++◌, Option, Some, None, option_map, filter, unwrap_or}
+use Rattle.std.proofs.Common.{◌≡◌, ◌≢◌, ℕ, ◌≤◌, eqb, not, ◌&&◌, true, false, refl, sym, ap, ◌∙◌, subst, ⊎_elim, arith, eqb-true, List, [], ◌∷◌, Option, None, option_map}
 use Rattle.std.proofs.lemmas.Bool.{cond_both, and_parts, and_from, cases_Bool}
-use Rattle.hla_base.specs.declared.content.Content.{Content}
-use Rattle.hla_base.specs.declared.content.Event.{Event}
-use Rattle.hla_base.specs.declared.row.TimeRow.{TimeRow}
 use Rattle.hla_null_message.specs.declared.message.Message.{Message}
 use Rattle.hla_null_message.specs.declared.message.Message.TheVariants as message
 use Rattle.hla_base.specs.Tables.{forever, is_other, numbers_below, or_else, upd, upd_row, clear}
-use Rattle.hla_base.specs.Rows.{is_regulator, is_constrained, least_stamp, new_row}
+use Rattle.hla_base.specs.Rows.{is_regulator, least_stamp, new_row}
 use Rattle.hla_fed_file.specs.declared.declared.Order.TheVariants.{Receive, Timestamp}
 use Rattle.hla_machine.specs.declared.service.Service.TheVariants as service
 use Rattle.hla_machine.specs.declared.service.ResignAction.{ResignAction}
@@ -17,11 +14,11 @@ use Rattle.hla_machine.specs.Directory.{Directory, Outgoing, is_of_order, object
 use Rattle.hla_machine.specs.Sends.{is_ordered}
 use Rattle.hla_machine.specs.Machine.{left_by}
 use Rattle.hla_machine.specs.Refusals.{refusal}
-use Rattle.hla_federation.specs.Messages.{find_event, occurs, events, discoveries, discoveries_from, retractions, dues}
+use Rattle.hla_federation.specs.Messages.{find_event, events, discoveries, retractions}
 use Rattle.hla_federation.specs.Federation.{Federation}
 use Rattle.hla_federation.specs.Next.{seen, done, put, sent_one, sent_all, last_words, leaves}
 use Rattle.hla_federation.specs.CentralOf.{central, bag_of, wire_copy, tso_copy, ro_copy}
-use Rattle.hla_federation.specs.Invariant.{EachOf, Above, IsTsoQueue, IsInKeyOrder, IsInSerialOrder, Carries, IsTold, IsBehind, Tells, IsWaiting, RowInv, IsTimed, CopyInv, ObjectInv, IsWired, is_wire, places_in, stamps, Kept}
+use Rattle.hla_federation.specs.Invariant.{EachOf, IsTsoQueue, IsInKeyOrder, Carries, Tells, RowInv, IsTimed, CopyInv, ObjectInv, IsWired, is_wire, places_in, stamps, Kept}
 use Rattle.hla_federation.specs.Headline.{IsKeptStep}
 use Rattle.hla_federation.proofs.Tables.{by_number, upd_same, upd_other, upd_each, upd_row_each, upd_row_here, upd_row_self, upd_row_other, clear_here, clear_else}
 use Rattle.hla_federation.proofs.Each.{EachOf-passed}

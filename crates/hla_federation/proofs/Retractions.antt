@@ -1,8 +1,8 @@
 -- Retractions, and what waits among the controls
-use Rattle.std.proofs.Common.{◌≡◌, ◌≢◌, ◌⊎◌, ℕ, ◌+◌, ◌-◌, ◌≤◌, ◌<◌, cond, eqb, not, ◌&&◌, Bool, true, false, refl, sym, ap, ◌∙◌, inl, inr, subst, ⊎_elim, arith, eqb-true, eq-eqb, ne_eqb, List, [], ◌∷◌, ◌++◌, Option, Some, None, option_map, drop}
+use Rattle.std.proofs.Common.{◌≡◌, ◌≢◌, ◌⊎◌, ℕ, ◌+◌, ◌-◌, ◌≤◌, ◌<◌, cond, eqb, ◌&&◌, Bool, true, false, refl, sym, ap, ◌∙◌, inl, inr, ⊎_elim, arith, eq-eqb, ne_eqb, List, [], ◌∷◌, ◌++◌, Option, Some, None, option_map}
 use Rattle.std.proofs.lemmas.Bool.{cond_both, and_parts, cases_Bool, cases_lt, ltb-true}
 use Rattle.std.proofs.lemmas.Bool.Decides.{nat_tests}
-use Rattle.std.proofs.lemmas.List.{append_assoc, append-nil}
+use Rattle.std.proofs.lemmas.List.{append-nil}
 use Rattle.hla_base.specs.declared.content.Discovery.{Discovery}
 use Rattle.hla_base.specs.declared.content.Event.{Event}
 use Rattle.hla_base.specs.declared.number.EventHandle.{EventHandle}
@@ -11,24 +11,24 @@ use Rattle.hla_null_message.specs.declared.message.Message.TheVariants as messag
 use Rattle.hla_base.specs.Tables.{is_other, or_else, upd, upd2, upd_row}
 use Rattle.hla_base.specs.Rows.{is_none_of, is_regulator, least_stamp}
 use Rattle.hla_machine.specs.declared.service.Service.TheVariants as service
-use Rattle.hla_machine.specs.declared.step.Step.TheVariants.{Call, Carry, Tick}
-use Rattle.hla_machine.specs.Central.{is_key, at_key, at3, SentEvent}
+use Rattle.hla_machine.specs.declared.step.Step.TheVariants.{Call, Carry}
+use Rattle.hla_machine.specs.Central.{is_key, at_key, at3}
 use Rattle.hla_machine.specs.Sends.{one_if, is_told, owed_to_receivers}
 use Rattle.hla_machine.specs.Refusals.{refusal}
 use Rattle.hla_federation.specs.Messages.{Control, ToDiscover, ToRetract, is_event, find_event, remove_event, occurs, events, discoveries, discoveries_from, retractions, dues}
-use Rattle.hla_federation.specs.Federation.{Federation, PickControl}
-use Rattle.hla_federation.specs.Next.{seen, done, put, put_retraction, retracts, taken, retraction_came, discovery_came, comes, picks}
+use Rattle.hla_federation.specs.Federation.{Federation}
+use Rattle.hla_federation.specs.Next.{seen, done, put, put_retraction, retracts, retraction_came, comes}
 use Rattle.hla_federation.specs.CentralOf.{central, bag_of, wire_copy, tso_copy, ro_copy}
-use Rattle.hla_federation.specs.Invariant.{EachOf, Tells, IsKnownOf, IsControl, Laws, Kept}
+use Rattle.hla_federation.specs.Invariant.{Tells, Laws, Kept}
 use Rattle.hla_federation.specs.Headline.{IsKeptStep}
 use Rattle.hla_federation.proofs.Tables.{by_number, by_pair, upd_same, upd_other, upd2_same, upd2_other, upd2_each, upd_row_each, upd_row_here, upd_row_self, upd_row_other}
 use Rattle.hla_federation.proofs.Queues.{find-none, find-remove, find-remove_other}
-use Rattle.hla_federation.proofs.Wires.{events-put_retraction, events-retraction, events-discovery, discoveries-put_retraction, discoveries-retraction, discoveries-discovery, retractions-put, retractions-cons, retractions-here, retractions-discovery}
-use Rattle.hla_federation.proofs.Times.{CarriesIn, time_discovery_came}
+use Rattle.hla_federation.proofs.Wires.{events-put_retraction, events-retraction, discoveries-put_retraction, discoveries-retraction, retractions-put, retractions-cons, retractions-here}
+use Rattle.hla_federation.proofs.Times.{CarriesIn}
 use Rattle.hla_federation.proofs.Epochs.{time_retracts, time_retraction_came}
 use Rattle.hla_federation.proofs.Copies.{copies_wires, copies_retraction_came}
-use Rattle.hla_federation.proofs.Objects.{objects_wires, objects_controls, objects_retraction_came, objects_discovery_came, tells_retraction}
-use Rattle.hla_federation.proofs.Bags.{by_key, at_key_here, at_key_else, at3_here, at3_else, central_ext, bag_same_wires, bag_removed}
+use Rattle.hla_federation.proofs.Objects.{objects_wires, objects_retraction_came, tells_retraction}
+use Rattle.hla_federation.proofs.Bags.{by_key, at3_here, at3_else, central_ext, bag_same_wires, bag_removed}
 use Rattle.hla_federation.proofs.Tests.{clear_call, caller_joined, not-is-false}
 use Rattle.hla_federation.proofs.Steps.{wired_row, wired_taken, regulator_from, last_le_least}
 

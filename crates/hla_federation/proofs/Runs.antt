@@ -3,7 +3,6 @@ use Rattle.std.proofs.Common.{◌≡◌, ℕ, refl, sym, subst, arith, List, [],
 use Rattle.hla_base.specs.declared.fault.Fault.{Fault}
 use Rattle.hla_null_message.specs.declared.message.Message.{Message}
 use Rattle.hla_null_message.specs.declared.message.Message.TheVariants as message
-use Rattle.hla_base.specs.Rows.{new_row}
 use Rattle.hla_fed_file.specs.Tables.{Tables}
 use Rattle.hla_machine.specs.declared.service.Service.{Service}
 use Rattle.hla_machine.specs.declared.service.Service.TheVariants as service
@@ -11,14 +10,14 @@ use Rattle.hla_machine.specs.declared.step.Step.{Step}
 use Rattle.hla_machine.specs.declared.step.Step.TheVariants.{Join, Call, Carry, Announce, Tick}
 use Rattle.hla_machine.specs.Refusals.{refusal}
 use Rattle.hla_machine.specs.Runs.{IsRun}
-use Rattle.hla_federation.specs.Messages.{ToDiscover, ToRetract, events, occurs, find_event, retractions, discoveries, discoveries_from, dues}
-use Rattle.hla_federation.specs.Federation.{Federation, new_federation, local_bound, Pick, NoPick, PickControl, PickRo, PickRegulates, PickConstrains, PickTso, PickGrant, pick}
+use Rattle.hla_federation.specs.Messages.{ToDiscover, ToRetract, events, occurs, find_event, retractions}
+use Rattle.hla_federation.specs.Federation.{Federation, new_federation, local_bound, Pick, NoPick, PickControl, PickRo, PickRegulates, PickConstrains, PickTso, PickGrant}
 use Rattle.hla_federation.specs.Next.{Outcomes, unless_refused, seen, done, comes, picks, next}
 use Rattle.hla_federation.specs.CentralOf.{central}
 use Rattle.hla_federation.specs.Invariant.{Kept, Laws, Inv}
 use Rattle.hla_federation.specs.Headline.{IsStep, IsKeptStep, happenings, state_after}
 use Rattle.hla_federation.proofs.Directories.{directory_start}
-use Rattle.hla_federation.proofs.Laws.{laws_after, laws_start}
+use Rattle.hla_federation.proofs.Laws.{laws_after}
 use Rattle.hla_federation.proofs.Picks.{PickFacts, pick_tells}
 use Rattle.hla_federation.proofs.Steps.{step_publish_class, step_unpublish_class, step_unsubscribe_class, step_publish_interaction, step_unpublish_interaction, step_subscribe_interaction, step_unsubscribe_interaction, step_send_interaction, step_event, step_null, step_nothing}
 use Rattle.hla_federation.proofs.Ticks.{step_no_pick, step_ro}

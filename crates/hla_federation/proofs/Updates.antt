@@ -1,26 +1,24 @@
 -- Updates and deletions of objects
-use Rattle.std.proofs.Common.{◌≡◌, ◌≢◌, ◌⊎◌, ℕ, ◌+◌, ◌≤◌, ◌<◌, cond, eqb, ltb, not, ◌&&◌, ◌||◌, Bool, true, false, refl, sym, ap, ◌∙◌, inl, inr, subst, ⊎_elim, arith, eqb-true, eq-eqb, is_some, List, [], ◌∷◌, ◌++◌, Option, Some, None, unwrap_or}
-use Rattle.std.proofs.lemmas.Bool.{cases_eq, and_parts, or_parts, cases_Bool}
+use Rattle.std.proofs.Common.{◌≡◌, ◌≢◌, ℕ, ◌≤◌, eqb, not, true, false, refl, sym, ap, ◌∙◌, subst, eqb-true, eq-eqb, List, [], ◌∷◌, Option, Some, None, unwrap_or}
+use Rattle.std.proofs.lemmas.Bool.{and_parts, or_parts}
 use Rattle.std.specs.List.{list_any}
 use Rattle.std.specs.Option.{option_and_then}
 use Rattle.hla_base.specs.declared.content.Content.{Content}
 use Rattle.hla_base.specs.declared.content.Content.TheVariants as content
 use Rattle.hla_base.specs.declared.content.HandleValuePair.{HandleValuePair}
-use Rattle.hla_base.specs.Tables.{is_other, when}
+use Rattle.hla_base.specs.Tables.{is_other}
 use Rattle.hla_base.specs.Rows.{least_stamp}
 use Rattle.hla_fed_file.specs.declared.declared.Order.{Order}
 use Rattle.hla_fed_file.specs.declared.declared.Order.TheVariants.{Receive, Timestamp}
 use Rattle.hla_fed_file.specs.Lookup.{deletion_order}
 use Rattle.hla_machine.specs.declared.service.Service.TheVariants as service
 use Rattle.hla_machine.specs.declared.step.Step.TheVariants.{Call}
-use Rattle.hla_machine.specs.Directory.{Directory, Outgoing, Body, AnUpdate, ADeletion, content_for, reflection_of, subscribed_values, served_object, part_sent, values_of_order, by_handle, update_sent, deletion_sent, without_object}
+use Rattle.hla_machine.specs.Directory.{Directory, Outgoing, AnUpdate, ADeletion, content_for, reflection_of, subscribed_values, served_object, part_sent, values_of_order, by_handle, update_sent, deletion_sent, without_object}
 use Rattle.hla_machine.specs.Central.{Central}
 use Rattle.hla_machine.specs.Sends.{is_ordered}
-use Rattle.hla_machine.specs.Sends as machine
-use Rattle.hla_machine.specs.Refusals.{refusal, is_known, is_owned, is_bad_stamp}
+use Rattle.hla_machine.specs.Refusals.{refusal, is_owned}
 use Rattle.hla_federation.specs.Federation.{Federation}
-use Rattle.hla_federation.specs.Next.{seen, done, sent_all, set_directory}
-use Rattle.hla_federation.specs.CentralOf.{central}
+use Rattle.hla_federation.specs.Next.{seen, done, sent_all}
 use Rattle.hla_federation.specs.Invariant.{EachOf, IsKnownOf, IsTold, DirectoryInv, Kept}
 use Rattle.hla_federation.specs.Headline.{IsKeptStep}
 use Rattle.hla_federation.proofs.Each.{EachOf-append}

@@ -1,8 +1,7 @@
 -- What the components do is what the central machine may do
-use Rattle.std.specs.Prelude.{ℕ, ◌≡◌, List, [], ◌∷◌}
+use Rattle.std.specs.Prelude.{◌≡◌, List, [], ◌∷◌}
 use Rattle.hla_fed_file.specs.Tables.{Tables}
 use Rattle.hla_machine.specs.declared.step.Step.{Step}
-use Rattle.hla_machine.specs.Central.{Central}
 use Rattle.hla_machine.specs.Machine.{Allowed, after}
 use Rattle.hla_machine.specs.Runs.{Happening, IsMachineStep, IsRun}
 use Rattle.hla_federation.specs.Federation.{Federation, new_federation}
