@@ -1,5 +1,5 @@
 -- Ticks that enable regulation, give a message in time-stamp order, or grant an advance
-use Rattle.std.proofs.Common.{◌≡◌, ◌≢◌, ◌⊎◌, ℕ, ◌+◌, ◌≤◌, ◌<◌, min, max, cond, eqb, not, ◌&&◌, ◌||◌, Bool, true, false, refl, sym, le_trans, ap, ◌∙◌, inl, inr, subst, ⊎_elim, arith, eqb-true, List, [], ◌∷◌, ◌++◌, Option, Some, None, IfSome}
+use Rattle.std.proofs.Common.{◌≡◌, ℕ, ◌+◌, ◌≤◌, ◌<◌, min, max, cond, eqb, not, ◌&&◌, Bool, true, false, refl, sym, le_trans, ap, ◌∙◌, inr, subst, ⊎_elim, arith, eqb-true, List, [], ◌∷◌, Option, Some, None, IfSome}
 use Rattle.std.proofs.lemmas.Bool.{cond_both, and_parts, cases_Bool}
 use Rattle.hla_base.specs.declared.content.Event.{Event}
 use Rattle.hla_base.specs.declared.row.AdvanceKind.{AdvanceKind}
@@ -8,20 +8,20 @@ use Rattle.hla_base.specs.declared.row.AdvanceRequest.{AdvanceRequest}
 use Rattle.hla_base.specs.declared.row.Role.{Role}
 use Rattle.hla_base.specs.declared.row.Role.TheVariants.{Disabled, Pending, Enabled}
 use Rattle.hla_base.specs.declared.row.TimeRow.{TimeRow}
-use Rattle.hla_base.specs.Tables.{forever, upd, or_else, when}
-use Rattle.hla_base.specs.Rows.{is_strict, is_next, is_flush, is_regulator, is_constrained, is_disabled, is_pending, next_request, width, keep_if, regulates, picked, granted, bar_after, least_of, first_or, grant_time}
+use Rattle.hla_base.specs.Tables.{upd, or_else, when}
+use Rattle.hla_base.specs.Rows.{is_strict, is_next, is_flush, is_constrained, is_disabled, is_pending, next_request, width, keep_if, regulates, picked, granted, bar_after, least_of, first_or, grant_time}
 use Rattle.hla_callbacks.specs.declared.callback.Delivery.TheVariants as delivery
 use Rattle.hla_machine.specs.declared.step.Step.TheVariants.{Tick}
 use Rattle.hla_machine.specs.declared.step.Choice.TheVariants as choice
-use Rattle.hla_machine.specs.Central.{Copy, Ro, Tso, KeyLe, reach, Reached, at_key}
+use Rattle.hla_machine.specs.Central.{reach, Reached, at_key}
 use Rattle.hla_machine.specs.Callbacks.{IsAtFirstPick, IsLeastKey, MayPick, MayPickIn, MayGrantFlush, MayGrantConstrained, row_after, after_delivery}
 use Rattle.hla_machine.specs.Callbacks as machine
 use Rattle.hla_machine.specs.Refusals.{refusal}
 use Rattle.hla_federation.specs.Messages.{find_event, events, is_event, handle_of, retractions, first_stamp}
-use Rattle.hla_federation.specs.Federation.{Federation, fresh_in, local_bound, flush_time, fits_first, PickRegulates, PickTso, PickGrant}
-use Rattle.hla_federation.specs.Next.{seen, set_row, picks}
+use Rattle.hla_federation.specs.Federation.{Federation, fresh_in, local_bound, fits_first, PickRegulates, PickTso, PickGrant}
+use Rattle.hla_federation.specs.Next.{seen, picks}
 use Rattle.hla_federation.specs.CentralOf.{central, bag_of, wire_copy, tso_copy, ro_copy}
-use Rattle.hla_federation.specs.Invariant.{EachOf, Above, IsTsoQueue, IsInKeyOrder, IsWaiting, RowInv, CopyInv, ObjectInv, is_wire, stamps, Laws, Kept}
+use Rattle.hla_federation.specs.Invariant.{EachOf, Above, IsTsoQueue, IsInKeyOrder, IsWaiting, CopyInv, ObjectInv, is_wire, stamps, Laws, Kept}
 use Rattle.hla_federation.specs.Headline.{IsKeptStep}
 use Rattle.hla_federation.proofs.Tables.{upd_self, least_le, least_le-forever}
 use Rattle.hla_federation.proofs.Keys.{find-key_order}
@@ -31,7 +31,7 @@ use Rattle.hla_federation.proofs.Carries.{Carries-retraction}
 use Rattle.hla_federation.proofs.Times.{KeepsRow, time_local, time_le_bound}
 use Rattle.hla_federation.proofs.Copies.{copies_local}
 use Rattle.hla_federation.proofs.Objects.{objects_queues}
-use Rattle.hla_federation.proofs.Bounds.{below_all, below_bound, copy_cases, wire_above, wire_from, on_wire, tso_of_copy, not_ro_copy}
+use Rattle.hla_federation.proofs.Bounds.{below_all, below_bound, copy_cases, wire_above, wire_from, tso_of_copy, not_ro_copy}
 use Rattle.hla_federation.proofs.Bags.{central_ext, copy_tso, find_first, bag_tso_picked}
 use Rattle.hla_federation.proofs.Picks.{TsoFacts, GrantFacts}
 use Rattle.hla_federation.proofs.Ticks.{discovered, may_give, after_give}

@@ -1,27 +1,23 @@
 -- What the bag is after each change of a federation
-use Rattle.std.proofs.Common.{◌≡◌, ◌≢◌, ◌⊎◌, ℕ, ◌+◌, ◌-◌, ◌≤◌, ◌<◌, cond, eqb, ltb, not, ◌&&◌, ◌||◌, Bool, true, false, refl, sym, ap, ◌∙◌, inl, inr, subst, ⊎_elim, arith, eqb-true, eq-eqb, ne_eqb, is_some, List, [], ◌∷◌, ◌++◌, Option, Some, None, option_map, filter}
+use Rattle.std.proofs.Common.{◌≡◌, ◌≢◌, ◌⊎◌, ℕ, ◌+◌, ◌≤◌, cond, eqb, ◌&&◌, Bool, true, false, refl, sym, ap, ◌∙◌, inl, inr, subst, ⊎_elim, arith, eqb-true, eq-eqb, ne_eqb, List, [], ◌∷◌, ◌++◌, Option, Some, None, option_map}
 use Rattle.std.proofs.lemmas.Bool.{cond_both, and_parts, and_cases, and_from, cases_Bool, not-true, not-false}
 use Rattle.std.proofs.lemmas.Bool.Decides.{nat_tests}
 use Rattle.std.proofs.Math.Path.{fun_ext}
 use Rattle.hla_base.specs.declared.content.Content.{Content}
-use Rattle.hla_base.specs.declared.content.Discovery.{Discovery}
 use Rattle.hla_base.specs.declared.content.Event.{Event}
-use Rattle.hla_base.specs.declared.row.TimeRow.{TimeRow}
 use Rattle.hla_null_message.specs.declared.message.Message.{Message}
 use Rattle.hla_null_message.specs.declared.message.Message.TheVariants as message
-use Rattle.hla_base.specs.Tables.{or_else, is_other, upd, upd2, upd_row}
-use Rattle.hla_base.specs.Rows.{is_disabled, keep_if}
+use Rattle.hla_base.specs.Tables.{or_else, is_other, upd, upd2}
+use Rattle.hla_base.specs.Rows.{is_disabled}
 use Rattle.hla_machine.specs.Directory.{Outgoing, content_for}
 use Rattle.hla_machine.specs.Central.{Central, Copy, Ro, Tso, at3, is_key, at_key, with_copies, demoted}
-use Rattle.hla_machine.specs.Callbacks.{with_demoted, is_among, is_handle}
-use Rattle.hla_machine.specs.Sends.{is_ordered, copy_for}
-use Rattle.hla_federation.specs.Messages.{is_event, find_event, occurs, events, insert_event, handles_of}
+use Rattle.hla_machine.specs.Sends.{is_ordered, kept_stamp, copy_for}
+use Rattle.hla_federation.specs.Messages.{is_event, find_event, occurs, events, insert_event}
 use Rattle.hla_federation.specs.Federation.{Federation}
-use Rattle.hla_federation.specs.Next.{put, put_event, event_of, sent_one, event_came, keeps_order}
-use Rattle.hla_federation.specs.CentralOf.{wire_copy, tso_copy, ro_copy, copy_among, bag_of, central}
-use Rattle.hla_federation.specs.Invariant.{IsTsoQueue}
+use Rattle.hla_federation.specs.Next.{put_event, event_of, sent_one, event_came, keeps_order}
+use Rattle.hla_federation.specs.CentralOf.{wire_copy, tso_copy, ro_copy, bag_of}
 use Rattle.hla_federation.proofs.Tables.{by_number, upd_same, upd_other, upd_row_here, upd_row_self, upd_row_other, upd2_same, upd2_other}
-use Rattle.hla_federation.proofs.Queues.{find-none, find-append, find-insert, find-cons, occurs-cons, not_in_nil, find-occurs}
+use Rattle.hla_federation.proofs.Queues.{find-none, find-append, find-insert, find-cons, occurs-cons, find-occurs}
 use Rattle.hla_federation.proofs.Wires.{events-put_event, find-front, occurs-event}
 use Rattle.hla_federation.proofs.Copies.{AreCopies, places}
 
@@ -136,9 +132,6 @@ module _ (s : Federation) (f : ℕ) (stamp : Option ℕ) (out : Outgoing) where
   abbrev put_for : ℕ → List Message → List Message
   put_for g = put_event f (s.serial f) (s.row f) stamp out (content_for s.directory out.body g)
 
-  new_event : Content → Event
-  new_event x = event_of f (s.serial f) (s.row f) stamp out x
-
   -- what is found at the new key, and at another
   found_new : (o : Option Content) (ms : List Message) → find_event f (s.serial f) (events ms) ≡ None
       → find_event f (s.serial f) (events (put_event f (s.serial f) (s.row f) stamp out o ms)) ≡ option_map (event_of f (s.serial f) (s.row f) stamp out) o
@@ -154,7 +147,7 @@ module _ (s : Federation) (f : ℕ) (stamp : Option ℕ) (out : Outgoing) where
       rw (events-put_event e ms, find-append, find-one) (rw key (or_else-none (find_event g m (events ms))))
 
   copy_new : (o : Option Content) → option_map wire_copy (option_map (event_of f (s.serial f) (s.row f) stamp out) o)
-      ≡ option_map (λ x. record { order = cond (is_ordered (s.row f) stamp out) Tso Ro; stamp = cond (is_ordered (s.row f) stamp out) (Rattle.std.specs.Prelude.unwrap_or stamp 0) 0; content = x }) o
+      ≡ option_map (λ x. record { order = cond (is_ordered (s.row f) stamp out) Tso Ro; stamp = kept_stamp (s.row f) stamp out; content = x }) o
   copy_new None = refl
   copy_new (Some x) = refl
 

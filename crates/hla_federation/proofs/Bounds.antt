@@ -1,18 +1,17 @@
 -- What a component's stale bound says of the central state
-use Rattle.std.proofs.Common.{◌≡◌, ◌≢◌, ◌⊎◌, ℕ, ◌+◌, ◌-◌, ◌≤◌, ◌<◌, min, max, cond, eqb, ltb, ◌&&◌, Bool, true, false, refl, le_trans, lt_of_le_of_lt, inl, inr, ⊎_elim, arith, eqb-true, List, [], ◌∷◌, Option, Some, None, option_map}
+use Rattle.std.proofs.Common.{◌≡◌, ◌≢◌, ◌⊎◌, ℕ, ◌-◌, ◌≤◌, ◌<◌, cond, Bool, true, false, refl, le_trans, inl, inr, ⊎_elim, arith, List, Option, Some, None, option_map}
 use Rattle.std.proofs.lemmas.Bool.{cases_lt, and_from, and_parts, cases_Bool, ltb-true}
 use Rattle.std.proofs.lemmas.Bool.Decides.{nat_tests}
 use Rattle.hla_base.specs.declared.content.Event.{Event}
 use Rattle.hla_base.specs.declared.row.AdvanceRequest.{AdvanceRequest}
-use Rattle.hla_base.specs.declared.row.TimeRow.{TimeRow}
 use Rattle.hla_null_message.specs.declared.message.Message.{Message}
 use Rattle.hla_base.specs.Tables.{or_else, is_other}
-use Rattle.hla_base.specs.Rows.{next_request, width, first_or}
+use Rattle.hla_base.specs.Rows.{next_request, width}
 use Rattle.hla_machine.specs.Central.{Copy, Ro, Tso, Demoted, BelowAllTso, BelowWake, BelowRequest, BelowOut, BelowBound}
 use Rattle.hla_federation.specs.Messages.{find_event, events, first_stamp}
 use Rattle.hla_federation.specs.Federation.{Federation, fresh, fresh_in, local_bound, least_wake}
 use Rattle.hla_federation.specs.CentralOf.{wire_copy, tso_copy, ro_copy, copy_among, central}
-use Rattle.hla_federation.specs.Invariant.{Carries, stamps, Kept, IsWired, is_wire}
+use Rattle.hla_federation.specs.Invariant.{stamps, Kept, IsWired, is_wire}
 use Rattle.hla_federation.proofs.Tables.{least_le, least_le-forever}
 use Rattle.hla_federation.proofs.Carries.{Carries-find, Carries-bound}
 use Rattle.hla_federation.proofs.Queues.{find-first_stamp, not_in_nil}

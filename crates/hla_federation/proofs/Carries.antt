@@ -1,5 +1,5 @@
 -- What a wire carries, after messages are put on it
-use Rattle.std.proofs.Common.{◌≡◌, ◌≢◌, ◌⊎◌, ℕ, ◌+◌, ◌≤◌, ◌<◌, max, cond, eqb, Bool, true, false, refl, sym, le_trans, lt_of_le_of_lt, ap, ◌∙◌, ⊎_elim, arith, eqb-true, ne_eqb, List, [], ◌∷◌, ◌++◌, Some, map}
+use Rattle.std.proofs.Common.{◌≡◌, ◌≢◌, ℕ, ◌+◌, ◌≤◌, ◌<◌, max, cond, eqb, Bool, true, false, refl, le_trans, lt_of_le_of_lt, ap, ◌∙◌, ⊎_elim, arith, eqb-true, ne_eqb, List, [], ◌∷◌, Some, map}
 use Rattle.std.proofs.lemmas.Bool.{cond_both, cases_Bool}
 use Rattle.std.proofs.lemmas.Bool.Decides.{nat_tests}
 use Rattle.hla_base.specs.declared.content.Event.{Event}

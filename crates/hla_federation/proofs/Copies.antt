@@ -1,11 +1,9 @@
 -- Where the copies of messages are, after each change
-use Rattle.std.proofs.Common.{◌≡◌, ◌≢◌, ◌⊎◌, ℕ, ◌+◌, ◌≤◌, ◌<◌, cond, Bool, true, false, refl, sym, subst, ap, ◌∙◌, inl, inr, ⊎_elim, arith, List, [], ◌∷◌, ◌++◌, Option, Some, None, filter, not}
-use Rattle.std.proofs.lemmas.Bool.{cases_Bool}
+use Rattle.std.proofs.Common.{◌≡◌, ◌≢◌, ◌⊎◌, ℕ, ◌+◌, ◌≤◌, ◌<◌, cond, Bool, true, false, refl, sym, ◌∙◌, inl, inr, ⊎_elim, arith, List, [], ◌∷◌, ◌++◌, Option, Some, None}
 use Rattle.std.proofs.lemmas.Bool.Decides.{nat_tests}
 use Rattle.std.proofs.lemmas.List.{append_assoc}
 use Rattle.hla_base.specs.declared.content.Content.{Content}
 use Rattle.hla_base.specs.declared.content.Event.{Event}
-use Rattle.hla_base.specs.declared.row.TimeRow.{TimeRow}
 use Rattle.hla_null_message.specs.declared.message.Message.{Message}
 use Rattle.hla_null_message.specs.declared.message.Message.TheVariants as message
 use Rattle.hla_base.specs.Tables.{upd, upd2, upd_row}
@@ -13,13 +11,13 @@ use Rattle.hla_machine.specs.Directory.{Outgoing, content_for}
 use Rattle.hla_machine.specs.Sends.{one_if}
 use Rattle.hla_federation.specs.Messages.{insert_event, remove_event, is_event, occurs, events}
 use Rattle.hla_federation.specs.Federation.{Federation}
-use Rattle.hla_federation.specs.Next.{put, put_event, event_of, sent_one, keeps_order, event_came, retraction_came, taken}
+use Rattle.hla_federation.specs.Next.{put_event, event_of, keeps_order, event_came, retraction_came, taken}
 use Rattle.hla_federation.specs.Invariant.{EachOf, IsInSerialOrder, CopyInv, places_in}
-use Rattle.hla_federation.proofs.Tables.{by_number, by_pair, upd_each, upd_same, upd_other, upd2_same, upd2_other, upd2_each, upd_row_each, upd_row_here, upd_row_self, upd_row_other}
-use Rattle.hla_federation.proofs.Queues.{occurs-append, occurs-insert, occurs-one, occurs-remove, occurs-cons}
+use Rattle.hla_federation.proofs.Tables.{by_number, upd_same, upd_other, upd2_same, upd2_other, upd2_each, upd_row_each, upd_row_other}
+use Rattle.hla_federation.proofs.Queues.{occurs-append, occurs-insert, occurs-one, occurs-remove}
 use Rattle.hla_federation.proofs.Wires.{events-put_event, occurs-put_event, events-event, events-retraction, occurs-event}
 use Rattle.hla_federation.proofs.Carries.{one_if_le, not_key, not_sender}
-use Rattle.hla_federation.proofs.Each.{EachOf-append, EachOf-weaker, serials_below, serials-put, serials-drop, serials-remove}
+use Rattle.hla_federation.proofs.Each.{serials_below, serials-put, serials-drop, serials-remove}
 
 abbrev pub AreCopies : Federation → Type 0
 AreCopies s = CopyInv s.serial s.wire s.tso s.ro

@@ -1,29 +1,28 @@
 -- Events move from the queue in key order to the one in receive order
-use Rattle.std.proofs.Common.{◌≡◌, ◌≢◌, ◌⊎◌, ℕ, ◌+◌, ◌≤◌, ◌<◌, cond, eqb, ltb, not, ◌&&◌, ◌||◌, Bool, true, false, refl, sym, le_trans, ap, ◌∙◌, inl, inr, subst, ⊎_elim, arith, eq-eqb, ne_eqb, is_some, List, [], ◌∷◌, ◌++◌, Option, Some, None, option_map, filter}
-use Rattle.std.proofs.lemmas.Bool.{cond_both, and_from, and_parts, cases_Bool, cases_lt, lt-ltb, ltb-true, ltb-false, not-true, not_from_true, not_from_false}
+use Rattle.std.proofs.Common.{◌≡◌, ◌≢◌, ℕ, ◌+◌, ◌≤◌, ◌<◌, cond, not, Bool, true, false, refl, sym, ap, ◌∙◌, subst, ⊎_elim, arith, eq-eqb, ne_eqb, is_some, List, [], ◌∷◌, ◌++◌, Option, Some, None, option_map, filter}
+use Rattle.std.proofs.lemmas.Bool.{cond_both, cases_Bool, lt-ltb, ltb-true, ltb-false, not-true}
 use Rattle.std.proofs.lemmas.List.Elements.{All-nil, All-cons}
 use Rattle.hla_base.specs.declared.content.Event.{Event}
 use Rattle.hla_base.specs.declared.number.EventHandle.{EventHandle}
-use Rattle.hla_base.specs.declared.row.TimeRow.{TimeRow}
 use Rattle.hla_base.specs.Tables.{or_else, upd}
-use Rattle.hla_base.specs.Rows.{keep_if, is_pending, is_constrained, is_regulator, constrains}
-use Rattle.hla_base.specs.declared.row.Role.TheVariants.{Disabled, Pending, Enabled}
+use Rattle.hla_base.specs.Rows.{keep_if, is_pending, constrains}
+use Rattle.hla_base.specs.declared.row.Role.TheVariants.{Disabled}
 use Rattle.hla_machine.specs.declared.service.Service.TheVariants as service
 use Rattle.hla_machine.specs.declared.step.Step.TheVariants.{Call, Tick}
-use Rattle.hla_machine.specs.Central.{Copy, Ro, Tso, Demoted, demoted}
-use Rattle.hla_machine.specs.Callbacks.{AreTso, AreBelow, IsCopy, is_among, with_demoted}
+use Rattle.hla_machine.specs.Central.{Copy, Tso, demoted}
+use Rattle.hla_machine.specs.Callbacks.{AreTso, IsCopy, is_among, with_demoted}
 use Rattle.hla_machine.specs.Refusals.{refusal}
 use Rattle.hla_federation.specs.Messages.{find_event, is_event, occurs, events, handle_of, handles_of}
 use Rattle.hla_federation.specs.Federation.{Federation, local_bound, PickConstrains}
-use Rattle.hla_federation.specs.Next.{seen, done, picks, is_below, becomes_constrained, ceases}
+use Rattle.hla_federation.specs.Next.{seen, done, picks, is_below}
 use Rattle.hla_federation.specs.CentralOf.{central, bag_of, wire_copy, tso_copy, ro_copy}
-use Rattle.hla_federation.specs.Invariant.{EachOf, Above, IsTsoQueue, IsInSerialOrder, RowInv, IsWaiting, Kept}
+use Rattle.hla_federation.specs.Invariant.{EachOf, Above, IsTsoQueue, Kept}
 use Rattle.hla_federation.specs.Headline.{IsKeptStep}
 use Rattle.hla_federation.proofs.Tables.{by_number, upd_same, upd_other}
 use Rattle.hla_federation.proofs.Keys.{IsInKeyOrder-filter}
 use Rattle.hla_federation.proofs.Queues.{find-none, find-append, find-cons, find-occurs, occurs-cons, occurs-append, occurs-filter, not_in_nil, IsTsoQueue-filter}
-use Rattle.hla_federation.proofs.Each.{EachOf-append, EachOf-filter, EachOf-passed, EachOf-weaker, EachOf-find, serials-between}
-use Rattle.hla_federation.proofs.Times.{KeepsRow, time_local}
+use Rattle.hla_federation.proofs.Each.{EachOf-append, EachOf-filter, EachOf-passed, EachOf-weaker, serials-between}
+use Rattle.hla_federation.proofs.Times.{time_local}
 use Rattle.hla_federation.proofs.Copies.{copies_local}
 use Rattle.hla_federation.proofs.Objects.{objects_queues}
 use Rattle.hla_federation.proofs.Bounds.{copy_cases, wire_above, below_bound, tso_of_copy, not_ro_copy}

@@ -1,16 +1,14 @@
 -- Members, objects and subscriptions, after each change of the directory
-use Rattle.std.proofs.Common.{◌≡◌, ◌≢◌, ◌⊎◌, ℕ, ◌+◌, ◌≤◌, ◌<◌, cond, eqb, ltb, not, ◌&&◌, Bool, true, false, refl, sym, subst, ap, ◌∙◌, le_trans, inl, inr, ⊎_elim, arith, eqb-true, eq-eqb, ne_eqb, is_some, List, [], ◌∷◌, ◌++◌, Option, Some, None, option_map}
-use Rattle.std.proofs.lemmas.Bool.{cases_eq, cond_both, cases_Bool, and_parts, and_from, not-true, not_from_false, lt-ltb}
-use Rattle.std.proofs.lemmas.Bool.Decides.{nat_tests}
+use Rattle.std.proofs.Common.{◌≡◌, ◌≢◌, ◌⊎◌, ℕ, ◌+◌, ◌≤◌, ◌<◌, cond, eqb, ◌&&◌, Bool, true, false, refl, subst, inl, inr, ⊎_elim, arith, eq-eqb, ne_eqb, is_some, List, [], ◌∷◌, Option, Some, None, option_map}
+use Rattle.std.proofs.lemmas.Bool.{cond_both, cases_Bool, and_parts, and_from}
 use Rattle.std.specs.List.{find}
-use Rattle.hla_base.specs.declared.content.Discovery.{Discovery}
 use Rattle.hla_base.specs.Tables.{upd, upd2}
 use Rattle.hla_fed_file.specs.Tables.{Tables}
 use Rattle.hla_fed_file.specs.Lookup.{object_lineage}
 use Rattle.hla_machine.specs.Directory.{Directory, Object, new_directory, served_object, discovery_at, discovery_of, discovered_by, discovered_by_all, with_member, without_member, with_published, with_subscribed, with_published_interaction, with_subscribed_interaction, with_object, without_object}
 use Rattle.hla_federation.specs.Invariant.{DirectoryInv}
-use Rattle.hla_federation.proofs.Tables.{upd_each, by_number, upd_same, upd_other, upd2_same, upd2_other, upd2_each}
-use Rattle.hla_federation.proofs.Objects.{Grows, grows_same}
+use Rattle.hla_federation.proofs.Tables.{upd_each, by_number, upd_same, upd_other, upd2_other, upd2_each}
+use Rattle.hla_federation.proofs.Objects.{Grows}
 
 -- a laxer test finds as much
 find_more : (p q : ℕ → Bool) (xs : List ℕ) → ((k : ℕ) → p k ≡ true → q k ≡ true) → is_some (find p xs) ≡ true → is_some (find q xs) ≡ true

@@ -1,6 +1,6 @@
 -- What holds of each element of a list, and the order of serials
-use Rattle.std.proofs.Common.{◌≡◌, ◌≢◌, ℕ, ◌+◌, ◌≤◌, ◌<◌, cond, eqb, Bool, true, false, refl, sym, subst, ⊎_elim, arith, eqb-true, eq-eqb, List, [], ◌∷◌, ◌++◌, Option, Some, None, filter}
-use Rattle.std.proofs.lemmas.Bool.{cond_both, and_parts, cases_Bool, cases_lt}
+use Rattle.std.proofs.Common.{◌≡◌, ℕ, ◌+◌, ◌≤◌, ◌<◌, Bool, true, false, ⊎_elim, arith, List, [], ◌∷◌, ◌++◌, Some, filter}
+use Rattle.std.proofs.lemmas.Bool.{cond_both, cases_Bool, cases_lt}
 use Rattle.std.proofs.lemmas.Bool.Decides.{nat_tests}
 use Rattle.hla_base.specs.declared.content.Event.{Event}
 use Rattle.hla_machine.specs.Sends.{one_if}

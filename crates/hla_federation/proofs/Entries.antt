@@ -1,6 +1,6 @@
 -- Enabling time regulation: the entry, and the step
-use Rattle.std.proofs.Common.{◌≡◌, ◌≢◌, ◌⊎◌, ℕ, ◌+◌, ◌-◌, ◌≤◌, ◌<◌, min, max, cond, eqb, ltb, not, ◌&&◌, Bool, true, false, refl, sym, le_trans, ap, ◌∙◌, inl, inr, subst, ⊎_elim, arith, eq-eqb, ne_eqb, List, [], ◌∷◌, Option, Some, None}
-use Rattle.std.proofs.lemmas.Bool.{cases_eq, cond_both, and_parts, cases_Bool, cases_lt, ltb-true, lt-ltb}
+use Rattle.std.proofs.Common.{◌≡◌, ◌≢◌, ◌⊎◌, ℕ, ◌+◌, ◌-◌, ◌≤◌, ◌<◌, max, cond, eqb, ltb, true, false, refl, sym, ◌∙◌, inl, inr, subst, ⊎_elim, arith, eq-eqb, ne_eqb, Option, Some, None}
+use Rattle.std.proofs.lemmas.Bool.{cases_eq, cases_Bool, cases_lt, ltb-true, lt-ltb}
 use Rattle.hla_base.specs.declared.row.AdvanceRequest.{AdvanceRequest}
 use Rattle.hla_base.specs.declared.row.Role.{Role}
 use Rattle.hla_base.specs.declared.row.Role.TheVariants.{Disabled, Pending, Enabled}
@@ -13,7 +13,7 @@ use Rattle.hla_machine.specs.Central.{BelowSomeWake, bar_of, low_entry}
 use Rattle.hla_machine.specs.Refusals.{refusal}
 use Rattle.hla_federation.specs.Messages.{first_stamp}
 use Rattle.hla_federation.specs.Federation.{Federation, fresh_in, local_bound, entry, held_by, wants_entry}
-use Rattle.hla_federation.specs.Next.{seen, done, enters}
+use Rattle.hla_federation.specs.Next.{seen, done}
 use Rattle.hla_federation.specs.CentralOf.{central}
 use Rattle.hla_federation.specs.Invariant.{Kept}
 use Rattle.hla_federation.specs.Headline.{IsKeptStep}

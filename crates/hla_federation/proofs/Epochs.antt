@@ -1,5 +1,5 @@
 -- Enabling and disabling time regulation, and retractions, keep what the components know of time
-use Rattle.std.proofs.Common.{◌≡◌, ◌≢◌, ◌⊎◌, ℕ, ◌+◌, ◌-◌, ◌≤◌, ◌<◌, min, max, cond, eqb, not, ◌&&◌, Bool, true, false, refl, sym, le_trans, ap, ◌∙◌, inl, inr, subst, ⊎_elim, arith, List, [], ◌∷◌, ◌++◌, Option, Some, None}
+use Rattle.std.proofs.Common.{◌≡◌, ◌≢◌, ℕ, ◌+◌, ◌-◌, ◌≤◌, ◌<◌, min, not, ◌&&◌, Bool, true, false, refl, le_trans, subst, ⊎_elim, arith, List, ◌∷◌, Option, Some, None}
 use Rattle.std.proofs.lemmas.Bool.{cases_lt, cond_both, and_parts, and_from, cases_Bool}
 use Rattle.hla_base.specs.declared.row.TimeRow.{TimeRow}
 use Rattle.hla_base.specs.declared.row.Role.{Role}
@@ -7,13 +7,13 @@ use Rattle.hla_base.specs.declared.row.Role.TheVariants.{Disabled, Pending, Enab
 use Rattle.hla_base.specs.declared.row.AdvanceRequest.{AdvanceRequest}
 use Rattle.hla_null_message.specs.declared.message.Message.{Message}
 use Rattle.hla_null_message.specs.declared.message.Message.TheVariants as message
-use Rattle.hla_base.specs.Tables.{forever, upd, upd2, upd_row, upd_column, is_other, least, when}
-use Rattle.hla_base.specs.Rows.{is_regulator, is_constrained, is_pending, is_disabled, is_enabled, next_request, width, regulating_from, new_row}
+use Rattle.hla_base.specs.Tables.{forever, upd, upd_row, upd_column, is_other, least, when}
+use Rattle.hla_base.specs.Rows.{is_regulator, is_constrained, is_pending, is_disabled, is_enabled, next_request, width, regulating_from}
 use Rattle.hla_machine.specs.Central.{SentEvent}
-use Rattle.hla_federation.specs.Messages.{remove_event, events, first_stamp}
+use Rattle.hla_federation.specs.Messages.{remove_event}
 use Rattle.hla_federation.specs.Federation.{Federation, fresh_in, fresh_of, local_bound}
 use Rattle.hla_federation.specs.Next.{put, put_retraction, enters, stops, retracts, retraction_came}
-use Rattle.hla_federation.specs.Invariant.{Above, IsTsoQueue, IsInKeyOrder, Carries, RowInv, TimeInv, IsTimed, stamps}
+use Rattle.hla_federation.specs.Invariant.{Above, IsTsoQueue, IsInKeyOrder, Carries, RowInv, IsTimed, stamps}
 use Rattle.hla_federation.proofs.Keys.{IsInKeyOrder-remove}
 use Rattle.hla_federation.proofs.Queues.{IsTsoQueue-remove, first_stamp-remove, Above-remove}
 use Rattle.hla_federation.proofs.Carries.{Carries-at, Carries-later, Carries-null, Carries-enter, Carries-retract}

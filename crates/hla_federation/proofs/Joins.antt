@@ -1,30 +1,25 @@
 -- A federate joins
-use Rattle.std.proofs.Common.{◌≡◌, ◌≢◌, ◌⊎◌, ℕ, ◌+◌, ◌≤◌, ◌<◌, cond, eqb, ltb, not, ◌&&◌, Bool, true, false, refl, sym, le_trans, ap, ◌∙◌, inl, inr, subst, ⊎_elim, arith, eq-eqb, ne_eqb, List, [], ◌∷◌, ◌++◌, Option, Some, None}
+use Rattle.std.proofs.Common.{◌≡◌, ◌≢◌, ℕ, ◌+◌, ◌≤◌, ◌<◌, eqb, not, ◌&&◌, true, false, refl, sym, le_trans, ap, ◌∙◌, ⊎_elim, arith, List, [], ◌++◌, None}
 use Rattle.std.proofs.lemmas.Bool.{and_parts, and_from, and_left, cases_Bool, le-ltb, ltb-true, lt-ltb}
 use Rattle.std.proofs.lemmas.Bool.Decides.{nat_tests}
-use Rattle.hla_base.specs.declared.content.Content.{Content}
-use Rattle.hla_base.specs.declared.content.Event.{Event}
-use Rattle.hla_null_message.specs.declared.message.Message.{Message}
 use Rattle.hla_base.specs.Tables.{forever, upd, upd_new, is_other, least}
-use Rattle.hla_base.specs.Rows.{is_regulator, is_constrained, next_request, new_row}
+use Rattle.hla_base.specs.Rows.{is_regulator, next_request, new_row}
 use Rattle.hla_machine.specs.declared.step.Step.TheVariants.{Join}
-use Rattle.hla_machine.specs.Directory.{Directory, with_member}
+use Rattle.hla_machine.specs.Directory.{with_member}
 use Rattle.hla_machine.specs.Refusals.{refusal}
-use Rattle.hla_federation.specs.Messages.{events, discoveries, discoveries_from, retractions, occurs}
+use Rattle.hla_federation.specs.Messages.{events, discoveries, discoveries_from, retractions}
 use Rattle.hla_federation.specs.Federation.{Federation}
 use Rattle.hla_federation.specs.Next.{seen, done, joins}
-use Rattle.hla_federation.specs.CentralOf.{central}
-use Rattle.hla_federation.specs.Invariant.{Above, Carries, EachOf, IsBehind, IsTold, Tells, RowInv, IsTimed, TimeInv, CopyInv, ObjectInv, IsWired, is_wire, stamps, Kept}
+use Rattle.hla_federation.specs.Invariant.{Carries, RowInv, IsTimed, IsWired, is_wire, stamps, Kept}
 use Rattle.hla_federation.specs.Headline.{IsKeptStep}
 use Rattle.hla_federation.proofs.Tables.{by_number, upd_each, upd_same, upd_other, upd_new_here, upd_new_there, upd_new_else, least_le, le_least, least_le-forever}
-use Rattle.hla_federation.proofs.Wires.{events-nil, discoveries-nil, retractions-nil}
-use Rattle.hla_federation.proofs.Times.{CarriesIn, fresh_in-mono}
+use Rattle.hla_federation.proofs.Times.{fresh_in-mono}
 use Rattle.hla_federation.proofs.Copies.{copies_wires}
-use Rattle.hla_federation.proofs.Objects.{Grows, objects_shift, tells_grows, behind_nil}
+use Rattle.hla_federation.proofs.Objects.{objects_shift, tells_grows}
 use Rattle.hla_federation.proofs.Directories.{directory_joined, grows_joined}
 use Rattle.hla_federation.proofs.Bags.{central_ext, bag_same_wires}
 
--- no federate has joined that has just joined
+-- the row of a federate that has just joined
 pub row_start : RowInv new_row
 row_start = record {
   idle = λ _. refl;

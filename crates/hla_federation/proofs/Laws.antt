@@ -1,15 +1,12 @@
 -- What the central state keeps by itself, whatever the step
-use Rattle.std.proofs.Common.{◌≡◌, ◌≢◌, ◌⊎◌, ℕ, ◌+◌, ◌-◌, ◌≤◌, ◌<◌, cond, eqb, not, ◌&&◌, Bool, true, false, refl, sym, le_trans, ap, ◌∙◌, inl, inr, subst, ⊎_elim, arith, eqb-true, is_some, List, [], ◌∷◌, ◌++◌, Option, Some, None, option_map, unwrap_or}
+use Rattle.std.proofs.Common.{◌≡◌, ◌≢◌, ◌⊎◌, ℕ, ◌+◌, ◌≤◌, ◌<◌, cond, eqb, ◌&&◌, Bool, true, false, refl, sym, le_trans, ◌∙◌, inl, inr, subst, ⊎_elim, arith, is_some, List, [], ◌∷◌, Option, Some, None, option_map, unwrap_or}
 use Rattle.std.proofs.lemmas.Bool.{cases_eq, cond_both, and_parts, and_from, cases_Bool}
 use Rattle.std.proofs.lemmas.Bool.Decides.{nat_tests}
-use Rattle.hla_base.specs.declared.content.Content.{Content}
-use Rattle.hla_base.specs.declared.content.Content.TheVariants as content
 use Rattle.hla_base.specs.declared.content.Discovery.{Discovery}
 use Rattle.hla_base.specs.declared.number.EventHandle.{EventHandle}
 use Rattle.hla_base.specs.declared.row.TimeRow.{TimeRow}
-use Rattle.hla_base.specs.declared.row.AdvanceRequest.{AdvanceRequest}
 use Rattle.hla_base.specs.Tables.{upd, upd2, is_other, or_else}
-use Rattle.hla_base.specs.Rows.{is_disabled, new_row}
+use Rattle.hla_base.specs.Rows.{is_disabled}
 use Rattle.hla_fed_file.specs.Tables.{Tables}
 use Rattle.hla_callbacks.specs.declared.callback.Callback.{Callback}
 use Rattle.hla_callbacks.specs.declared.callback.Callback.TheVariants as callback
@@ -20,7 +17,7 @@ use Rattle.hla_machine.specs.declared.service.Service.TheVariants as service
 use Rattle.hla_machine.specs.declared.service.ResignAction.{ResignAction}
 use Rattle.hla_machine.specs.declared.service.ResignAction.TheVariants.{ReleaseAttributes, DeleteObjects, DeleteObjectsAndReleaseAttributes, NoAction}
 use Rattle.hla_machine.specs.declared.step.Step.{Step}
-use Rattle.hla_machine.specs.declared.step.Step.TheVariants.{Join, Call, Carry, Announce, Tick}
+use Rattle.hla_machine.specs.declared.step.Step.TheVariants.{Join, Call, Carry, Tick}
 use Rattle.hla_machine.specs.declared.step.Carried.{Carried}
 use Rattle.hla_machine.specs.declared.step.Carried.TheVariants as carried
 use Rattle.hla_machine.specs.declared.step.Answer.{Answer}
@@ -29,10 +26,10 @@ use Rattle.hla_machine.specs.declared.step.Outcome.{Outcome}
 use Rattle.hla_machine.specs.declared.step.Outcome.TheVariants as outcome
 use Rattle.hla_machine.specs.declared.step.Choice.{Choice}
 use Rattle.hla_machine.specs.declared.step.Choice.TheVariants as choice
-use Rattle.hla_machine.specs.Directory.{Directory, Body, Outgoing, content_for, receives, objects_of, deletions_sent, deletion_sent, update_sent, interaction_sent, with_member, without_member}
-use Rattle.hla_machine.specs.Central.{Central, new_central, no_event, Copy, CopyOrder, Ro, Tso, Demoted, SentEvent, at_key, at3, with_copies, is_key, demoted_order, demoted}
-use Rattle.hla_machine.specs.Callbacks.{with_demoted, is_among, row_after, after_delivery, after_constraint, after_pick}
-use Rattle.hla_machine.specs.Sends.{sent_one, sent_all, sent_event, copy_for, is_ordered, kept_stamp, is_retractable, is_told, owed_to_receivers, one_if}
+use Rattle.hla_machine.specs.Directory.{Directory, Outgoing, content_for, receives, objects_of, deletions_sent, deletion_sent, update_sent, interaction_sent, with_member}
+use Rattle.hla_machine.specs.Central.{Central, new_central, no_event, Copy, CopyOrder, Ro, Tso, Demoted, SentEvent, at_key, with_copies, is_key, demoted_order, demoted}
+use Rattle.hla_machine.specs.Callbacks.{with_demoted, is_among, after_delivery, after_constraint, after_pick}
+use Rattle.hla_machine.specs.Sends.{sent_one, sent_all, sent_event, copy_for, is_ordered, kept_stamp, is_retractable, is_told, owed_to_receivers}
 use Rattle.hla_machine.specs.Machine.{seen, Allowed, after, after_done, after_call, after_resign, after_carry, after_retract, after_enter, after_cease, left_by, arrived, retraction_arrived}
 use Rattle.hla_machine.specs.Refusals.{refusal}
 use Rattle.hla_federation.specs.Invariant.{Laws}

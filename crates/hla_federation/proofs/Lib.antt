@@ -29,5 +29,11 @@ pub mod TimeSteps
 pub mod Entries
 pub mod Demotions
 pub mod Advances
+pub mod Queries
+pub mod Retractions
+pub mod Discoveries
+pub mod Registrations
+pub mod Updates
+pub mod Resigns
 pub mod Runs
 mod Sound

@@ -1,21 +1,21 @@
 -- Discoveries come before what is said of their objects, after each change of wires and queues
-use Rattle.std.proofs.Common.{◌≡◌, ◌≢◌, ◌⊎◌, ℕ, ◌+◌, ◌≤◌, ◌<◌, cond, Bool, true, false, refl, sym, subst, ap, ◌∙◌, le_trans, inl, inr, ⊎_elim, arith, List, [], ◌∷◌, ◌++◌, Option, Some, None, map}
-use Rattle.std.proofs.lemmas.Bool.{cond_both, cases_Bool}
+use Rattle.std.proofs.Common.{◌≡◌, ◌≢◌, ℕ, ◌≤◌, ◌<◌, cond, true, false, refl, sym, subst, ap, ◌∙◌, le_trans, arith, List, [], ◌∷◌, ◌++◌, map}
+use Rattle.std.proofs.lemmas.Bool.{cond_both}
 use Rattle.hla_base.specs.declared.content.Content.{Content}
 use Rattle.hla_base.specs.declared.content.Content.TheVariants as content
 use Rattle.hla_base.specs.declared.content.Event.{Event}
 use Rattle.hla_base.specs.declared.content.Discovery.{Discovery}
 use Rattle.hla_null_message.specs.declared.message.Message.{Message}
 use Rattle.hla_null_message.specs.declared.message.Message.TheVariants as message
-use Rattle.hla_base.specs.Tables.{upd, upd2, upd_row}
+use Rattle.hla_base.specs.Tables.{upd, upd2}
 use Rattle.hla_machine.specs.Directory.{Directory}
 use Rattle.hla_federation.specs.Messages.{Control, ToDiscover, ToRetract, discoveries, insert_event, remove_event}
 use Rattle.hla_federation.specs.Federation.{Federation}
-use Rattle.hla_federation.specs.Next.{put, put_discoveries, taken, keeps_order, event_came, discovery_came, retraction_came}
+use Rattle.hla_federation.specs.Next.{put, put_discoveries, keeps_order, event_came, discovery_came, retraction_came}
 use Rattle.hla_federation.specs.Invariant.{EachOf, IsKnownOf, IsTold, IsBehind, Tells, IsWaiting, IsControl, ObjectInv}
-use Rattle.hla_federation.proofs.Tables.{upd_each, upd_same, upd2_each, upd2_same, by_number}
-use Rattle.hla_federation.proofs.Each.{EachOf-append, EachOf-parts, EachOf-weaker, EachOf-remove, EachOf-insert}
-use Rattle.hla_federation.proofs.Wires.{discoveries-put_event, discoveries-put_null, discoveries-put_retraction, discoveries-put_discoveries, discoveries-event, discoveries-null, discoveries-retraction, discoveries-discovery, discoveries-nil}
+use Rattle.hla_federation.proofs.Tables.{upd_each, upd2_each, upd2_same}
+use Rattle.hla_federation.proofs.Each.{EachOf-append, EachOf-weaker, EachOf-remove, EachOf-insert}
+use Rattle.hla_federation.proofs.Wires.{discoveries-put_event, discoveries-put_null, discoveries-put_retraction, discoveries-put_discoveries, discoveries-event, discoveries-null, discoveries-retraction, discoveries-discovery}
 
 abbrev pub AreObjects : Federation → Type 0
 AreObjects s = ObjectInv s.directory s.wire s.tso s.ro s.controls
@@ -61,9 +61,6 @@ behind_tail (content.Reflection object values) d ds b = b.1
 behind_tail (content.Removal object) d ds b = b.1
 
 -- a discovery that is put later is of an object that was not known
-pub IsNew : Directory → ℕ → Discovery → Type 0
-IsNew d f x = d.known x.object f ≡ false
-
 abbrev pub AreNew : Directory → ℕ → List Discovery → Type 0
 AreNew d f ds = EachOf (λ (x : Discovery). d.known x.object f ≡ false) ds
 

@@ -1,6 +1,6 @@
 -- What each pick tells
-use Rattle.std.proofs.Common.{◌≡◌, ℕ, ◌+◌, ◌≤◌, cond, leb, ◌&&◌, ◌||◌, true, false, refl, List, [], ◌∷◌, Option, Some, None}
-use Rattle.std.proofs.lemmas.Bool.{cond_both, and_parts, or_cases, leb-true}
+use Rattle.std.proofs.Common.{◌≡◌, ℕ, ◌≤◌, cond, leb, ◌&&◌, ◌||◌, true, false, refl, List, [], ◌∷◌, Option, Some, None}
+use Rattle.std.proofs.lemmas.Bool.{cond_both, and_parts, leb-true}
 use Rattle.hla_base.specs.declared.content.Event.{Event}
 use Rattle.hla_base.specs.declared.row.TimeRow.{TimeRow}
 use Rattle.hla_base.specs.declared.row.AdvanceRequest.{AdvanceRequest}

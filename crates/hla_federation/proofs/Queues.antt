@@ -1,14 +1,12 @@
 -- Laws of queues and wires
-use Rattle.std.proofs.Common.{◌≡◌, ℕ, ◌+◌, ◌≤◌, min, cond, eqb, not, Bool, true, false, refl, sym, ap, ⊎_elim, arith, eqb-true, eq-eqb, List, [], ◌∷◌, ◌++◌, Option, Some, None, filter}
+use Rattle.std.proofs.Common.{◌≡◌, ℕ, ◌+◌, ◌≤◌, min, cond, not, Bool, true, false, refl, sym, ap, ⊎_elim, arith, eqb-true, List, [], ◌∷◌, ◌++◌, Option, Some, None, filter}
 use Rattle.std.proofs.lemmas.Bool.{cond_both, and_parts, cases_Bool, or_parts, ltb-false}
 use Rattle.std.proofs.lemmas.Bool.Decides.{nat_tests}
 use Rattle.hla_base.specs.declared.content.Event.{Event}
-use Rattle.hla_null_message.specs.declared.message.Message.{Message}
-use Rattle.hla_null_message.specs.declared.message.Message.TheVariants as message
 use Rattle.hla_base.specs.Tables.{forever, or_else}
 use Rattle.hla_machine.specs.Sends.{one_if}
 use Rattle.hla_federation.specs.Invariant.{Above, IsTsoQueue}
-use Rattle.hla_federation.specs.Messages.{is_before, insert_event, is_event, find_event, remove_event, retractions, occurs, events, first_stamp}
+use Rattle.hla_federation.specs.Messages.{is_before, insert_event, is_event, find_event, remove_event, occurs, first_stamp}
 
 pub Above-weaker : (v w : ℕ) (xs : List Event) → w ≤ v → Above v xs → Above w xs
 Above-weaker v w [] l h = tt

@@ -3,7 +3,6 @@ use Rattle.std.proofs.Common.{◌≡◌, ℕ, refl, sym, subst, arith, List, [],
 use Rattle.hla_base.specs.declared.fault.Fault.{Fault}
 use Rattle.hla_null_message.specs.declared.message.Message.{Message}
 use Rattle.hla_null_message.specs.declared.message.Message.TheVariants as message
-use Rattle.hla_base.specs.Rows.{new_row}
 use Rattle.hla_fed_file.specs.Tables.{Tables}
 use Rattle.hla_machine.specs.declared.service.Service.{Service}
 use Rattle.hla_machine.specs.declared.service.Service.TheVariants as service
@@ -11,48 +10,92 @@ use Rattle.hla_machine.specs.declared.step.Step.{Step}
 use Rattle.hla_machine.specs.declared.step.Step.TheVariants.{Join, Call, Carry, Announce, Tick}
 use Rattle.hla_machine.specs.Refusals.{refusal}
 use Rattle.hla_machine.specs.Runs.{IsRun}
-use Rattle.hla_federation.specs.Messages.{events, occurs, find_event, retractions, discoveries, discoveries_from, dues}
-use Rattle.hla_federation.specs.Federation.{Federation, new_federation, local_bound, Pick, NoPick, PickControl, PickRo, PickRegulates, PickConstrains, PickTso, PickGrant, pick}
+use Rattle.hla_federation.specs.Messages.{ToDiscover, ToRetract, events, occurs, find_event, retractions}
+use Rattle.hla_federation.specs.Federation.{Federation, new_federation, local_bound, Pick, NoPick, PickControl, PickRo, PickRegulates, PickConstrains, PickTso, PickGrant}
 use Rattle.hla_federation.specs.Next.{Outcomes, unless_refused, seen, done, comes, picks, next}
 use Rattle.hla_federation.specs.CentralOf.{central}
 use Rattle.hla_federation.specs.Invariant.{Kept, Laws, Inv}
-use Rattle.hla_federation.specs.Headline.{IsStep, IsKeptStep, happenings, state_after, Covered, CoveredDone, CoveredService, CoveredMessages, CoveredPick, AreCovered}
+use Rattle.hla_federation.specs.Headline.{IsStep, IsKeptStep, happenings, state_after}
 use Rattle.hla_federation.proofs.Directories.{directory_start}
-use Rattle.hla_federation.proofs.Laws.{laws_after, laws_start}
+use Rattle.hla_federation.proofs.Laws.{laws_after}
 use Rattle.hla_federation.proofs.Picks.{PickFacts, pick_tells}
 use Rattle.hla_federation.proofs.Steps.{step_publish_class, step_unpublish_class, step_unsubscribe_class, step_publish_interaction, step_unpublish_interaction, step_subscribe_interaction, step_unsubscribe_interaction, step_send_interaction, step_event, step_null, step_nothing}
 use Rattle.hla_federation.proofs.Ticks.{step_no_pick, step_ro}
 use Rattle.hla_federation.proofs.Joins.{row_start, step_join}
+use Rattle.hla_federation.proofs.Tests.{ticker_joined}
+use Rattle.hla_federation.proofs.TimeSteps.{step_advance, step_advance_available, step_next, step_next_available, step_flush, step_constrain, step_lookahead, step_asynchronous, step_synchronous, step_announce, step_stop}
+use Rattle.hla_federation.proofs.Entries.{step_regulate}
+use Rattle.hla_federation.proofs.Demotions.{step_cease, step_constrains}
+use Rattle.hla_federation.proofs.Advances.{step_regulates, step_grant, step_tso}
+use Rattle.hla_federation.proofs.Queries.{step_bound, step_time, step_query_lookahead, step_least, step_object_class, step_interaction_class, step_attribute, step_parameter, step_object, step_object_name}
+use Rattle.hla_federation.proofs.Retractions.{step_retract, step_retraction}
+use Rattle.hla_federation.proofs.Discoveries.{step_request, step_discover, step_discovery, step_subscribe}
+use Rattle.hla_federation.proofs.Registrations.{step_register}
+use Rattle.hla_federation.proofs.Updates.{step_update, step_delete}
+use Rattle.hla_federation.proofs.Resigns.{step_resign}
 
 -- ---- steps that are not refused
-call_step : (s : Federation) (f : ℕ) (x : Service) → Kept s → refusal (seen s) (Call f x) ≡ None → CoveredService x → IsKeptStep s (Call f x) (done s (Call f x))
-call_step s f (service.PublishObjectClass class attributes) kept none c = step_publish_class s f class kept attributes none
-call_step s f (service.UnpublishObjectClass class) kept none c = step_unpublish_class s f class kept none
-call_step s f (service.UnsubscribeObjectClass class) kept none c = step_unsubscribe_class s f class kept none
-call_step s f (service.PublishInteractionClass class) kept none c = step_publish_interaction s f class kept none
-call_step s f (service.UnpublishInteractionClass class) kept none c = step_unpublish_interaction s f class kept none
-call_step s f (service.SubscribeInteractionClass class) kept none c = step_subscribe_interaction s f class kept none
-call_step s f (service.UnsubscribeInteractionClass class) kept none c = step_unsubscribe_interaction s f class kept none
-call_step s f (service.SendInteraction class values stamp) kept none c = step_send_interaction s f class values stamp kept none
-call_step s f x kept none c = absurd c
+call_step : (s : Federation) (f : ℕ) (x : Service) → Inv s → refusal (seen s) (Call f x) ≡ None → IsKeptStep s (Call f x) (done s (Call f x))
+call_step s f (service.Resign way) inv none = step_resign s f way inv.kept none
+call_step s f (service.PublishObjectClass class attributes) inv none = step_publish_class s f class inv.kept attributes none
+call_step s f (service.UnpublishObjectClass class) inv none = step_unpublish_class s f class inv.kept none
+call_step s f (service.SubscribeObjectClassAttributes class attributes) inv none = step_subscribe s f class attributes inv.kept none
+call_step s f (service.UnsubscribeObjectClass class) inv none = step_unsubscribe_class s f class inv.kept none
+call_step s f (service.PublishInteractionClass class) inv none = step_publish_interaction s f class inv.kept none
+call_step s f (service.UnpublishInteractionClass class) inv none = step_unpublish_interaction s f class inv.kept none
+call_step s f (service.SubscribeInteractionClass class) inv none = step_subscribe_interaction s f class inv.kept none
+call_step s f (service.UnsubscribeInteractionClass class) inv none = step_unsubscribe_interaction s f class inv.kept none
+call_step s f (service.RegisterObjectInstance class name) inv none = step_register s f class name inv.kept none
+call_step s f (service.UpdateAttributeValues object values stamp) inv none = step_update s f object values stamp inv.kept none
+call_step s f (service.SendInteraction class values stamp) inv none = step_send_interaction s f class values stamp inv.kept none
+call_step s f (service.DeleteObjectInstance object stamp) inv none = step_delete s f object stamp inv.kept none
+call_step s f (service.Retract event) inv none = step_retract s f event inv.kept inv.laws none
+call_step s f (service.EnableTimeRegulation time lookahead) inv none = step_regulate s f time lookahead inv.kept none
+call_step s f service.DisableTimeRegulation inv none = step_stop s f inv.kept none
+call_step s f service.EnableTimeConstrained inv none = step_constrain s f inv.kept none
+call_step s f service.DisableTimeConstrained inv none = step_cease s f inv.kept none
+call_step s f (service.TimeAdvanceRequest time) inv none = step_advance s f time inv.kept none
+call_step s f (service.TimeAdvanceRequestAvailable time) inv none = step_advance_available s f time inv.kept none
+call_step s f (service.NextEventRequest time) inv none = step_next s f time inv.kept none
+call_step s f (service.NextEventRequestAvailable time) inv none = step_next_available s f time inv.kept none
+call_step s f (service.FlushQueueRequest time) inv none = step_flush s f time inv.kept none
+call_step s f (service.ModifyLookahead lookahead) inv none = step_lookahead s f inv.kept lookahead none
+call_step s f service.EnableAsynchronousDelivery inv none = step_asynchronous s f inv.kept none
+call_step s f service.DisableAsynchronousDelivery inv none = step_synchronous s f inv.kept none
+call_step s f service.QueryLbts inv none = step_bound s f inv.kept none
+call_step s f service.QueryFederateTime inv none = step_time s f inv.kept none
+call_step s f service.QueryMinNextEventTime inv none = step_least s f inv.kept none
+call_step s f service.QueryLookahead inv none = step_query_lookahead s f inv.kept none
+call_step s f (service.GetObjectClassHandle name) inv none = step_object_class s f inv.kept name none
+call_step s f (service.GetInteractionClassHandle name) inv none = step_interaction_class s f inv.kept name none
+call_step s f (service.GetAttributeHandle name class) inv none = step_attribute s f inv.kept name class none
+call_step s f (service.GetParameterHandle name class) inv none = step_parameter s f inv.kept name class none
+call_step s f (service.GetObjectInstanceHandle name) inv none = step_object s f inv.kept name none
+call_step s f (service.GetObjectInstanceName object) inv none = step_object_name s f inv.kept object none
 
-carry_step : (s : Federation) (g f : ℕ) (ms : List Message) → Kept s → s.wire g f ≡ ms → refusal (seen s) (Carry g f) ≡ None → CoveredMessages ms → IsKeptStep s (Carry g f) (comes s g f ms)
-carry_step s g f [] kept front none c = step_nothing s g f kept none
-carry_step s g f (message.Event e ∷ ms) kept front none c = step_event s g f e ms kept front none
-carry_step s g f (message.Null k v ∷ ms) kept front none c = step_null s g f k v ms kept front none
-carry_step s g f (m ∷ ms) kept front none c = absurd c
+carry_step : (s : Federation) (g f : ℕ) (ms : List Message) → Kept s → s.wire g f ≡ ms → refusal (seen s) (Carry g f) ≡ None → IsKeptStep s (Carry g f) (comes s g f ms)
+carry_step s g f [] kept front none = step_nothing s g f kept none
+carry_step s g f (message.Event e ∷ ms) kept front none = step_event s g f e ms kept front none
+carry_step s g f (message.Null k v ∷ ms) kept front none = step_null s g f k v ms kept front none
+carry_step s g f (message.Retraction m ∷ ms) kept front none = step_retraction s g f m ms front kept none
+carry_step s g f (message.Discovery d ∷ ms) kept front none = step_discovery s g f d ms kept front none
 
-pick_step : (s : Federation) (f : ℕ) (p : Pick) → Kept s → Laws (central s) → refusal (seen s) (Tick f) ≡ None → PickFacts (s.controls f) (s.row f) (s.ro f) (s.tso f) (local_bound s f) p → CoveredPick p → IsKeptStep s (Tick f) (picks s f p)
-pick_step s f NoPick kept laws none facts c = step_no_pick s f kept none
-pick_step s f (PickRo e rest) kept laws none facts c = step_ro s f e rest kept facts.1 laws facts.0 facts.2 none
-pick_step s f p kept laws none facts c = absurd c
+pick_step : (s : Federation) (f : ℕ) (p : Pick) → Inv s → refusal (seen s) (Tick f) ≡ None → PickFacts (s.controls f) (s.row f) (s.ro f) (s.tso f) (local_bound s f) p → IsKeptStep s (Tick f) (picks s f p)
+pick_step s f NoPick inv none facts = step_no_pick s f inv.kept none
+pick_step s f (PickControl (ToDiscover from d) rest) inv none facts = step_discover s f rest inv.kept from d facts none
+pick_step s f (PickControl (ToRetract e) rest) inv none facts = step_request s f rest inv.kept e facts none
+pick_step s f (PickRo e rest) inv none facts = step_ro s f e rest inv.kept facts.1 inv.laws facts.0 facts.2 none
+pick_step s f PickRegulates inv none facts = step_regulates s f inv.kept none facts
+pick_step s f PickConstrains inv none facts = step_constrains s f inv.kept (ticker_joined (seen s) f none) none facts
+pick_step s f (PickTso q e rest) inv none facts = step_tso s f q e rest inv.kept facts.1 inv.laws (ticker_joined (seen s) f none) facts.0 none
+pick_step s f (PickGrant q t) inv none facts = step_grant s f q t inv.kept facts (ticker_joined (seen s) f none) none
 
-done_step : (s : Federation) (step : Step) → Inv s → refusal (seen s) step ≡ None → CoveredDone s step → IsKeptStep s step (done s step)
-done_step s (Join name) inv none c = step_join s name inv.kept none
-done_step s (Call f x) inv none c = call_step s f x inv.kept none c
-done_step s (Carry g f) inv none c = carry_step s g f (s.wire g f) inv.kept refl none c
-done_step s (Announce f) inv none c = absurd c
-done_step s (Tick f) inv none c = pick_step s f _ inv.kept inv.laws none (pick_tells (s.controls f) (s.row f) (s.ro f) (s.tso f) (local_bound s f)) c
+done_step : (s : Federation) (step : Step) → Inv s → refusal (seen s) step ≡ None → IsKeptStep s step (done s step)
+done_step s (Join name) inv none = step_join s name inv.kept none
+done_step s (Call f x) inv none = call_step s f x inv none
+done_step s (Carry g f) inv none = carry_step s g f (s.wire g f) inv.kept refl none
+done_step s (Announce f) inv none = step_announce s f inv.kept none
+done_step s (Tick f) inv none = pick_step s f _ inv none (pick_tells (s.controls f) (s.row f) (s.ro f) (s.tso f) (local_bound s f))
 
 -- ---- any step
 -- the laws of the machine are kept by each of its steps
@@ -62,19 +105,19 @@ with_laws s step o laws k = record {
   machine = record { allowed = k.allowed; follows = k.follows };
 }
 
-refused_or : (s : Federation) (step : Step) (o : Option Fault) → refusal (seen s) step ≡ o → Inv s → (o ≡ None → CoveredDone s step) → IsStep s step (unless_refused o s (done s step))
-refused_or s step None is inv c = with_laws s step (done s step) inv.laws (done_step s step inv is (c refl))
-refused_or s step (Some e) is inv c = record { kept = inv; machine = record { allowed = is; follows = refl } }
+refused_or : (s : Federation) (step : Step) (o : Option Fault) → refusal (seen s) step ≡ o → Inv s → IsStep s step (unless_refused o s (done s step))
+refused_or s step None is inv = with_laws s step (done s step) inv.laws (done_step s step inv is)
+refused_or s step (Some e) is inv = record { kept = inv; machine = record { allowed = is; follows = refl } }
 
-pub step_covered : (s : Federation) (step : Step) → Inv s → Covered s step → IsStep s step (next s step)
-step_covered s step inv c = refused_or s step (refusal (seen s) step) refl inv c
+pub each_step : (s : Federation) (step : Step) → Inv s → IsStep s step (next s step)
+each_step s step inv = refused_or s step (refusal (seen s) step) refl inv
 
 -- ---- lists of steps
-pub is_run : (s : Federation) (steps : List Step) → Inv s → AreCovered s steps → IsRun (central s) (happenings s steps) (central (state_after s steps))
-is_run s [] inv c = refl
-is_run s (step ∷ steps) inv c =
-    let one = step_covered s step inv c.0 in
-    (one.machine.allowed, subst (λ d. IsRun d (happenings (next s step).state steps) (central (state_after (next s step).state steps))) one.machine.follows (is_run (next s step).state steps one.kept c.1))
+pub is_run : (s : Federation) (steps : List Step) → Inv s → IsRun (central s) (happenings s steps) (central (state_after s steps))
+is_run s [] inv = refl
+is_run s (step ∷ steps) inv =
+    let one = each_step s step inv in
+    (one.machine.allowed, subst (λ d. IsRun d (happenings (next s step).state steps) (central (state_after (next s step).state steps))) one.machine.follows (is_run (next s step).state steps one.kept))
 
 -- ---- the beginning
 pub inv_start : (catalogue : Tables) → Inv (new_federation catalogue)

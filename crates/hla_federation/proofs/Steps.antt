@@ -1,12 +1,8 @@
 -- Steps that change the directory alone, sends, and what arrives
-use Rattle.std.proofs.Common.{◌≡◌, ◌≢◌, ◌⊎◌, ℕ, ◌+◌, ◌-◌, ◌≤◌, ◌<◌, min, max, cond, eqb, ltb, not, ◌&&◌, ◌||◌, Bool, true, false, refl, sym, le_trans, lt_of_le_of_lt, ap, ◌∙◌, inl, inr, subst, ⊎_elim, arith, eq-eqb, eqb-true, ne_eqb, List, [], ◌∷◌, ◌++◌, Option, Some, None, unwrap_or, map}
-use Rattle.std.proofs.lemmas.Bool.{cond_both, and_parts, and_from, and_cases, or_parts, cases_Bool, cases_lt, ltb-true, ltb-false, lt-ltb, not-true, not-false}
-use Rattle.std.proofs.lemmas.List.{append-nil}
-use Rattle.hla_base.specs.declared.fault.Fault.{Fault}
+use Rattle.std.proofs.Common.{◌≡◌, ℕ, ◌+◌, ◌≤◌, max, cond, ltb, not, ◌&&◌, Bool, true, false, refl, sym, le_trans, ap, ◌∙◌, subst, ⊎_elim, arith, List, [], ◌∷◌, ◌++◌, Option, Some, None, unwrap_or}
+use Rattle.std.proofs.lemmas.Bool.{cond_both, and_parts, and_from, and_cases, or_parts, cases_Bool, ltb-false, lt-ltb}
 use Rattle.hla_base.specs.declared.content.Content.{Content}
-use Rattle.hla_base.specs.declared.content.Content.TheVariants as content
 use Rattle.hla_base.specs.declared.content.Event.{Event}
-use Rattle.hla_base.specs.declared.content.Discovery.{Discovery}
 use Rattle.hla_base.specs.declared.content.HandleValuePair.{HandleValuePair}
 use Rattle.hla_base.specs.declared.row.TimeRow.{TimeRow}
 use Rattle.hla_base.specs.declared.row.Role.{Role}
@@ -14,36 +10,33 @@ use Rattle.hla_base.specs.declared.row.Role.TheVariants.{Disabled, Pending, Enab
 use Rattle.hla_base.specs.declared.row.AdvanceRequest.{AdvanceRequest}
 use Rattle.hla_null_message.specs.declared.message.Message.{Message}
 use Rattle.hla_null_message.specs.declared.message.Message.TheVariants as message
-use Rattle.hla_base.specs.Tables.{is_other, upd, upd2, upd_row, when}
-use Rattle.hla_base.specs.Rows.{is_regulator, is_constrained, is_enabled, is_disabled, is_pending, is_next, keep_if, width, least_stamp, least_stamp_in}
-use Rattle.hla_machine.specs.declared.service.Service.{Service}
+use Rattle.hla_base.specs.Tables.{is_other, upd2, upd_row, when}
+use Rattle.hla_base.specs.Rows.{is_regulator, is_constrained, is_enabled, is_disabled, is_next, keep_if, width, least_stamp, least_stamp_in}
 use Rattle.hla_machine.specs.declared.service.Service.TheVariants as service
-use Rattle.hla_machine.specs.declared.step.Step.{Step}
-use Rattle.hla_machine.specs.declared.step.Step.TheVariants.{Join, Call, Carry, Announce, Tick}
+use Rattle.hla_machine.specs.declared.step.Step.TheVariants.{Call, Carry}
 use Rattle.hla_machine.specs.declared.step.Answer.TheVariants as answer
 use Rattle.hla_machine.specs.declared.step.Carried.TheVariants as carried
 use Rattle.hla_machine.specs.declared.step.Outcome.TheVariants as outcome
 use Rattle.hla_machine.specs.declared.step.Choice.TheVariants as choice
 use Rattle.hla_machine.specs.Machine.{is_removal, arrived, IsCarriedCopy}
-use Rattle.hla_machine.specs.Directory.{Directory, Outgoing, Body, AnInteraction, AnUpdate, ADeletion, content_for, interaction_sent, by_handle}
-use Rattle.hla_machine.specs.Central.{Central}
+use Rattle.hla_machine.specs.Directory.{Directory, Outgoing, AnInteraction, content_for, interaction_sent, by_handle}
 use Rattle.hla_machine.specs.Sends.{is_ordered, kept_stamp, is_some_ordered, copy_for}
 use Rattle.hla_machine.specs.Sends as machine
 use Rattle.hla_machine.specs.Refusals.{refusal, is_bad_stamp}
 use Rattle.hla_federation.proofs.Tests.{caller_joined, clear_call}
 use Rattle.hla_federation.specs.Messages.{events, discoveries, discoveries_from, retractions, handle_of}
-use Rattle.hla_federation.specs.Federation.{Federation, fresh_in, fresh, local_bound}
-use Rattle.hla_federation.specs.Next.{Outcomes, does, set_directory, put, put_event, event_of, sent_one, sent_all, sends, calls, done, seen, comes, carried_event, event_came, next}
+use Rattle.hla_federation.specs.Federation.{Federation, fresh_in}
+use Rattle.hla_federation.specs.Next.{set_directory, put, put_event, event_of, sent_one, sent_all, done, seen, comes, event_came}
 use Rattle.hla_federation.specs.CentralOf.{central, bag_of, wire_copy}
-use Rattle.hla_federation.specs.Invariant.{IsTold, Tells, IsWired, is_wire, EachOf, TimeInv, Kept, Inv, DirectoryInv}
+use Rattle.hla_federation.specs.Invariant.{IsTold, Tells, IsWired, is_wire, EachOf, TimeInv, Kept, DirectoryInv}
 use Rattle.hla_federation.specs.Headline.{IsKeptStep}
-use Rattle.hla_federation.proofs.Tables.{by_number, upd_row_each, upd_row_other, upd2_each}
-use Rattle.hla_federation.proofs.Wires.{discoveries-put_event, discoveries-put_null, discoveries-event, retractions-put_event, retractions-event, retractions-null, discoveries-null, events-null}
+use Rattle.hla_federation.proofs.Tables.{upd_row_each, upd2_each}
+use Rattle.hla_federation.proofs.Wires.{discoveries-put_event, discoveries-event, retractions-put_event, retractions-event, retractions-null, discoveries-null, events-null}
 use Rattle.hla_federation.proofs.Times.{CarriesIn, time_sent, time_event_came, time_null_came}
 use Rattle.hla_federation.proofs.Copies.{copies_sent, copies_wires, copies_event_came}
-use Rattle.hla_federation.proofs.Objects.{Grows, grows_same, objects_grow, objects_wires, objects_event_came, objects_null_taken, tells_send}
+use Rattle.hla_federation.proofs.Objects.{Grows, objects_grow, objects_wires, objects_event_came, objects_null_taken, tells_send}
 use Rattle.hla_federation.proofs.Directories.{directory_published, directory_published_interaction, directory_subscribed_interaction, directory_unsubscribed}
-use Rattle.hla_federation.proofs.Bounds.{on_wire, wire_from, option_map-some}
+use Rattle.hla_federation.proofs.Bounds.{wire_from, option_map-some}
 use Rattle.hla_federation.proofs.Each.{EachOf-weaker}
 use Rattle.hla_federation.proofs.Bags.{central_ext, bag_sent, bag_same_wires, bag_event, copy_came}
 

@@ -1,8 +1,8 @@
 -- Where a step is not refused no test applies
-use Rattle.std.proofs.Common.{◌≡◌, ℕ, not, Bool, true, false, refl, List, [], ◌∷◌, Option, Some, None}
+use Rattle.std.proofs.Common.{◌≡◌, ℕ, not, Bool, true, false, refl, List, [], ◌∷◌, Some, None}
 use Rattle.std.proofs.lemmas.Bool.{cond_both}
 use Rattle.hla_machine.specs.declared.service.Service.{Service}
-use Rattle.hla_machine.specs.declared.step.Step.TheVariants.{Call, Carry, Announce, Tick}
+use Rattle.hla_machine.specs.declared.step.Step.TheVariants.{Call, Announce, Tick}
 use Rattle.hla_machine.specs.Refusals.{Test, Seen, first_fault, refusal, not_joined, call_tests}
 
 abbrev pub AllClear : List Test → Type 0

@@ -1,5 +1,5 @@
 -- What a tick gives: nothing, a message in receive order, and what waits among the controls
-use Rattle.std.proofs.Common.{◌≡◌, ◌≢◌, ◌⊎◌, ℕ, ◌+◌, ◌≤◌, ◌<◌, cond, eqb, not, ◌&&◌, Bool, true, false, refl, sym, ap, ◌∙◌, inl, inr, subst, ⊎_elim, arith, eqb-true, List, [], ◌∷◌, ◌++◌, Option, Some, None}
+use Rattle.std.proofs.Common.{◌≡◌, ◌≢◌, ℕ, cond, Bool, true, false, refl, sym, ap, ◌∙◌, subst, ⊎_elim, arith, eqb-true, List, [], ◌∷◌, ◌++◌, Some, None}
 use Rattle.std.proofs.lemmas.Bool.{cases_eq, cases_Bool, and_parts}
 use Rattle.std.specs.List.{All}
 use Rattle.std.proofs.lemmas.List.Elements.{All-nil, All-cons}
@@ -8,26 +8,23 @@ use Rattle.hla_base.specs.declared.content.Content.TheVariants as content
 use Rattle.hla_base.specs.declared.content.Event.{Event}
 use Rattle.hla_base.specs.declared.content.Discovery.{Discovery}
 use Rattle.hla_base.specs.declared.number.EventHandle.{EventHandle}
-use Rattle.hla_base.specs.declared.row.TimeRow.{TimeRow}
 use Rattle.hla_null_message.specs.declared.message.Message.{Message}
 use Rattle.hla_null_message.specs.declared.message.Message.TheVariants as message
-use Rattle.hla_base.specs.Tables.{upd, upd2}
+use Rattle.hla_base.specs.Tables.{upd}
 use Rattle.hla_callbacks.specs.declared.callback.Delivery.{Delivery}
 use Rattle.hla_callbacks.specs.declared.callback.Delivery.TheVariants as delivery
 use Rattle.hla_machine.specs.declared.step.Step.TheVariants.{Tick}
-use Rattle.hla_machine.specs.declared.step.Answer.TheVariants as answer
-use Rattle.hla_machine.specs.declared.step.Outcome.TheVariants as outcome
 use Rattle.hla_machine.specs.declared.step.Choice.{Choice}
 use Rattle.hla_machine.specs.declared.step.Choice.TheVariants as choice
 use Rattle.hla_machine.specs.Directory.{Directory}
-use Rattle.hla_machine.specs.Central.{Central, Copy, Ro, Tso, Demoted, at_key}
-use Rattle.hla_machine.specs.Callbacks.{IsDiscovered, IsCopy, IsFirstRo, MayReceive, MayDeliver, MayPickUp, after_delivery, after_pick}
+use Rattle.hla_machine.specs.Central.{Central, Ro, Tso, Demoted, at_key}
+use Rattle.hla_machine.specs.Callbacks.{IsDiscovered, IsFirstRo, MayReceive, MayDeliver, MayPickUp, after_delivery, after_pick}
 use Rattle.hla_machine.specs.Refusals.{refusal}
 use Rattle.hla_federation.specs.Messages.{find_event, events, discoveries, discoveries_from, handle_of, is_event}
 use Rattle.hla_federation.specs.Federation.{Federation, NoPick, PickRo, holds_back}
-use Rattle.hla_federation.specs.Next.{Outcomes, seen, picks, gives, given, given_content}
+use Rattle.hla_federation.specs.Next.{seen, picks, gives, given, given_content}
 use Rattle.hla_federation.specs.CentralOf.{central, bag_of, wire_copy, tso_copy, ro_copy}
-use Rattle.hla_federation.specs.Invariant.{EachOf, IsKnownOf, IsTold, IsBehind, Tells, IsWaiting, IsInSerialOrder, AfterSerial, CopyInv, ObjectInv, Laws, Kept}
+use Rattle.hla_federation.specs.Invariant.{EachOf, IsKnownOf, IsTold, IsBehind, Tells, IsWaiting, IsInSerialOrder, CopyInv, ObjectInv, Laws, Kept}
 use Rattle.hla_federation.specs.Headline.{IsKeptStep}
 use Rattle.hla_federation.proofs.Tables.{upd_self}
 use Rattle.hla_federation.proofs.Queues.{find-key, find-cons, occurs-cons}

@@ -1,39 +1,34 @@
 -- Steps of time management: requests, roles, announcements and queries
-use Rattle.std.proofs.Common.{◌≡◌, ◌≢◌, ◌⊎◌, ℕ, ◌+◌, ◌-◌, ◌≤◌, ◌<◌, min, max, cond, eqb, ltb, not, ◌&&◌, ◌||◌, Bool, true, false, refl, sym, le_trans, ap, ◌∙◌, inl, inr, subst, ⊎_elim, arith, eq-eqb, ne_eqb, List, [], ◌∷◌, ◌++◌, Option, Some, None}
-use Rattle.std.proofs.lemmas.Bool.{cases_eq, cond_both, and_parts, cases_Bool, cases_lt, ltb-true, ltb-false, lt-ltb}
+use Rattle.std.proofs.Common.{◌≡◌, ℕ, ◌+◌, ◌≤◌, max, ltb, not, ◌&&◌, ◌||◌, Bool, true, false, refl, sym, le_trans, ap, subst, arith, List, ◌++◌, Option, Some, None}
+use Rattle.std.proofs.lemmas.Bool.{cond_both, and_parts, ltb-true, ltb-false}
 use Rattle.hla_base.specs.declared.content.Event.{Event}
 use Rattle.hla_base.specs.declared.row.AdvanceKind.{AdvanceKind}
 use Rattle.hla_base.specs.declared.row.AdvanceKind.TheVariants as kind
 use Rattle.hla_base.specs.declared.row.AdvanceRequest.{AdvanceRequest}
-use Rattle.hla_base.specs.declared.row.Role.{Role}
-use Rattle.hla_base.specs.declared.row.Role.TheVariants.{Disabled, Pending, Enabled}
+use Rattle.hla_base.specs.declared.row.Role.TheVariants.{Disabled, Pending}
 use Rattle.hla_base.specs.declared.row.TimeRow.{TimeRow}
-use Rattle.hla_null_message.specs.declared.message.Message.{Message}
 use Rattle.hla_null_message.specs.declared.message.Message.TheVariants as message
-use Rattle.hla_base.specs.Tables.{forever, is_other, upd, upd_row, greatest}
-use Rattle.hla_base.specs.Rows.{is_next, is_flush, is_regulator, is_constrained, is_enabled, is_disabled, is_pending, is_none_of, is_advancing, next_request, width, requested, regulating_from}
-use Rattle.hla_machine.specs.declared.service.Service.{Service}
+use Rattle.hla_base.specs.Tables.{forever, upd, upd_row}
+use Rattle.hla_base.specs.Rows.{is_next, is_flush, is_regulator, is_constrained, is_pending, is_none_of, is_advancing, width, requested}
 use Rattle.hla_machine.specs.declared.service.Service.TheVariants as service
 use Rattle.hla_machine.specs.declared.step.Step.TheVariants.{Call, Announce}
-use Rattle.hla_machine.specs.Central.{Central, Copy, Ro, Tso, Demoted, BelowSomeWake, bar_of, low_entry}
-use Rattle.hla_machine.specs.Machine.{MayBound, MayBeNext, BelowAllDemoted}
-use Rattle.hla_machine.specs.Refusals.{refusal, request_tests, call_tests}
-use Rattle.hla_federation.specs.Messages.{find_event, events, discoveries, discoveries_from, retractions, first_stamp, least_ordered, is_event}
-use Rattle.hla_federation.specs.Federation.{Federation, fresh, fresh_of, fresh_in, local_bound, least_waiting, entry, held_by, wants_entry}
-use Rattle.hla_federation.specs.Next.{Outcomes, seen, done, put, set_row, announces, announced, enters, stops}
-use Rattle.hla_federation.specs.CentralOf.{central, wire_copy, tso_copy, ro_copy}
-use Rattle.hla_federation.specs.Invariant.{EachOf, Above, RowInv, Tells, IsTimed, CopyInv, ObjectInv, Kept}
+use Rattle.hla_machine.specs.declared.step.Answer.TheVariants as answer
+use Rattle.hla_machine.specs.Refusals.{refusal, request_tests}
+use Rattle.hla_federation.specs.Messages.{events, discoveries, discoveries_from, retractions}
+use Rattle.hla_federation.specs.Federation.{Federation, fresh, fresh_of, fresh_in, local_bound}
+use Rattle.hla_federation.specs.Next.{answers, seen, done, put, set_row, announces}
+use Rattle.hla_federation.specs.CentralOf.{central}
+use Rattle.hla_federation.specs.Invariant.{Tells, CopyInv, ObjectInv, Kept}
 use Rattle.hla_federation.specs.Headline.{IsKeptStep}
-use Rattle.hla_federation.proofs.Tables.{upd_row_each, le_greatest, greatest_ge, greatest_le, greatest_is, least_le-forever}
+use Rattle.hla_federation.proofs.Tables.{upd_row_each}
 use Rattle.hla_federation.proofs.Wires.{events-put_null, discoveries-put_null, retractions-put_null}
-use Rattle.hla_federation.proofs.Queues.{find-first_stamp}
-use Rattle.hla_federation.proofs.Times.{KeepsRow, time_row, time_announced, time_le_bound}
-use Rattle.hla_federation.proofs.Epochs.{next_none, IsEntry, time_enters, time_stops}
+use Rattle.hla_federation.proofs.Times.{KeepsRow, time_row, time_announced}
+use Rattle.hla_federation.proofs.Epochs.{next_none, time_stops}
 use Rattle.hla_federation.proofs.Copies.{copies_wires}
 use Rattle.hla_federation.proofs.Objects.{objects_wires, tells_null}
-use Rattle.hla_federation.proofs.Bounds.{below_all, below_out, below_bound, below_wake, copy_cases}
+use Rattle.hla_federation.proofs.Bounds.{below_out}
 use Rattle.hla_federation.proofs.Bags.{central_ext, bag_same_wires}
-use Rattle.hla_federation.proofs.Tests.{AllClear, clear_call, caller_joined, announcer_joined, not-is-false}
+use Rattle.hla_federation.proofs.Tests.{AllClear, clear_call, caller_joined, announcer_joined}
 use Rattle.hla_federation.proofs.Steps.{wired_row}
 
 -- ---- a change of one row alone
@@ -173,9 +168,6 @@ module _ (s : Federation) (f : ℕ) (kept : Kept s) where
 
 -- ---- null messages
 module _ (s : Federation) (f j v : ℕ) where
-  abbrev nulls : ℕ → ℕ → List Message
-  nulls = upd_row s.wire s.directory.joined f (λ _. put (message.Null j v))
-
   pub null_events : (g k : ℕ) → events (upd_row s.wire s.directory.joined f (λ _. put (message.Null j v)) g k) ≡ events (s.wire g k)
   null_events = upd_row_each s.wire s.directory.joined f (λ _. put (message.Null j v)) (λ g k ms. events ms ≡ events (s.wire g k)) (λ k _. events-put_null j v (s.wire f k)) (λ _ _. refl)
 
@@ -201,8 +193,8 @@ module _ (s : Federation) (f j v : ℕ) where
 
 pub step_announce : (s : Federation) (f : ℕ) → Kept s → refusal (seen s) (Announce f) ≡ None → IsKeptStep s (Announce f) (done s (Announce f))
 step_announce s f kept none = cond_both (is_regulator (s.row f) && ltb (s.last f) (fresh s f))
-    (Rattle.hla_federation.specs.Next.answers (Rattle.hla_machine.specs.declared.step.Answer.TheVariants.Announced (Some (fresh s f))) (announces s f (fresh s f)))
-    (Rattle.hla_federation.specs.Next.answers (Rattle.hla_machine.specs.declared.step.Answer.TheVariants.Announced None) s) (IsKeptStep s (Announce f))
+    (answers (answer.Announced (Some (fresh s f))) (announces s f (fresh s f)))
+    (answers (answer.Announced None) s) (IsKeptStep s (Announce f))
     (λ y. let p = and_parts _ _ y in let l = ltb-true _ _ p.1 in record {
       kept = record {
         directory = kept.directory;

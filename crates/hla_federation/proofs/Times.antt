@@ -1,7 +1,6 @@
 -- What the components know of time is kept by each change: rows, queues, what is sent, and what arrives
-use Rattle.std.proofs.Common.{◌≡◌, ◌≢◌, ◌⊎◌, ℕ, ◌+◌, ◌-◌, ◌≤◌, ◌<◌, min, max, cond, eqb, not, ◌&&◌, Bool, true, false, refl, sym, le_trans, ap, ◌∙◌, inl, inr, subst, ⊎_elim, arith, eq-eqb, ne_eqb, List, [], ◌∷◌, ◌++◌, Option, Some, None}
-use Rattle.std.proofs.lemmas.Bool.{cases_lt, cond_both, and_parts, and_from, cases_Bool}
-use Rattle.std.proofs.lemmas.Bool.Decides.{nat_tests}
+use Rattle.std.proofs.Common.{◌≡◌, ◌≢◌, ◌⊎◌, ℕ, ◌+◌, ◌≤◌, ◌<◌, min, cond, eqb, ◌&&◌, true, refl, le_trans, inl, inr, subst, arith, List, ◌∷◌, Option, Some, None}
+use Rattle.std.proofs.lemmas.Bool.{cond_both, and_parts, and_from}
 use Rattle.hla_base.specs.declared.content.Content.{Content}
 use Rattle.hla_base.specs.declared.content.Event.{Event}
 use Rattle.hla_base.specs.declared.content.Discovery.{Discovery}
@@ -9,19 +8,18 @@ use Rattle.hla_base.specs.declared.row.TimeRow.{TimeRow}
 use Rattle.hla_base.specs.declared.row.AdvanceRequest.{AdvanceRequest}
 use Rattle.hla_null_message.specs.declared.message.Message.{Message}
 use Rattle.hla_null_message.specs.declared.message.Message.TheVariants as message
-use Rattle.hla_base.specs.Tables.{forever, upd, upd2, upd_row, upd_column, upd_new, is_other, least}
-use Rattle.hla_base.specs.Rows.{is_regulator, is_constrained, is_pending, is_disabled, is_enabled, next_request, width}
-use Rattle.hla_machine.specs.Directory.{Outgoing, content_for, receives}
-use Rattle.hla_machine.specs.Central.{SentEvent}
+use Rattle.hla_base.specs.Tables.{upd, upd2, upd_row, is_other, least}
+use Rattle.hla_base.specs.Rows.{is_regulator, is_constrained, next_request}
+use Rattle.hla_machine.specs.Directory.{Outgoing, content_for}
 use Rattle.hla_machine.specs.Sends.{is_ordered, kept_stamp, sent_event}
-use Rattle.hla_federation.specs.Messages.{insert_event, occurs, events, first_stamp}
+use Rattle.hla_federation.specs.Messages.{insert_event, first_stamp}
 use Rattle.hla_federation.specs.Federation.{Federation, fresh, fresh_of, fresh_in, local_bound}
-use Rattle.hla_federation.specs.Next.{put, put_event, put_discoveries, event_of, sent_one, announces, taken, null_bound, null_came, keeps_order, event_came, discovery_came}
-use Rattle.hla_federation.specs.Invariant.{Above, IsTsoQueue, IsInKeyOrder, Carries, RowInv, TimeInv, IsTimed, stamps}
+use Rattle.hla_federation.specs.Next.{put, put_event, event_of, sent_one, announces, null_bound, null_came, keeps_order, event_came, discovery_came}
+use Rattle.hla_federation.specs.Invariant.{Above, IsTsoQueue, IsInKeyOrder, Carries, RowInv, IsTimed, stamps}
 use Rattle.hla_federation.proofs.Keys.{IsInKeyOrder-insert}
 use Rattle.hla_federation.proofs.Queues.{Above-insert, IsTsoQueue-insert, first_stamp-insert}
 use Rattle.hla_federation.proofs.Carries.{raised_ge, Carries-at, Carries-later, Carries-send, Carries-null}
-use Rattle.hla_federation.proofs.Tables.{upd_each, upd_same, upd_other, by_number, by_pair, upd_self, upd2_same, upd2_other, upd2_each, upd_row_each, least-mono, least_le, le_least, least_le-forever}
+use Rattle.hla_federation.proofs.Tables.{upd_each, upd_same, upd_other, by_number, by_pair, upd_self, upd2_same, upd2_other, upd2_each, upd_row_each, least-mono, least_le}
 
 -- ---- a change of one component alone
 pub record KeepsRow (s : Federation) (f : ℕ) (r : TimeRow) (tso : List Event) : Type 0 where

@@ -1,5 +1,5 @@
 -- What lies on a wire, after messages are put and taken
-use Rattle.std.proofs.Common.{◌≡◌, ℕ, ◌+◌, ◌≤◌, cond, eqb, true, false, refl, ap, ◌∙◌, arith, eq-eqb, List, [], ◌∷◌, ◌++◌, Option, Some, None, map}
+use Rattle.std.proofs.Common.{◌≡◌, ℕ, ◌+◌, ◌≤◌, cond, eqb, refl, ap, ◌∙◌, arith, eq-eqb, List, [], ◌∷◌, ◌++◌, Some, None, map}
 use Rattle.hla_base.specs.declared.content.Event.{Event}
 use Rattle.hla_base.specs.declared.content.Discovery.{Discovery}
 use Rattle.hla_null_message.specs.declared.message.Message.{Message}

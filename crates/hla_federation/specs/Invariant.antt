@@ -1,5 +1,5 @@
 -- What the components and wires keep at every moment
-use Rattle.std.specs.Prelude.{ℕ, ◌+◌, ◌≡◌, ◌≢◌, ◌≤◌, ◌<◌, max, cond, eqb, ltb, ◌&&◌, Bool, true, false, Option, None, Some, is_some, List, [], ◌∷◌, ◌++◌}
+use Rattle.std.specs.Prelude.{ℕ, ◌+◌, ◌≡◌, ◌≢◌, ◌≤◌, ◌<◌, max, cond, eqb, ltb, ◌&&◌, Bool, true, false, None, Some, is_some, List, [], ◌∷◌, ◌++◌}
 use Rattle.hla_base.specs.declared.content.Content.{Content}
 use Rattle.hla_base.specs.declared.content.Content.TheVariants as content
 use Rattle.hla_base.specs.declared.content.Event.{Event}

@@ -1,8 +1,8 @@
 //! The theorem over definitions: whatever the steps, the components are a run of the central machine.
 
-ghost use Rattle.hla_federation.specs.Headline.{EachCoveredListIsARun};
+ghost use Rattle.hla_federation.specs.Headline.{EachListIsARun};
 
-/// Each list of covered steps is a run of the machine.
+/// Each list of steps of the components, with what they answer and choose, is a run of the central machine.
 pub fn headline()
-    ensures { EachCoveredListIsARun }
+    ensures { EachListIsARun }
 {}
