@@ -2,12 +2,20 @@
 
 ghost use Rattle.std.specs.Prelude.{◌≡◌, ◌<◌, ◌≤◌, length, IfErr, OnOk, OnErr};
 ghost use Rattle.hla_base.specs.declared.fault.Fault.TheVariants.{OutOfMemory};
-ghost use Rattle.hla_federation.specs.Members.{offered, taken_back, ChangesPeers, HaveWires};
+ghost use Rattle.hla_federation.specs.Members.{offered, taken_back, ChangesPeers, HaveWires, is_peer};
 
 use crate::member::{Interaction, Member};
-use hla_base::Fault;
+use hla_base::{Fault, FederateNo};
 use hla_fed_file::Catalogue;
 use std::alloc::Global;
+
+/// Whether the member at a place is another than the sender; numbers count from 1.
+fn is_peer(place: usize, from: FederateNo) -> bool
+    requires { place < 16 }
+    ensures { result ≡ is_peer from place }
+{
+    place + 1 != from as usize
+}
 
 /// Takes an interaction back from each other member before a place.
 fn take_back_all(
@@ -20,11 +28,12 @@ fn take_back_all(
     requires some { 0 < sent.now.from }
     requires within { sent.now.from ≤ 16 }
     requires wires { HaveWires members.old.items }
+    requires few { length members.old.items ≤ 16 }
     ensures length { length members.new.items ≡ length members.old.items }
     ensures peers { ChangesPeers (taken_back catalogue.now sent.now.from sent.now.class) sent.now.from end members.old.items members.new.items }
 {
     for k in 0..end {
-        if k + 1 != sent.from as usize {
+        if is_peer(k, sent.from) {
             members[k].take_back(catalogue, sent);
         }
     }
@@ -41,13 +50,14 @@ pub fn offer_all(
     requires some { 0 < sent.now.from }
     requires within { sent.now.from ≤ 16 }
     requires wires { HaveWires members.old.items }
+    requires few { length members.old.items ≤ 16 }
     ensures length { length members.new.items ≡ length members.old.items }
     ensures ok { OnOk result (ChangesPeers (offered catalogue.now sent.now.from sent.now.serial sent.now.class sent.now.values.now) sent.now.from (length members.old.items) members.old.items members.new.items) }
     ensures err { IfErr result (λ e. e ≡ Fault.OutOfMemory) }
     ensures unchanged { OnErr result (members.new.items ≡ members.old.items) }
 {
     for k in 0..members.len() {
-        if k + 1 != sent.from as usize {
+        if is_peer(k, sent.from) {
             if let Err(fault) = members[k].offer(alloc, catalogue, sent) {
                 take_back_all(catalogue, members, k, sent);
                 return Err(fault);
