@@ -16,7 +16,7 @@ use std::alloc::Global;
 use std::marker::Model;
 
 /// What a FED file declares. Contracts see its four lists, in the order of the numbers.
-#[derive(Debug, Drop)]
+#[derive(Debug)]
 pub struct Catalogue {
     object_classes: List<ObjectClass>,
     interaction_classes: List<InteractionClass>,
@@ -39,6 +39,22 @@ impl Model for Catalogue {
     ghost use Rattle.hla_fed_file.specs.Indexes.{AreIndexed};
 
     ghost invariant = { λ c. AreIndexed c.object_classes c.interaction_classes c.attributes c.parameters c.object_paths c.interaction_paths c.attribute_names c.parameter_names };
+}
+
+impl Drop for Catalogue {
+    fn drop(self) {
+        let Catalogue {
+            object_classes: _,
+            interaction_classes: _,
+            attributes: _,
+            parameters: _,
+            object_paths: _,
+            interaction_paths: _,
+            attribute_names: _,
+            parameter_names: _,
+            alloc: _,
+        } = self;
+    }
 }
 
 impl Catalogue {
