@@ -1,5 +1,5 @@
 -- Joining is what the next-state function says
-use Rattle.std.proofs.Common.{◌≡◌, ◌≢◌, ℕ, zero, suc, ◌+◌, ◌-◌, ◌<◌, ◌≤◌, List, [], ◌∷◌, ◌++◌, length, get_or, replicate, cond, eqb, ltb, not, ◌&&◌, true, false, Bool, Option, None, Some, refl, sym, ap, ◌∙◌, arith, ⊎_elim, length-append}
+use Rattle.std.proofs.Common.{◌≡◌, ◌≢◌, ℕ, zero, suc, ◌+◌, List, [], ◌∷◌, ◌++◌, length, get_or, replicate, cond, eqb, true, false, Bool, None, refl, sym, ap, ◌∙◌, arith, ⊎_elim, length-append}
 use Rattle.std.proofs.lemmas.Bool.{cases_Bool}
 use Rattle.std.proofs.lemmas.Bool.Decides.{nat_tests}
 use Rattle.std.proofs.lemmas.List.{get_or_past}
@@ -18,7 +18,7 @@ use Rattle.hla_federation.specs.MemberValue.{MemberValue}
 use Rattle.hla_federation.specs.Members.{no_member, new_member}
 use Rattle.hla_federation.specs.Next.{next, answers, joins, seen}
 use Rattle.hla_federation.specs.State.{item, is_number, state_of_members}
-use Rattle.hla_federation.proofs.States.{state_with, state_with_ext, upd-self, upd_same, upd_other, by_number}
+use Rattle.hla_federation.proofs.States.{state_with_ext, upd-self, upd_same, upd_other, by_number}
 
 get_or-push : {X : Type 0} (xs : List X) (x d : X) (k : ℕ) → get_or (xs ++ x ∷ []) k d ≡ cond (eqb (length xs) k) x (get_or xs k d)
 get_or-push [] x d zero = refl

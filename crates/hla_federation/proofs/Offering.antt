@@ -1,5 +1,5 @@
 -- Sending an interaction without a stamp is what the next-state function says
-use Rattle.std.proofs.Common.{◌≡◌, ◌≢◌, ℕ, zero, suc, ◌+◌, ◌-◌, ◌<◌, ◌≤◌, List, [], ◌∷◌, ◌++◌, length, get_or, set, filter, cond, eqb, ltb, not, ◌&&◌, true, false, Bool, Option, None, Some, option_map, refl, sym, ap, subst, ◌∙◌, arith, ⊎_elim, ◌⊎◌, length-set, get_or-set_same, get_or-set_other}
+use Rattle.std.proofs.Common.{◌≡◌, ◌≢◌, ℕ, zero, suc, ◌+◌, ◌-◌, ◌<◌, ◌≤◌, List, [], ◌∷◌, ◌++◌, length, get_or, set, cond, eqb, ltb, ◌&&◌, true, false, Bool, Option, None, Some, option_map, refl, sym, ap, subst, ◌∙◌, arith, ⊎_elim, ◌⊎◌, length-set, get_or-set_same, get_or-set_other}
 use Rattle.std.proofs.lemmas.Bool.{cases_Bool}
 use Rattle.std.proofs.lemmas.Bool.Decides.{nat_tests}
 use Rattle.std.proofs.Math.Path.{fun_ext}
@@ -23,10 +23,10 @@ use Rattle.hla_machine.specs.Refusals.{refusal}
 use Rattle.hla_federation.specs.Federation.{Federation}
 use Rattle.hla_federation.specs.Flags.{is_among}
 use Rattle.hla_federation.specs.MemberValue.{MemberValue}
-use Rattle.hla_federation.specs.Members.{no_member, member_at, served_at, interaction_at, offered, offered_at, event_with, put_on_wire, with_wire, wire_from, is_peer, ChangesPeers, OnlyEvents}
+use Rattle.hla_federation.specs.Members.{no_member, member_at, served_at, interaction_at, offered, offered_at, event_with, put_on_wire, wire_from, is_peer, ChangesPeers, OnlyEvents}
 use Rattle.hla_federation.specs.Next.{next, answers, sent_one, put_event, seen}
 use Rattle.hla_federation.specs.State.{item, is_number, state_of_members, IsMember, IsWhole}
-use Rattle.hla_federation.proofs.States.{state_with_ext, upd-self, upd_same, upd_other, by_number, item-set, changed_member}
+use Rattle.hla_federation.proofs.States.{state_with_ext, upd_same, upd_other, by_number, item-set, changed_member}
 use Rattle.hla_federation.proofs.Declaring.{number_some, number_within, item_read, whole_item}
 use Rattle.hla_federation.proofs.Receiving.{item_from, and-false}
 

@@ -109,8 +109,8 @@ module _ (s : Federation) (f : ℕ) (kept : Kept s) (member : s.directory.joined
   leave_objects =
       let e = without_member s.directory f in
       let t : ObjectInv e wire s.tso s.ro s.controls = objects_shift s.directory e s.wire wire s.tso s.ro s.controls (grows_left s.directory f)
-          (λ g. by_number f _ (rw clear_here tt) (λ k ne. rw clear_else (tells_grows s.directory e g k (row_wire g k) (grows_left s.directory f) (row_tells g k))))
-          (λ g. by_number f _ (λ x told b. rw (clear_here, discoveries-nil) (behind_nil x)) (λ k ne x told b. rw (clear_else, row_discoveries) b)) kept.objects in
+      (λ g. by_number f _ (rw clear_here tt) (λ k ne. rw clear_else (tells_grows s.directory e g k (row_wire g k) (grows_left s.directory f) (row_tells g k))))
+      (λ g. by_number f _ (λ x told b. rw (clear_here, discoveries-nil) (behind_nil x)) (λ k ne x told b. rw (clear_else, row_discoveries) b)) kept.objects in
       objects_controls e wire (upd s.tso f []) (upd s.ro f []) s.controls f [] tt (objects_queues e wire s.tso s.ro s.controls f [] [] tt tt t)
 
   leave_wired : IsWired (without_member s.directory f) wire

@@ -1,5 +1,5 @@
 -- The tables that a federation's lists stand for, after a change of the lists
-use Rattle.std.proofs.Common.{◌≡◌, ◌≢◌, ℕ, zero, suc, ◌+◌, ◌-◌, ◌<◌, ◌≤◌, List, [], ◌∷◌, ◌++◌, length, get_or, set, cond, eqb, ltb, not, ◌&&◌, true, false, Bool, Option, None, Some, refl, sym, ap, subst, ◌∙◌, arith, length-set, get_or-set_same, get_or-set_other, ⊎_elim}
+use Rattle.std.proofs.Common.{◌≡◌, ◌≢◌, ℕ, zero, suc, ◌+◌, ◌-◌, ◌<◌, ◌≤◌, List, [], length, get_or, set, cond, eqb, true, false, Bool, None, refl, sym, ap, subst, ◌∙◌, arith, length-set, get_or-set_same, get_or-set_other, ⊎_elim}
 use Rattle.std.proofs.lemmas.Bool.{cases_Bool}
 use Rattle.std.proofs.lemmas.Bool.Decides.{nat_tests}
 use Rattle.std.proofs.Math.Path.{fun_ext}
@@ -15,7 +15,7 @@ use Rattle.hla_federation.specs.Flags.{is_among}
 use Rattle.hla_federation.specs.Next.{set_directory}
 use Rattle.hla_federation.specs.MemberValue.{MemberValue}
 use Rattle.hla_federation.specs.Members.{no_member}
-use Rattle.hla_federation.specs.State.{item, is_number, state_from, state_of_members}
+use Rattle.hla_federation.specs.State.{item, is_number, state_of_members}
 
 -- a federation with these tables, and all else as joining made it
 abbrev pub state_with : Tables → ℕ → (ℕ → Bool) → (ℕ → List ℕ) → (ℕ → ℕ → Bool) → (ℕ → ℕ → Bool) → (ℕ → ℕ) → (ℕ → List Event) → (ℕ → ℕ → List Message) → Federation

@@ -1,5 +1,5 @@
 -- An interaction that is taken back leaves each member as it was
-use Rattle.std.proofs.Common.{◌≡◌, ◌≢◌, ℕ, zero, suc, ◌+◌, ◌-◌, ◌<◌, ◌≤◌, List, [], ◌∷◌, ◌++◌, length, get_or, set, take, cond, eqb, ltb, not, ◌&&◌, true, false, Bool, Option, None, Some, refl, sym, ap, ◌∙◌, arith, length-append, length-set, get_or-set_same, ⊎_elim, ◌⊎◌}
+use Rattle.std.proofs.Common.{◌≡◌, ℕ, ◌-◌, ◌<◌, List, [], ◌∷◌, ◌++◌, length, take, ltb, ◌&&◌, true, false, Option, None, Some, refl, ap, ◌∙◌, arith, length-append, get_or-set_same, ⊎_elim, ◌⊎◌}
 use Rattle.std.proofs.lemmas.Bool.{cases_Bool}
 use Rattle.std.proofs.lemmas.List.{ext_get_or, set-get_or, set-set}
 use Rattle.std.proofs.Math.Seq.{take-append_seam}
@@ -7,7 +7,7 @@ use Rattle.hla_base.specs.declared.content.HandleValuePair.{HandleValuePair}
 use Rattle.hla_null_message.specs.declared.message.Message.{Message}
 use Rattle.hla_fed_file.specs.Tables.{Tables}
 use Rattle.hla_federation.specs.MemberValue.{MemberValue}
-use Rattle.hla_federation.specs.Members.{served_at, offered, offered_at, taken_back, taken_back_at, with_wire, wire_from, put_on_wire, no_member, member_at, is_peer, ChangesPeers, HaveWires}
+use Rattle.hla_federation.specs.Members.{served_at, offered, offered_at, taken_back, taken_back_at, with_wire, wire_from, put_on_wire, no_member, member_at, is_peer, ChangesPeers}
 
 pub take-push : {X : Type 0} (xs : List X) (y : X) → take (length (xs ++ y ∷ []) - 1) (xs ++ y ∷ []) ≡ xs
 take-push xs y = let e : length (xs ++ y ∷ []) - 1 ≡ length xs = omega (arith, length-append xs (y ∷ [])) in rw e (take-append_seam xs (y ∷ []))

@@ -1,5 +1,5 @@
 -- The central state that components and wires stand for
-use Rattle.std.specs.Prelude.{ℕ, cond, Bool, Option, Some, None, List, [], ◌∷◌, ◌++◌, option_map}
+use Rattle.std.specs.Prelude.{ℕ, cond, Option, List, ◌++◌, option_map}
 use Rattle.hla_base.specs.declared.content.Event.{Event}
 use Rattle.hla_null_message.specs.declared.message.Message.{Message}
 use Rattle.hla_base.specs.Tables.{or_else}

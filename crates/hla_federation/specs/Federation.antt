@@ -1,18 +1,16 @@
 -- Components and wires: their state, and what one component promises and picks up
-use Rattle.std.specs.Prelude.{ℕ, ◌+◌, ◌-◌, max, min, cond, eqb, ltb, leb, not, ◌&&◌, ◌||◌, Bool, true, false, Option, Some, None, is_some, List, [], ◌∷◌, ◌++◌, option_map, unwrap_or, filter}
+use Rattle.std.specs.Prelude.{ℕ, ◌+◌, ◌-◌, max, min, cond, eqb, ltb, leb, not, ◌&&◌, ◌||◌, Bool, true, Option, Some, None, List, [], ◌∷◌}
 use Rattle.hla_base.specs.declared.content.Event.{Event}
-use Rattle.hla_base.specs.declared.content.Discovery.{Discovery}
-use Rattle.hla_base.specs.declared.number.EventHandle.{EventHandle}
 use Rattle.hla_base.specs.declared.row.AdvanceKind.{AdvanceKind}
 use Rattle.hla_base.specs.declared.row.AdvanceRequest.{AdvanceRequest}
 use Rattle.hla_base.specs.declared.row.TimeRow.{TimeRow}
 use Rattle.hla_null_message.specs.declared.message.Message.{Message}
 use Rattle.hla_fed_file.specs.Tables.{Tables}
-use Rattle.hla_base.specs.Tables.{forever, least, greatest, or_else}
-use Rattle.hla_base.specs.Rows.{is_strict, is_next, is_flush, is_enabled, is_pending, is_none_of, is_advancing, is_constrained, next_request, width, grant_time, first_or, least_of, new_row}
+use Rattle.hla_base.specs.Tables.{forever, least, greatest}
+use Rattle.hla_base.specs.Rows.{is_next, is_flush, is_enabled, is_pending, is_advancing, is_constrained, next_request, width, grant_time, first_or, least_of, new_row}
 use Rattle.hla_machine.specs.Directory.{Directory, new_directory}
 use Rattle.hla_machine.specs.Central.{SentEvent, no_event, reach, bar_of}
-use Rattle.hla_federation.specs.Messages.{Control, ToDiscover, ToRetract, first_stamp, least_ordered}
+use Rattle.hla_federation.specs.Messages.{Control, first_stamp, least_ordered}
 
 pub record Federation : Type 0 where
   pub directory : Directory

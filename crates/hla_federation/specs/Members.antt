@@ -1,5 +1,5 @@
 -- The values of a federation's members, and what they do
-use Rattle.std.specs.Prelude.{ℕ, zero, suc, ◌+◌, ◌-◌, ◌≡◌, ◌<◌, ◌≤◌, cond, eqb, ltb, not, ◌&&◌, Bool, true, false, Option, None, Some, option_map, List, [], ◌∷◌, ◌++◌, length, replicate, filter, find, slice_set, slice_index_or, take}
+use Rattle.std.specs.Prelude.{ℕ, ◌+◌, ◌-◌, ◌≡◌, ◌<◌, cond, eqb, ltb, not, ◌&&◌, Bool, false, Option, None, Some, List, [], ◌∷◌, ◌++◌, length, replicate, filter, find, slice_set, slice_index_or, take}
 use Rattle.hla_base.specs.declared.content.HandleValuePair.{HandleValuePair}
 use Rattle.hla_base.specs.declared.content.Content.{Content}
 use Rattle.hla_base.specs.declared.content.Content.TheVariants as content
@@ -9,7 +9,6 @@ use Rattle.hla_null_message.specs.declared.message.Message.TheVariants as messag
 use Rattle.hla_fed_file.specs.Tables.{Tables}
 use Rattle.hla_fed_file.specs.Lookup.{interaction_lineage, has_parameter}
 use Rattle.hla_federation.specs.MemberValue.{MemberValue}
-use Rattle.hla_federation.specs.Messages.{handle_of}
 use Rattle.hla_federation.specs.Next.{carried_event}
 use Rattle.hla_machine.specs.declared.step.Carried.{Carried}
 use Rattle.hla_machine.specs.declared.step.Carried.TheVariants as carried

@@ -1,5 +1,5 @@
 -- Queues of events and what lies on wires
-use Rattle.std.specs.Prelude.{ℕ, ◌+◌, min, cond, eqb, ltb, not, ◌&&◌, ◌||◌, Bool, Option, Some, None, List, [], ◌∷◌}
+use Rattle.std.specs.Prelude.{ℕ, ◌+◌, min, cond, eqb, ltb, ◌&&◌, ◌||◌, Bool, Option, Some, None, List, [], ◌∷◌}
 use Rattle.hla_base.specs.declared.content.Event.{Event}
 use Rattle.hla_base.specs.declared.content.Discovery.{Discovery}
 use Rattle.hla_base.specs.declared.number.EventHandle.{EventHandle}

@@ -1,5 +1,5 @@
 -- The components' next-state function: what each step answers and chooses, and the state after it
-use Rattle.std.specs.Prelude.{ℕ, ◌+◌, ◌-◌, max, min, cond, eqb, ltb, leb, not, ◌&&◌, ◌||◌, Bool, true, false, Option, Some, None, is_some, List, [], ◌∷◌, ◌++◌, option_map, unwrap_or, filter, find, map}
+use Rattle.std.specs.Prelude.{ℕ, ◌+◌, max, min, cond, eqb, ltb, not, ◌&&◌, Bool, true, false, Option, Some, None, List, [], ◌∷◌, ◌++◌, unwrap_or, filter, find, map}
 use Rattle.std.specs.Str.{bytes_eq}
 use Rattle.hla_base.specs.declared.fault.Fault.{Fault}
 use Rattle.hla_base.specs.declared.content.Content.{Content}
@@ -10,7 +10,6 @@ use Rattle.hla_base.specs.declared.number.EventHandle.{EventHandle}
 use Rattle.hla_base.specs.declared.row.Role.TheVariants.{Disabled, Pending}
 use Rattle.hla_base.specs.declared.row.AdvanceKind.{AdvanceKind}
 use Rattle.hla_base.specs.declared.row.AdvanceKind.TheVariants as kind
-use Rattle.hla_base.specs.declared.row.AdvanceRequest.{AdvanceRequest}
 use Rattle.hla_base.specs.declared.row.TimeRow.{TimeRow}
 use Rattle.hla_null_message.specs.declared.message.Message.{Message}
 use Rattle.hla_null_message.specs.declared.message.Message.TheVariants as message

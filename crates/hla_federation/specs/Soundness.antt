@@ -1,5 +1,5 @@
 -- What a federation keeps, and how a step of it may end
-use Rattle.std.specs.Prelude.{◌≡◌, ◌⊎◌, List, length, Option, None, Some}
+use Rattle.std.specs.Prelude.{◌≡◌, ◌⊎◌, List, length, None, Some}
 use Rattle.hla_base.specs.declared.fault.Fault.{Fault}
 use Rattle.hla_base.specs.declared.fault.Fault.TheVariants.{OutOfMemory}
 use Rattle.hla_fed_file.specs.Tables.{Tables}

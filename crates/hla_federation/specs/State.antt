@@ -1,5 +1,5 @@
 -- The components and wires that a federation's lists stand for. What no service changes yet is as joining made it
-use Rattle.std.specs.Prelude.{ℕ, zero, suc, ◌+◌, ◌-◌, ◌≡◌, ◌<◌, ◌≤◌, ◌⊎◌, cond, eqb, ltb, not, ◌&&◌, Bool, true, false, Option, None, Some, List, [], ◌∷◌, length, slice_index_or, Result, Ok, Err}
+use Rattle.std.specs.Prelude.{ℕ, zero, suc, ◌+◌, ◌≡◌, ◌<◌, ◌≤◌, ◌⊎◌, eqb, ltb, not, ◌&&◌, Bool, false, None, Some, List, [], length, slice_index_or, Result, Ok, Err}
 use Rattle.hla_base.specs.declared.fault.Fault.{Fault}
 use Rattle.hla_base.specs.declared.fault.Fault.TheVariants.{OutOfMemory}
 use Rattle.hla_base.specs.Tables.{forever}

@@ -3,7 +3,7 @@
 
 mod class_set;
 mod federation;
-mod headline;
+pub mod headline;
 mod incoming;
 mod member;
 mod pairs;

@@ -1,4 +1,4 @@
-use Rattle.std.proofs.Common.{◌≡◌, sym, ◌∙◌}
+use Rattle.std.proofs.Common.{sym, ◌∙◌}
 use Rattle.hla_federation.proofs.Names.{name_joined}
 use Rattle.hla_federation.proofs.refusals.is_name_joined.Goals as goal
 

@@ -1,4 +1,3 @@
-use Rattle.std.proofs.Common.{◌≡◌}
 use Rattle.hla_federation.specs.Members.{taken_back, ChangesPeers}
 use Rattle.hla_federation.proofs.sending.take_back_all.Given as goal
 

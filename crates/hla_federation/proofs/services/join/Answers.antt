@@ -1,5 +1,4 @@
-use Rattle.std.proofs.Common.{◌≡◌, ◌+◌, ◌∷◌, [], inl, inr, sym, ap, ◌∙◌, None, length, length-append, refl, arith}
-use Rattle.hla_machine.specs.declared.step.Answer.TheVariants as answer
+use Rattle.std.proofs.Common.{◌≡◌, ◌+◌, ◌∷◌, [], inl, inr, sym, ap, ◌∙◌, length, length-append}
 use Rattle.hla_federation.specs.Members.{new_member}
 use Rattle.hla_federation.proofs.Joining.{joined}
 use Rattle.hla_federation.proofs.services.join.Goals as goal

@@ -1,4 +1,4 @@
-use Rattle.std.proofs.Common.{◌≡◌, sym, ◌∙◌}
+use Rattle.std.proofs.Common.{sym, ◌∙◌}
 use Rattle.hla_federation.proofs.Offering.{sent_step}
 use Rattle.hla_federation.proofs.services.send.Goals as goal
 

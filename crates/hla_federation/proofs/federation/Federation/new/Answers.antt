@@ -1,5 +1,4 @@
-use Rattle.std.proofs.Common.{◌≡◌, sym, subst, ap, ◌∙◌, List, []}
-use Rattle.hla_federation.specs.MemberValue.{MemberValue}
+use Rattle.std.proofs.Common.{sym, subst, ap, ◌∙◌}
 use Rattle.hla_federation.specs.Soundness.{IsSound}
 use Rattle.hla_federation.specs.State.{state_of_members}
 use Rattle.hla_federation.proofs.Sound.{state_new, sound_new}

@@ -1,4 +1,4 @@
-use Rattle.std.proofs.Common.{◌≡◌, [], List, replicate}
+use Rattle.std.proofs.Common.{◌≡◌, [], replicate}
 use Rattle.hla_federation.proofs.incoming.Incoming.new.Given as goal
 
 -- one wire for each turn
