@@ -1,0 +1,11 @@
+//! Scripts of a federation execution: read, played and printed.
+#![tactic(auto)]
+
+mod arguments;
+mod lines;
+mod reader;
+mod vocabulary;
+mod words;
+
+pub use lines::{Call, Command, Line, NameValuePair, Script, ScriptFault, ScriptFaultKind};
+pub use reader::{SCRIPT_LIMIT, parse};
