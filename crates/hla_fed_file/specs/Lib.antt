@@ -1,2 +1,9 @@
 pub mod Tables
 pub mod Lookup
+pub mod Names
+pub mod Indexes
+pub mod Fault
+pub mod Lexical
+pub mod Tokens
+pub mod Keywords
+pub mod Declaring

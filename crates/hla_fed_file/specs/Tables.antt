@@ -1,5 +1,5 @@
 -- What a catalogue holds, in the order of the numbers
-use Rattle.std.specs.Prelude.{List}
+use Rattle.std.specs.Prelude.{List, []}
 use Rattle.hla_fed_file.specs.declared.declared.ObjectClass.{ObjectClass}
 use Rattle.hla_fed_file.specs.declared.declared.InteractionClass.{InteractionClass}
 use Rattle.hla_fed_file.specs.declared.declared.Attribute.{Attribute}
@@ -10,3 +10,7 @@ pub record Tables : Type 0 where
   pub interaction_classes : List InteractionClass
   pub attributes : List Attribute
   pub parameters : List Parameter
+
+-- a catalogue of nothing
+abbrev pub nothing : Tables
+nothing = record { object_classes = []; interaction_classes = []; attributes = []; parameters = [] }

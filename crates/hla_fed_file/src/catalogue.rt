@@ -1,18 +1,29 @@
-//! The catalogue and its look-ups.
+//! The catalogue: what a FED file declares, in the order of its numbers.
 
-ghost use Rattle.std.specs.Prelude.{◌≡◌, ◌↔◌, IsTrue, IfOk, IfErr};
+ghost use Rattle.std.specs.Prelude.{◌≡◌, ◌↔◌, ◌+◌, ◌++◌, ◌∷◌, ◌<◌, ◌≤◌, ◌&&◌, [], length, position, IsTrue, IfOk, IfErr, IfSome, OnOk, OnErr};
+ghost use Rattle.std.specs.Str.{bytes_eq};
+ghost use Rattle.hla_fed_file.specs.Lookup.{number_at, contains_number};
+ghost use Rattle.hla_fed_file.specs.declared.declared.ObjectClass.{ObjectClass};
+ghost use Rattle.hla_fed_file.specs.declared.declared.InteractionClass.{InteractionClass};
+ghost use Rattle.hla_fed_file.specs.declared.declared.Attribute.{Attribute};
+ghost use Rattle.hla_fed_file.specs.declared.declared.Parameter.{Parameter};
 
-use crate::declared::{Attribute, InteractionClass, ObjectClass, Parameter};
-use hla_base::{Fault, List, Plain};
+use crate::declared::{Attribute, InteractionClass, ObjectClass, Order, Parameter};
+use crate::names::{FirstNumbers, number_of};
+use hla_base::{AttributeNo, ClassNo, Fault, List, ParameterNo, Plain};
+use std::alloc::Global;
 use std::marker::Model;
 
 /// What a FED file declares. Contracts see its four lists, in the order of the numbers.
-#[derive(Debug, Drop)]
+#[derive(Drop)]
 pub struct Catalogue {
     object_classes: List<ObjectClass>,
     interaction_classes: List<InteractionClass>,
     attributes: List<Attribute>,
     parameters: List<Parameter>,
+    object_paths: FirstNumbers,
+    interaction_paths: FirstNumbers,
+    alloc: Global,
 }
 
 impl Model for Catalogue {
@@ -21,6 +32,218 @@ impl Model for Catalogue {
     ghost Value = { Tables };
 
     ghost view = { λ c. record { object_classes = c.object_classes; interaction_classes = c.interaction_classes; attributes = c.attributes; parameters = c.parameters } };
+
+    ghost use Rattle.hla_fed_file.specs.Indexes.{AreIndexed};
+
+    ghost invariant = { λ c. AreIndexed c.object_classes c.interaction_classes c.attributes c.parameters c.object_paths c.interaction_paths };
+}
+
+/// The place of the first attribute of a name among those of some classes.
+fn attribute_place(attributes: &[Attribute], classes: &[ClassNo], name: &[u8]) -> Option<usize>
+    ensures first { result ≡ position (λ (a : Attribute). contains_number a.class classes.now && bytes_eq a.name name.now) attributes.now }
+    ensures within { IfSome result (λ k. k < length attributes.now) }
+{
+    attributes.iter().position(|a| classes.contains(&a.class) && a.name.as_slice() == name)
+}
+
+/// The place of the first parameter of a name among those of some classes.
+fn parameter_place(parameters: &[Parameter], classes: &[ClassNo], name: &[u8]) -> Option<usize>
+    ensures first { result ≡ position (λ (p : Parameter). contains_number p.class classes.now && bytes_eq p.name name.now) parameters.now }
+    ensures within { IfSome result (λ k. k < length parameters.now) }
+{
+    parameters.iter().position(|p| classes.contains(&p.class) && p.name.as_slice() == name)
+}
+
+impl Catalogue {
+    ghost use Rattle.hla_fed_file.specs.Tables.{nothing};
+
+    /// A catalogue of nothing; it takes no memory.
+    pub(crate) fn new(alloc: Global) -> Catalogue
+        ensures { result ≡ nothing }
+    {
+        Catalogue {
+            object_classes: List::new(alloc),
+            interaction_classes: List::new(alloc),
+            attributes: List::new(alloc),
+            parameters: List::new(alloc),
+            object_paths: FirstNumbers::new(alloc),
+            interaction_paths: FirstNumbers::new(alloc),
+            alloc,
+        }
+    }
+
+    /// The object classes, in the order of their numbers.
+    pub fn object_classes(&self) -> &[ObjectClass]
+        ensures items { result.now ≡ self.now.object_classes }
+        ensures few { length result.now ≤ 512 }
+    {
+        self.object_classes.as_slice()
+    }
+
+    /// The interaction classes, in the order of their numbers.
+    pub fn interaction_classes(&self) -> &[InteractionClass]
+        ensures items { result.now ≡ self.now.interaction_classes }
+        ensures few { length result.now ≤ 512 }
+    {
+        self.interaction_classes.as_slice()
+    }
+
+    /// The attributes, in the order of their numbers.
+    pub fn attributes(&self) -> &[Attribute]
+        ensures items { result.now ≡ self.now.attributes }
+        ensures few { length result.now ≤ 4096 }
+    {
+        self.attributes.as_slice()
+    }
+
+    /// The parameters, in the order of their numbers.
+    pub fn parameters(&self) -> &[Parameter]
+        ensures items { result.now ≡ self.now.parameters }
+        ensures few { length result.now ≤ 4096 }
+    {
+        self.parameters.as_slice()
+    }
+
+    /// The first object class of a path.
+    pub(crate) fn object_at(&self, path: &[u8]) -> Option<ClassNo>
+        ensures { result ≡ number_at (position (λ (k : ObjectClass). bytes_eq k.path path.now) self.now.object_classes) }
+    {
+        self.object_paths.get(path)
+    }
+
+    /// The first interaction class of a path.
+    pub(crate) fn interaction_at(&self, path: &[u8]) -> Option<ClassNo>
+        ensures { result ≡ number_at (position (λ (k : InteractionClass). bytes_eq k.path path.now) self.now.interaction_classes) }
+    {
+        self.interaction_paths.get(path)
+    }
+
+    /// The first attribute of a name among those of some classes.
+    pub(crate) fn attribute_among(&self, classes: &[ClassNo], name: &[u8]) -> Option<AttributeNo>
+        ensures { result ≡ number_at (position (λ (a : Attribute). contains_number a.class classes.now && bytes_eq a.name name.now) self.now.attributes) }
+    {
+        number_of(attribute_place(self.attributes.as_slice(), classes, name))
+    }
+
+    /// The first parameter of a name among those of some classes.
+    pub(crate) fn parameter_among(&self, classes: &[ClassNo], name: &[u8]) -> Option<ParameterNo>
+        ensures { result ≡ number_at (position (λ (p : Parameter). contains_number p.class classes.now && bytes_eq p.name name.now) self.now.parameters) }
+    {
+        number_of(parameter_place(self.parameters.as_slice(), classes, name))
+    }
+
+    /// Adds an object class; `OutOfMemory`, and the catalogue as it was, where a growth was refused.
+    pub(crate) fn add_object_class(&mut self, class: ObjectClass) -> Result<(), Fault>
+        requires { length self.old.object_classes < 512 }
+        ensures ok { OnOk result (self.new ≡ record self.old { object_classes = self.old.object_classes ++ class ∷ [] }) }
+        ensures err { IfErr result (λ e. e ≡ Fault.OutOfMemory) }
+        ensures unchanged { OnErr result (self.new ≡ self.old) }
+    {
+        let number = self.object_classes.len() as u32 + 1;
+        let Ok(path) = Vec::from_slice(self.alloc, class.path.as_slice()) else {
+            return Err(Fault::OutOfMemory);
+        };
+        self.object_classes.push(class)?;
+        match self.object_paths.note(path, number) {
+            Ok(()) => Ok(()),
+            Err(fault) => {
+                let _ = self.object_classes.pop();
+                Err(fault)
+            }
+        }
+    }
+
+    /// Adds an interaction class; `OutOfMemory`, and the catalogue as it was, where a growth was refused.
+    pub(crate) fn add_interaction_class(&mut self, class: InteractionClass) -> Result<(), Fault>
+        requires { length self.old.interaction_classes < 512 }
+        ensures ok { OnOk result (self.new ≡ record self.old { interaction_classes = self.old.interaction_classes ++ class ∷ [] }) }
+        ensures err { IfErr result (λ e. e ≡ Fault.OutOfMemory) }
+        ensures unchanged { OnErr result (self.new ≡ self.old) }
+    {
+        let number = self.interaction_classes.len() as u32 + 1;
+        let Ok(path) = Vec::from_slice(self.alloc, class.path.as_slice()) else {
+            return Err(Fault::OutOfMemory);
+        };
+        self.interaction_classes.push(class)?;
+        match self.interaction_paths.note(path, number) {
+            Ok(()) => Ok(()),
+            Err(fault) => {
+                let _ = self.interaction_classes.pop();
+                Err(fault)
+            }
+        }
+    }
+
+    /// Adds an attribute; `OutOfMemory`, and the catalogue as it was, where a growth was refused.
+    pub(crate) fn add_attribute(&mut self, attribute: Attribute) -> Result<(), Fault>
+        requires { length self.old.attributes < 4096 }
+        ensures ok { OnOk result (self.new ≡ record self.old { attributes = self.old.attributes ++ attribute ∷ [] }) }
+        ensures err { IfErr result (λ e. e ≡ Fault.OutOfMemory) }
+        ensures unchanged { OnErr result (self.new ≡ self.old) }
+    {
+        self.attributes.push(attribute)
+    }
+
+    /// Adds a parameter; `OutOfMemory`, and the catalogue as it was, where a growth was refused.
+    pub(crate) fn add_parameter(&mut self, parameter: Parameter) -> Result<(), Fault>
+        requires { length self.old.parameters < 4096 }
+        ensures ok { OnOk result (self.new ≡ record self.old { parameters = self.old.parameters ++ parameter ∷ [] }) }
+        ensures err { IfErr result (λ e. e ≡ Fault.OutOfMemory) }
+        ensures unchanged { OnErr result (self.new ≡ self.old) }
+    {
+        self.parameters.push(parameter)
+    }
+
+    /// Adds copies of object classs.
+    fn add_object_classes(&mut self, object_classes: &[ObjectClass]) -> Result<(), Fault>
+        requires { length self.old.object_classes + length object_classes.now ≤ 512 }
+        ensures ok { OnOk result (self.new ≡ record self.old { object_classes = self.old.object_classes ++ object_classes.now }) }
+        ensures err { IfErr result (λ e. e ≡ Fault.OutOfMemory) }
+    {
+        for class in object_classes {
+            self.add_object_class(class.copy()?)?;
+        }
+        Ok(())
+    }
+
+    /// Adds copies of interaction classs.
+    fn add_interaction_classes(
+        &mut self,
+        interaction_classes: &[InteractionClass],
+    ) -> Result<(), Fault>
+        requires { length self.old.interaction_classes + length interaction_classes.now ≤ 512 }
+        ensures ok { OnOk result (self.new ≡ record self.old { interaction_classes = self.old.interaction_classes ++ interaction_classes.now }) }
+        ensures err { IfErr result (λ e. e ≡ Fault.OutOfMemory) }
+    {
+        for class in interaction_classes {
+            self.add_interaction_class(class.copy()?)?;
+        }
+        Ok(())
+    }
+
+    /// Adds copies of attributes.
+    fn add_attributes(&mut self, attributes: &[Attribute]) -> Result<(), Fault>
+        requires { length self.old.attributes + length attributes.now ≤ 4096 }
+        ensures ok { OnOk result (self.new ≡ record self.old { attributes = self.old.attributes ++ attributes.now }) }
+        ensures err { IfErr result (λ e. e ≡ Fault.OutOfMemory) }
+    {
+        for attribute in attributes {
+            self.add_attribute(attribute.copy()?)?;
+        }
+        Ok(())
+    }
+
+    /// Adds copies of parameters.
+    fn add_parameters(&mut self, parameters: &[Parameter]) -> Result<(), Fault>
+        requires { length self.old.parameters + length parameters.now ≤ 4096 }
+        ensures ok { OnOk result (self.new ≡ record self.old { parameters = self.old.parameters ++ parameters.now }) }
+        ensures err { IfErr result (λ e. e ≡ Fault.OutOfMemory) }
+    {
+        for parameter in parameters {
+            self.add_parameter(parameter.copy()?)?;
+        }
+        Ok(())
+    }
 }
 
 impl Plain for Catalogue {
@@ -32,11 +255,11 @@ impl Plain for Catalogue {
     }
 
     fn copy(&self) -> Result<Catalogue, Fault> {
-        Ok(Catalogue {
-            object_classes: self.object_classes.copy()?,
-            interaction_classes: self.interaction_classes.copy()?,
-            attributes: self.attributes.copy()?,
-            parameters: self.parameters.copy()?,
-        })
+        let mut copy = Catalogue::new(self.alloc);
+        copy.add_object_classes(self.object_classes.as_slice())?;
+        copy.add_interaction_classes(self.interaction_classes.as_slice())?;
+        copy.add_attributes(self.attributes.as_slice())?;
+        copy.add_parameters(self.parameters.as_slice())?;
+        Ok(copy)
     }
 }

@@ -3,6 +3,12 @@
 
 mod catalogue;
 mod declared;
+mod fault;
+mod lexer;
+mod lookup;
+mod names;
+mod place;
 
 pub use catalogue::Catalogue;
 pub use declared::{Attribute, InteractionClass, ObjectClass, Order, Parameter, Transport};
+pub use fault::{FedFault, FedFaultKind};

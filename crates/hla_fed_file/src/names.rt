@@ -1,0 +1,78 @@
+//! Names and their first numbers.
+
+ghost use Rattle.std.specs.Prelude.{◌≡◌, OnOk, OnErr, IfErr, IfSome, [], ◌∷◌, ◌++◌, ◌<◌, None};
+ghost use Rattle.hla_fed_file.specs.Lookup.{number_at};
+
+use hla_base::Fault;
+use indexmap::IndexMap;
+use std::alloc::Global;
+use std::marker::Model;
+
+/// The number of a place.
+pub(crate) fn number_of(place: Option<usize>) -> Option<u32>
+    requires { IfSome place (λ k. k < 4096) }
+    ensures { result ≡ number_at place }
+{
+    match place {
+        Some(place) => Some(place as u32 + 1),
+        None => None,
+    }
+}
+
+/// The first number of each name, found without going over all names.
+#[derive(Drop)]
+pub(crate) struct FirstNumbers {
+    numbers: IndexMap<Vec<u8>, u32>,
+}
+
+impl Model for FirstNumbers {
+    ghost use Rattle.hla_fed_file.specs.Names.{Numbered, numbered};
+
+    ghost Value = { Numbered };
+
+    ghost view = { λ n. numbered n.numbers.entries };
+}
+
+impl FirstNumbers {
+    ghost use Rattle.hla_fed_file.specs.Names.{number_in, with_number};
+
+    pub(crate) fn new(alloc: Global) -> FirstNumbers
+        ensures { result ≡ [] }
+    {
+        FirstNumbers {
+            numbers: IndexMap::new(alloc),
+        }
+    }
+
+    /// The first number of a name.
+    pub(crate) fn get(&self, name: &[u8]) -> Option<u32>
+        ensures { result ≡ number_in self.now name.now }
+    {
+        self.numbers.get(name).copied()
+    }
+
+    /// Notes the number of a name, unless the name has one.
+    pub(crate) fn note(&mut self, name: Vec<u8>, number: u32) -> Result<(), Fault>
+        ensures ok { OnOk result (self.new ≡ with_number self.old name.items number) }
+        ensures err { IfErr result (λ e. e ≡ Fault.OutOfMemory) }
+        ensures unchanged { OnErr result (self.new ≡ self.old) }
+    {
+        match self.get(name.as_slice()) {
+            Some(_) => Ok(()),
+            None => self.add(name, number),
+        }
+    }
+
+    /// Adds a name that has no number.
+    fn add(&mut self, name: Vec<u8>, number: u32) -> Result<(), Fault>
+        requires { number_in self.old name.items ≡ None }
+        ensures ok { OnOk result (self.new ≡ self.old ++ (name.items, number) ∷ []) }
+        ensures err { IfErr result (λ e. e ≡ Fault.OutOfMemory) }
+        ensures unchanged { OnErr result (self.new ≡ self.old) }
+    {
+        let Ok(_) = self.numbers.insert(name, number) else {
+            return Err(Fault::OutOfMemory);
+        };
+        Ok(())
+    }
+}
