@@ -7,3 +7,4 @@ pub mod Lexical
 pub mod Tokens
 pub mod Keywords
 pub mod Declaring
+pub mod Reading

@@ -8,6 +8,7 @@ mod lexer;
 mod lookup;
 mod names;
 mod place;
+mod reader;
 
 pub use catalogue::Catalogue;
 pub use declared::{Attribute, InteractionClass, ObjectClass, Order, Parameter, Transport};

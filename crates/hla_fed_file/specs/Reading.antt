@@ -1,0 +1,282 @@
+-- Reading a FED text token by token: the first fault, or what the text declares
+use Rattle.std.specs.Prelude.{◌≡◌, ℕ, ◌+◌, ◌-◌, Bool, true, false, ◌==◌, nat_lt, nat_le, List, [], ◌∷◌, ◌++◌, length, drop, Option, None, Some, Result, Ok, Err, if◌then◌else◌, is_some}
+use Rattle.std.specs.Option.{option_map}
+use Rattle.hla_fed_file.specs.Lexical as text
+use Rattle.hla_fed_file.specs.Lexical.{Lexed, tokens}
+use Rattle.hla_fed_file.specs.Tokens.{is_end}
+use Rattle.hla_fed_file.specs.Keywords.{keyword_of}
+use Rattle.hla_fed_file.specs.Tables.{Tables, nothing}
+use Rattle.hla_fed_file.specs.Declaring.{innermost, object_class, interaction_class, with_object_class, has_attribute_named, has_parameter_named, with_parameter}
+use Rattle.hla_fed_file.specs.declared.fault.FedFault.{FedFault}
+use Rattle.hla_fed_file.specs.declared.fault.FedFaultKind.{FedFaultKind}
+use Rattle.hla_fed_file.specs.declared.fault.FedFaultKind.TheVariants as kind
+use Rattle.hla_fed_file.specs.declared.declared.Attribute.{Attribute}
+use Rattle.hla_fed_file.specs.declared.declared.InteractionClass.{InteractionClass}
+use Rattle.hla_fed_file.specs.declared.declared.Order.{Order}
+use Rattle.hla_fed_file.specs.declared.declared.Order.TheVariants as order
+use Rattle.hla_fed_file.specs.declared.declared.Transport.{Transport}
+use Rattle.hla_fed_file.specs.declared.declared.Transport.TheVariants as transport
+use Rattle.hla_fed_file.specs.declared.place.Keyword.{Keyword}
+use Rattle.hla_fed_file.specs.declared.place.Keyword.TheVariants as word
+use Rattle.hla_fed_file.specs.declared.place.Head.{Head}
+use Rattle.hla_fed_file.specs.declared.place.Head.TheVariants as head
+use Rattle.hla_fed_file.specs.declared.place.Naming.{Naming}
+use Rattle.hla_fed_file.specs.declared.place.Naming.TheVariants as name
+use Rattle.hla_fed_file.specs.declared.place.Lists.{Lists}
+use Rattle.hla_fed_file.specs.declared.place.Lists.TheVariants as lists
+use Rattle.hla_fed_file.specs.declared.place.Stage.{Stage}
+use Rattle.hla_fed_file.specs.declared.place.Stage.TheVariants as stage
+use Rattle.hla_fed_file.specs.declared.place.Within.{Within}
+use Rattle.hla_fed_file.specs.declared.place.Within.TheVariants as within
+use Rattle.hla_fed_file.specs.declared.place.Place.{Place}
+use Rattle.hla_fed_file.specs.declared.place.Place.TheVariants as at
+use Rattle.hla_fed_file.specs.declared.reader.Reader.{Reader}
+
+-- the reader after a token, or what is wrong with the token
+abbrev pub Step : Type 0
+Step = Result Reader FedFaultKind
+
+-- What a call answered and left is a step, unless memory ran out.
+abbrev pub Fails : FedFaultKind → Step → Type 0
+Fails kind.OutOfMemory step = Unit {0}
+Fails k step = step ≡ Err k
+
+abbrev pub Moves : Result (Unit {0}) FedFaultKind → Step → Reader → Type 0
+Moves (Ok u) step new = step ≡ Ok new
+Moves (Err k) step new = Fails k step
+
+-- one more parenthesis is open, of at most 64
+abbrev pub deeper : Place → Reader → Step
+deeper place s = if nat_le 64 s.depth then Err kind.TooLarge else Ok (record s { place = place; depth = s.depth + 1 })
+
+-- one less is open
+abbrev pub shallower : Place → Reader → Reader
+shallower place s = record s { place = place; depth = s.depth - 1 }
+
+-- the attribute that was read is declared, unless it is ignored
+abbrev pub attribute_declared : Reader → Reader
+attribute_declared s = added s.attribute
+  where
+    added : Option Attribute → Reader
+    added None = s
+    added (Some a) = record s { attribute = None; catalogue = record s.catalogue { attributes = s.catalogue.attributes ++ a ∷ [] } }
+
+-- the interaction class whose options end is declared, and reading goes on in it
+abbrev pub class_declared : Reader → Reader
+class_declared s = added s.class
+  where
+    added : Option InteractionClass → Reader
+    added None = s
+    added (Some k) = record s { place = at.Between lists.InteractionItems; class = None; lineage = k.lineage; catalogue = record s.catalogue { interaction_classes = s.catalogue.interaction_classes ++ k ∷ [] } }
+
+-- Behind an opening parenthesis.
+
+-- whose keyword must stand, behind a parenthesis in such a list
+abbrev pub head_in : Lists → Head
+head_in lists.Parts = head.Part
+head_in lists.ObjectClasses = head.ObjectClass
+head_in lists.ObjectItems = head.ObjectItem
+head_in lists.InteractionClasses = head.InteractionClass
+head_in lists.InteractionItems = head.InteractionItem
+
+abbrev pub opened_at : Place → Reader → Step
+opened_at at.Start s = deeper (at.Head head.File) s
+opened_at (at.Head h) s = Err kind.UnknownKeyword
+opened_at (at.Name n) s = Err kind.ExpectedName
+opened_at (at.Between l) s = deeper (at.Head (head_in l)) s
+opened_at at.LabelEnd s = Err kind.ExpectedClose
+opened_at (at.AttributeOptions o) s = deeper (at.Head head.AttributeItem) s
+opened_at at.AttributeEnd s = deeper (at.Head head.AttributeItem) s
+opened_at (at.ClassOptions o) s = deeper (at.Head head.InteractionItem) (class_declared s)
+opened_at at.ParameterEnd s = deeper (at.Head head.ParameterItem) s
+opened_at (at.Ignored w n) s = deeper (at.Ignored w (n + 1)) s
+opened_at at.Done s = Err kind.TrailingText
+
+unfoldable pub opened : Reader → Step
+opened s = opened_at s.place s
+
+-- Behind a closing parenthesis.
+
+-- behind a class: in the class around it, or in the list of classes
+abbrev pub class_left : Lists → Lists → Reader → Reader
+class_left top inner s =
+    let around = drop 1 s.lineage in
+    shallower (at.Between (if length around == 0 then top else inner)) (record s { lineage = around })
+
+abbrev pub list_closed : Lists → Reader → Reader
+list_closed lists.Parts s = shallower at.Done s
+list_closed lists.ObjectClasses s = shallower (at.Between lists.Parts) s
+list_closed lists.ObjectItems s = class_left lists.ObjectClasses lists.ObjectItems s
+list_closed lists.InteractionClasses s = shallower (at.Between lists.Parts) s
+list_closed lists.InteractionItems s = class_left lists.InteractionClasses lists.InteractionItems s
+
+-- the place behind an ignored list
+abbrev pub place_behind : Within → Place
+place_behind within.File = at.Between lists.Parts
+place_behind within.ObjectClass = at.Between lists.ObjectItems
+place_behind within.Attribute = at.AttributeEnd
+place_behind within.InteractionClass = at.Between lists.InteractionItems
+place_behind within.Parameter = at.ParameterEnd
+
+abbrev pub closed_at : Place → Reader → Step
+closed_at at.Start s = Err kind.ExpectedOpen
+closed_at (at.Head h) s = Err kind.UnknownKeyword
+closed_at (at.Name n) s = Err kind.ExpectedName
+closed_at (at.Between l) s = Ok (list_closed l s)
+closed_at at.LabelEnd s = Ok (shallower (at.Between lists.Parts) s)
+closed_at (at.AttributeOptions o) s = Ok (shallower (at.Between lists.ObjectItems) (attribute_declared s))
+closed_at at.AttributeEnd s = Ok (shallower (at.Between lists.ObjectItems) (attribute_declared s))
+closed_at (at.ClassOptions o) s = Ok (list_closed lists.InteractionItems (class_declared s))
+closed_at at.ParameterEnd s = Ok (shallower (at.Between lists.InteractionItems) s)
+closed_at (at.Ignored w n) s = Ok (shallower (if n == 0 then place_behind w else at.Ignored w (n - 1)) s)
+closed_at at.Done s = Err kind.TrailingText
+
+unfoldable pub closed : Reader → Step
+closed s = closed_at s.place s
+
+-- Behind a name where one must stand.
+abbrev pub named_at : Naming → Reader → List ℕ → Step
+named_at name.Label s n = Ok (record s { place = at.LabelEnd })
+named_at name.ObjectClass s n =
+    if nat_le 512 (length s.catalogue.object_classes) then Err kind.TooLarge
+    else Ok (record s { place = at.Between lists.ObjectItems; lineage = (length s.catalogue.object_classes + 1) ∷ s.lineage; catalogue = with_object_class s.lineage n s.catalogue })
+named_at name.Attribute s n =
+    if has_attribute_named s.catalogue s.lineage n then Ok (record s { place = at.AttributeOptions stage.Named; attribute = None })
+    else if nat_le 4096 (length s.catalogue.attributes) then Err kind.TooLarge
+    else Ok (record s { place = at.AttributeOptions stage.Named; attribute = Some (record { class = innermost s.lineage; name = n; transport = transport.Reliable; order = order.Receive }) })
+named_at name.InteractionClass s n =
+    if nat_le 512 (length s.catalogue.interaction_classes) then Err kind.TooLarge
+    else Ok (record s { place = at.ClassOptions stage.Named; class = Some (interaction_class s.catalogue s.lineage n transport.Reliable order.Receive) })
+named_at name.Parameter s n =
+    if has_parameter_named s.catalogue s.lineage n then Ok (record s { place = at.ParameterEnd })
+    else if nat_le 4096 (length s.catalogue.parameters) then Err kind.TooLarge
+    else Ok (record s { place = at.ParameterEnd; catalogue = with_parameter s.lineage n s.catalogue })
+
+unfoldable pub named : Naming → Reader → List ℕ → Step
+named what s n =
+    if length n == 0 then Err kind.ExpectedName
+    else if nat_lt 255 (length n) then Err kind.TooLarge
+    else named_at what s n
+
+-- Behind a bare word.
+
+-- the place behind a keyword
+abbrev pub begun : Head → Option Keyword → Option Place
+begun head.File (Some word.Fed) = Some (at.Between lists.Parts)
+begun head.Part (Some word.Label) = Some (at.Name name.Label)
+begun head.Part (Some word.Ignored) = Some (at.Ignored within.File 0)
+begun head.Part (Some word.Objects) = Some (at.Between lists.ObjectClasses)
+begun head.Part (Some word.Interactions) = Some (at.Between lists.InteractionClasses)
+begun head.ObjectClass (Some word.Class) = Some (at.Name name.ObjectClass)
+begun head.ObjectItem (Some word.Class) = Some (at.Name name.ObjectClass)
+begun head.ObjectItem (Some word.Attribute) = Some (at.Name name.Attribute)
+begun head.ObjectItem (Some word.SecLevel) = Some (at.Ignored within.ObjectClass 0)
+begun head.AttributeItem (Some word.SecLevel) = Some (at.Ignored within.Attribute 0)
+begun head.InteractionClass (Some word.Class) = Some (at.Name name.InteractionClass)
+begun head.InteractionItem (Some word.Class) = Some (at.Name name.InteractionClass)
+begun head.InteractionItem (Some word.Parameter) = Some (at.Name name.Parameter)
+begun head.InteractionItem (Some word.SecLevel) = Some (at.Ignored within.InteractionClass 0)
+begun head.ParameterItem (Some word.SecLevel) = Some (at.Ignored within.Parameter 0)
+begun h k = None
+
+abbrev pub goes_to : Option Place → Reader → Step
+goes_to None s = Err kind.UnknownKeyword
+goes_to (Some place) s = Ok (record s { place = place })
+
+-- behind a word in the options of an attribute
+abbrev pub attribute_option : Stage → Option Keyword → Reader → Step
+attribute_option stage.Ordered k s = Ok (record s { place = at.AttributeEnd })
+attribute_option stage.Named (Some (word.Carried t)) s = Ok (record s { place = at.AttributeOptions stage.Carried; attribute = option_map {T = Attribute} {U = Attribute} (λ a. record a { transport = t }) s.attribute })
+attribute_option o (Some (word.Ordered r)) s = Ok (record s { place = at.AttributeOptions stage.Ordered; attribute = option_map {T = Attribute} {U = Attribute} (λ a. record a { order = r }) s.attribute })
+attribute_option o k s = Err kind.UnknownKeyword
+
+-- behind a word in the options of an interaction class
+abbrev pub class_option : Stage → Option Keyword → Reader → Step
+class_option stage.Ordered k s = Ok (class_declared s)
+class_option stage.Named (Some (word.Carried t)) s = Ok (record s { place = at.ClassOptions stage.Carried; class = option_map {T = InteractionClass} {U = InteractionClass} (λ k. record k { transport = t }) s.class })
+class_option o (Some (word.Ordered r)) s = Ok (record s { place = at.ClassOptions stage.Ordered; class = option_map {T = InteractionClass} {U = InteractionClass} (λ k. record k { order = r }) s.class })
+class_option o k s = Err kind.UnknownKeyword
+
+abbrev pub worded_at : Place → Reader → List ℕ → Step
+worded_at at.Start s w = Err kind.ExpectedOpen
+worded_at (at.Head h) s w = goes_to (begun h (keyword_of w)) s
+worded_at (at.Name n) s w = named n s w
+worded_at (at.Between l) s w = Err kind.ExpectedOpen
+worded_at at.LabelEnd s w = Err kind.ExpectedClose
+worded_at (at.AttributeOptions o) s w = attribute_option o (keyword_of w) s
+worded_at at.AttributeEnd s w = Err kind.ExpectedClose
+worded_at (at.ClassOptions o) s w = class_option o (keyword_of w) s
+worded_at at.ParameterEnd s w = Err kind.ExpectedClose
+worded_at (at.Ignored n l) s w = Ok s
+worded_at at.Done s w = Err kind.TrailingText
+
+unfoldable pub worded : Reader → List ℕ → Step
+worded s w = worded_at s.place s w
+
+-- Behind a quoted name.
+abbrev pub quoted_at : Place → Reader → List ℕ → Step
+quoted_at at.Start s n = Err kind.ExpectedOpen
+quoted_at (at.Head h) s n = Err kind.UnknownKeyword
+quoted_at (at.Name what) s n = named what s n
+quoted_at (at.Between l) s n = Err kind.ExpectedOpen
+quoted_at at.LabelEnd s n = Err kind.ExpectedClose
+quoted_at (at.AttributeOptions stage.Ordered) s n = Ok (record s { place = at.AttributeEnd })
+quoted_at (at.AttributeOptions o) s n = Err kind.ExpectedClose
+quoted_at at.AttributeEnd s n = Err kind.ExpectedClose
+quoted_at (at.ClassOptions stage.Ordered) s n = Ok (class_declared s)
+quoted_at (at.ClassOptions o) s n = Err kind.ExpectedOpen
+quoted_at at.ParameterEnd s n = Err kind.ExpectedClose
+quoted_at (at.Ignored w l) s n = Ok s
+quoted_at at.Done s n = Err kind.TrailingText
+
+unfoldable pub quoted : Reader → List ℕ → Step
+quoted s n = quoted_at s.place s n
+
+-- behind any token; a token that is cut wrongly is a fault at every place
+abbrev pub stepped : Reader → text.Token → Step
+stepped s text.Open = opened s
+stepped s text.Close = closed s
+stepped s (text.Word w) = worded s w
+stepped s (text.Quoted n) = quoted s n
+stepped s text.Bad = Err kind.BadByte
+stepped s text.Unclosed = Err kind.UnexpectedEnd
+stepped s text.End = Err kind.UnexpectedEnd
+
+-- the text may end here
+abbrev pub is_done : Place → Bool
+is_done at.Done = true
+is_done place = false
+
+-- what reading a text gives: its catalogue, or its first fault
+abbrev pub Outcome : Type 0
+Outcome = Result Tables FedFault
+
+-- the next token, and then what follows
+abbrev pub goes : ℕ → Step → (Reader → Outcome) → Outcome
+goes line (Ok s) later = later s
+goes line (Err k) later = Err (record { line = line; kind = k })
+
+abbrev pub ends : ℕ → Reader → Outcome
+ends line s = if is_done s.place then Ok s.catalogue else Err (record { line = line; kind = kind.UnexpectedEnd })
+
+-- what reading gives from here on: each token in turn, up to the first fault or the end
+unfoldable pub reading : Reader → List Lexed → Outcome
+reading s [] = Err (record { line = 0; kind = kind.UnexpectedEnd })
+reading s (t ∷ ts) = if is_end t.token then ends t.line s else goes t.line (stepped s t.token) (λ s'. reading s' ts)
+
+-- before the first token
+abbrev pub start : Reader
+start = record { place = at.Start; depth = 0; lineage = []; attribute = None; class = None; catalogue = nothing }
+
+-- what reading a text of at most 1,048,576 bytes gives; a longer one is too large, before all else
+unfoldable pub read_of : List ℕ → Outcome
+read_of text = if nat_lt 1048576 (length text) then Err (record { line = 1; kind = kind.TooLarge }) else reading start (tokens text)
+
+-- an answer is what reading gives, unless memory ran out
+abbrev pub FailsAs : ℕ → FedFaultKind → Outcome → Type 0
+FailsAs line kind.OutOfMemory read = Unit {0}
+FailsAs line k read = read ≡ Err (record { line = line; kind = k })
+
+abbrev pub Gives : Result Tables FedFault → Outcome → Type 0
+Gives (Ok c) read = read ≡ Ok c
+Gives (Err e) read = FailsAs e.line e.kind read
