@@ -1,3 +1,4 @@
 pub mod Words
 pub mod Reading
 pub mod Script
+pub mod Printed

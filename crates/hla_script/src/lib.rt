@@ -3,7 +3,9 @@
 
 mod arguments;
 mod lines;
+mod printing;
 mod reader;
+mod text;
 mod vocabulary;
 mod words;
 
