@@ -88,7 +88,7 @@ pub enum Outcome {
 }
 
 /// What a caller asked for.
-#[derive(Debug, Drop)]
+#[derive(Drop)]
 pub enum Act {
     /// Create Federation Execution, with what the FED file was read as; none where it was refused.
     Create { catalogue: Option<Catalogue> },
@@ -110,7 +110,7 @@ pub enum Choice {
 }
 
 /// One act of the history.
-#[derive(Debug, Drop)]
+#[derive(Drop)]
 pub struct Record {
     /// The caller's number.
     pub actor: u32,
