@@ -3,8 +3,10 @@
 
 mod arguments;
 mod lines;
+mod members;
 mod printing;
 mod reader;
+mod steps;
 mod text;
 mod vocabulary;
 mod words;
