@@ -3,3 +3,6 @@ pub mod Federation
 pub mod Next
 pub mod CentralOf
 pub mod Headline
+pub mod Flags
+pub mod MemberValue
+pub mod Members

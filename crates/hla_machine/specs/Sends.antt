@@ -7,7 +7,7 @@ use Rattle.hla_base.specs.Rows.{is_enabled, least_stamp}
 use Rattle.hla_fed_file.specs.declared.declared.Order.{Order}
 use Rattle.hla_fed_file.specs.declared.declared.Order.TheVariants.{Receive, Timestamp}
 use Rattle.hla_machine.specs.Directory.{Directory, Outgoing, Body, AnInteraction, AnUpdate, ADeletion, content_for, receives, is_of_order}
-use Rattle.hla_machine.specs.Central.{Central, Copy, Ro, Tso, SentEvent, with_copies, is_key}
+use Rattle.hla_machine.specs.Central.{Central, Copy, Ro, Tso, SentEvent, no_event, with_copies, is_key}
 
 -- a message goes in time-stamp order if its order says so, it has a stamp, and its sender regulates
 abbrev pub is_ordered : TimeRow → Option ℕ → Outgoing → Bool
@@ -25,13 +25,14 @@ is_deletion (ADeletion object) = true
 abbrev pub copy_for : Directory → TimeRow → Option ℕ → Outgoing → ℕ → Option Copy
 copy_for d r stamp out f = option_map (λ x. record { order = cond (is_ordered r stamp out) Tso Ro; stamp = kept_stamp r stamp out; content = x }) (content_for d out.body f)
 
+-- only an update or an interaction in time-stamp order may be retracted
+abbrev pub is_retractable : TimeRow → Option ℕ → Outgoing → Bool
+is_retractable r stamp out = is_ordered r stamp out && not (is_deletion out.body)
+
+-- what is kept of a message that may be retracted; of another nothing is
 abbrev pub sent_event : Directory → TimeRow → ℕ → Option ℕ → Outgoing → SentEvent
-sent_event d r g stamp out = record {
-  stamp = kept_stamp r stamp out;
-  retractable = is_ordered r stamp out && not (is_deletion out.body);
-  retracted = false;
-  receivers = receives d g out.body;
-}
+sent_event d r g stamp out = cond (is_retractable r stamp out)
+    (record { stamp = kept_stamp r stamp out; retractable = true; retracted = false; receivers = receives d g out.body }) no_event
 
 -- one message takes its sender's next serial, with or without receivers
 abbrev pub sent_one : Central → ℕ → Option ℕ → Outgoing → Central

@@ -1,6 +1,6 @@
 //! A wire from one component to another.
 
-ghost use Rattle.std.specs.Prelude.{◌≡◌, ◌++◌, ◌∷◌, [], OnOk, OnErr, IfErr, option_to_list, slice_get};
+ghost use Rattle.std.specs.Prelude.{◌≡◌, ◌++◌, ◌∷◌, [], OnOk, OnErr, IfErr, drop, slice_get, IsTrue, ◌↔◌, ◌-◌, take, length};
 ghost use Rattle.std.specs.Option.{option_copied};
 ghost use Rattle.hla_base.specs.declared.fault.Fault.TheVariants.{OutOfMemory};
 
@@ -54,10 +54,25 @@ impl Wire {
         self.messages.front()
     }
 
+    /// Whether nothing is on the wire.
+    pub fn is_empty(&self) -> bool
+        ensures { IsTrue result ↔ (self.now ≡ []) }
+    {
+        self.messages.is_empty()
+    }
+
     /// Takes the message that was put first, if there is one.
     pub fn take_first(&mut self) -> Option<Message>
-        ensures { self.old ≡ option_to_list result ++ self.new }
+        ensures first { result ≡ slice_get self.old 0 }
+        ensures rest { self.new ≡ drop 1 self.old }
     {
         self.messages.pop_front()
+    }
+
+    /// Takes back the message that was put last, if there is one.
+    pub fn take_last(&mut self) -> Option<Message>
+        ensures { self.new ≡ take (length self.old - 1) self.old }
+    {
+        self.messages.pop_back()
     }
 }

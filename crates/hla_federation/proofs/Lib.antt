@@ -1,0 +1,2 @@
+mod TakeBack
+mod PairLemmas
