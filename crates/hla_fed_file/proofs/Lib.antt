@@ -1,2 +1,5 @@
 pub mod NameLemmas
 pub mod Lexing
+pub mod ReadingLemmas
+pub mod Described
+pub mod Sound

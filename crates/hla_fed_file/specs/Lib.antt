@@ -8,3 +8,4 @@ pub mod Tokens
 pub mod Keywords
 pub mod Declaring
 pub mod Reading
+pub mod Grammar

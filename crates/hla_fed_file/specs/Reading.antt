@@ -89,7 +89,7 @@ opened_at (at.AttributeOptions o) s = deeper (at.Head head.AttributeItem) s
 opened_at at.AttributeEnd s = deeper (at.Head head.AttributeItem) s
 opened_at (at.ClassOptions o) s = deeper (at.Head head.InteractionItem) (class_declared s)
 opened_at at.ParameterEnd s = deeper (at.Head head.ParameterItem) s
-opened_at (at.Ignored w n) s = deeper (at.Ignored w (n + 1)) s
+opened_at (at.Ignored w d) s = deeper (at.Ignored w d) s
 opened_at at.Done s = Err kind.TrailingText
 
 unfoldable pub opened : Reader → Step
@@ -128,7 +128,7 @@ closed_at (at.AttributeOptions o) s = Ok (shallower (at.Between lists.ObjectItem
 closed_at at.AttributeEnd s = Ok (shallower (at.Between lists.ObjectItems) (attribute_declared s))
 closed_at (at.ClassOptions o) s = Ok (list_closed lists.InteractionItems (class_declared s))
 closed_at at.ParameterEnd s = Ok (shallower (at.Between lists.InteractionItems) s)
-closed_at (at.Ignored w n) s = Ok (shallower (if n == 0 then place_behind w else at.Ignored w (n - 1)) s)
+closed_at (at.Ignored w d) s = Ok (shallower (if s.depth == d then place_behind w else at.Ignored w d) s)
 closed_at at.Done s = Err kind.TrailingText
 
 unfoldable pub closed : Reader → Step
@@ -160,24 +160,24 @@ named what s n =
 
 -- Behind a bare word.
 
--- the place behind a keyword
-abbrev pub begun : Head → Option Keyword → Option Place
-begun head.File (Some word.Fed) = Some (at.Between lists.Parts)
-begun head.Part (Some word.Label) = Some (at.Name name.Label)
-begun head.Part (Some word.Ignored) = Some (at.Ignored within.File 0)
-begun head.Part (Some word.Objects) = Some (at.Between lists.ObjectClasses)
-begun head.Part (Some word.Interactions) = Some (at.Between lists.InteractionClasses)
-begun head.ObjectClass (Some word.Class) = Some (at.Name name.ObjectClass)
-begun head.ObjectItem (Some word.Class) = Some (at.Name name.ObjectClass)
-begun head.ObjectItem (Some word.Attribute) = Some (at.Name name.Attribute)
-begun head.ObjectItem (Some word.SecLevel) = Some (at.Ignored within.ObjectClass 0)
-begun head.AttributeItem (Some word.SecLevel) = Some (at.Ignored within.Attribute 0)
-begun head.InteractionClass (Some word.Class) = Some (at.Name name.InteractionClass)
-begun head.InteractionItem (Some word.Class) = Some (at.Name name.InteractionClass)
-begun head.InteractionItem (Some word.Parameter) = Some (at.Name name.Parameter)
-begun head.InteractionItem (Some word.SecLevel) = Some (at.Ignored within.InteractionClass 0)
-begun head.ParameterItem (Some word.SecLevel) = Some (at.Ignored within.Parameter 0)
-begun h k = None
+-- the place behind a keyword; an ignored list ends where as many parentheses are open as at its keyword
+abbrev pub begun : Head → ℕ → Option Keyword → Option Place
+begun head.File d (Some word.Fed) = Some (at.Between lists.Parts)
+begun head.Part d (Some word.Label) = Some (at.Name name.Label)
+begun head.Part d (Some word.Ignored) = Some (at.Ignored within.File d)
+begun head.Part d (Some word.Objects) = Some (at.Between lists.ObjectClasses)
+begun head.Part d (Some word.Interactions) = Some (at.Between lists.InteractionClasses)
+begun head.ObjectClass d (Some word.Class) = Some (at.Name name.ObjectClass)
+begun head.ObjectItem d (Some word.Class) = Some (at.Name name.ObjectClass)
+begun head.ObjectItem d (Some word.Attribute) = Some (at.Name name.Attribute)
+begun head.ObjectItem d (Some word.SecLevel) = Some (at.Ignored within.ObjectClass d)
+begun head.AttributeItem d (Some word.SecLevel) = Some (at.Ignored within.Attribute d)
+begun head.InteractionClass d (Some word.Class) = Some (at.Name name.InteractionClass)
+begun head.InteractionItem d (Some word.Class) = Some (at.Name name.InteractionClass)
+begun head.InteractionItem d (Some word.Parameter) = Some (at.Name name.Parameter)
+begun head.InteractionItem d (Some word.SecLevel) = Some (at.Ignored within.InteractionClass d)
+begun head.ParameterItem d (Some word.SecLevel) = Some (at.Ignored within.Parameter d)
+begun h d k = None
 
 abbrev pub goes_to : Option Place → Reader → Step
 goes_to None s = Err kind.UnknownKeyword
@@ -199,7 +199,7 @@ class_option o k s = Err kind.UnknownKeyword
 
 abbrev pub worded_at : Place → Reader → List ℕ → Step
 worded_at at.Start s w = Err kind.ExpectedOpen
-worded_at (at.Head h) s w = goes_to (begun h (keyword_of w)) s
+worded_at (at.Head h) s w = goes_to (begun h s.depth (keyword_of w)) s
 worded_at (at.Name n) s w = named n s w
 worded_at (at.Between l) s w = Err kind.ExpectedOpen
 worded_at at.LabelEnd s w = Err kind.ExpectedClose
@@ -207,7 +207,7 @@ worded_at (at.AttributeOptions o) s w = attribute_option o (keyword_of w) s
 worded_at at.AttributeEnd s w = Err kind.ExpectedClose
 worded_at (at.ClassOptions o) s w = class_option o (keyword_of w) s
 worded_at at.ParameterEnd s w = Err kind.ExpectedClose
-worded_at (at.Ignored n l) s w = Ok s
+worded_at (at.Ignored i d) s w = Ok s
 worded_at at.Done s w = Err kind.TrailingText
 
 unfoldable pub worded : Reader → List ℕ → Step
@@ -226,7 +226,7 @@ quoted_at at.AttributeEnd s n = Err kind.ExpectedClose
 quoted_at (at.ClassOptions stage.Ordered) s n = Ok (class_declared s)
 quoted_at (at.ClassOptions o) s n = Err kind.ExpectedOpen
 quoted_at at.ParameterEnd s n = Err kind.ExpectedClose
-quoted_at (at.Ignored w l) s n = Ok s
+quoted_at (at.Ignored w d) s n = Ok s
 quoted_at at.Done s n = Err kind.TrailingText
 
 unfoldable pub quoted : Reader → List ℕ → Step

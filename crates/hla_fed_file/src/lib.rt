@@ -9,7 +9,12 @@ mod lookup;
 mod names;
 mod place;
 mod reader;
+mod reading;
 
 pub use catalogue::Catalogue;
 pub use declared::{Attribute, InteractionClass, ObjectClass, Order, Parameter, Transport};
 pub use fault::{FedFault, FedFaultKind};
+pub use reading::read;
+
+#[cfg(test)]
+mod tests;

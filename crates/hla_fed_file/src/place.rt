@@ -90,7 +90,7 @@ pub enum Place {
     AttributeEnd,
     ClassOptions(Stage),
     ParameterEnd,
-    /// In an ignored list, of which so many lists are open.
+    /// In an ignored list, which ends where so many parentheses are open.
     Ignored(Within, u32),
     /// Behind the FED list.
     Done,

@@ -56,30 +56,30 @@ fn place_behind(within: Within) -> Place
 }
 
 /// The place behind a keyword.
-fn begun(head: Head, keyword: Option<Keyword>) -> Option<Place>
-    ensures { result ≡ begun head keyword }
+fn begun(head: Head, depth: u32, keyword: Option<Keyword>) -> Option<Place>
+    ensures { result ≡ begun head depth keyword }
 {
     match (head, keyword?) {
         (Head::File, Keyword::Fed) => Some(Place::Between(Lists::Parts)),
         (Head::Part, Keyword::Label) => Some(Place::Name(Naming::Label)),
-        (Head::Part, Keyword::Ignored) => Some(Place::Ignored(Within::File, 0)),
+        (Head::Part, Keyword::Ignored) => Some(Place::Ignored(Within::File, depth)),
         (Head::Part, Keyword::Objects) => Some(Place::Between(Lists::ObjectClasses)),
         (Head::Part, Keyword::Interactions) => Some(Place::Between(Lists::InteractionClasses)),
         (Head::ObjectClass | Head::ObjectItem, Keyword::Class) => Some(Place::Name(
             Naming::ObjectClass,
         )),
         (Head::ObjectItem, Keyword::Attribute) => Some(Place::Name(Naming::Attribute)),
-        (Head::ObjectItem, Keyword::SecLevel) => Some(Place::Ignored(Within::ObjectClass, 0)),
-        (Head::AttributeItem, Keyword::SecLevel) => Some(Place::Ignored(Within::Attribute, 0)),
+        (Head::ObjectItem, Keyword::SecLevel) => Some(Place::Ignored(Within::ObjectClass, depth)),
+        (Head::AttributeItem, Keyword::SecLevel) => Some(Place::Ignored(Within::Attribute, depth)),
         (Head::InteractionClass | Head::InteractionItem, Keyword::Class) => Some(Place::Name(
             Naming::InteractionClass,
         )),
         (Head::InteractionItem, Keyword::Parameter) => Some(Place::Name(Naming::Parameter)),
         (Head::InteractionItem, Keyword::SecLevel) => Some(Place::Ignored(
             Within::InteractionClass,
-            0,
+            depth,
         )),
-        (Head::ParameterItem, Keyword::SecLevel) => Some(Place::Ignored(Within::Parameter, 0)),
+        (Head::ParameterItem, Keyword::SecLevel) => Some(Place::Ignored(Within::Parameter, depth)),
         _ => None,
     }
 }
@@ -140,5 +140,420 @@ fn around(alloc: Global, lineage: &[ClassNo]) -> Result<List<ClassNo>, FedFaultK
     match Vec::from_slice(alloc, rest) {
         Ok(rest) => Ok(List::from_vec(rest)),
         Err(_) => Err(FedFaultKind::OutOfMemory),
+    }
+}
+
+impl Reader {
+    /// Before the first token.
+    pub fn new(alloc: Global) -> Reader
+        ensures { result ≡ start }
+    {
+        Reader {
+            place: Place::Start,
+            depth: 0,
+            lineage: List::new(alloc),
+            attribute: None,
+            class: None,
+            catalogue: Catalogue::new(alloc),
+        }
+    }
+
+    /// Goes behind an opening parenthesis that may stand here.
+    fn deepen(&mut self, place: Place) -> Result<(), FedFaultKind>
+        ensures { Moves result (deeper place self.old) self.new }
+    {
+        if self.depth >= 64 {
+            return Err(FedFaultKind::TooLarge);
+        }
+        self.place = place;
+        self.depth += 1;
+        Ok(())
+    }
+
+    /// Goes behind a closing parenthesis.
+    fn rise(&mut self, place: Place)
+        ensures { self.new ≡ shallower place self.old }
+    {
+        self.place = place;
+        self.depth = self.depth.saturating_sub(1);
+    }
+
+    /// Declares the attribute that was read, unless it is ignored.
+    fn declare_attribute(&mut self) -> Result<(), FedFaultKind>
+        ensures { Moves result (Ok (attribute_declared self.old)) self.new }
+    {
+        if let Some(attribute) = self.attribute.take() {
+            // Its name was refused where there was no room.
+            let full = self.catalogue.attributes().len() >= 4096;
+            if full || self.catalogue.add_attribute(attribute).is_err() {
+                return Err(FedFaultKind::OutOfMemory);
+            }
+        }
+        Ok(())
+    }
+
+    /// Declares the interaction class whose options end, and goes on in it.
+    fn declare_class(&mut self) -> Result<(), FedFaultKind>
+        ensures { Moves result (Ok (class_declared self.old)) self.new }
+    {
+        if let Some(class) = self.class.take() {
+            let Ok(lineage) = class.lineage.copy() else {
+                return Err(FedFaultKind::OutOfMemory);
+            };
+            // Its name was refused where there was no room.
+            let full = self.catalogue.interaction_classes().len() >= 512;
+            if full || self.catalogue.add_interaction_class(class).is_err() {
+                return Err(FedFaultKind::OutOfMemory);
+            }
+            self.place = Place::Between(Lists::InteractionItems);
+            self.lineage = lineage;
+        }
+        Ok(())
+    }
+
+    /// Takes an opening parenthesis.
+    #[tactic(auto, unfolding(crate::specs::Reading::opened))]
+    fn open(&mut self) -> Result<(), FedFaultKind>
+        ensures { Moves result (opened self.old) self.new }
+    {
+        match self.place {
+            Place::Start => self.deepen(Place::Head(Head::File)),
+            Place::Head(_) => Err(FedFaultKind::UnknownKeyword),
+            Place::Name(_) => Err(FedFaultKind::ExpectedName),
+            Place::Between(lists) => self.deepen(Place::Head(head_in(lists))),
+            Place::LabelEnd => Err(FedFaultKind::ExpectedClose),
+            Place::AttributeOptions(_) | Place::AttributeEnd => self.deepen(Place::Head(
+                Head::AttributeItem,
+            )),
+            Place::ClassOptions(_) => {
+                self.declare_class()?;
+                self.deepen(Place::Head(Head::InteractionItem))
+            }
+            Place::ParameterEnd => self.deepen(Place::Head(Head::ParameterItem)),
+            Place::Ignored(within, depth) => self.deepen(Place::Ignored(within, depth)),
+            Place::Done => Err(FedFaultKind::TrailingText),
+        }
+    }
+
+    /// Leaves a class, for the class around it or for the list of classes.
+    fn leave_class(&mut self, alloc: Global, top: Lists, inner: Lists) -> Result<(), FedFaultKind>
+        ensures { Moves result (Ok (class_left top inner self.old)) self.new }
+    {
+        self.lineage = around(alloc, self.lineage.as_slice())?;
+        let lists = if self.lineage.is_empty() { top } else { inner };
+        self.rise(Place::Between(lists));
+        Ok(())
+    }
+
+    /// Ends a list of lists.
+    fn close_list(&mut self, alloc: Global, lists: Lists) -> Result<(), FedFaultKind>
+        ensures { Moves result (Ok (list_closed lists self.old)) self.new }
+    {
+        match lists {
+            Lists::Parts => self.rise(Place::Done),
+            Lists::ObjectClasses | Lists::InteractionClasses => self.rise(Place::Between(
+                Lists::Parts,
+            )),
+            Lists::ObjectItems => {
+                return self.leave_class(alloc, Lists::ObjectClasses, Lists::ObjectItems);
+            }
+            Lists::InteractionItems => {
+                return self.leave_class(alloc, Lists::InteractionClasses, Lists::InteractionItems);
+            }
+        }
+        Ok(())
+    }
+
+    /// Takes a closing parenthesis.
+    #[tactic(auto, unfolding(crate::specs::Reading::closed))]
+    fn close(&mut self, alloc: Global) -> Result<(), FedFaultKind>
+        ensures { Moves result (closed self.old) self.new }
+    {
+        match self.place {
+            Place::Start => return Err(FedFaultKind::ExpectedOpen),
+            Place::Head(_) => return Err(FedFaultKind::UnknownKeyword),
+            Place::Name(_) => return Err(FedFaultKind::ExpectedName),
+            Place::Between(lists) => return self.close_list(alloc, lists),
+            Place::LabelEnd => self.rise(Place::Between(Lists::Parts)),
+            Place::AttributeOptions(_) | Place::AttributeEnd => {
+                self.declare_attribute()?;
+                self.rise(Place::Between(Lists::ObjectItems));
+            }
+            Place::ClassOptions(_) => {
+                self.declare_class()?;
+                return self.close_list(alloc, Lists::InteractionItems);
+            }
+            Place::ParameterEnd => self.rise(Place::Between(Lists::InteractionItems)),
+            Place::Ignored(within, depth) if self.depth == depth => self.rise(place_behind(within)),
+            Place::Ignored(within, depth) => self.rise(Place::Ignored(within, depth)),
+            Place::Done => return Err(FedFaultKind::TrailingText),
+        }
+        Ok(())
+    }
+
+    /// Takes the name of an object class.
+    fn open_object_class(&mut self, alloc: Global, name: &[u8]) -> Result<(), FedFaultKind>
+        ensures { Moves result (named_at Naming.ObjectClass self.old name.now) self.new }
+    {
+        let count = self.catalogue.object_classes().len();
+        if count >= 512 {
+            return Err(FedFaultKind::TooLarge);
+        }
+        let outer = innermost(self.lineage.as_slice());
+        let path = joined(alloc, self.catalogue.object_path(outer), name)?;
+        let lineage = lineage_of(alloc, count as u32 + 1, self.lineage.as_slice())?;
+        let Ok(inner) = lineage.copy() else {
+            return Err(FedFaultKind::OutOfMemory);
+        };
+        if self
+            .catalogue
+            .add_object_class(ObjectClass { path, lineage })
+            .is_err()
+        {
+            return Err(FedFaultKind::OutOfMemory);
+        }
+        self.lineage = inner;
+        self.place = Place::Between(Lists::ObjectItems);
+        Ok(())
+    }
+
+    /// Takes the name of an interaction class.
+    fn open_interaction_class(&mut self, alloc: Global, name: &[u8]) -> Result<(), FedFaultKind>
+        ensures { Moves result (named_at Naming.InteractionClass self.old name.now) self.new }
+    {
+        let count = self.catalogue.interaction_classes().len();
+        if count >= 512 {
+            return Err(FedFaultKind::TooLarge);
+        }
+        let outer = innermost(self.lineage.as_slice());
+        let path = joined(alloc, self.catalogue.interaction_path(outer), name)?;
+        let lineage = lineage_of(alloc, count as u32 + 1, self.lineage.as_slice())?;
+        self.class = Some(InteractionClass {
+            path,
+            lineage,
+            transport: Transport::Reliable,
+            order: Order::Receive,
+        });
+        self.place = Place::ClassOptions(Stage::Named);
+        Ok(())
+    }
+
+    /// Takes the name of an attribute.
+    fn open_attribute(&mut self, alloc: Global, name: &[u8]) -> Result<(), FedFaultKind>
+        ensures { Moves result (named_at Naming.Attribute self.old name.now) self.new }
+    {
+        if self
+            .catalogue
+            .attribute_among(self.lineage.as_slice(), name)
+            .is_some()
+        {
+            self.attribute = None;
+        } else {
+            if self.catalogue.attributes().len() >= 4096 {
+                return Err(FedFaultKind::TooLarge);
+            }
+            let class = innermost(self.lineage.as_slice());
+            let Ok(name) = Vec::from_slice(alloc, name) else {
+                return Err(FedFaultKind::OutOfMemory);
+            };
+            self.attribute = Some(Attribute {
+                class,
+                name: List::from_vec(name),
+                transport: Transport::Reliable,
+                order: Order::Receive,
+            });
+        }
+        self.place = Place::AttributeOptions(Stage::Named);
+        Ok(())
+    }
+
+    /// Takes the name of a parameter.
+    fn open_parameter(&mut self, alloc: Global, name: &[u8]) -> Result<(), FedFaultKind>
+        ensures { Moves result (named_at Naming.Parameter self.old name.now) self.new }
+    {
+        if self
+            .catalogue
+            .parameter_among(self.lineage.as_slice(), name)
+            .is_none()
+        {
+            if self.catalogue.parameters().len() >= 4096 {
+                return Err(FedFaultKind::TooLarge);
+            }
+            let class = innermost(self.lineage.as_slice());
+            let Ok(name) = Vec::from_slice(alloc, name) else {
+                return Err(FedFaultKind::OutOfMemory);
+            };
+            let name = List::from_vec(name);
+            if self
+                .catalogue
+                .add_parameter(Parameter { class, name })
+                .is_err()
+            {
+                return Err(FedFaultKind::OutOfMemory);
+            }
+        }
+        self.place = Place::ParameterEnd;
+        Ok(())
+    }
+
+    /// Takes a name where one must stand.
+    #[tactic(auto, unfolding(crate::specs::Reading::named))]
+    fn name(&mut self, alloc: Global, naming: Naming, name: &[u8]) -> Result<(), FedFaultKind>
+        ensures { Moves result (named naming self.old name.now) self.new }
+    {
+        if name.is_empty() {
+            return Err(FedFaultKind::ExpectedName);
+        }
+        if name.len() > 255 {
+            return Err(FedFaultKind::TooLarge);
+        }
+        match naming {
+            Naming::Label => {
+                self.place = Place::LabelEnd;
+                Ok(())
+            }
+            Naming::ObjectClass => self.open_object_class(alloc, name),
+            Naming::Attribute => self.open_attribute(alloc, name),
+            Naming::InteractionClass => self.open_interaction_class(alloc, name),
+            Naming::Parameter => self.open_parameter(alloc, name),
+        }
+    }
+
+    /// Takes a keyword behind an opening parenthesis.
+    fn begin(&mut self, head: Head, word: &[u8]) -> Result<(), FedFaultKind>
+        ensures { Moves result (goes_to (begun head self.old.depth (keyword_of word.now)) self.old) self.new }
+    {
+        match begun(head, self.depth, meaning(word)) {
+            Some(place) => {
+                self.place = place;
+                Ok(())
+            }
+            None => Err(FedFaultKind::UnknownKeyword),
+        }
+    }
+
+    /// Takes a word in the options of an attribute.
+    fn attribute_option(&mut self, stage: Stage, word: &[u8]) -> Result<(), FedFaultKind>
+        ensures { Moves result (attribute_option stage (keyword_of word.now) self.old) self.new }
+    {
+        if stage == Stage::Ordered {
+            self.place = Place::AttributeEnd;
+            return Ok(());
+        }
+        match (stage, meaning(word)) {
+            (Stage::Named, Some(Keyword::Carried(transport))) => {
+                if let Some(attribute) = &mut self.attribute {
+                    attribute.transport = transport;
+                }
+                self.place = Place::AttributeOptions(Stage::Carried);
+                Ok(())
+            }
+            (_, Some(Keyword::Ordered(order))) => {
+                if let Some(attribute) = &mut self.attribute {
+                    attribute.order = order;
+                }
+                self.place = Place::AttributeOptions(Stage::Ordered);
+                Ok(())
+            }
+            _ => Err(FedFaultKind::UnknownKeyword),
+        }
+    }
+
+    /// Takes a word in the options of an interaction class.
+    fn class_option(&mut self, stage: Stage, word: &[u8]) -> Result<(), FedFaultKind>
+        ensures { Moves result (class_option stage (keyword_of word.now) self.old) self.new }
+    {
+        if stage == Stage::Ordered {
+            return self.declare_class();
+        }
+        match (stage, meaning(word)) {
+            (Stage::Named, Some(Keyword::Carried(transport))) => {
+                if let Some(class) = &mut self.class {
+                    class.transport = transport;
+                }
+                self.place = Place::ClassOptions(Stage::Carried);
+                Ok(())
+            }
+            (_, Some(Keyword::Ordered(order))) => {
+                if let Some(class) = &mut self.class {
+                    class.order = order;
+                }
+                self.place = Place::ClassOptions(Stage::Ordered);
+                Ok(())
+            }
+            _ => Err(FedFaultKind::UnknownKeyword),
+        }
+    }
+
+    /// Takes a bare word.
+    #[tactic(auto, unfolding(crate::specs::Reading::worded))]
+    fn word(&mut self, alloc: Global, word: &[u8]) -> Result<(), FedFaultKind>
+        ensures { Moves result (worded self.old word.now) self.new }
+    {
+        match self.place {
+            Place::Ignored(_, _) => Ok(()),
+            Place::Head(head) => self.begin(head, word),
+            Place::Name(naming) => self.name(alloc, naming, word),
+            Place::AttributeOptions(stage) => self.attribute_option(stage, word),
+            Place::ClassOptions(stage) => self.class_option(stage, word),
+            Place::Start | Place::Between(_) => Err(FedFaultKind::ExpectedOpen),
+            Place::LabelEnd | Place::AttributeEnd | Place::ParameterEnd => Err(
+                FedFaultKind::ExpectedClose,
+            ),
+            Place::Done => Err(FedFaultKind::TrailingText),
+        }
+    }
+
+    /// Takes a quoted name.
+    #[tactic(auto, unfolding(crate::specs::Reading::quoted))]
+    fn quoted(&mut self, alloc: Global, name: &[u8]) -> Result<(), FedFaultKind>
+        ensures { Moves result (quoted self.old name.now) self.new }
+    {
+        match self.place {
+            Place::Ignored(_, _) => Ok(()),
+            Place::Name(naming) => self.name(alloc, naming, name),
+            Place::AttributeOptions(Stage::Ordered) => {
+                self.place = Place::AttributeEnd;
+                Ok(())
+            }
+            Place::ClassOptions(Stage::Ordered) => self.declare_class(),
+            Place::Head(_) => Err(FedFaultKind::UnknownKeyword),
+            Place::Start | Place::Between(_) | Place::ClassOptions(_) => Err(
+                FedFaultKind::ExpectedOpen,
+            ),
+            Place::LabelEnd
+            | Place::AttributeOptions(_)
+            | Place::AttributeEnd
+            | Place::ParameterEnd => { Err(FedFaultKind::ExpectedClose) }
+            Place::Done => Err(FedFaultKind::TrailingText),
+        }
+    }
+
+    /// Takes the next token.
+    pub fn take(&mut self, alloc: Global, token: Token<'_>) -> Result<(), FedFaultKind>
+        ensures { Moves result (stepped self.old (view token.entry)) self.new }
+    {
+        match token {
+            Token::Open => self.open(),
+            Token::Close => self.close(alloc),
+            Token::Word(word) => self.word(alloc, word),
+            Token::Quoted(name) => self.quoted(alloc, name),
+            Token::Bad => Err(FedFaultKind::BadByte),
+            Token::Unclosed | Token::End => Err(FedFaultKind::UnexpectedEnd),
+        }
+    }
+
+    /// Ends where the text ends, on a line.
+    pub fn finish(self, line: usize) -> Result<Catalogue, FedFault>
+        ensures { result ≡ ends line self }
+    {
+        if matches!(self.place, Place::Done) {
+            Ok(self.catalogue)
+        } else {
+            Err(FedFault {
+                line,
+                kind: FedFaultKind::UnexpectedEnd,
+            })
+        }
     }
 }

@@ -1,0 +1,92 @@
+-- One more token.
+use Rattle.std.proofs.Common.{◌≡◌, ℕ, true, false, List, Result, Ok, Err, length, nat_lt, ◌≤◌, ◌<◌, refl, sym, ap, ◌∙◌, le-ltb, lt-ltb}
+use Rattle.hla_fed_file.specs.Lexical as text
+use Rattle.hla_fed_file.specs.Lexical.{Lexed, tokens, tokens_from, Between}
+use Rattle.hla_fed_file.specs.Tokens.{stream, is_end}
+use Rattle.hla_fed_file.specs.Reading.{reading, stepped, ends, start, read_of, Gives, Fails, FailsAs}
+use Rattle.hla_fed_file.specs.Tables.{Tables}
+use Rattle.hla_fed_file.specs.declared.fault.FedFaultKind.{FedFaultKind}
+use Rattle.hla_fed_file.specs.declared.fault.FedFaultKind.TheVariants as kind
+use Rattle.hla_fed_file.specs.declared.fault.FedFault.{FedFault}
+use Rattle.hla_fed_file.specs.declared.reader.Reader.{Reader}
+
+abbrev All : Type 0
+All = Result Tables FedFault
+
+-- a token is taken
+pub goes_on : (s s' : Reader) (line : ℕ) (token : text.Token) (rest : List ℕ) (ts : List Lexed) (all : All) → ts ≡ stream line token rest → is_end token ≡ false → stepped s token ≡ Ok s' → reading s ts ≡ all → reading s' (tokens_from Between line rest) ≡ all
+unfolding reading
+goes_on s s' line text.Open rest ts all e h ok so_far = let step : reading s (stream line text.Open rest) ≡ reading s' (tokens_from Between line rest) = rw ok refl in sym step ∙ ap (reading s) (sym e) ∙ so_far
+goes_on s s' line text.Close rest ts all e h ok so_far = let step : reading s (stream line text.Close rest) ≡ reading s' (tokens_from Between line rest) = rw ok refl in sym step ∙ ap (reading s) (sym e) ∙ so_far
+goes_on s s' line (text.Word w) rest ts all e h ok so_far = let step : reading s (stream line (text.Word w) rest) ≡ reading s' (tokens_from Between line rest) = rw ok refl in sym step ∙ ap (reading s) (sym e) ∙ so_far
+goes_on s s' line (text.Quoted w) rest ts all e h ok so_far = let step : reading s (stream line (text.Quoted w) rest) ≡ reading s' (tokens_from Between line rest) = rw ok refl in sym step ∙ ap (reading s) (sym e) ∙ so_far
+goes_on s s' line text.Bad rest ts all e h ok so_far = cc
+goes_on s s' line text.Unclosed rest ts all e h ok so_far = cc
+goes_on s s' line text.End rest ts all e h ok so_far = cc
+
+-- a token is at fault
+pub fails_at : (s : Reader) (k : FedFaultKind) (line : ℕ) (token : text.Token) (rest : List ℕ) (ts : List Lexed) (all : All) → ts ≡ stream line token rest → is_end token ≡ false → stepped s token ≡ Err k → reading s ts ≡ all → all ≡ Err (record { line = line; kind = k })
+unfolding reading
+fails_at s k line text.Open rest ts all e h err so_far = let step : reading s (stream line text.Open rest) ≡ Err (record { line = line; kind = k }) = rw err refl in sym so_far ∙ ap (reading s) e ∙ step
+fails_at s k line text.Close rest ts all e h err so_far = let step : reading s (stream line text.Close rest) ≡ Err (record { line = line; kind = k }) = rw err refl in sym so_far ∙ ap (reading s) e ∙ step
+fails_at s k line (text.Word w) rest ts all e h err so_far = let step : reading s (stream line (text.Word w) rest) ≡ Err (record { line = line; kind = k }) = rw err refl in sym so_far ∙ ap (reading s) e ∙ step
+fails_at s k line (text.Quoted w) rest ts all e h err so_far = let step : reading s (stream line (text.Quoted w) rest) ≡ Err (record { line = line; kind = k }) = rw err refl in sym so_far ∙ ap (reading s) e ∙ step
+fails_at s k line text.Bad rest ts all e h err so_far = let same : k ≡ kind.BadByte = cc in sym so_far ∙ ap (reading s) e ∙ ap (λ (k' : FedFaultKind). Err (record { line = line; kind = k' })) (sym same)
+fails_at s k line text.Unclosed rest ts all e h err so_far = let same : k ≡ kind.UnexpectedEnd = cc in sym so_far ∙ ap (reading s) e ∙ ap (λ (k' : FedFaultKind). Err (record { line = line; kind = k' })) (sym same)
+fails_at s k line text.End rest ts all e h err so_far = cc
+
+-- the text ends
+pub ends_at : (s : Reader) (line : ℕ) (token : text.Token) (rest : List ℕ) (ts : List Lexed) (all : All) → ts ≡ stream line token rest → is_end token ≡ true → reading s ts ≡ all → all ≡ ends line s
+unfolding reading
+ends_at s line text.Open rest ts all e h so_far = cc
+ends_at s line text.Close rest ts all e h so_far = cc
+ends_at s line (text.Word w) rest ts all e h so_far = cc
+ends_at s line (text.Quoted w) rest ts all e h so_far = cc
+ends_at s line text.Bad rest ts all e h so_far = cc
+ends_at s line text.Unclosed rest ts all e h so_far = cc
+ends_at s line text.End rest ts all e h so_far = sym so_far ∙ ap (reading s) e
+
+-- a text that is not too long
+pub read_all : (bytes : List ℕ) (all : All) → length bytes ≤ 1048576 → reading start (tokens bytes) ≡ all → read_of bytes ≡ all
+unfolding read_of
+read_all bytes all h e = let small : nat_lt 1048576 (length bytes) ≡ false = le-ltb _ _ h in rw small e
+
+pub too_long : (bytes : List ℕ) → 1048576 < length bytes → read_of bytes ≡ Err (record { line = 1; kind = kind.TooLarge })
+unfolding read_of
+too_long bytes h = let large : nat_lt 1048576 (length bytes) ≡ true = lt-ltb _ _ h in rw large refl
+
+own_fault : (line : ℕ) (k : FedFaultKind) → FailsAs line k (Err (record { line = line; kind = k }))
+own_fault line kind.OutOfMemory = tt
+own_fault line kind.UnexpectedEnd = refl
+own_fault line kind.BadByte = refl
+own_fault line kind.ExpectedOpen = refl
+own_fault line kind.UnknownKeyword = refl
+own_fault line kind.ExpectedName = refl
+own_fault line kind.ExpectedClose = refl
+own_fault line kind.TrailingText = refl
+own_fault line kind.TooLarge = refl
+
+gives_own : (r : All) → Gives r r
+gives_own (Ok c) = refl
+gives_own (Err e) = own_fault e.line e.kind
+
+-- the end of a text that is not too long
+pub ends_all : (s : Reader) (line : ℕ) (token : text.Token) (rest bytes : List ℕ) (ts : List Lexed) (r : All) → length bytes ≤ 1048576 → ts ≡ stream line token rest → is_end token ≡ true → reading s ts ≡ reading start (tokens bytes) → r ≡ ends line s → Gives r (read_of bytes)
+ends_all s line token rest bytes ts r h e t so_far answer =
+    let all : read_of bytes ≡ r = read_all bytes (ends line s) h (ends_at s line token rest ts _ e t so_far) ∙ sym answer in
+    rw all (gives_own r)
+
+-- a token is at fault, or memory ran out
+pub fails_all : (k : FedFaultKind) (s : Reader) (line : ℕ) (token : text.Token) (rest bytes : List ℕ) (ts : List Lexed) → length bytes ≤ 1048576 → ts ≡ stream line token rest → is_end token ≡ false → Fails k (stepped s token)
+    → reading s ts ≡ reading start (tokens bytes) → FailsAs line k (read_of bytes)
+fails_all kind.OutOfMemory s line token rest bytes ts h t e err so_far = tt
+fails_all kind.UnexpectedEnd s line token rest bytes ts h t e err so_far = read_all bytes _ h (fails_at s kind.UnexpectedEnd line token rest ts _ t e err so_far)
+fails_all kind.BadByte s line token rest bytes ts h t e err so_far = read_all bytes _ h (fails_at s kind.BadByte line token rest ts _ t e err so_far)
+fails_all kind.ExpectedOpen s line token rest bytes ts h t e err so_far = read_all bytes _ h (fails_at s kind.ExpectedOpen line token rest ts _ t e err so_far)
+fails_all kind.UnknownKeyword s line token rest bytes ts h t e err so_far = read_all bytes _ h (fails_at s kind.UnknownKeyword line token rest ts _ t e err so_far)
+fails_all kind.ExpectedName s line token rest bytes ts h t e err so_far = read_all bytes _ h (fails_at s kind.ExpectedName line token rest ts _ t e err so_far)
+fails_all kind.ExpectedClose s line token rest bytes ts h t e err so_far = read_all bytes _ h (fails_at s kind.ExpectedClose line token rest ts _ t e err so_far)
+fails_all kind.TrailingText s line token rest bytes ts h t e err so_far = read_all bytes _ h (fails_at s kind.TrailingText line token rest ts _ t e err so_far)
+fails_all kind.TooLarge s line token rest bytes ts h t e err so_far = read_all bytes _ h (fails_at s kind.TooLarge line token rest ts _ t e err so_far)
+
+pub ruleset steps = (goes_on, fails_at, ends_at, read_all, too_long, ends_all)

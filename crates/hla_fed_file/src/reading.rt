@@ -1,0 +1,57 @@
+//! Reading a FED file.
+
+ghost use Rattle.std.specs.Prelude.{Ok, IfOk};
+ghost use Rattle.hla_fed_file.specs.Reading.{read_of, Gives};
+ghost use Rattle.hla_fed_file.specs.Grammar.{Describes};
+ghost use Rattle.hla_fed_file.specs.Tables.{Tables};
+
+use crate::catalogue::Catalogue;
+use crate::fault::{FedFault, FedFaultKind};
+use crate::lexer::next;
+use crate::reader::Reader;
+use std::alloc::Global;
+
+/// Reads a text token by token.
+#[tactic(auto, using(crate::proofs::ReadingLemmas::steps))]
+fn read_tokens(alloc: Global, text: &[u8]) -> Result<Catalogue, FedFault>
+    ensures { Gives result (read_of text.now) }
+{
+    if text.len() > 1_048_576 {
+        return Err(FedFault {
+            line: 1,
+            kind: FedFaultKind::TooLarge,
+        });
+    }
+    let mut reader = Reader::new(alloc);
+    let mut rest = text;
+    let mut line = 1;
+    loop {
+        let lexed = next(rest, line);
+        line = lexed.line;
+        rest = lexed.rest;
+        if lexed.token.is_end() {
+            return reader.finish(line);
+        }
+        if let Err(kind) = reader.take(alloc, lexed.token) {
+            return Err(FedFault { line, kind });
+        }
+    }
+}
+
+/// Reads a FED file: the catalogue that it declares, or its first fault. `OutOfMemory` where a growth was refused,
+/// `TooLarge` where the text is longer than 1,048,576 bytes, more than 64 parentheses are open, a name that is not
+/// ignored has more than 255 bytes, or a declaration is one too many of 512 classes of its kind, 4,096 attributes or
+/// 4,096 parameters (limits of this profile); the other faults are those of the HLA 1.3 FED format.
+#[tactic(auto, using(crate::proofs::Sound::sound))]
+pub fn read(alloc: Global, text: &[u8]) -> Result<Catalogue, FedFault>
+    // The catalogue, or the first fault: tokens are tested in their order.
+    ensures exact { Gives result (read_of text.now) }
+
+    // What is read is a file of the grammar within the limits, and declares the catalogue.
+    ensures found { IfOk result (Describes text.now) }
+
+    // What the grammar relates to a catalogue is read as that one, unless memory runs out.
+    ensures only { (c : Tables) → Describes text.now c → Gives result (Ok c) }
+{
+    read_tokens(alloc, text)
+}
