@@ -117,7 +117,9 @@ fn pair_values(
 {
     let mut pairs = List::new(alloc);
     for pair in values {
-        let handle = catalogue.parameter(class, pair.name.as_slice()).unwrap_or(0);
+        let handle = catalogue
+            .parameter(class, pair.name.as_slice())
+            .unwrap_or(0);
         let value = Value::new(alloc, pair.value.as_slice())?;
         pairs.push(HandleValuePair { handle, value })?;
     }
