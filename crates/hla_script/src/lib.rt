@@ -20,3 +20,6 @@ pub use history::HISTORY_LIMIT;
 pub use lines::{Call, Command, Line, NameValuePair, Script, ScriptFault, ScriptFaultKind};
 pub use player::{PlayFault, play};
 pub use reader::{SCRIPT_LIMIT, parse};
+
+#[cfg(test)]
+mod tests;
