@@ -1,5 +1,12 @@
 pub mod NameLemmas
 pub mod Lexing
 pub mod ReadingLemmas
+pub mod ReadSteps
+pub mod ReadObjects
+pub mod ReadInteractions
 pub mod Described
+pub mod BackSteps
+pub mod BackObjects
+pub mod BackInteractions
 pub mod Sound
+pub mod GroupLemmas

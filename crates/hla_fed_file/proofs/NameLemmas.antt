@@ -59,7 +59,7 @@ number_at-append p xs x =
     ∙ number_at-or_else (position p xs) (cond (p x) (Some (0 + length xs)) None)
     ∙ ap (or_else (number_at (position p xs))) (number_at-cond (p x) (length xs))
 
-bytes_eq-comm : (a b : List ℕ) → bytes_eq a b ≡ bytes_eq b a
+pub bytes_eq-comm : (a b : List ℕ) → bytes_eq a b ≡ bytes_eq b a
 bytes_eq-comm a b = same_from_decides (bytes_eq a b) (bytes_eq b a) (bytes_eq-Decides a b) (Decides-like (bytes_eq b a) sym sym (bytes_eq-Decides b a))
 
 known_before : (ns : Numbered) (m n : ℕ) (b : Bool) (q name : List ℕ) → bytes_eq q name ≡ b → number_in ns q ≡ Some m → number_in ns name ≡ or_else (number_in ns name) (cond b (Some n) None)

@@ -46,11 +46,7 @@ ends_at s line text.Bad rest ts all e h so_far = cc
 ends_at s line text.Unclosed rest ts all e h so_far = cc
 ends_at s line text.End rest ts all e h so_far = sym so_far ∙ ap (reading s) e
 
--- a text that is not too long
-pub read_all : (bytes : List ℕ) (all : All) → length bytes ≤ 1048576 → reading start (tokens bytes) ≡ all → read_of bytes ≡ all
-unfolding read_of
-read_all bytes all h e = let small : nat_lt 1048576 (length bytes) ≡ false = le-ltb _ _ h in rw small e
-
+-- a text that is too long
 pub too_long : (bytes : List ℕ) → 1048576 < length bytes → read_of bytes ≡ Err (record { line = 1; kind = kind.TooLarge })
 unfolding read_of
 too_long bytes h = let large : nat_lt 1048576 (length bytes) ≡ true = lt-ltb _ _ h in rw large refl
@@ -70,23 +66,31 @@ gives_own : (r : All) → Gives r r
 gives_own (Ok c) = refl
 gives_own (Err e) = own_fault e.line e.kind
 
--- the end of a text that is not too long
-pub ends_all : (s : Reader) (line : ℕ) (token : text.Token) (rest bytes : List ℕ) (ts : List Lexed) (r : All) → length bytes ≤ 1048576 → ts ≡ stream line token rest → is_end token ≡ true → reading s ts ≡ reading start (tokens bytes) → r ≡ ends line s → Gives r (read_of bytes)
-ends_all s line token rest bytes ts r h e t so_far answer =
-    let all : read_of bytes ≡ r = read_all bytes (ends line s) h (ends_at s line token rest ts _ e t so_far) ∙ sym answer in
+-- a token is at fault, or memory ran out
+pub fails_with : (k : FedFaultKind) (s : Reader) (line : ℕ) (token : text.Token) (rest : List ℕ) (ts : List Lexed) (all : All) → ts ≡ stream line token rest → is_end token ≡ false → Fails k (stepped s token)
+    → reading s ts ≡ all → FailsAs line k all
+fails_with kind.OutOfMemory s line token rest ts all t e err so_far = tt
+fails_with kind.UnexpectedEnd s line token rest ts all t e err so_far = fails_at s kind.UnexpectedEnd line token rest ts all t e err so_far
+fails_with kind.BadByte s line token rest ts all t e err so_far = fails_at s kind.BadByte line token rest ts all t e err so_far
+fails_with kind.ExpectedOpen s line token rest ts all t e err so_far = fails_at s kind.ExpectedOpen line token rest ts all t e err so_far
+fails_with kind.UnknownKeyword s line token rest ts all t e err so_far = fails_at s kind.UnknownKeyword line token rest ts all t e err so_far
+fails_with kind.ExpectedName s line token rest ts all t e err so_far = fails_at s kind.ExpectedName line token rest ts all t e err so_far
+fails_with kind.ExpectedClose s line token rest ts all t e err so_far = fails_at s kind.ExpectedClose line token rest ts all t e err so_far
+fails_with kind.TrailingText s line token rest ts all t e err so_far = fails_at s kind.TrailingText line token rest ts all t e err so_far
+fails_with kind.TooLarge s line token rest ts all t e err so_far = fails_at s kind.TooLarge line token rest ts all t e err so_far
+
+-- a text that is not too long
+pub read_whole : (bytes : List ℕ) → length bytes ≤ 1048576 → read_of bytes ≡ reading start (tokens bytes)
+unfolding read_of
+read_whole bytes h = let small : nat_lt 1048576 (length bytes) ≡ false = le-ltb _ _ h in rw small refl
+
+-- its end, and its first fault
+pub ends_whole : (bytes : List ℕ) (line : ℕ) (first s : Reader) (r : All) → first ≡ start → length bytes ≤ 1048576 → reading first (tokens bytes) ≡ ends line s → r ≡ ends line s → Gives r (read_of bytes)
+ends_whole bytes line first s r begins h e answer =
+    let all : read_of bytes ≡ r = read_whole bytes h ∙ ap (λ from. reading from (tokens bytes)) (sym begins) ∙ e ∙ sym answer in
     rw all (gives_own r)
 
--- a token is at fault, or memory ran out
-pub fails_all : (k : FedFaultKind) (s : Reader) (line : ℕ) (token : text.Token) (rest bytes : List ℕ) (ts : List Lexed) → length bytes ≤ 1048576 → ts ≡ stream line token rest → is_end token ≡ false → Fails k (stepped s token)
-    → reading s ts ≡ reading start (tokens bytes) → FailsAs line k (read_of bytes)
-fails_all kind.OutOfMemory s line token rest bytes ts h t e err so_far = tt
-fails_all kind.UnexpectedEnd s line token rest bytes ts h t e err so_far = read_all bytes _ h (fails_at s kind.UnexpectedEnd line token rest ts _ t e err so_far)
-fails_all kind.BadByte s line token rest bytes ts h t e err so_far = read_all bytes _ h (fails_at s kind.BadByte line token rest ts _ t e err so_far)
-fails_all kind.ExpectedOpen s line token rest bytes ts h t e err so_far = read_all bytes _ h (fails_at s kind.ExpectedOpen line token rest ts _ t e err so_far)
-fails_all kind.UnknownKeyword s line token rest bytes ts h t e err so_far = read_all bytes _ h (fails_at s kind.UnknownKeyword line token rest ts _ t e err so_far)
-fails_all kind.ExpectedName s line token rest bytes ts h t e err so_far = read_all bytes _ h (fails_at s kind.ExpectedName line token rest ts _ t e err so_far)
-fails_all kind.ExpectedClose s line token rest bytes ts h t e err so_far = read_all bytes _ h (fails_at s kind.ExpectedClose line token rest ts _ t e err so_far)
-fails_all kind.TrailingText s line token rest bytes ts h t e err so_far = read_all bytes _ h (fails_at s kind.TrailingText line token rest ts _ t e err so_far)
-fails_all kind.TooLarge s line token rest bytes ts h t e err so_far = read_all bytes _ h (fails_at s kind.TooLarge line token rest ts _ t e err so_far)
+pub fails_whole : (bytes : List ℕ) (first : Reader) (e : FedFault) → first ≡ start → length bytes ≤ 1048576 → FailsAs e.line e.kind (reading first (tokens bytes)) → Gives (Err e) (read_of bytes)
+fails_whole bytes first e begins h fault = rw (read_whole bytes h, ← begins) fault
 
-pub ruleset steps = (goes_on, fails_at, ends_at, read_all, too_long, ends_all)
+pub ruleset steps = (goes_on, ends_at)

@@ -28,7 +28,7 @@ is_bad b = (nat_lt b 32 && not (b == 10) && not (is_blank b)) || b == 127
 unfoldable pub is_mark : ℕ → Bool
 is_mark b = b == 40 || b == 41 || b == 59 || b == 34
 
--- a byte of a bare word
+-- a byte of a bare word, unless it is a bad one
 unfoldable pub is_word : ℕ → Bool
 is_word b = not (b == 10 || is_blank b || is_mark b || is_bad b)
 
@@ -64,6 +64,15 @@ abbrev pub drop_while : (ℕ → Bool) → List ℕ → List ℕ
 drop_while test [] = []
 drop_while test (b ∷ bytes) = if test b then drop_while test bytes else b ∷ bytes
 
+-- a bad byte stands in front
+abbrev pub starts_bad : List ℕ → Bool
+starts_bad [] = false
+starts_bad (b ∷ bytes) = is_bad b
+
+-- a bare word, of its bytes, the bytes and the tokens behind them; a bad byte in a word is at fault before the word is tested
+abbrev pub word : ℕ → List ℕ → List ℕ → List Lexed → List Lexed
+word line name bytes later = if starts_bad bytes then record { line = line; token = Bad } ∷ [] else record { line = line; token = Word name } ∷ later
+
 -- the tokens of a text from a line on
 unfoldable pub tokens_from : Mode → ℕ → List ℕ → List Lexed
 tokens_from mode line [] = record { line = line; token = End } ∷ []
@@ -77,7 +86,7 @@ tokens_from mode line (b ∷ bytes) =
     else if b == 41 then record { line = line; token = Close } ∷ tokens_from Between line bytes
     else if b == 34 then quoted line (take_while is_quoted bytes) (drop_while is_quoted bytes) (tokens_from InQuoted line bytes)
     else if is_bad b then record { line = line; token = Bad } ∷ []
-    else record { line = line; token = Word (take_while is_word (b ∷ bytes)) } ∷ tokens_from InWord line bytes
+    else word line (take_while is_word (b ∷ bytes)) (drop_while is_word (b ∷ bytes)) (tokens_from InWord line bytes)
 
 -- all tokens of a text
 abbrev pub tokens : List ℕ → List Lexed

@@ -1,6 +1,7 @@
 pub mod Tables
 pub mod Lookup
 pub mod Names
+pub mod Groups
 pub mod Indexes
 pub mod Fault
 pub mod Lexical

@@ -1,20 +1,18 @@
 -- Reading a FED text token by token: the first fault, or what the text declares
-use Rattle.std.specs.Prelude.{◌≡◌, ℕ, ◌+◌, ◌-◌, Bool, true, false, ◌==◌, nat_lt, nat_le, List, [], ◌∷◌, ◌++◌, length, drop, Option, None, Some, Result, Ok, Err, if◌then◌else◌, is_some}
+use Rattle.std.specs.Prelude.{◌≡◌, ℕ, ◌+◌, ◌-◌, Bool, true, false, ◌==◌, nat_lt, nat_le, List, [], ◌∷◌, ◌++◌, length, drop, Option, None, Some, Result, Ok, Err, if◌then◌else◌}
 use Rattle.std.specs.Option.{option_map}
 use Rattle.hla_fed_file.specs.Lexical as text
 use Rattle.hla_fed_file.specs.Lexical.{Lexed, tokens}
 use Rattle.hla_fed_file.specs.Tokens.{is_end}
 use Rattle.hla_fed_file.specs.Keywords.{keyword_of}
 use Rattle.hla_fed_file.specs.Tables.{Tables, nothing}
-use Rattle.hla_fed_file.specs.Declaring.{innermost, object_class, interaction_class, with_object_class, has_attribute_named, has_parameter_named, with_parameter}
+use Rattle.hla_fed_file.specs.Declaring.{innermost, interaction_class, with_object_class, has_attribute_named, has_parameter_named, with_parameter}
 use Rattle.hla_fed_file.specs.declared.fault.FedFault.{FedFault}
 use Rattle.hla_fed_file.specs.declared.fault.FedFaultKind.{FedFaultKind}
 use Rattle.hla_fed_file.specs.declared.fault.FedFaultKind.TheVariants as kind
 use Rattle.hla_fed_file.specs.declared.declared.Attribute.{Attribute}
 use Rattle.hla_fed_file.specs.declared.declared.InteractionClass.{InteractionClass}
-use Rattle.hla_fed_file.specs.declared.declared.Order.{Order}
 use Rattle.hla_fed_file.specs.declared.declared.Order.TheVariants as order
-use Rattle.hla_fed_file.specs.declared.declared.Transport.{Transport}
 use Rattle.hla_fed_file.specs.declared.declared.Transport.TheVariants as transport
 use Rattle.hla_fed_file.specs.declared.place.Keyword.{Keyword}
 use Rattle.hla_fed_file.specs.declared.place.Keyword.TheVariants as word
@@ -280,3 +278,8 @@ FailsAs line k read = read ≡ Err (record { line = line; kind = k })
 abbrev pub Gives : Result Tables FedFault → Outcome → Type 0
 Gives (Ok c) read = read ≡ Ok c
 Gives (Err e) read = FailsAs e.line e.kind read
+
+-- what is left behind all tokens, or the first fault
+abbrev pub Takes : Result ℕ FedFault → Outcome → Reader → Type 0
+Takes (Ok line) read new = read ≡ ends line new
+Takes (Err e) read new = FailsAs e.line e.kind read

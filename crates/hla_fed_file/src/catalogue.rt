@@ -9,13 +9,14 @@ ghost use Rattle.hla_fed_file.specs.declared.declared.Attribute.{Attribute};
 ghost use Rattle.hla_fed_file.specs.declared.declared.Parameter.{Parameter};
 
 use crate::declared::{Attribute, InteractionClass, ObjectClass, Order, Parameter};
-use crate::names::{FirstNumbers, number_of};
+use crate::groups::{Declared, Groups, first_number};
+use crate::names::FirstNumbers;
 use hla_base::{AttributeNo, ClassNo, Fault, List, ParameterNo, Plain};
 use std::alloc::Global;
 use std::marker::Model;
 
 /// What a FED file declares. Contracts see its four lists, in the order of the numbers.
-#[derive(Drop)]
+#[derive(Debug, Drop)]
 pub struct Catalogue {
     object_classes: List<ObjectClass>,
     interaction_classes: List<InteractionClass>,
@@ -23,6 +24,8 @@ pub struct Catalogue {
     parameters: List<Parameter>,
     object_paths: FirstNumbers,
     interaction_paths: FirstNumbers,
+    attribute_names: Groups,
+    parameter_names: Groups,
     alloc: Global,
 }
 
@@ -35,23 +38,7 @@ impl Model for Catalogue {
 
     ghost use Rattle.hla_fed_file.specs.Indexes.{AreIndexed};
 
-    ghost invariant = { λ c. AreIndexed c.object_classes c.interaction_classes c.attributes c.parameters c.object_paths c.interaction_paths };
-}
-
-/// The place of the first attribute of a name among those of some classes.
-fn attribute_place(attributes: &[Attribute], classes: &[ClassNo], name: &[u8]) -> Option<usize>
-    ensures first { result ≡ position (λ (a : Attribute). contains_number a.class classes.now && bytes_eq a.name name.now) attributes.now }
-    ensures within { IfSome result (λ k. k < length attributes.now) }
-{
-    attributes.iter().position(|a| classes.contains(&a.class) && a.name.as_slice() == name)
-}
-
-/// The place of the first parameter of a name among those of some classes.
-fn parameter_place(parameters: &[Parameter], classes: &[ClassNo], name: &[u8]) -> Option<usize>
-    ensures first { result ≡ position (λ (p : Parameter). contains_number p.class classes.now && bytes_eq p.name name.now) parameters.now }
-    ensures within { IfSome result (λ k. k < length parameters.now) }
-{
-    parameters.iter().position(|p| classes.contains(&p.class) && p.name.as_slice() == name)
+    ghost invariant = { λ c. AreIndexed c.object_classes c.interaction_classes c.attributes c.parameters c.object_paths c.interaction_paths c.attribute_names c.parameter_names };
 }
 
 impl Catalogue {
@@ -68,6 +55,8 @@ impl Catalogue {
             parameters: List::new(alloc),
             object_paths: FirstNumbers::new(alloc),
             interaction_paths: FirstNumbers::new(alloc),
+            attribute_names: Groups::new(alloc),
+            parameter_names: Groups::new(alloc),
             alloc,
         }
     }
@@ -122,14 +111,14 @@ impl Catalogue {
     pub(crate) fn attribute_among(&self, classes: &[ClassNo], name: &[u8]) -> Option<AttributeNo>
         ensures { result ≡ number_at (position (λ (a : Attribute). contains_number a.class classes.now && bytes_eq a.name name.now) self.now.attributes) }
     {
-        number_of(attribute_place(self.attributes.as_slice(), classes, name))
+        first_number(self.attribute_names.group(name), classes)
     }
 
     /// The first parameter of a name among those of some classes.
     pub(crate) fn parameter_among(&self, classes: &[ClassNo], name: &[u8]) -> Option<ParameterNo>
         ensures { result ≡ number_at (position (λ (p : Parameter). contains_number p.class classes.now && bytes_eq p.name name.now) self.now.parameters) }
     {
-        number_of(parameter_place(self.parameters.as_slice(), classes, name))
+        first_number(self.parameter_names.group(name), classes)
     }
 
     /// Adds an object class; `OutOfMemory`, and the catalogue as it was, where a growth was refused.
@@ -181,7 +170,19 @@ impl Catalogue {
         ensures err { IfErr result (λ e. e ≡ Fault.OutOfMemory) }
         ensures unchanged { OnErr result (self.new ≡ self.old) }
     {
-        self.attributes.push(attribute)
+        let number = self.attributes.len() as u32 + 1;
+        let class = attribute.class;
+        let Ok(name) = Vec::from_slice(self.alloc, attribute.name.as_slice()) else {
+            return Err(Fault::OutOfMemory);
+        };
+        self.attributes.push(attribute)?;
+        match self.attribute_names.note(name, Declared { class, number }) {
+            Ok(()) => Ok(()),
+            Err(fault) => {
+                let _ = self.attributes.pop();
+                Err(fault)
+            }
+        }
     }
 
     /// Adds a parameter; `OutOfMemory`, and the catalogue as it was, where a growth was refused.
@@ -191,10 +192,22 @@ impl Catalogue {
         ensures err { IfErr result (λ e. e ≡ Fault.OutOfMemory) }
         ensures unchanged { OnErr result (self.new ≡ self.old) }
     {
-        self.parameters.push(parameter)
+        let number = self.parameters.len() as u32 + 1;
+        let class = parameter.class;
+        let Ok(name) = Vec::from_slice(self.alloc, parameter.name.as_slice()) else {
+            return Err(Fault::OutOfMemory);
+        };
+        self.parameters.push(parameter)?;
+        match self.parameter_names.note(name, Declared { class, number }) {
+            Ok(()) => Ok(()),
+            Err(fault) => {
+                let _ = self.parameters.pop();
+                Err(fault)
+            }
+        }
     }
 
-    /// Adds copies of object classs.
+    /// Adds copies of object classes.
     fn add_object_classes(&mut self, object_classes: &[ObjectClass]) -> Result<(), Fault>
         requires { length self.old.object_classes + length object_classes.now ≤ 512 }
         ensures ok { OnOk result (self.new ≡ record self.old { object_classes = self.old.object_classes ++ object_classes.now }) }
@@ -206,7 +219,7 @@ impl Catalogue {
         Ok(())
     }
 
-    /// Adds copies of interaction classs.
+    /// Adds copies of interaction classes.
     fn add_interaction_classes(
         &mut self,
         interaction_classes: &[InteractionClass],
@@ -256,10 +269,10 @@ impl Plain for Catalogue {
 
     fn copy(&self) -> Result<Catalogue, Fault> {
         let mut copy = Catalogue::new(self.alloc);
-        copy.add_object_classes(self.object_classes.as_slice())?;
-        copy.add_interaction_classes(self.interaction_classes.as_slice())?;
-        copy.add_attributes(self.attributes.as_slice())?;
-        copy.add_parameters(self.parameters.as_slice())?;
+        copy.add_object_classes(self.object_classes())?;
+        copy.add_interaction_classes(self.interaction_classes())?;
+        copy.add_attributes(self.attributes())?;
+        copy.add_parameters(self.parameters())?;
         Ok(copy)
     }
 }

@@ -2,7 +2,7 @@
 
 ghost use Rattle.std.specs.Prelude.{◌≡◌, false, ◌+◌, ◌<◌, ◌≤◌, ◌^◌, ◌∷◌, ℕ, length, drop};
 ghost use Rattle.std.specs.List.{take_while, prefix_len};
-ghost use Rattle.hla_fed_file.specs.Lexical.{is_blank, is_bad, is_word, is_quoted, is_comment, tokens_from, Between, Lexed, drop_while};
+ghost use Rattle.hla_fed_file.specs.Lexical.{is_blank, is_bad, is_word, is_quoted, is_comment, starts_bad, tokens_from, Between, Lexed, drop_while};
 ghost use Rattle.hla_fed_file.specs.Tokens.{view, stream, is_end, IsFront, StartsWord};
 
 use bstr::ByteSlice;
@@ -149,6 +149,16 @@ fn quoted_at(text: &[u8]) -> (Token<'_>, &[u8])
     }
 }
 
+/// Whether a byte that may not stand in a word is in front.
+fn starts_bad(text: &[u8]) -> bool
+    ensures { result ≡ starts_bad text.now }
+{
+    match text.split_first() {
+        Some((byte, _)) => is_bad(*byte),
+        None => false,
+    }
+}
+
 /// The word in front.
 #[tactic(auto, using(crate::proofs::Lexing::fronts))]
 fn word_at(text: &[u8]) -> (Token<'_>, &[u8])
@@ -157,7 +167,11 @@ fn word_at(text: &[u8]) -> (Token<'_>, &[u8])
     ensures shorter { length result.1.now < length text.now }
 {
     let (name, rest) = split_word(text);
-    (Token::Word(name), rest)
+    if starts_bad(rest) {
+        (Token::Bad, rest)
+    } else {
+        (Token::Word(name), rest)
+    }
 }
 
 /// The token in front, and what follows it.

@@ -4,6 +4,7 @@
 mod catalogue;
 mod declared;
 mod fault;
+mod groups;
 mod lexer;
 mod lookup;
 mod names;

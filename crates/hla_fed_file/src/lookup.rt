@@ -94,7 +94,7 @@ impl Catalogue {
         ensures { result.now ≡ interaction_path self.now class }
     {
         match self.interaction(class) {
-            Some(class) => class.path.as_slice(),
+            Some(interaction) => interaction.path.as_slice(),
             None => &[],
         }
     }
@@ -115,7 +115,7 @@ impl Catalogue {
         ensures { result.now ≡ interaction_lineage self.now class }
     {
         match self.interaction(class) {
-            Some(class) => class.lineage.as_slice(),
+            Some(interaction) => interaction.lineage.as_slice(),
             None => &[],
         }
     }
@@ -175,7 +175,7 @@ impl Catalogue {
         ensures { result ≡ interaction_order self.now class }
     {
         match self.interaction(class) {
-            Some(class) => class.order,
+            Some(interaction) => interaction.order,
             None => Order::Receive,
         }
     }

@@ -20,7 +20,7 @@ pub(crate) fn number_of(place: Option<usize>) -> Option<u32>
 }
 
 /// The first number of each name, found without going over all names.
-#[derive(Drop)]
+#[derive(Debug, Drop)]
 pub(crate) struct FirstNumbers {
     numbers: IndexMap<Vec<u8>, u32>,
 }

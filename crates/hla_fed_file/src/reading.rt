@@ -1,7 +1,8 @@
 //! Reading a FED file.
 
-ghost use Rattle.std.specs.Prelude.{Ok, IfOk};
-ghost use Rattle.hla_fed_file.specs.Reading.{read_of, Gives};
+ghost use Rattle.std.specs.Prelude.{◌≤◌, length, Ok, IfOk};
+ghost use Rattle.hla_fed_file.specs.Reading.{reading, read_of, Gives, Takes};
+ghost use Rattle.hla_fed_file.specs.Lexical.{tokens};
 ghost use Rattle.hla_fed_file.specs.Grammar.{Describes};
 ghost use Rattle.hla_fed_file.specs.Tables.{Tables};
 
@@ -11,8 +12,28 @@ use crate::lexer::next;
 use crate::reader::Reader;
 use std::alloc::Global;
 
-/// Reads a text token by token.
+/// Takes all tokens of a text, and gives the line of its end.
 #[tactic(auto, using(crate::proofs::ReadingLemmas::steps))]
+fn take_all(reader: &mut Reader, alloc: Global, text: &[u8]) -> Result<usize, FedFault>
+    requires { length text.now ≤ 1048576 }
+    ensures { Takes result (reading reader.old (tokens text.now)) reader.new }
+{
+    let mut rest = text;
+    let mut line = 1;
+    loop {
+        let lexed = next(rest, line);
+        line = lexed.line;
+        rest = lexed.rest;
+        if lexed.token.is_end() {
+            return Ok(line);
+        }
+        if let Err(kind) = reader.take(alloc, lexed.token) {
+            return Err(FedFault { line, kind });
+        }
+    }
+}
+
+/// Reads a text token by token.
 fn read_tokens(alloc: Global, text: &[u8]) -> Result<Catalogue, FedFault>
     ensures { Gives result (read_of text.now) }
 {
@@ -23,18 +44,9 @@ fn read_tokens(alloc: Global, text: &[u8]) -> Result<Catalogue, FedFault>
         });
     }
     let mut reader = Reader::new(alloc);
-    let mut rest = text;
-    let mut line = 1;
-    loop {
-        let lexed = next(rest, line);
-        line = lexed.line;
-        rest = lexed.rest;
-        if lexed.token.is_end() {
-            return reader.finish(line);
-        }
-        if let Err(kind) = reader.take(alloc, lexed.token) {
-            return Err(FedFault { line, kind });
-        }
+    match take_all(&mut reader, alloc, text) {
+        Ok(line) => reader.finish(line),
+        Err(fault) => Err(fault),
     }
 }
 

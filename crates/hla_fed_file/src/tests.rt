@@ -1,4 +1,6 @@
 use crate::{Catalogue, FedFault, FedFaultKind, Order, Transport, read};
+use hla_base::Plain;
+use std::alloc::{AllocError, Global};
 use std::test::Fail;
 
 /// A FED file with each kind of declaration.
@@ -64,6 +66,9 @@ fn reads_any_case(rt: HostRuntime) -> Result<(), Fail> {
     Ok(())
 }
 
+/// What `fault_of` says of a text that is read.
+const READ: (usize, FedFaultKind) = (0, FedFaultKind::OutOfMemory);
+
 /// The fault of a text, or line 0 where it is read.
 fn fault_of(outcome: Result<Catalogue, FedFault>) -> (usize, FedFaultKind) {
     match outcome {
@@ -74,11 +79,13 @@ fn fault_of(outcome: Result<Catalogue, FedFault>) -> (usize, FedFaultKind) {
 
 #[test]
 fn finds_faults(rt: HostRuntime) {
-    let cases: [(&[u8], usize, FedFaultKind); 44] = [
+    let cases: [(&[u8], usize, FedFaultKind); 46] = [
         (b"(FED\n(objects\n(class Ob", 3, FedFaultKind::UnexpectedEnd),
         (b"", 1, FedFaultKind::UnexpectedEnd),
         (b"(FED) \"a", 1, FedFaultKind::UnexpectedEnd),
         (b"(FED \x01)", 1, FedFaultKind::BadByte),
+        (b"(FED\n(foo\x01", 2, FedFaultKind::BadByte),
+        (b"(FED) a\x7fb", 1, FedFaultKind::BadByte),
         (b"(FED ; \x01\n)\x7f", 2, FedFaultKind::BadByte),
         (b"(FED (Federation \"a\nb\"))", 1, FedFaultKind::BadByte),
         (b"FED", 1, FedFaultKind::ExpectedOpen),
@@ -219,4 +226,151 @@ fn finds_faults(rt: HostRuntime) {
     for (text, line, kind) in cases {
         assert_eq!(rt; fault_of(read(rt.alloc(), text)), (line, kind), "{text:?}");
     }
+}
+
+/// A text of so many times the same item.
+fn repeated(
+    alloc: Global,
+    head: &[u8],
+    item: &[u8],
+    count: usize,
+    tail: &[u8],
+) -> Result<Vec<u8>, AllocError> {
+    let mut text = Vec::from_slice(alloc, head)?;
+    for _ in 0..count {
+        text.extend_from_slice(item)?;
+    }
+    text.extend_from_slice(tail)?;
+    Ok(text)
+}
+
+#[test]
+fn keeps_the_limits(rt: HostRuntime) -> Result<(), Fail> {
+    // The last count that is read; one more is too large.
+    let cases: [(&[u8], &[u8], usize, &[u8]); 9] = [
+        (b"(FED)", b" ", 1_048_571, b""),
+        (
+            b"(FED (spaces ",
+            b"(",
+            62,
+            b"))))))))))))))))))))))))))))))))))))))))))))))))))))))))))))))))",
+        ),
+        (
+            b"(FED (objects ",
+            b"(class c",
+            62,
+            b"))))))))))))))))))))))))))))))))))))))))))))))))))))))))))))))))",
+        ),
+        (b"(FED (objects", b"(class c)", 512, b"))"),
+        (b"(FED (interactions", b"(class c)", 512, b"))"),
+        (b"(FED (Federation ", b"n", 255, b"))"),
+        (b"(FED (objects (class \"", b"n", 255, b"\")))"),
+        (b"(FED (objects (class c (attribute ", b"n", 255, b"))))"),
+        (
+            b"(FED (interactions (class c (parameter ",
+            b"n",
+            255,
+            b"))))",
+        ),
+    ];
+    for (head, item, count, tail) in cases {
+        let text = repeated(rt.alloc(), head, item, count, tail)?;
+        assert_eq!(rt;
+            fault_of(read(rt.alloc(), text.as_slice())),
+            READ,
+            "{head:?}"
+        );
+        let text = repeated(rt.alloc(), head, item, count + 1, tail)?;
+        assert_eq!(rt;
+            fault_of(read(rt.alloc(), text.as_slice())),
+            (1, FedFaultKind::TooLarge),
+            "{head:?}"
+        );
+    }
+    Ok(())
+}
+
+#[test]
+fn counts_declarations(rt: HostRuntime) -> Result<(), Fail> {
+    let attributes =
+        b"(class c (attribute a)(attribute b)(attribute c)(attribute d)(attribute e)(attribute f)(attribute g)(attribute h))";
+    let text = repeated(rt.alloc(), b"(FED (objects", attributes, 512, b"))")?;
+    assert_eq!(rt; read(rt.alloc(), text.as_slice())?.attributes().len(), 4096);
+    let head =
+        b"(FED (objects (class c (attribute a)(attribute b)(attribute c)(attribute d)(attribute e)(attribute f)(attribute g)(attribute h)(attribute i))";
+    let text = repeated(rt.alloc(), head, attributes, 511, b"))")?;
+    assert_eq!(rt;
+        fault_of(read(rt.alloc(), text.as_slice())),
+        (1, FedFaultKind::TooLarge)
+    );
+    let parameters =
+        b"(class c (parameter a)(parameter b)(parameter c)(parameter d)(parameter e)(parameter f)(parameter g)(parameter h))";
+    let text = repeated(rt.alloc(), b"(FED (interactions", parameters, 512, b"))")?;
+    assert_eq!(rt; read(rt.alloc(), text.as_slice())?.parameters().len(), 4096);
+    let head =
+        b"(FED (interactions (class c (parameter a)(parameter b)(parameter c)(parameter d)(parameter e)(parameter f)(parameter g)(parameter h)(parameter i))";
+    let text = repeated(rt.alloc(), head, parameters, 511, b"))")?;
+    assert_eq!(rt;
+        fault_of(read(rt.alloc(), text.as_slice())),
+        (1, FedFaultKind::TooLarge)
+    );
+    Ok(())
+}
+
+#[test]
+fn refuses_each_prefix(rt: HostRuntime) {
+    let last = TEXT.len() - 2;
+    for end in 0..last {
+        let (_, kind) = fault_of(read(rt.alloc(), &TEXT[..end]));
+        assert!(rt;
+            matches!(
+                kind,
+                FedFaultKind::UnexpectedEnd | FedFaultKind::UnknownKeyword
+            ),
+            "{end}"
+        );
+    }
+}
+
+#[test]
+fn answers_each_change_of_a_byte(rt: HostRuntime) -> Result<(), Fail> {
+    let mut text = TEXT.to_vec(rt.alloc())?;
+    for place in 0..text.len() {
+        let before = text[place];
+        for byte in [b'(', b'"', b';', 0, 0xff] {
+            text[place] = byte;
+            if let Err(fault) = read(rt.alloc(), text.as_slice()) {
+                assert!(rt;
+                    fault.line <= 20 && fault.kind != FedFaultKind::OutOfMemory,
+                    "{place}"
+                );
+            }
+        }
+        text[place] = before;
+    }
+    Ok(())
+}
+
+#[test]
+fn copies_a_catalogue(rt: HostRuntime) -> Result<(), Fail> {
+    let catalogue = read(rt.alloc(), TEXT)?;
+    let copy = catalogue.copy()?;
+    assert!(rt; copy.is_same(&catalogue));
+    assert_eq!(rt; copy.parameter(3, b"Extra"), Some(2));
+    assert!(rt; !read(rt.alloc(), b"(FED)")?.is_same(&catalogue));
+    Ok(())
+}
+
+#[test]
+fn inherits_what_stands_before(rt: HostRuntime) -> Result<(), Fail> {
+    let text =
+        b"(FED (objects (class a (attribute x) (class b (attribute x) (attribute y) (attribute y)) (attribute y) (class b))))";
+    let catalogue = read(rt.alloc(), text)?;
+    assert_eq!(rt; catalogue.attributes().len(), 3);
+    assert_eq!(rt; catalogue.attribute(2, b"x"), Some(1));
+    assert_eq!(rt; catalogue.attribute(2, b"y"), Some(2));
+    assert_eq!(rt; catalogue.attribute(1, b"y"), Some(3));
+    assert_eq!(rt; catalogue.object_class(b"a.b"), Some(2));
+    assert!(rt; catalogue.has_attribute(3, 3) && !catalogue.has_attribute(3, 2));
+    Ok(())
 }

@@ -1,2 +1,33 @@
 mod TakeBack
 mod PairLemmas
+mod States
+mod Declaring
+mod Receiving
+mod Names
+mod Joining
+mod Offering
+pub mod Tables
+pub mod Queues
+pub mod Keys
+pub mod Wires
+pub mod Carries
+pub mod Times
+pub mod Each
+pub mod Copies
+pub mod Objects
+pub mod Directories
+pub mod Bounds
+pub mod Bags
+pub mod Tests
+pub mod Laws
+pub mod Picks
+pub mod Steps
+pub mod Ticks
+pub mod Joins
+pub mod Epochs
+pub mod TimeSteps
+pub mod Entries
+pub mod Demotions
+pub mod Advances
+pub mod Runs
+mod Sound

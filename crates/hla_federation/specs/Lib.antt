@@ -2,7 +2,11 @@ pub mod Messages
 pub mod Federation
 pub mod Next
 pub mod CentralOf
+pub mod Invariant
 pub mod Headline
 pub mod Flags
 pub mod MemberValue
 pub mod Members
+pub mod FederationValue
+pub mod State
+pub mod Soundness

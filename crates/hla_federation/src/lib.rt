@@ -2,12 +2,13 @@
 #![tactic(auto)]
 
 mod class_set;
+mod federation;
 mod headline;
+mod incoming;
 mod member;
 mod pairs;
+mod refusals;
 mod sending;
-mod wires;
+mod services;
 
-pub use class_set::ClassSet;
-pub use member::Member;
-pub use wires::Wires;
+pub use federation::Federation;

@@ -8,7 +8,7 @@ ghost use Rattle.hla_federation.specs.Members.{served_at, shown_at, interaction_
 ghost use Rattle.hla_federation.specs.Next.{carried_event, given, delivery_of};
 
 use crate::class_set::ClassSet;
-use crate::wires::Wires;
+use crate::incoming::Incoming;
 use hla_base::{
     ClassNo, Content, Event, EventHandle, Fault, FederateNo, HandleValuePair, List, Plain, Serial,
 };
@@ -28,7 +28,7 @@ pub struct Member {
     published: ClassSet,
     subscribed: ClassSet,
     received: RoQueue,
-    incoming: Wires,
+    incoming: Incoming,
 }
 
 impl Model for Member {
@@ -40,6 +40,7 @@ impl Model for Member {
 }
 
 /// An interaction on its way to its receivers, with its values by rising handle.
+#[derive(Clone, Copy)]
 pub struct Interaction<'a> {
     pub from: FederateNo,
     pub serial: Serial,
@@ -127,7 +128,7 @@ impl Member {
             published: ClassSet::new(alloc, classes)?,
             subscribed: ClassSet::new(alloc, classes)?,
             received: RoQueue::new(alloc),
-            incoming: Wires::new(alloc)?,
+            incoming: Incoming::new(alloc)?,
         })
     }
 

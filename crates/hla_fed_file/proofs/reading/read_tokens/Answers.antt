@@ -1,7 +1,11 @@
-use Rattle.std.proofs.Common.{sym, ◌∙◌}
-use Rattle.hla_fed_file.proofs.ReadingLemmas.{fails_all}
+use Rattle.hla_fed_file.proofs.ReadingLemmas.{too_long, ends_whole, fails_whole}
 use Rattle.hla_fed_file.proofs.reading.read_tokens.Goals as goal
 
+pub returns-then-text-gt1048576 : goal.returns-then-text-gt1048576
+returns-then-text-gt1048576 c = too_long c.args.text.now c.if-text-gt1048576.true
+
+pub returns-in-Ok : goal.returns-in-Ok
+returns-in-Ok c = ends_whole c.args.text.now c.in-Ok.line c.new-reader.result c.take_all.new.reader c.finish.result c.new-reader.ensures c.if-text-gt1048576.false c.in-Ok.ensures c.finish.ensures
+
 pub returns-in-Err : goal.returns-in-Err
-returns-in-Err c =
-    fails_all c.in-Err.kind _ c.next-lexed.result.line _ c.next-lexed.result.rest.now c.args.text.now _ c.if-text-gt1048576.false c.next-lexed.ensures.stream (sym c.is_end.ensures ∙ c.if-is_end.false) c.in-Err.ensures c.loop-rest.invariant.read
+returns-in-Err c = fails_whole c.args.text.now c.new-reader.result c.in-Err.fault c.new-reader.ensures c.if-text-gt1048576.false c.in-Err.ensures

@@ -14,6 +14,8 @@ invariant_of-self-in-Ok-note c =
     (record {
       objects = kept.objects;
       interactions = paths_added (λ (k : InteractionClass). k.path) c.self.inside.interaction_paths before c.args.class kept.interactions;
+      attributes = kept.attributes;
+      parameters = kept.parameters;
       few_objects = kept.few_objects;
       few_interactions = omega (arith, room, length-append before (c.args.class ∷ []));
       few_attributes = kept.few_attributes;

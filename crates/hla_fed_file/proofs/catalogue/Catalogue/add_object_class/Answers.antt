@@ -14,6 +14,8 @@ invariant_of-self-in-Ok-note c =
     (record {
       objects = paths_added (λ (k : ObjectClass). k.path) c.self.inside.object_paths before c.args.class kept.objects;
       interactions = kept.interactions;
+      attributes = kept.attributes;
+      parameters = kept.parameters;
       few_objects = omega (arith, room, length-append before (c.args.class ∷ []));
       few_interactions = kept.few_interactions;
       few_attributes = kept.few_attributes;

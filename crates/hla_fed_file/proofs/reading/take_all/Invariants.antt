@@ -1,11 +1,11 @@
 use Rattle.std.proofs.Common.{◌≡◌, ◌+◌, ◌≤◌, length}
 use Rattle.hla_fed_file.specs.Lexical.{tokens, tokens_from, Between}
-use Rattle.hla_fed_file.specs.Reading.{reading, start}
-use Rattle.hla_fed_file.proofs.reading.read_tokens.Given as goal
+use Rattle.hla_fed_file.specs.Reading.{reading}
+use Rattle.hla_fed_file.proofs.reading.take_all.Given as goal
 
 abbrev pub invariant-loop-rest : goal.invariant-loop-rest
 invariant-loop-rest l = record {
-  read : reading l.reader (tokens_from Between l.line l.rest) ≡ reading start (tokens l.text);
+  read : reading l.reader (tokens_from Between l.line l.rest) ≡ reading l.initial.reader (tokens l.text);
   within : l.line + length l.rest ≤ 1 + length l.text;
 }
 

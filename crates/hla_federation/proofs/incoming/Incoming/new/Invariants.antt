@@ -1,5 +1,5 @@
 use Rattle.std.proofs.Common.{◌≡◌, [], List, replicate}
-use Rattle.hla_federation.proofs.wires.Wires.new.Given as goal
+use Rattle.hla_federation.proofs.incoming.Incoming.new.Given as goal
 
 -- one wire for each turn
 abbrev pub invariant-loop-made : goal.invariant-loop-made

@@ -15,11 +15,11 @@ pub const MAX_FEDERATES: usize = 16;
 /// The wires that lead to one federate, by their sender. They are there from the start, so that a federate that joins
 /// later changes none of them.
 #[derive(Debug, Drop)]
-pub struct Wires {
+pub struct Incoming {
     wires: Vec<Wire>,
 }
 
-impl Model for Wires {
+impl Model for Incoming {
     ghost use Rattle.std.specs.Prelude.{List};
     ghost use Rattle.hla_null_message.specs.declared.message.Message.{Message};
 
@@ -28,9 +28,9 @@ impl Model for Wires {
     ghost view = { λ w. w.wires.items };
 }
 
-impl Wires {
+impl Incoming {
     /// A wire from each federate that may join, with nothing on it.
-    pub fn new(alloc: Global) -> Result<Wires, Fault>
+    pub fn new(alloc: Global) -> Result<Incoming, Fault>
         ensures ok { IfOk result (λ w. w ≡ replicate 16 []) }
         ensures err { IfErr result (λ e. e ≡ Fault.OutOfMemory) }
     {
@@ -40,7 +40,7 @@ impl Wires {
                 return Err(Fault::OutOfMemory);
             }
         }
-        Ok(Wires { wires })
+        Ok(Incoming { wires })
     }
 
     /// Puts a message on the wire from a federate; `OutOfMemory`, and all as it was, where a growth was refused.

@@ -1,0 +1,20 @@
+use Rattle.std.proofs.Common.{List, ap, ◌∙◌}
+use Rattle.std.specs.List.{find}
+use Rattle.std.specs.Option.{option_map}
+use Rattle.hla_fed_file.specs.Lookup.{contains_number}
+use Rattle.hla_fed_file.specs.Groups.{number_of}
+use Rattle.hla_fed_file.specs.Tables.{Tables}
+use Rattle.hla_fed_file.specs.Declaring.{attribute_among}
+use Rattle.hla_fed_file.specs.declared.groups.Declared.{Declared}
+use Rattle.hla_fed_file.specs.declared.declared.Attribute.{Attribute}
+use Rattle.hla_fed_file.proofs.GroupLemmas.{first_numbered}
+use Rattle.hla_fed_file.proofs.catalogue.Catalogue.attribute_among.Goals as goal
+
+pub returns : goal.returns
+returns c =
+    let classes = c.args.classes.now in
+    let name = c.args.name.now in
+    c.first_number.ensures
+    ∙ ap (λ (ds : List Declared). option_map number_of (find (λ (d : Declared). contains_number d.class classes) ds)) (c.group.ensures ∙ c.self.invariant.attributes name)
+    ∙ first_numbered (λ (a : Attribute). a.class) (λ (a : Attribute). a.name) classes name c.self.inside.attributes
+    ∙ ap (λ (t : Tables). attribute_among t classes name) c.self.view_is

@@ -1,0 +1,33 @@
+-- Where names are declared, in the order of the numbers
+use Rattle.std.specs.Prelude.{◌≡◌, ℕ, ◌+◌, List, [], ◌∷◌, ◌++◌, if◌then◌else◌}
+use Rattle.std.specs.Str.{bytes_eq}
+use Rattle.std.specs.declared.vec.Vec.{Vec}
+use Rattle.std.specs.declared.alloc.Global.{Global}
+use Rattle.hla_fed_file.specs.declared.groups.Declared.{Declared}
+
+abbrev pub Grouped : Type 0
+Grouped = List (List ℕ × List Declared)
+
+-- the entries of a map from bytes, with the bytes alone
+abbrev pub grouped : List (Vec ℕ Global × List Declared) → Grouped
+grouped [] = []
+grouped (e ∷ es) = (e.0.items, e.1) ∷ grouped es
+
+abbrev pub number_of : Declared → ℕ
+number_of d = d.number
+
+-- the declarations of a name
+abbrev pub group_in : Grouped → List ℕ → List Declared
+group_in [] name = []
+group_in (e ∷ es) name = if bytes_eq name e.0 then e.1 else group_in es name
+
+-- the name has one more declaration, and every other name has the same
+abbrev pub IsNoted : Grouped → Grouped → List ℕ → Declared → Type 0
+IsNoted old new name place = (other : List ℕ) → group_in new other ≡ (if bytes_eq name other then group_in old other ++ place ∷ [] else group_in old other)
+
+-- the declarations of a name in a list whose first item has the number
+abbrev pub declared_as : {X : Type 0} → (X → ℕ) → (X → List ℕ) → ℕ → List X → List ℕ → List Declared
+declared_as class_of name_of number [] name = []
+declared_as class_of name_of number (x ∷ xs) name =
+    if bytes_eq (name_of x) name then record { class = class_of x; number = number } ∷ declared_as class_of name_of (number + 1) xs name
+    else declared_as class_of name_of (number + 1) xs name

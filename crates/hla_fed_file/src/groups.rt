@@ -1,0 +1,91 @@
+//! Where names are declared.
+
+ghost use Rattle.std.specs.Prelude.{◌≡◌, OnOk, OnErr, IfErr, IfOk, ℕ, List, [], ◌∷◌, ◌++◌, find, if◌then◌else◌};
+ghost use Rattle.std.specs.Option.{option_map};
+ghost use Rattle.std.specs.Str.{bytes_eq};
+ghost use Rattle.hla_fed_file.specs.Lookup.{contains_number};
+ghost use Rattle.hla_fed_file.specs.Groups.{number_of};
+
+use hla_base::{ClassNo, Fault, List};
+use indexmap::IndexMap;
+use std::alloc::Global;
+use std::marker::Model;
+
+/// The class and the number of a declaration.
+#[derive(Clone, Copy, Debug)]
+pub(crate) struct Declared {
+    pub class: ClassNo,
+    pub number: u32,
+}
+
+/// The first of the declarations in some classes.
+fn first_among(group: &[Declared], classes: &[ClassNo]) -> Option<Declared>
+    ensures { result ≡ find (λ (d : Declared). contains_number d.class classes.now) group.now }
+{
+    group.iter().copied().find(|d| classes.contains(&d.class))
+}
+
+/// The number of the first of the declarations in some classes.
+pub(crate) fn first_number(group: &[Declared], classes: &[ClassNo]) -> Option<u32>
+    ensures { result ≡ option_map number_of (find (λ (d : Declared). contains_number d.class classes.now) group.now) }
+{
+    match first_among(group, classes) {
+        Some(declared) => Some(declared.number),
+        None => None,
+    }
+}
+
+/// The declarations of each name, in the order of their numbers, found without going over all names.
+#[derive(Debug, Drop)]
+pub(crate) struct Groups {
+    groups: IndexMap<Vec<u8>, List<Declared>>,
+    alloc: Global,
+}
+
+impl Model for Groups {
+    ghost use Rattle.hla_fed_file.specs.Groups.{Grouped, grouped};
+
+    ghost Value = { Grouped };
+
+    ghost view = { λ n. grouped n.groups.entries };
+}
+
+impl Groups {
+    ghost use Rattle.hla_fed_file.specs.Groups.{group_in, IsNoted};
+
+    pub(crate) fn new(alloc: Global) -> Groups
+        ensures { result ≡ [] }
+    {
+        Groups {
+            groups: IndexMap::new(alloc),
+            alloc,
+        }
+    }
+
+    /// The declarations of a name.
+    pub(crate) fn group(&self, name: &[u8]) -> &[Declared]
+        ensures { result.now ≡ group_in self.now name.now }
+    {
+        match self.groups.get(name) {
+            Some(group) => group.as_slice(),
+            None => &[],
+        }
+    }
+
+    /// Notes one more declaration of a name.
+    pub(crate) fn note(&mut self, name: Vec<u8>, place: Declared) -> Result<(), Fault>
+        ensures ok { OnOk result (IsNoted self.old self.new name.items place) }
+        ensures err { IfErr result (λ e. e ≡ Fault.OutOfMemory) }
+        ensures unchanged { OnErr result (self.new ≡ self.old) }
+    {
+        if let Some(group) = self.groups.get_mut(name.as_slice()) {
+            return group.push(place);
+        }
+        let mut group = List::new(self.alloc);
+        group.push(place)?;
+        let Ok(_) = self.groups.insert(name, group) else {
+            return Err(Fault::OutOfMemory);
+        };
+        Ok(())
+    }
+}
