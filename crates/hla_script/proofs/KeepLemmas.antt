@@ -2,7 +2,17 @@
 use Rattle.std.proofs.Common.{◌≡◌, List, [], ◌∷◌, ◌++◌, Option, None, Some, false, is_some, option_map, refl, sym, ap, ◌∙◌, arith, codes, subst}
 use Rattle.hla_fed_file.specs.Tables.{Tables}
 use Rattle.hla_machine.specs.Central.{Central, new_central}
-use Rattle.hla_machine.specs.Runs.{Executions, no_executions, AllowedAct, after_act, AreRun}
+use Rattle.std.proofs.Common.{inl, inr}
+use Rattle.hla_base.specs.declared.fault.Fault.{Fault}
+use Rattle.hla_base.specs.declared.fault.Fault.TheVariants as fault
+use Rattle.hla_federation.specs.FederationValue.{FederationValue}
+use Rattle.hla_federation.specs.State.{state_of}
+use Rattle.hla_federation.specs.Federation.{new_federation}
+use Rattle.hla_federation.specs.CentralOf.{central}
+use Rattle.hla_federation.specs.Soundness.{done_as, IsRefusedWith}
+use Rattle.hla_machine.specs.declared.step.Step.{Step}
+use Rattle.hla_machine.specs.declared.step.Answer.{Answer}
+use Rattle.hla_machine.specs.Runs.{IsMachineStep, Executions, no_executions, AllowedAct, after_act, AreRun}
 use Rattle.hla_machine.specs.declared.step.Act.{Act}
 use Rattle.hla_machine.specs.declared.step.Act.TheVariants as act
 use Rattle.hla_machine.specs.declared.step.Answer.TheVariants as answer
@@ -59,3 +69,21 @@ keeps_more a rs old new ms ms' r kept acted =
 pub keeps_nothing : IsKept [] None []
 unfolding members_from
 keeps_nothing = record { executions = no_executions; run = refl; holds = record { creates = refl; present = refl; execution = refl }; joins = refl }
+
+pub opens : (f : FederationValue) (c : Tables) → state_of f ≡ new_federation c → central_of f ≡ new_central c
+unfolding central_of
+opens f c e = rw e refl
+
+pub steps_done : (old new : FederationValue) (s : Step) (a : Answer) → IsMachineStep (central (state_of old)) (done_as s a) (central (state_of new)) → IsStepped (Some (central_of old)) s (outcome.Done a) (Some (central_of new))
+unfolding central_of
+steps_done old new s a h = record { remembered = λ e. cc; allowed = h.allowed; follows = ap (λ (d : Central). Some d) h.follows }
+
+pub steps_refused : (old new : FederationValue) (s : Step) (e : Fault) → new ≡ old → IsRefusedWith (state_of old) s e → (e ≡ fault.OutOfMemory → ⊥) → IsStepped (Some (central_of old)) s (outcome.Refused e) (Some (central_of new))
+unfolding central_of
+steps_refused old new s e same h some = record {
+  remembered = λ is. let out : e ≡ fault.OutOfMemory = cc in some out;
+  allowed = elim h [ inl r ↦ r | inr p ↦ absurd (some p.1) ];
+  follows = ap (λ (f : FederationValue). Some (central (state_of f))) same;
+}
+
+pub ruleset step_kinds = (steps_done, steps_refused)

@@ -1,6 +1,9 @@
 -- The execution named `play`, and the history that leads to it
 use Rattle.std.specs.Prelude.{◌≡◌, ◌≢◌, ℕ, List, Option, None, Some, option_map, codes}
 use Rattle.hla_base.specs.declared.fault.Fault.TheVariants as fault
+use Rattle.hla_federation.specs.CentralOf.{central}
+use Rattle.hla_federation.specs.FederationValue.{FederationValue}
+use Rattle.hla_federation.specs.State.{state_of}
 use Rattle.hla_machine.specs.Central.{Central}
 use Rattle.hla_machine.specs.Machine.{after}
 use Rattle.hla_machine.specs.Runs.{Executions, no_executions, AllowedIn, AllowedAct, after_act, AreRun}
@@ -12,6 +15,10 @@ use Rattle.hla_machine.specs.declared.step.Choice.TheVariants as choice
 use Rattle.hla_machine.specs.declared.step.Record.{Record}
 use Rattle.hla_script.specs.declared.members.Member.{Member}
 use Rattle.hla_script.specs.Playing.{members, member_after}
+
+-- the state of the central machine that a federation stands for
+unfoldable pub central_of : FederationValue → Central
+central_of f = central (state_of f)
 
 -- how many executions there are, and how many there were
 abbrev pub count_of : Option Central → ℕ

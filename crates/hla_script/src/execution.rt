@@ -3,11 +3,12 @@
 ghost use Rattle.std.specs.Prelude.{◌≡◌, ◌<◌, ◌+◌, ◌≤◌, [], Some, None, IfOk, IfErr, OnErr, option_map, codes, vec_len, vec_capacity};
 ghost use Rattle.hla_machine.specs.declared.step.Choice.TheVariants as choice;
 ghost use Rattle.hla_machine.specs.declared.step.Act.TheVariants as act;
-ghost use Rattle.hla_script.specs.Stub.{central};
+ghost use Rattle.hla_script.specs.Keeping.{central_of};
 ghost use Rattle.hla_script.specs.Playing.{name_joining, with_name, act_of, command_step, created_with};
+ghost use Rattle.hla_federation.specs.State.{IsBuilt};
 ghost use Rattle.hla_script.specs.Keeping.{IsStepped, IsActed};
 
-use crate::federation_stub::Federation;
+use hla_federation::Federation;
 use crate::lines::Command;
 use crate::members::Member;
 use crate::steps;
@@ -52,8 +53,10 @@ fn note(members: &mut Vec<Member>, name: Option<List<u8>>, outcome: &Outcome)
 }
 
 /// Does a step, and answers how it ended; where memory ran out it is not done.
+#[tactic(auto, using(crate::proofs::KeepLemmas::step_kinds))]
 fn stepped(federation: &mut Option<Federation>, step: &Step) -> Result<Outcome, Fault>
-    ensures ok { IfOk result (λ out. IsStepped (option_map central federation.old) step.now out (option_map central federation.new)) }
+    requires { IsBuilt step.now }
+    ensures ok { IfOk result (λ out. IsStepped (option_map central_of federation.old) step.now out (option_map central_of federation.new)) }
     ensures err { OnErr result (federation.new ≡ federation.old) }
 {
     match federation {
@@ -98,7 +101,7 @@ impl Execution {
     /// Does what a line asks for that makes a step, and answers its record. Where memory runs out, nothing has changed.
     pub fn act(&mut self, command: &Command) -> Result<Record, Fault>
         requires { self.old.name ≡ codes "play" }
-        ensures ok { IfOk result (λ r. IsActed (act_of self.old.catalogue (command_step self.old.catalogue self.old.members.items command.now) r.outcome) (option_map central self.old.federation) self.old.members.items r (option_map central self.new.federation) self.new.members.items) }
+        ensures ok { IfOk result (λ r. IsActed (act_of self.old.catalogue (command_step self.old.catalogue self.old.members.items command.now) r.outcome) (option_map central_of self.old.federation) self.old.members.items r (option_map central_of self.new.federation) self.new.members.items) }
         ensures err { OnErr result (self.new.federation ≡ self.old.federation) }
         ensures members { OnErr result (self.new.members.items ≡ self.old.members.items) }
         ensures catalogue { self.new.catalogue ≡ self.old.catalogue }
@@ -119,7 +122,7 @@ impl Execution {
     /// Creates the execution, unless it is there.
     fn create(&mut self) -> Result<Record, Fault>
         requires { self.old.name ≡ codes "play" }
-        ensures ok { IfOk result (λ r. IsActed (act.Create (created_with self.old.catalogue r.outcome)) (option_map central self.old.federation) self.old.members.items r (option_map central self.new.federation) self.new.members.items) }
+        ensures ok { IfOk result (λ r. IsActed (act.Create (created_with self.old.catalogue r.outcome)) (option_map central_of self.old.federation) self.old.members.items r (option_map central_of self.new.federation) self.new.members.items) }
         ensures err { OnErr result (self.new.federation ≡ self.old.federation) }
         ensures members { OnErr result (self.new.members.items ≡ self.old.members.items) }
         ensures catalogue { self.new.catalogue ≡ self.old.catalogue }
@@ -147,8 +150,9 @@ impl Execution {
 
     /// Does a step of the execution.
     fn take(&mut self, step: Step) -> Result<Record, Fault>
-        requires { self.old.name ≡ codes "play" }
-        ensures ok { IfOk result (λ r. IsActed (act.Step step) (option_map central self.old.federation) self.old.members.items r (option_map central self.new.federation) self.new.members.items) }
+        requires name { self.old.name ≡ codes "play" }
+        requires built { IsBuilt step }
+        ensures ok { IfOk result (λ r. IsActed (act.Step step) (option_map central_of self.old.federation) self.old.members.items r (option_map central_of self.new.federation) self.new.members.items) }
         ensures err { OnErr result (self.new.federation ≡ self.old.federation) }
         ensures members { OnErr result (self.new.members.items ≡ self.old.members.items) }
         ensures catalogue { self.new.catalogue ≡ self.old.catalogue }

@@ -3,7 +3,6 @@
 
 mod arguments;
 mod execution;
-mod federation_stub;
 mod history;
 mod lines;
 mod members;
