@@ -9,6 +9,7 @@ use Rattle.hla_federation.specs.FederationValue.{FederationValue}
 use Rattle.hla_federation.specs.State.{state_of}
 use Rattle.hla_federation.specs.Federation.{new_federation}
 use Rattle.hla_federation.specs.CentralOf.{central}
+use Rattle.hla_federation.specs.Messages.{find_event, events, discoveries, discoveries_from, retractions, dues}
 use Rattle.hla_federation.specs.Soundness.{done_as, IsRefusedWith}
 use Rattle.hla_machine.specs.declared.step.Step.{Step}
 use Rattle.hla_machine.specs.declared.step.Answer.{Answer}
@@ -20,6 +21,7 @@ use Rattle.hla_machine.specs.declared.step.Outcome.TheVariants as outcome
 use Rattle.hla_machine.specs.declared.step.Choice.TheVariants as choice
 use Rattle.hla_machine.specs.declared.step.Record.{Record}
 use Rattle.hla_script.specs.declared.members.Member.{Member}
+use Rattle.hla_script.specs.Keeping.{central_of, IsStepped}
 use Rattle.hla_script.specs.Keeping.{Leads, IsActed, IsKept}
 use Rattle.hla_script.specs.Playing.{created_with, members_from, member_after}
 
@@ -71,8 +73,8 @@ unfolding members_from
 keeps_nothing = record { executions = no_executions; run = refl; holds = record { creates = refl; present = refl; execution = refl }; joins = refl }
 
 pub opens : (f : FederationValue) (c : Tables) → state_of f ≡ new_federation c → central_of f ≡ new_central c
-unfolding central_of
-opens f c e = rw e refl
+unfolding central_of find_event events discoveries discoveries_from retractions dues
+opens f c e = let none : central (new_federation c) ≡ new_central c = refl in ap central e ∙ none
 
 pub steps_done : (old new : FederationValue) (s : Step) (a : Answer) → IsMachineStep (central (state_of old)) (done_as s a) (central (state_of new)) → IsStepped (Some (central_of old)) s (outcome.Done a) (Some (central_of new))
 unfolding central_of
@@ -86,4 +88,3 @@ steps_refused old new s e same h some = record {
   follows = ap (λ (f : FederationValue). Some (central (state_of f))) same;
 }
 
-pub ruleset step_kinds = (steps_done, steps_refused)

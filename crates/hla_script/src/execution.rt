@@ -53,7 +53,6 @@ fn note(members: &mut Vec<Member>, name: Option<List<u8>>, outcome: &Outcome)
 }
 
 /// Does a step, and answers how it ended; where memory ran out it is not done.
-#[tactic(auto, using(crate::proofs::KeepLemmas::step_kinds))]
 fn stepped(federation: &mut Option<Federation>, step: &Step) -> Result<Outcome, Fault>
     requires { IsBuilt step.now }
     ensures ok { IfOk result (λ out. IsStepped (option_map central_of federation.old) step.now out (option_map central_of federation.new)) }
@@ -63,8 +62,12 @@ fn stepped(federation: &mut Option<Federation>, step: &Step) -> Result<Outcome, 
         None => Ok(Outcome::Refused(Fault::FederationExecutionDoesNotExist)),
         Some(federation) => match federation.step(step) {
             Ok(answer) => Ok(Outcome::Done(answer)),
-            Err(Fault::OutOfMemory) => Err(Fault::OutOfMemory),
-            Err(fault) => Ok(Outcome::Refused(fault)),
+            Err(fault) => {
+                if fault.number() == 38 {
+                    return Err(fault);
+                }
+                Ok(Outcome::Refused(fault))
+            }
         },
     }
 }
