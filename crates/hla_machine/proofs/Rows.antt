@@ -1,5 +1,5 @@
 -- What the row of a federate keeps
-use Rattle.std.proofs.Common.{◌≡◌, ◌≢◌, ◌⊎◌, ℕ, ◌+◌, ◌-◌, ◌≤◌, ◌<◌, min, max, cond, not, ◌&&◌, ◌||◌, Bool, true, false, refl, sym, le_trans, subst, inl, inr, ⊎_elim, arith, Option, Some, None}
+use Rattle.std.proofs.Common.{◌≡◌, ◌≢◌, ◌⊎◌, ℕ, ◌+◌, ◌-◌, ◌≤◌, ◌<◌, min, max, cond, not, ◌&&◌, ◌||◌, Bool, true, false, refl, sym, ◌∙◌, le_trans, subst, inl, inr, ⊎_elim, arith, Option, Some, None}
 use Rattle.std.proofs.lemmas.Bool.{cond_both, cases_Bool}
 use Rattle.hla_base.specs.declared.row.AdvanceKind.{AdvanceKind}
 use Rattle.hla_base.specs.declared.row.AdvanceKind.TheVariants.{TimeAdvance, TimeAdvanceAvailable, NextEvent, NextEventAvailable, FlushQueue}
@@ -206,3 +206,116 @@ law_constrains r law was free = record {
   asked = law.asked;
   covers = λ _ g. le_trans (law.floored g) (covered_floor r.floor r.lookahead r.advance r.first_pick);
 }
+
+-- ---- picks and grants
+picked_firsts : (k : AdvanceRequest) (first : Option ℕ) (s p : ℕ) → ((x : ℕ) → first ≡ Some x → x ≤ k.asked) → (is_flush k.kind ≡ false → s ≤ k.asked) → cond (is_flush k.kind) first (or_else first (Some s)) ≡ Some p → p ≤ k.asked
+picked_firsts k first s p old new = cond_both (is_flush k.kind) first (or_else first (Some s)) (λ o. o ≡ Some p → p ≤ k.asked) (λ _ is. old p is) (λ n. second first old (new n))
+  where
+    second : (first : Option ℕ) → ((x : ℕ) → first ≡ Some x → x ≤ k.asked) → s ≤ k.asked → or_else first (Some s) ≡ Some p → p ≤ k.asked
+    second None old l is = let same : s ≡ p = cc in omega arith
+    second (Some x) old l is = old p is
+
+picked_covers : (r : TimeRow) (q : AdvanceRequest) (s : ℕ) (first : Option ℕ) → r.bar ≤ covered r.floor r.lookahead (Some q) first
+    → (is_flush q.kind ≡ false → s ≤ q.asked) → (is_flush q.kind ≡ false → is_next q.kind ≡ true → (p : ℕ) → first ≡ Some p → s ≡ p)
+    → ((is_next q.kind || is_flush q.kind) ≡ false → q.asked + width r.lookahead q.kind ≤ r.floor)
+    → cond (is_flush q.kind) r.bar (bar_after r q.kind s) ≤ covered r.floor r.lookahead (Some q) (cond (is_flush q.kind) first (or_else first (Some s)))
+picked_covers r q s first low asked at ahead = ⊎_elim
+    (λ (y : is_flush q.kind ≡ true). rw y low)
+    (λ (n : is_flush q.kind ≡ false). rw n (⊎_elim (λ (y : is_next q.kind ≡ true). nexts y first low (at n y)) (λ (m : is_next q.kind ≡ false). others m first low (asked n) (ahead (rw (m, n) refl))) (cases_Bool (is_next q.kind))))
+    (cases_Bool (is_flush q.kind))
+  where
+    nexts : is_next q.kind ≡ true → (first : Option ℕ) → r.bar ≤ covered r.floor r.lookahead (Some q) first → ((p : ℕ) → first ≡ Some p → s ≡ p) → bar_after r q.kind s ≤ covered r.floor r.lookahead (Some q) (or_else first (Some s))
+    nexts y None low same = rw y (omega (arith, low, reach_width q.kind s r.lookahead))
+    nexts y (Some p) low same = let low2 : r.bar ≤ max r.floor (p + width r.lookahead q.kind) = rw y at low in rw y (omega (arith, low2, same p refl, reach_width q.kind s r.lookahead))
+
+    others : is_next q.kind ≡ false → (first : Option ℕ) → r.bar ≤ covered r.floor r.lookahead (Some q) first → s ≤ q.asked → q.asked + width r.lookahead q.kind ≤ r.floor → bar_after r q.kind s ≤ covered r.floor r.lookahead (Some q) (or_else first (Some s))
+    others m None low l h = rw m (omega (arith, low, reach_width q.kind s r.lookahead))
+    others m (Some p) low l h = let low2 : r.bar ≤ r.floor = rw m at low in rw m (omega (arith, low2, reach_width q.kind s r.lookahead))
+
+same_request : (q k : AdvanceRequest) → Some q ≡ Some k → q ≡ k
+same_request q k e = cc
+
+pub law_picked : (r : TimeRow) (q : AdvanceRequest) (s : ℕ) → RowLaw r → r.advance ≡ Some q → (is_flush q.kind ≡ false → s ≤ q.asked) → (is_flush q.kind ≡ false → is_next q.kind ≡ true → (p : ℕ) → r.first_pick ≡ Some p → s ≡ p) → RowLaw (picked r q s)
+law_picked r q s law asks within at = record {
+  idle = law.idle;
+  resting = law.resting;
+  firsts = λ k p ask is. let same : q ≡ k = same_request q k (sym asks ∙ ask) in subst (λ (k : AdvanceRequest). p ≤ k.asked) same (picked_firsts q r.first_pick s p (λ x e. law.firsts q x asks e) within is);
+  barred = λ c. cond_both (is_flush q.kind) r.bar (bar_after r q.kind s) (λ x. r.time ≤ x) (λ _. law.barred c) (λ _. omega (arith, law.barred c));
+  steady = law.steady;
+  floored = law.floored;
+  entered = law.entered;
+  asked = law.asked;
+  covers = λ c g. subst (λ o. cond (is_flush q.kind) r.bar (bar_after r q.kind s) ≤ covered r.floor r.lookahead o (cond (is_flush q.kind) r.first_pick (or_else r.first_pick (Some s)))) (sym asks)
+      (picked_covers r q s r.first_pick (subst (λ o. r.bar ≤ covered r.floor r.lookahead o r.first_pick) asks (law.covers c g)) within at (law.asked q asks));
+}
+
+covered_grant : (floor lookahead : ℕ) (q : AdvanceRequest) (first : Option ℕ) (t : ℕ) → (is_next q.kind ≡ true → (p : ℕ) → first ≡ Some p → p ≤ t) → covered floor lookahead (Some q) first ≤ max floor (t + width lookahead q.kind)
+covered_grant floor lookahead q None t h = omega arith
+covered_grant floor lookahead q (Some p) t h = cond_both (is_next q.kind) (max floor (p + width lookahead q.kind)) floor (λ x. x ≤ max floor (t + width lookahead q.kind)) (λ y. omega (arith, h y p refl)) (λ _. omega arith)
+
+pub law_granted : (r : TimeRow) (q : AdvanceRequest) (t : ℕ) → RowLaw r → r.advance ≡ Some q → (is_constrained r ≡ true → is_next q.kind ≡ true → (p : ℕ) → r.first_pick ≡ Some p → p ≤ t) → RowLaw (granted r q t)
+law_granted r q t law asks first = record {
+  idle = λ _. refl;
+  resting = λ _. refl;
+  firsts = λ k p e. absurd (cc);
+  barred = λ c. cond_both (is_constrained r) (bar_after r q.kind t) r.bar (λ x. t ≤ x) (λ _. omega (arith, le_reach q.kind t)) (λ n. absurd (cc));
+  steady = λ _ p. let e = law.idle p in absurd (cc);
+  floored = λ _. omega arith;
+  entered = λ p. let e = law.idle p in absurd (cc);
+  asked = λ k e. absurd (cc);
+  covers = λ c g. cond_both (is_constrained r) (bar_after r q.kind t) r.bar (λ x. x ≤ max r.floor (t + width r.lookahead q.kind))
+      (λ _. omega (arith, low c g, reach_width q.kind t r.lookahead)) (λ n. absurd (cc));
+}
+  where
+    low : is_constrained r ≡ true → is_regulator r ≡ true → r.bar ≤ max r.floor (t + width r.lookahead q.kind)
+    low c g = le_trans (subst (λ o. r.bar ≤ covered r.floor r.lookahead o r.first_pick) asks (law.covers c g)) (covered_grant r.floor r.lookahead q r.first_pick t (first c))
+
+-- ---- what a federate may still send doesn't fall
+-- where the row allows no less at rest
+pub out_idle : (below to : ℕ → Type 0) (r s : TimeRow) (v : ℕ) → r.advance ≡ None → r.floor ≤ s.floor → BelowOut below r v → BelowOut to s v
+out_idle below to r s v idle up h = inl (le_trans (idle_out below r v idle h) up)
+
+-- where less lies before it
+wake_low : (below to : ℕ → Type 0) (q : AdvanceRequest) (first : Option ℕ) (x : ℕ) → (below x → to x) → BelowWake below q first x → BelowWake to q first x
+wake_low below to q (Some p) x low h = h
+wake_low below to q None x low h = (h.0, low h.1)
+
+request_low : (below to : ℕ → Type 0) (r : TimeRow) (o : Option AdvanceRequest) (v : ℕ) → ((x : ℕ) → x ≤ v → below x → to x) → BelowRequest below r o v → BelowRequest to r o v
+request_low below to r None v low h = h
+request_low below to r (Some q) v low h = wake_low below to q r.first_pick (v - width r.lookahead q.kind) (low (v - width r.lookahead q.kind) (omega arith)) h
+
+pub out_low : (below to : ℕ → Type 0) (r : TimeRow) (v : ℕ) → ((x : ℕ) → x ≤ v → below x → to x) → BelowOut below r v → BelowOut to r v
+out_low below to r v low (inl l) = inl l
+out_low below to r v low (inr h) = inr (request_low below to r (next_request r) v low h)
+
+-- after a pick
+pick_wake : (below to : ℕ → Type 0) (q k : AdvanceRequest) (first : Option ℕ) (s x : ℕ) → (below x → to x) → (below x → x ≤ s) → BelowWake below q first x → BelowWake to q (cond (is_flush k.kind) first (or_else first (Some s))) x
+pick_wake below to q k first s x low high h = cond_both (is_flush k.kind) first (or_else first (Some s)) (λ o. BelowWake to q o x) (λ _. wake_low below to q first x low h) (λ _. second first h)
+  where
+    second : (first : Option ℕ) → BelowWake below q first x → BelowWake to q (or_else first (Some s)) x
+    second None h = high h.1
+    second (Some p) h = h
+
+pick_request : (below to : ℕ → Type 0) (r : TimeRow) (q : AdvanceRequest) (o : Option AdvanceRequest) (s v : ℕ) → ((x : ℕ) → below x → to x) → ((x : ℕ) → below x → x ≤ s) → BelowRequest below r o v → BelowRequest to (picked r q s) o v
+pick_request below to r q None s v low high h = h
+pick_request below to r q (Some k) s v low high h = pick_wake below to k q r.first_pick s (v - width r.lookahead k.kind) (low (v - width r.lookahead k.kind)) (high (v - width r.lookahead k.kind)) h
+
+pub out_picked : (below to : ℕ → Type 0) (r : TimeRow) (q : AdvanceRequest) (s v : ℕ) → ((x : ℕ) → below x → to x) → ((x : ℕ) → below x → x ≤ s) → BelowOut below r v → BelowOut to (picked r q s) v
+out_picked below to r q s v low high (inl l) = inl l
+out_picked below to r q s v low high (inr h) = inr (pick_request below to r q (next_request r) s v low high h)
+
+-- after a grant
+wake_first : (below : ℕ → Type 0) (q : AdvanceRequest) (first : Option ℕ) (x : ℕ) → BelowWake below q first x → x ≤ first_or first q.asked
+wake_first below q (Some p) x h = h
+wake_first below q None x h = h.0
+
+grant_request : (below : ℕ → Type 0) (r : TimeRow) (q : AdvanceRequest) (b : Bool) (t v : ℕ) → (b ≡ true → is_next q.kind ≡ true → first_or r.first_pick q.asked ≤ t) → BelowRequest below r (when b (keep_if (λ q. is_next q.kind) (Some q))) v → v ≤ t + width r.lookahead q.kind
+grant_request below r q false t v first h = absurd h
+grant_request below r q true t v first h = ⊎_elim
+    (λ (y : is_next q.kind ≡ true). let at : BelowWake below q r.first_pick (v - width r.lookahead q.kind) = rw y at h in omega (arith, wake_first below q r.first_pick (v - width r.lookahead q.kind) at, first refl y))
+    (λ (n : is_next q.kind ≡ false). absurd (rw n at h))
+    (cases_Bool (is_next q.kind))
+
+pub out_granted : (below to : ℕ → Type 0) (r : TimeRow) (q : AdvanceRequest) (t v : ℕ) → r.advance ≡ Some q → (is_constrained r ≡ true → is_next q.kind ≡ true → first_or r.first_pick q.asked ≤ t) → BelowOut below r v → BelowOut to (granted r q t) v
+out_granted below to r q t v asks first (inl l) = inl (omega arith)
+out_granted below to r q t v asks first (inr h) = inl (omega (arith, grant_request below r q (is_constrained r) t v first (rw asks at h)))
