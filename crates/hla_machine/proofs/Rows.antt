@@ -289,18 +289,18 @@ out_low below to r v low (inl l) = inl l
 out_low below to r v low (inr h) = inr (request_low below to r (next_request r) v low h)
 
 -- after a pick
-pick_wake : (below to : ℕ → Type 0) (q k : AdvanceRequest) (first : Option ℕ) (s x : ℕ) → (below x → to x) → (below x → x ≤ s) → BelowWake below q first x → BelowWake to q (cond (is_flush k.kind) first (or_else first (Some s))) x
-pick_wake below to q k first s x low high h = cond_both (is_flush k.kind) first (or_else first (Some s)) (λ o. BelowWake to q o x) (λ _. wake_low below to q first x low h) (λ _. second first h)
+pick_wake : (below to : ℕ → Type 0) (q k : AdvanceRequest) (first : Option ℕ) (s x : ℕ) → (below x → to x) → (is_flush k.kind ≡ false → below x → x ≤ s) → BelowWake below q first x → BelowWake to q (cond (is_flush k.kind) first (or_else first (Some s))) x
+pick_wake below to q k first s x low high h = cond_both (is_flush k.kind) first (or_else first (Some s)) (λ o. BelowWake to q o x) (λ _. wake_low below to q first x low h) (λ n. second n first h)
   where
-    second : (first : Option ℕ) → BelowWake below q first x → BelowWake to q (or_else first (Some s)) x
-    second None h = high h.1
-    second (Some p) h = h
+    second : is_flush k.kind ≡ false → (first : Option ℕ) → BelowWake below q first x → BelowWake to q (or_else first (Some s)) x
+    second n None h = high n h.1
+    second n (Some p) h = h
 
-pick_request : (below to : ℕ → Type 0) (r : TimeRow) (q : AdvanceRequest) (o : Option AdvanceRequest) (s v : ℕ) → ((x : ℕ) → below x → to x) → ((x : ℕ) → below x → x ≤ s) → BelowRequest below r o v → BelowRequest to (picked r q s) o v
+pick_request : (below to : ℕ → Type 0) (r : TimeRow) (q : AdvanceRequest) (o : Option AdvanceRequest) (s v : ℕ) → ((x : ℕ) → below x → to x) → (is_flush q.kind ≡ false → (x : ℕ) → below x → x ≤ s) → BelowRequest below r o v → BelowRequest to (picked r q s) o v
 pick_request below to r q None s v low high h = h
-pick_request below to r q (Some k) s v low high h = pick_wake below to k q r.first_pick s (v - width r.lookahead k.kind) (low (v - width r.lookahead k.kind)) (high (v - width r.lookahead k.kind)) h
+pick_request below to r q (Some k) s v low high h = pick_wake below to k q r.first_pick s (v - width r.lookahead k.kind) (low (v - width r.lookahead k.kind)) (λ n. high n (v - width r.lookahead k.kind)) h
 
-pub out_picked : (below to : ℕ → Type 0) (r : TimeRow) (q : AdvanceRequest) (s v : ℕ) → ((x : ℕ) → below x → to x) → ((x : ℕ) → below x → x ≤ s) → BelowOut below r v → BelowOut to (picked r q s) v
+pub out_picked : (below to : ℕ → Type 0) (r : TimeRow) (q : AdvanceRequest) (s v : ℕ) → ((x : ℕ) → below x → to x) → (is_flush q.kind ≡ false → (x : ℕ) → below x → x ≤ s) → BelowOut below r v → BelowOut to (picked r q s) v
 out_picked below to r q s v low high (inl l) = inl l
 out_picked below to r q s v low high (inr h) = inr (pick_request below to r q (next_request r) s v low high h)
 
