@@ -36,7 +36,7 @@ next_not_flush NextEvent e = refl
 next_not_flush NextEventAvailable e = refl
 next_not_flush FlushQueue e = absurd (cc)
 
-flush_not_strict : (k : AdvanceKind) → is_flush k ≡ true → is_strict k ≡ false
+pub flush_not_strict : (k : AdvanceKind) → is_flush k ≡ true → is_strict k ≡ false
 flush_not_strict TimeAdvance e = absurd (cc)
 flush_not_strict TimeAdvanceAvailable e = refl
 flush_not_strict NextEvent e = absurd (cc)
