@@ -1,20 +1,19 @@
 -- What the machine's state keeps, by the kinds of change
-use Rattle.std.proofs.Common.{◌≡◌, ◌≢◌, ◌⊎◌, ℕ, ◌+◌, ◌≤◌, ◌<◌, max, cond, eqb, not, ◌&&◌, Bool, true, false, refl, sym, le_trans, ap, ◌∙◌, subst, inl, inr, ⊎_elim, arith, eqb-true, eq-eqb, List, [], ◌∷◌, Option, Some, None, option_map, is_some, unwrap_or}
-use Rattle.std.proofs.lemmas.Bool.{cases_eq, cases_lt, cond_both, and_parts, cases_Bool}
-use Rattle.std.proofs.lemmas.Bool.Decides.{nat_tests}
+use Rattle.std.proofs.Common.{◌≡◌, ◌≢◌, ◌⊎◌, ℕ, ◌+◌, ◌≤◌, ◌<◌, max, cond, eqb, not, ◌&&◌, Bool, true, false, refl, sym, le_trans, subst, inl, inr, ⊎_elim, arith, eqb-true, eq-eqb, List, Option, Some, None, option_map, unwrap_or}
+use Rattle.std.proofs.lemmas.Bool.{cases_eq, cases_lt, and_parts, cases_Bool}
 use Rattle.hla_base.specs.declared.content.Content.{Content}
 use Rattle.hla_base.specs.declared.number.EventHandle.{EventHandle}
 use Rattle.hla_base.specs.declared.row.TimeRow.{TimeRow}
-use Rattle.hla_base.specs.Tables.{forever, upd, upd2, is_other, or_else, when}
-use Rattle.hla_base.specs.Rows.{is_regulator, is_constrained, is_enabled, is_disabled, least_stamp, new_row}
+use Rattle.hla_base.specs.Tables.{forever, upd, is_other, or_else, when}
+use Rattle.hla_base.specs.Rows.{is_regulator, is_constrained, is_enabled, is_disabled, least_stamp}
 use Rattle.hla_base.specs.declared.row.Role.{Role}
 use Rattle.hla_base.specs.declared.row.Role.TheVariants.{Disabled, Pending, Enabled}
 use Rattle.hla_machine.specs.Directory.{Outgoing, content_for}
 use Rattle.hla_machine.specs.Central.{Central, Copy, CopyOrder, Ro, Tso, Demoted, SentEvent, BelowTso, BelowOut, with_copies, is_key, at_key, demoted_order, demoted}
 use Rattle.hla_machine.specs.Callbacks.{with_demoted, is_among}
-use Rattle.hla_machine.specs.Sends.{is_ordered, kept_stamp, copy_for, sent_event, sent_one}
-use Rattle.hla_machine.proofs.Tables.{by_number, upd_same, upd_other, upd_each, upd2_same, upd2_other, upd2_each}
-use Rattle.hla_machine.proofs.Rows.{RowLaw, law_new, out_least, bar_least, out_low, out_idle}
+use Rattle.hla_machine.specs.Sends.{is_ordered, kept_stamp, copy_for, sent_one}
+use Rattle.hla_machine.proofs.Tables.{by_number, upd_same, upd_other, upd_each, upd2_other}
+use Rattle.hla_machine.proofs.Rows.{RowLaw, out_least, bar_least, out_low, out_idle}
 
 abbrev pub Bag : Type 0
 Bag = ℕ → ℕ → ℕ → Option Copy

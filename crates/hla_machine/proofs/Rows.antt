@@ -1,14 +1,13 @@
 -- What the row of a federate keeps
-use Rattle.std.proofs.Common.{◌≡◌, ◌≢◌, ◌⊎◌, ℕ, ◌+◌, ◌-◌, ◌≤◌, ◌<◌, min, max, cond, not, ◌&&◌, ◌||◌, Bool, true, false, refl, sym, ◌∙◌, le_trans, subst, inl, inr, ⊎_elim, arith, Option, Some, None}
+use Rattle.std.proofs.Common.{◌≡◌, ◌⊎◌, ℕ, ◌+◌, ◌-◌, ◌≤◌, max, cond, ◌&&◌, ◌||◌, Bool, true, false, refl, sym, ◌∙◌, le_trans, subst, inl, inr, ⊎_elim, arith, Option, Some, None}
 use Rattle.std.proofs.lemmas.Bool.{cond_both, cases_Bool}
 use Rattle.hla_base.specs.declared.row.AdvanceKind.{AdvanceKind}
 use Rattle.hla_base.specs.declared.row.AdvanceKind.TheVariants.{TimeAdvance, TimeAdvanceAvailable, NextEvent, NextEventAvailable, FlushQueue}
 use Rattle.hla_base.specs.declared.row.AdvanceRequest.{AdvanceRequest}
-use Rattle.hla_base.specs.declared.row.Role.{Role}
-use Rattle.hla_base.specs.declared.row.Role.TheVariants.{Disabled, Pending, Enabled}
+use Rattle.hla_base.specs.declared.row.Role.TheVariants.{Disabled, Pending}
 use Rattle.hla_base.specs.declared.row.TimeRow.{TimeRow}
 use Rattle.hla_base.specs.Tables.{when, or_else}
-use Rattle.hla_base.specs.Rows.{is_strict, is_next, is_flush, is_regulator, is_constrained, is_disabled, is_enabled, is_pending, is_none_of, is_advancing, next_request, keep_if, width, new_row, least_stamp, least_stamp_in, requested, regulating_from, regulates, constrains, picked, granted, bar_after, least_of, first_or, grant_time}
+use Rattle.hla_base.specs.Rows.{is_strict, is_next, is_flush, is_regulator, is_constrained, is_pending, next_request, keep_if, width, new_row, least_stamp, least_stamp_in, requested, regulating_from, regulates, constrains, picked, granted, bar_after, first_or}
 use Rattle.hla_machine.specs.Central.{BelowWake, BelowRequest, BelowOut, reach}
 
 -- up to where the picks of an advance may have raised the bar of a regulator

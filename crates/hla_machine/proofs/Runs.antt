@@ -1,18 +1,16 @@
 -- Each step of the machine keeps its law, and so does each run
-use Rattle.std.proofs.Common.{◌≡◌, ◌≢◌, ◌⊎◌, ℕ, ◌+◌, ◌≤◌, ◌<◌, max, cond, eqb, ltb, not, ◌&&◌, ◌||◌, Bool, true, false, refl, sym, le_trans, ap, ◌∙◌, subst, inl, inr, ⊎_elim, arith, eqb-true, List, [], ◌∷◌, Option, Some, None, option_map, is_some, unwrap_or, IfSome}
-use Rattle.std.proofs.lemmas.Bool.{cases_lt, cond_both, and_parts, and_cases, or_parts, cases_Bool, ltb-false}
+use Rattle.std.proofs.Common.{◌≡◌, ℕ, ◌+◌, ◌≤◌, ◌<◌, cond, not, ◌&&◌, true, false, refl, sym, subst, ⊎_elim, arith, List, [], ◌∷◌, Option, Some, None, option_map, IfSome}
+use Rattle.std.proofs.lemmas.Bool.{cases_lt, cond_both, cases_Bool}
 use Rattle.hla_base.specs.declared.number.EventHandle.{EventHandle}
 use Rattle.hla_base.specs.declared.content.Content.{Content}
 use Rattle.hla_base.specs.declared.content.Content.TheVariants as content
-use Rattle.hla_base.specs.declared.row.AdvanceKind.{AdvanceKind}
 use Rattle.hla_base.specs.declared.row.AdvanceKind.TheVariants as kind
 use Rattle.hla_base.specs.declared.row.AdvanceRequest.{AdvanceRequest}
 use Rattle.hla_base.specs.declared.row.Role.{Role}
 use Rattle.hla_base.specs.declared.row.Role.TheVariants.{Disabled, Pending, Enabled}
 use Rattle.hla_base.specs.declared.row.TimeRow.{TimeRow}
-use Rattle.hla_base.specs.Tables.{forever, max_time, upd, upd2}
-use Rattle.hla_base.specs.Rows.{is_strict, is_next, is_flush, is_regulator, is_constrained, is_enabled, is_disabled, is_pending, is_none_of, is_advancing, least_stamp, requested, regulating_from, regulates, constrains, picked, granted, bar_after, first_or, grant_time, new_row}
-use Rattle.hla_fed_file.specs.declared.declared.Order.TheVariants.{Timestamp}
+use Rattle.hla_base.specs.Tables.{max_time, upd}
+use Rattle.hla_base.specs.Rows.{is_next, is_flush, is_constrained, is_disabled, is_pending, regulates, constrains, picked, granted, bar_after, first_or}
 use Rattle.hla_fed_file.specs.Tables.{Tables}
 use Rattle.hla_callbacks.specs.declared.callback.Callback.{Callback}
 use Rattle.hla_callbacks.specs.declared.callback.Callback.TheVariants as callback
@@ -20,10 +18,8 @@ use Rattle.hla_callbacks.specs.declared.callback.Delivery.{Delivery}
 use Rattle.hla_callbacks.specs.declared.callback.Delivery.TheVariants as delivery
 use Rattle.hla_machine.specs.declared.service.Service.{Service}
 use Rattle.hla_machine.specs.declared.service.Service.TheVariants as service
-use Rattle.hla_machine.specs.declared.service.ResignAction.{ResignAction}
-use Rattle.hla_machine.specs.declared.service.ResignAction.TheVariants.{ReleaseAttributes, DeleteObjects, DeleteObjectsAndReleaseAttributes, NoAction}
 use Rattle.hla_machine.specs.declared.step.Step.{Step}
-use Rattle.hla_machine.specs.declared.step.Step.TheVariants.{Join, Call, Carry, Announce, Tick}
+use Rattle.hla_machine.specs.declared.step.Step.TheVariants.{Join, Call, Carry, Tick}
 use Rattle.hla_machine.specs.declared.step.Carried.{Carried}
 use Rattle.hla_machine.specs.declared.step.Carried.TheVariants as carried
 use Rattle.hla_machine.specs.declared.step.Answer.{Answer}
@@ -32,18 +28,16 @@ use Rattle.hla_machine.specs.declared.step.Outcome.{Outcome}
 use Rattle.hla_machine.specs.declared.step.Outcome.TheVariants as outcome
 use Rattle.hla_machine.specs.declared.step.Choice.{Choice}
 use Rattle.hla_machine.specs.declared.step.Choice.TheVariants as choice
-use Rattle.hla_machine.specs.Directory.{Directory, Outgoing, Body, is_of_order, objects_of, deletions_sent, deletion_sent, update_sent, interaction_sent, with_member, without_member}
-use Rattle.hla_machine.specs.Central.{Central, new_central, Copy, Tso, SentEvent, BelowOut, BelowBound, reach, demoted, at_key}
+use Rattle.hla_machine.specs.Directory.{deletion_sent, update_sent, interaction_sent}
+use Rattle.hla_machine.specs.Central.{Central, new_central, Copy, Tso, BelowBound, reach, demoted, at_key}
 use Rattle.hla_machine.specs.Callbacks.{IsCopy, MayPickIn, is_among, MayDeliver, MayPickUp, MayGrant, MayConstrain, with_demoted, row_after, set_row, after_delivery, after_constraint, after_pick}
-use Rattle.hla_machine.specs.Sends.{is_ordered, is_some_ordered, sent_one, sent_all}
-use Rattle.hla_machine.specs.Refusals.{refusal, request_tests, is_bad_stamp}
-use Rattle.hla_machine.specs.Machine.{seen, MayEnter, MayAnswer, MayDo, Allowed, left_by, after_resign, after_retract, after_enter, after_cease, after_call, arrived, retraction_arrived, after_carry, joined_by, after_done, after}
+use Rattle.hla_machine.specs.Refusals.{refusal}
+use Rattle.hla_machine.specs.Machine.{seen, MayAnswer, MayDo, Allowed, after_call, arrived, after_carry, after_done, after}
 use Rattle.hla_machine.specs.Runs.{Happening, IsRun}
 use Rattle.hla_machine.specs.Laws.{IsSafe}
-use Rattle.hla_machine.proofs.Tables.{by_number, upd_same, upd_other, upd_each, upd2_each, le_greatest, greatest_ge}
-use Rattle.hla_machine.proofs.Tests.{AllClear, clear_call, caller_joined, ticker_joined, not-is-false}
-use Rattle.hla_machine.proofs.Rows.{RowLaw, law_new, law_requested, law_constrained, law_free, law_stopped, law_asynchronous, law_lookahead, law_entered, law_regulates, law_constrains, law_picked, law_granted, next_not_flush, le_reach, flush_not_strict, out_low, out_idle, out_picked, out_granted}
-use Rattle.hla_machine.proofs.Keeps.{LowIn, BoundIn, Keeps, IsKept, NoMore, Changes, low_fewer, low_weaker, fewer_removed, fewer_demoted, fewer_moved, moved_else, keeps_low, keeps_row, keeps_rest, old_bound, old_out, bound_max, keeps_sent, regulator_from}
+use Rattle.hla_machine.proofs.Tests.{clear_call, caller_joined, ticker_joined}
+use Rattle.hla_machine.proofs.Rows.{law_new, law_constrained, law_lookahead, law_regulates, law_constrains, law_picked, law_granted, next_not_flush, le_reach, flush_not_strict, out_low, out_idle, out_picked, out_granted}
+use Rattle.hla_machine.proofs.Keeps.{LowIn, BoundIn, IsKept, NoMore, low_fewer, low_weaker, fewer_removed, fewer_demoted, fewer_moved, moved_else, keeps_low, keeps_row, old_bound, old_out, bound_max}
 
 use Rattle.hla_machine.proofs.Services.{none_from, same_bag, join_keeps, sends_keep, high_stamps, resign_keeps, rest, ask_keeps, stop_keeps, asynchronous_keeps, entry_may, not_early, enter_after, cease_after, retract_keeps}
 

@@ -1,49 +1,30 @@
 -- Joining, resigning, sending and the services of time management keep the machine's law
-use Rattle.std.proofs.Common.{◌≡◌, ◌≢◌, ◌⊎◌, ℕ, ◌+◌, ◌≤◌, ◌<◌, max, cond, eqb, ltb, not, ◌&&◌, ◌||◌, Bool, true, false, refl, sym, le_trans, ap, ◌∙◌, subst, inl, inr, ⊎_elim, arith, eqb-true, List, [], ◌∷◌, Option, Some, None, option_map, is_some, unwrap_or, IfSome}
-use Rattle.std.proofs.lemmas.Bool.{cases_lt, cond_both, and_parts, and_cases, or_parts, cases_Bool, ltb-false}
-use Rattle.hla_base.specs.declared.number.EventHandle.{EventHandle}
-use Rattle.hla_base.specs.declared.content.Content.{Content}
-use Rattle.hla_base.specs.declared.content.Content.TheVariants as content
+use Rattle.std.proofs.Common.{◌≡◌, ℕ, ◌+◌, ◌≤◌, ◌<◌, cond, eqb, ltb, not, ◌&&◌, ◌||◌, Bool, true, false, refl, le_trans, inl, ⊎_elim, arith, eqb-true, List, [], ◌∷◌, Option, Some, None, unwrap_or}
+use Rattle.std.proofs.lemmas.Bool.{cond_both, and_parts, and_cases, or_parts, ltb-false}
 use Rattle.hla_base.specs.declared.row.AdvanceKind.{AdvanceKind}
-use Rattle.hla_base.specs.declared.row.AdvanceKind.TheVariants as kind
 use Rattle.hla_base.specs.declared.row.AdvanceRequest.{AdvanceRequest}
-use Rattle.hla_base.specs.declared.row.Role.{Role}
-use Rattle.hla_base.specs.declared.row.Role.TheVariants.{Disabled, Pending, Enabled}
+use Rattle.hla_base.specs.declared.row.Role.TheVariants.{Disabled}
 use Rattle.hla_base.specs.declared.row.TimeRow.{TimeRow}
-use Rattle.hla_base.specs.Tables.{forever, upd, upd2}
-use Rattle.hla_base.specs.Rows.{is_strict, is_next, is_flush, is_regulator, is_constrained, is_enabled, is_disabled, is_pending, is_none_of, is_advancing, least_stamp, requested, regulating_from, regulates, constrains, picked, granted, bar_after, first_or, grant_time, new_row}
+use Rattle.hla_base.specs.Tables.{upd}
+use Rattle.hla_base.specs.Rows.{is_next, is_flush, is_regulator, is_constrained, is_none_of, least_stamp, requested, regulating_from, new_row}
 use Rattle.hla_fed_file.specs.declared.declared.Order.TheVariants.{Timestamp}
-use Rattle.hla_fed_file.specs.Tables.{Tables}
-use Rattle.hla_callbacks.specs.declared.callback.Callback.{Callback}
-use Rattle.hla_callbacks.specs.declared.callback.Callback.TheVariants as callback
-use Rattle.hla_callbacks.specs.declared.callback.Delivery.{Delivery}
-use Rattle.hla_callbacks.specs.declared.callback.Delivery.TheVariants as delivery
-use Rattle.hla_machine.specs.declared.service.Service.{Service}
 use Rattle.hla_machine.specs.declared.service.Service.TheVariants as service
 use Rattle.hla_machine.specs.declared.service.ResignAction.{ResignAction}
 use Rattle.hla_machine.specs.declared.service.ResignAction.TheVariants.{ReleaseAttributes, DeleteObjects, DeleteObjectsAndReleaseAttributes, NoAction}
-use Rattle.hla_machine.specs.declared.step.Step.{Step}
-use Rattle.hla_machine.specs.declared.step.Step.TheVariants.{Join, Call, Carry, Announce, Tick}
-use Rattle.hla_machine.specs.declared.step.Carried.{Carried}
-use Rattle.hla_machine.specs.declared.step.Carried.TheVariants as carried
 use Rattle.hla_machine.specs.declared.step.Answer.{Answer}
 use Rattle.hla_machine.specs.declared.step.Answer.TheVariants as answer
-use Rattle.hla_machine.specs.declared.step.Outcome.{Outcome}
-use Rattle.hla_machine.specs.declared.step.Outcome.TheVariants as outcome
 use Rattle.hla_machine.specs.declared.step.Choice.{Choice}
 use Rattle.hla_machine.specs.declared.step.Choice.TheVariants as choice
-use Rattle.hla_machine.specs.Directory.{Directory, Outgoing, Body, is_of_order, objects_of, deletions_sent, deletion_sent, update_sent, interaction_sent, with_member, without_member}
-use Rattle.hla_machine.specs.Central.{Central, new_central, Copy, Tso, SentEvent, BelowOut, BelowBound, reach, bar_of, low_entry, at_key}
-use Rattle.hla_machine.specs.Callbacks.{MayDeliver, MayPickUp, MayGrant, MayConstrain, with_demoted, row_after, set_row, after_delivery, after_constraint, after_pick}
+use Rattle.hla_machine.specs.Directory.{Outgoing, is_of_order, objects_of, deletions_sent}
+use Rattle.hla_machine.specs.Central.{Central, Copy, SentEvent, bar_of, low_entry}
+use Rattle.hla_machine.specs.Callbacks.{with_demoted, set_row}
 use Rattle.hla_machine.specs.Sends.{is_ordered, is_some_ordered, sent_one, sent_all}
-use Rattle.hla_machine.specs.Refusals.{refusal, request_tests, is_bad_stamp}
-use Rattle.hla_machine.specs.Machine.{seen, MayEnter, MayAnswer, MayDo, Allowed, left_by, after_resign, after_retract, after_enter, after_cease, after_call, arrived, retraction_arrived, after_carry, joined_by, after_done, after}
-use Rattle.hla_machine.specs.Runs.{Happening, IsRun}
-use Rattle.hla_machine.specs.Laws.{IsSafe}
+use Rattle.hla_machine.specs.Refusals.{request_tests, is_bad_stamp}
+use Rattle.hla_machine.specs.Machine.{MayEnter, MayAnswer, left_by, after_resign, after_retract, after_enter, after_cease, joined_by}
 use Rattle.hla_machine.proofs.Tables.{by_number, upd_same, upd_other, upd_each, upd2_each, le_greatest, greatest_ge}
-use Rattle.hla_machine.proofs.Tests.{AllClear, clear_call, caller_joined, ticker_joined, not-is-false}
-use Rattle.hla_machine.proofs.Rows.{RowLaw, law_new, law_requested, law_constrained, law_free, law_stopped, law_asynchronous, law_lookahead, law_entered, law_regulates, law_constrains, law_picked, law_granted, next_not_flush, le_reach, flush_not_strict, out_low, out_idle, out_picked, out_granted}
-use Rattle.hla_machine.proofs.Keeps.{LowIn, BoundIn, Keeps, IsKept, NoMore, Changes, low_fewer, low_weaker, fewer_removed, fewer_demoted, fewer_moved, moved_else, keeps_low, keeps_row, keeps_rest, old_bound, old_out, bound_max, keeps_sent, regulator_from}
+use Rattle.hla_machine.proofs.Tests.{AllClear, not-is-false}
+use Rattle.hla_machine.proofs.Rows.{RowLaw, law_new, law_requested, law_free, law_stopped, law_asynchronous, law_entered, out_low}
+use Rattle.hla_machine.proofs.Keeps.{IsKept, NoMore, low_fewer, fewer_moved, keeps_low, keeps_row, keeps_rest, old_out, keeps_sent}
 
 pub none_from : (o : Option AdvanceRequest) → not (is_none_of o) ≡ false → o ≡ None
 none_from None h = refl
