@@ -9,14 +9,18 @@ use Rattle.hla_machine.specs.declared.service.Service.TheVariants as service
 use Rattle.hla_machine.specs.declared.step.Step.{Step}
 use Rattle.hla_machine.specs.declared.step.Step.TheVariants.{Join, Call, Carry, Announce, Tick}
 use Rattle.hla_machine.specs.Refusals.{refusal}
+use Rattle.hla_machine.specs.Central.{new_central}
+use Rattle.hla_machine.specs.Laws.{IsSafe}
 use Rattle.hla_machine.specs.Runs.{IsRun}
-use Rattle.hla_federation.specs.Messages.{ToDiscover, ToRetract, events, occurs, find_event, retractions}
+use Rattle.hla_machine.proofs.Runs.{run_safe}
+use Rattle.hla_federation.specs.Messages.{ToDiscover, ToRetract, discoveries, discoveries_from, dues, events, occurs, find_event, retractions}
 use Rattle.hla_federation.specs.Federation.{Federation, new_federation, local_bound, Pick, NoPick, PickControl, PickRo, PickRegulates, PickConstrains, PickTso, PickGrant}
 use Rattle.hla_federation.specs.Next.{Outcomes, unless_refused, seen, done, comes, picks, next}
 use Rattle.hla_federation.specs.CentralOf.{central}
 use Rattle.hla_federation.specs.Invariant.{Kept, Laws, Inv}
 use Rattle.hla_federation.specs.Headline.{IsStep, IsKeptStep, happenings, state_after}
 use Rattle.hla_federation.proofs.Directories.{directory_start}
+use Rattle.hla_federation.proofs.Bags.{bag_ext, central_ext}
 use Rattle.hla_federation.proofs.Laws.{laws_after}
 use Rattle.hla_federation.proofs.Picks.{PickFacts, pick_tells}
 use Rattle.hla_federation.proofs.Steps.{step_publish_class, step_unpublish_class, step_unsubscribe_class, step_publish_interaction, step_unpublish_interaction, step_subscribe_interaction, step_unsubscribe_interaction, step_send_interaction, step_event, step_null, step_nothing}
@@ -150,3 +154,13 @@ inv_start catalogue = record {
     unused = λ _ _ _ _ e. absurd (cc);
   };
 }
+
+-- it is the beginning of the machine
+pub central_start : (catalogue : Tables) → central (new_federation catalogue) ≡ new_central catalogue
+unfolding events find_event retractions discoveries discoveries_from dues
+central_start catalogue = central_ext _ _ refl refl refl refl (bag_ext _ _ (λ _ _ _. refl)) (λ _ _. refl) (λ _ _ _. refl) (λ _ _ _. refl)
+
+pub each_safe : (catalogue : Tables) (steps : List Step) → IsSafe (central (state_after (new_federation catalogue) steps))
+each_safe catalogue steps =
+    let s = new_federation catalogue in
+    run_safe catalogue (happenings s steps) (central (state_after s steps)) (subst (λ c. IsRun c (happenings s steps) (central (state_after s steps))) (central_start catalogue) (is_run s steps (inv_start catalogue)))

@@ -3,6 +3,7 @@ use Rattle.std.specs.Prelude.{◌≡◌, List, [], ◌∷◌}
 use Rattle.hla_fed_file.specs.Tables.{Tables}
 use Rattle.hla_machine.specs.declared.step.Step.{Step}
 use Rattle.hla_machine.specs.Machine.{Allowed, after}
+use Rattle.hla_machine.specs.Laws.{IsSafe}
 use Rattle.hla_machine.specs.Runs.{Happening, IsMachineStep, IsRun}
 use Rattle.hla_federation.specs.Federation.{Federation, new_federation}
 use Rattle.hla_federation.specs.Next.{Outcomes, next}
@@ -36,3 +37,7 @@ state_after s (step ∷ steps) = state_after (next s step).state steps
 abbrev pub EachListIsARun : Type 0
 EachListIsARun = (catalogue : Tables) (steps : List Step) →
     IsRun (central (new_federation catalogue)) (happenings (new_federation catalogue) steps) (central (state_after (new_federation catalogue) steps))
+
+-- so whatever the steps, each constrained federate is safe
+abbrev pub EachFederationIsSafe : Type 0
+EachFederationIsSafe = (catalogue : Tables) (steps : List Step) → IsSafe (central (state_after (new_federation catalogue) steps))

@@ -5,3 +5,4 @@ pub mod Refusals
 pub mod Callbacks
 pub mod Machine
 pub mod Runs
+pub mod Laws

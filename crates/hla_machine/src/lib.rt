@@ -1,6 +1,7 @@
 //! The central machine: what a federation execution does, as one table, one bag and a direct minimum.
 #![tactic(auto)]
 
+mod laws;
 mod service;
 mod step;
 
