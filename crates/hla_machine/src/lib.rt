@@ -1,7 +1,7 @@
 //! The central machine: what a federation execution does, as one table, one bag and a direct minimum.
 #![tactic(auto)]
 
-mod laws;
+pub mod laws;
 mod service;
 mod step;
 

@@ -1,7 +1,7 @@
 use super::*;
 use crate::printing;
 use crate::text::Text;
-use hla_base::{EventHandle, FOREVER, Fault, HandleValuePair, List, Value};
+use hla_base::{EventHandle, FOREVER, Fault, HandleValuePair, List, Plain, Value};
 use hla_callbacks::{Callback, Delivery};
 use hla_fed_file::read;
 use hla_machine::{Answer, Carried, Outcome};
@@ -68,6 +68,23 @@ B tick
 8 ok receive InteractionRoot.Note Text=a RO
 "
     );
+    Ok(())
+}
+
+#[test]
+fn copies_its_records(rt: HostRuntime) -> Result<(), Fail> {
+    let mut out = Vec::new(rt.alloc());
+    let records = play(
+        rt.alloc(),
+        FED.as_bytes(),
+        b"create\ncreate\njoin A\njoin B\nA publishInteraction Hit\nB subscribeInteraction Hit\nA send Hit Force=7\ncarry A B\nB tick\n",
+        &mut out,
+    )?;
+    assert_eq!(rt; records.len(), 9);
+    let copy = records.copy()?;
+    assert!(rt; copy.is_same(&records));
+    let other: List<hla_machine::Record> = List::new(rt.alloc());
+    assert!(rt; !copy.is_same(&other));
     Ok(())
 }
 
