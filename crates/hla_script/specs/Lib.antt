@@ -1,0 +1,5 @@
+pub mod Words
+pub mod Reading
+pub mod Script
+pub mod Printed
+pub mod Playing

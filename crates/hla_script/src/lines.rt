@@ -1,0 +1,90 @@
+//! What a script says.
+
+use hla_base::List;
+use thiserror::Error;
+
+/// A parameter by its name, with its value.
+#[derive(Debug, Drop)]
+pub struct NameValuePair {
+    pub name: List<u8>,
+    pub value: List<u8>,
+}
+
+/// What a federate does.
+#[derive(Debug, Drop)]
+pub enum Call {
+    /// It picks up a callback.
+    Tick,
+    /// It publishes an interaction class.
+    PublishInteraction {
+        class: List<u8>,
+    },
+    /// It subscribes to an interaction class.
+    SubscribeInteraction {
+        class: List<u8>,
+    },
+    /// It sends an interaction.
+    Send {
+        class: List<u8>,
+        values: List<NameValuePair>,
+    },
+}
+
+/// What a line asks for.
+#[derive(Debug, Drop)]
+pub enum Command {
+    /// The execution is created.
+    Create,
+    /// A federate joins under a name.
+    Join { name: List<u8> },
+    /// The first message on the wire from one federate to another arrives.
+    Carry { from: List<u8>, to: List<u8> },
+    /// The federate of that name does something.
+    Federate { name: List<u8>, call: Call },
+}
+
+/// A line of a script, with its number, counted from 1 over all lines.
+#[derive(Debug, Drop)]
+pub struct Line {
+    pub number: usize,
+    pub command: Command,
+}
+
+/// The lines of a script that ask for something, in their order.
+pub type Script = List<Line>;
+
+/// What is wrong with a script.
+#[derive(Clone, Copy, Debug, PartialEq, Eq, Error)]
+pub enum ScriptFaultKind {
+    /// A byte that is no visible ASCII, space or tab.
+    #[error("BadByte")]
+    BadByte,
+    /// No command begins with this word.
+    #[error("UnknownWord")]
+    UnknownWord,
+    /// The command needs another word.
+    #[error("MissingWord")]
+    MissingWord,
+    /// The command ends before this word.
+    #[error("ExtraWord")]
+    ExtraWord,
+    /// A word that is no number, where one must stand.
+    #[error("BadNumber")]
+    BadNumber,
+    /// A word of another form than must stand there.
+    #[error("BadWord")]
+    BadWord,
+    /// The script or the line is too long.
+    #[error("TooLarge")]
+    TooLarge,
+    /// A growth was refused.
+    #[error("OutOfMemory")]
+    OutOfMemory,
+}
+
+/// The first fault of a script, and the line where it stands.
+#[derive(Clone, Copy, Debug, PartialEq, Eq)]
+pub struct ScriptFault {
+    pub line: usize,
+    pub kind: ScriptFaultKind,
+}

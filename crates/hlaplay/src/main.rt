@@ -1,0 +1,7 @@
+//! Plays scripts over FED files.
+#![tactic(auto)]
+
+mod input;
+mod parts;
+
+fn main() {}
