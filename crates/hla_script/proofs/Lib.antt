@@ -1,3 +1,6 @@
 pub mod WordLemmas
 pub mod LineLemmas
 pub mod PairLemmas
+pub mod WriteLemmas
+pub mod KeepLemmas
+pub mod PlayLemmas

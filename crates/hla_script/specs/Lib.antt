@@ -3,3 +3,5 @@ pub mod Reading
 pub mod Script
 pub mod Printed
 pub mod Playing
+pub mod Keeping
+pub mod FaultName

@@ -1,5 +1,5 @@
 -- What the lines of a script do
-use Rattle.std.specs.Prelude.{◌≡◌, ◌≢◌, ◌<◌, ◌≤◌, ℕ, Bool, nat_lt, List, [], ◌∷◌, ◌++◌, length, map, reverse, find, Option, None, Some, is_none, option_map, unwrap_or, codes, if◌then◌else◌}
+use Rattle.std.specs.Prelude.{◌≡◌, ◌≢◌, ◌<◌, ◌≤◌, ℕ, Bool, nat_lt, List, [], ◌∷◌, ◌++◌, length, map, reverse, find, Option, None, Some, Ok, Err, is_none, option_map, unwrap_or, codes}
 use Rattle.std.specs.List.{list_any}
 use Rattle.std.specs.Str.{bytes_eq}
 use Rattle.std.specs.Io.KnownBytes.{Appends}
@@ -8,8 +8,9 @@ use Rattle.hla_base.specs.declared.fault.Fault.{Fault}
 use Rattle.hla_base.specs.declared.fault.Fault.TheVariants as fault
 use Rattle.hla_base.specs.declared.content.HandleValuePair.{HandleValuePair}
 use Rattle.hla_fed_file.specs.Tables.{Tables}
+use Rattle.hla_fed_file.specs.Reading as reading
+use Rattle.hla_fed_file.specs.Grammar.{Describes}
 use Rattle.hla_fed_file.specs.Lookup.{interaction_class_named, parameter_named}
-use Rattle.hla_machine.specs.declared.service.Service.{Service}
 use Rattle.hla_machine.specs.declared.service.Service.TheVariants as service
 use Rattle.hla_machine.specs.declared.step.Step.{Step}
 use Rattle.hla_machine.specs.declared.step.Step.TheVariants as step
@@ -28,6 +29,9 @@ use Rattle.hla_script.specs.declared.lines.Call.TheVariants as call
 use Rattle.hla_script.specs.declared.lines.Line.{Line}
 use Rattle.hla_script.specs.declared.lines.NameValuePair.{NameValuePair}
 use Rattle.hla_script.specs.declared.members.Member.{Member}
+use Rattle.hla_script.specs.declared.player.PlayFault.{PlayFault}
+use Rattle.hla_script.specs.declared.player.PlayFault.TheVariants as stop
+use Rattle.hla_script.specs.Script.{script_of, Gives}
 use Rattle.hla_script.specs.Printed.{line_text}
 
 -- ---- who joined
@@ -40,9 +44,14 @@ abbrev pub with_join : List Member → List ℕ → Outcome → List Member
 with_join ms name (outcome.Done a) = with_answer ms name a
 with_join ms name out = ms
 
-abbrev pub with_step : List Member → Step → Outcome → List Member
-with_step ms (step.Join name) out = with_join ms name out
-with_step ms s out = ms
+-- the name under which a step joins, if it does
+abbrev pub name_joining : Step → Option (List ℕ)
+name_joining (step.Join name) = Some name
+name_joining s = None
+
+abbrev pub with_name : List Member → Option (List ℕ) → Outcome → List Member
+with_name ms None out = ms
+with_name ms (Some name) out = with_join ms name out
 
 abbrev pub with_create : List Member → Outcome → List Member
 with_create ms (outcome.Done a) = []
@@ -52,7 +61,7 @@ with_create ms out = ms
 abbrev pub member_after : List Member → Act → Outcome → List Member
 member_after ms (act.Create catalogue) out = with_create ms out
 member_after ms act.Destroy out = ms
-member_after ms (act.Step s) out = with_step ms s out
+member_after ms (act.Step s) out = with_name ms (name_joining s) out
 
 unfoldable pub members_from : List Member → List Record → List Member
 members_from ms [] = ms
@@ -134,8 +143,8 @@ act_of c None out = act.Create (created_with c out)
 act_of c (Some s) out = act.Step s
 
 -- the record of a line's step, by its outcome
-abbrev pub record_of : Tables → List Record → Command → Outcome → Record
-record_of c before command out = record { actor = 0; execution = codes "play"; act = act_of c (command_step c (members before) command) out; outcome = out; choice = choice.None }
+abbrev pub record_of : Tables → List Member → Command → Outcome → Record
+record_of c ms command out = record { actor = 0; execution = codes "play"; act = act_of c (command_step c ms command) out; outcome = out; choice = choice.None }
 
 -- ---- the lines in turn
 -- how a line comes out behind some records, and the record that it adds, if it does
@@ -147,7 +156,7 @@ pub data Ends (c : Tables) (before : List Record) (command : Command) (out : Out
   -- memory ran out
   OutOfMemory : without_step c (members before) command ≡ None → length before < 32768 → out ≡ outcome.Refused fault.OutOfMemory → added ≡ [] → Ends c before command out added
   -- its step is recorded
-  Recorded : without_step c (members before) command ≡ None → length before < 32768 → out ≢ outcome.Refused fault.OutOfMemory → added ≡ record_of c before command out ∷ [] → Ends c before command out added
+  Recorded : without_step c (members before) command ≡ None → length before < 32768 → out ≢ outcome.Refused fault.OutOfMemory → added ≡ record_of c (members before) command out ∷ [] → Ends c before command out added
 
 -- the lines end so, one after another, and lead from some records to others
 abbrev pub Plays : Tables → List Record → List Line → List Outcome → List Record → Type 0
@@ -167,3 +176,27 @@ pub record IsPlayed (c : Tables) (lines : List Line) (old new : Option (List ℕ
   pub outcomes : List Outcome
   pub plays : Plays c [] lines outcomes records
   pub writes : Appends old new (transcript c lines outcomes)
+
+-- a line has led from some records to others, and a text has grown by its outcome
+pub record IsAnswered (c : Tables) (line : Line) (before after : List Record) (old new : List ℕ) : Type 0 where
+  pub ended : Outcome
+  pub added : List Record
+  pub ends : Ends c before line.command ended added
+  pub records : after ≡ before ++ added
+  pub text : new ≡ old ++ line_text c line.number ended
+
+-- ---- a script over a FED file
+-- the FED file describes a catalogue, the script asks for these lines, and they were played
+pub record IsPlayedFrom (fed script : List ℕ) (old new : Option (List ℕ)) (records : List Record) : Type 0 where
+  pub catalogue : Tables
+  pub lines : List Line
+  pub describes : Describes fed catalogue
+  pub says : script_of script ≡ Ok lines
+  pub played : IsPlayed catalogue lines old new records
+
+-- why a script was not played to its end: the FED file is tested first, and a text at fault prints nothing
+abbrev pub StopsBy : List ℕ → List ℕ → Option (List ℕ) → Option (List ℕ) → PlayFault → Type 0
+StopsBy fed script old new (stop.Fed e) = reading.Gives (Err e) (reading.read_of fed) × Appends old new []
+StopsBy fed script old new (stop.Script e) = ((c : Tables) × Describes fed c) × Gives (Err e) (script_of script) × Appends old new []
+StopsBy fed script old new stop.Write = Unit {0}
+StopsBy fed script old new stop.Memory = Unit {0}

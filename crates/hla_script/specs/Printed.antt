@@ -1,5 +1,5 @@
 -- How answers, callbacks and faults are printed
-use Rattle.std.specs.Prelude.{ℕ, ◌==◌, List, [], ◌++◌, Option, None, Some, codes, decimal, if◌then◌else◌}
+use Rattle.std.specs.Prelude.{ℕ, ◌==◌, List, [], ◌++◌, None, Some, codes, decimal, if◌then◌else◌}
 use Rattle.std.specs.List.{flat_map}
 use Rattle.hla_base.specs.Tables.{forever}
 use Rattle.hla_base.specs.Fault.{number_of, name_of}

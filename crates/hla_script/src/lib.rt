@@ -2,14 +2,23 @@
 #![tactic(auto)]
 
 mod arguments;
+mod execution;
+mod history;
 mod lines;
 mod members;
+mod player;
 mod printing;
 mod reader;
 mod steps;
 mod text;
 mod vocabulary;
 mod words;
+mod writing;
 
+pub use history::HISTORY_LIMIT;
 pub use lines::{Call, Command, Line, NameValuePair, Script, ScriptFault, ScriptFaultKind};
+pub use player::{PlayFault, play};
 pub use reader::{SCRIPT_LIMIT, parse};
+
+#[cfg(test)]
+mod tests;

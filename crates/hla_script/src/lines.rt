@@ -1,5 +1,8 @@
 //! What a script says.
 
+ghost use Rattle.std.specs.Prelude.{◌≡◌};
+ghost use Rattle.hla_script.specs.FaultName.{kind_name};
+
 use hla_base::List;
 use thiserror::Error;
 
@@ -80,6 +83,24 @@ pub enum ScriptFaultKind {
     /// A growth was refused.
     #[error("OutOfMemory")]
     OutOfMemory,
+}
+
+impl ScriptFaultKind {
+    /// The name, as it is printed.
+    pub fn name(self) -> &'static str
+        ensures { result.now ≡ kind_name self }
+    {
+        match self {
+            ScriptFaultKind::BadByte => "BadByte",
+            ScriptFaultKind::UnknownWord => "UnknownWord",
+            ScriptFaultKind::MissingWord => "MissingWord",
+            ScriptFaultKind::ExtraWord => "ExtraWord",
+            ScriptFaultKind::BadNumber => "BadNumber",
+            ScriptFaultKind::BadWord => "BadWord",
+            ScriptFaultKind::TooLarge => "TooLarge",
+            ScriptFaultKind::OutOfMemory => "OutOfMemory",
+        }
+    }
 }
 
 /// The first fault of a script, and the line where it stands.

@@ -104,8 +104,14 @@ pub fn callback(text: &mut Text, catalogue: &Catalogue, callback: &Callback) -> 
             text.word_and_number(" remove ", u64::from(*object))?;
             delivery(text, *event, *order)
         }
-        Callback::TimeRegulationEnabled { time } => text.word_and_number(" regulationEnabled ", *time),
-        Callback::TimeConstrainedEnabled { time } => text.word_and_number(" constrainedEnabled ", *time),
+        Callback::TimeRegulationEnabled { time } => text.word_and_number(
+            " regulationEnabled ",
+            *time,
+        ),
+        Callback::TimeConstrainedEnabled { time } => text.word_and_number(
+            " constrainedEnabled ",
+            *time,
+        ),
         Callback::TimeAdvanceGrant { time } => text.word_and_number(" grant ", *time),
         Callback::RequestRetraction { event } => text.word_and_event(" requestRetraction ", *event),
     }

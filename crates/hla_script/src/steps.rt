@@ -1,7 +1,8 @@
 //! What a line asks for, as a step of the execution.
 
-ghost use Rattle.std.specs.Prelude.{◌≡◌, ℕ, IfOk, map, nat_lt, length};
+ghost use Rattle.std.specs.Prelude.{◌≡◌, IfSome, ℕ, IfOk, map, nat_lt, length};
 ghost use Rattle.std.specs.List.{list_any};
+ghost use Rattle.hla_federation.specs.State.{IsBuilt};
 ghost use Rattle.hla_script.specs.Playing.{unknown_federate, unknown_class, class_number, is_unknown, is_too_long, bad_values, call_without_step, without_step, pair_value, call_step, federate_number, command_step};
 
 use crate::lines::{Call, Command, NameValuePair};
@@ -117,7 +118,9 @@ fn pair_values(
 {
     let mut pairs = List::new(alloc);
     for pair in values {
-        let handle = catalogue.parameter(class, pair.name.as_slice()).unwrap_or(0);
+        let handle = catalogue
+            .parameter(class, pair.name.as_slice())
+            .unwrap_or(0);
         let value = Value::new(alloc, pair.value.as_slice())?;
         pairs.push(HandleValuePair { handle, value })?;
     }
@@ -130,7 +133,8 @@ fn call_step(
     federate: FederateNo,
     call: &Call,
 ) -> Result<Step, Fault>
-    ensures { IfOk result (λ step. step ≡ call_step catalogue.now federate call.now) }
+    ensures meant { IfOk result (λ step. step ≡ call_step catalogue.now federate call.now) }
+    ensures built { IfOk result IsBuilt }
 {
     let service = match call {
         Call::Tick => return Ok(Step::Tick { federate }),
@@ -165,7 +169,8 @@ pub fn command_step(
     members: &[Member],
     command: &Command,
 ) -> Result<Option<Step>, Fault>
-    ensures { IfOk result (λ step. step ≡ command_step catalogue.now members.now command.now) }
+    ensures meant { IfOk result (λ step. step ≡ command_step catalogue.now members.now command.now) }
+    ensures built { IfOk result (λ step. IfSome step IsBuilt) }
 {
     match command {
         Command::Create => Ok(None),

@@ -1,0 +1,38 @@
+use Rattle.std.proofs.Common.{◌≡◌, ◌++◌, ◌∷◌, [], ◌+◌, List, take, sym, ◌∙◌, ap, subst}
+use Rattle.std.proofs.lemmas.List.{take_more, take_all}
+use Rattle.hla_script.specs.declared.lines.Line.{Line}
+use Rattle.hla_script.specs.Playing.{IsPlayed}
+use Rattle.hla_script.proofs.PlayLemmas.{played_nothing, played_more}
+use Rattle.hla_script.proofs.KeepLemmas.{keeps_nothing}
+use Rattle.hla_script.proofs.player.play_lines.Goals as goal
+
+pub loop-line-init : goal.loop-line-init
+loop-line-init g c = record {
+  name = c.new-execution.ensures.name ∙ c.in-Ok.ensures.ok;
+  catalogue = c.new-execution.ensures.catalogue;
+  kept = rw (c.new-records.ensures.items, c.new-execution.ensures.federation, c.new-execution.ensures.members) keeps_nothing;
+  played = rw c.new-records.ensures.items (played_nothing c.args.catalogue (g.W.Write.contents c.args.out.now));
+}
+
+pub loop-line-preserved : goal.loop-line-preserved
+loop-line-preserved g c =
+    let items = c.as_slice-line-items.result.now in
+    let i = c.loop-line.line-index in
+    let line : Line = c.line-item.result in
+    let kept = c.loop-line.invariant in
+    let more : take (i + 1) items ≡ take i items ++ line ∷ [] = take_more items i line c.loop-line-test.true ∙ ap (λ (l : Line). take i items ++ l ∷ []) (sym c.line-item.is) in
+    record {
+      name = c.in-Ok-play_line.ensures.name ∙ kept.name;
+      catalogue = c.in-Ok-play_line.ensures.catalogue ∙ kept.catalogue;
+      kept = c.in-Ok-play_line.ensures.kept;
+      played = rw more
+          (played_more c.args.catalogue c.loop-line.execution.catalogue (take i items) line c.loop-line.records.items _ c.clear.new.self c.play_line.new.text c.as_slice.result.now _ _ _ kept.catalogue c.clear.ensures kept.played c.in-Ok-play_line.ensures.answered
+          c.as_slice.ensures c.in-Ok-write_whole.ensures.ok);
+    }
+
+pub returns-clause-played : goal.returns-clause-played
+returns-clause-played g c =
+    let items = c.as_slice-line-items.result.now in
+    let all : take c.loop-line.line-index items ≡ c.args.script.now = take_all c.loop-line.line-index items c.loop-line-test.false ∙ c.as_slice-line-items.ensures in
+    let played = subst (λ (ls : List Line). IsPlayed c.args.catalogue ls (g.W.Write.contents c.args.out.now) (g.W.Write.contents c.loop-line.out) c.loop-line.records.items) all c.loop-line.invariant.played in
+    rw c.from_vec.ensures played

@@ -1,0 +1,101 @@
+//! Playing a script.
+
+ghost use Rattle.std.specs.Prelude.{◌≡◌, IfOk, IfErr};
+ghost use Rattle.std.specs.Io.KnownBytes.{Appends};
+ghost use Rattle.hla_machine.specs.Runs.{Executions, no_executions, AreRun};
+ghost use Rattle.hla_script.specs.Playing.{IsPlayed, IsPlayedFrom, StopsBy};
+
+use crate::execution::Execution;
+use crate::history::play_line;
+use crate::lines::{Script, ScriptFault};
+use crate::reader::parse;
+use crate::text::Text;
+use crate::writing::{WriteFailed, write_whole};
+use hla_base::{ExecutionName, Fault, List};
+use hla_fed_file::{Catalogue, FedFault, read};
+use hla_machine::Record;
+use std::alloc::Global;
+use std::io::Write;
+
+/// Why lines were not played to their end.
+#[derive(Clone, Copy, Debug, PartialEq, Eq)]
+enum StopFault {
+    Write,
+    Memory,
+}
+
+/// Why a script was not played to its end.
+#[derive(Clone, Copy, Debug, PartialEq, Eq)]
+pub enum PlayFault {
+    /// The FED file is refused.
+    Fed(FedFault),
+    /// The script is refused.
+    Script(ScriptFault),
+    /// A write failed.
+    Write,
+    /// A growth was refused outside the steps.
+    Memory,
+}
+
+/// Plays the lines of a script one after another, and writes how each ended.
+fn play_lines<W: Write>(
+    alloc: Global,
+    catalogue: Catalogue,
+    script: &Script,
+    out: &mut W,
+) -> Result<List<Record>, StopFault>
+    ensures played { IfOk result (λ records. IsPlayed catalogue script.now (W.contents out.old) (W.contents out.new) records) }
+    ensures run { IfOk result (λ records. (x : Executions) × AreRun no_executions records x) }
+{
+    let Ok(name) = ExecutionName::new(b"play") else {
+        return Err(StopFault::Memory);
+    };
+    let mut execution = Execution::new(alloc, name, catalogue);
+    let mut records = Vec::new(alloc);
+    let mut text = Text::new(alloc);
+    for line in script.as_slice() {
+        text.clear();
+        let Ok(()) = play_line(&mut execution, &mut records, line, &mut text) else {
+            return Err(StopFault::Memory);
+        };
+        let Ok(()) = write_whole(out, text.as_slice()) else {
+            return Err(StopFault::Write);
+        };
+    }
+    Ok(List::from_vec(records))
+}
+
+/// Plays a script over a FED file: does what its lines ask for, one after another, in one execution named `play`, writes
+/// how each ended, and answers the records. The history holds at most 32,768 records, and a line finds it full then. The
+/// FED file is tested before the script, and both before anything is done. A line that runs out of memory says so and
+/// makes no step; `Memory` is answered where there was none for the texts.
+pub fn play<W: Write>(
+    alloc: Global,
+    fed: &[u8],
+    script: &[u8],
+    out: &mut W,
+) -> Result<List<Record>, PlayFault>
+    // Each line has one outcome: that of the record of its step, or that of a line that makes no step. What was written
+    // is these outcomes, and the records are just those of the steps, in order.
+    ensures played { IfOk result (IsPlayedFrom fed.now script.now (W.contents out.old) (W.contents out.new)) }
+
+    // The records are a run of the central machine from no executions.
+    ensures run { IfOk result (λ records. (x : Executions) × AreRun no_executions records x) }
+
+    // The first fault of the FED file, or else that of the script, with nothing written.
+    ensures stopped { IfErr result (StopsBy fed.now script.now (W.contents out.old) (W.contents out.new)) }
+{
+    let catalogue = match read(alloc, fed) {
+        Ok(catalogue) => catalogue,
+        Err(fault) => return Err(PlayFault::Fed(fault)),
+    };
+    let lines = match parse(alloc, script) {
+        Ok(lines) => lines,
+        Err(fault) => return Err(PlayFault::Script(fault)),
+    };
+    match play_lines(alloc, catalogue, &lines, out) {
+        Ok(records) => Ok(records),
+        Err(StopFault::Write) => Err(PlayFault::Write),
+        Err(StopFault::Memory) => Err(PlayFault::Memory),
+    }
+}

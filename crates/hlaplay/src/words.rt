@@ -1,0 +1,49 @@
+//! The command line.
+
+use clap::{Arg, Command, Error};
+use std::alloc::{AllocError, Global};
+
+/// What is to be done.
+#[derive(Clone, Copy, Debug, PartialEq, Eq)]
+pub enum Task<'a> {
+    /// A script is played over a FED file; `-` stands for the standard input.
+    Play { fed: &'a str, script: &'a str },
+}
+
+fn file(alloc: Global, id: &str) -> Arg<'_> {
+    Arg::new(alloc, id).required(true)
+}
+
+fn command<'a>(alloc: Global) -> Result<Command<'a>, AllocError> {
+    let play = Command::new(alloc, "play")
+        .about("Plays a script over a FED file; - is the standard input")
+        .arg(file(alloc, "FED"))?
+        .arg(file(alloc, "SCRIPT"))?;
+    Command::new(alloc, "hlaplay")
+        .about("Plays scripts over FED files; without arguments as play - -")
+        .subcommand_required(true)
+        .subcommand(play)
+}
+
+/// What the words ask for, the program's name in front; without others it is `play - -`.
+pub fn parse<'a>(alloc: Global, words: &'a [&'a str]) -> Result<Task<'a>, Option<Error>> {
+    if words.len() <= 1 {
+        return Ok(Task::Play {
+            fed: "-",
+            script: "-",
+        });
+    }
+    let Ok(command) = command(alloc) else {
+        return Err(None);
+    };
+    match command.try_get_matches_from(words) {
+        Err(error) => Err(Some(error)),
+        Ok(matches) => match matches.subcommand() {
+            Some((_, found)) => match (found.get_str("FED"), found.get_str("SCRIPT")) {
+                (Some(fed), Some(script)) => Ok(Task::Play { fed, script }),
+                _ => Err(None),
+            },
+            None => Err(None),
+        },
+    }
+}
