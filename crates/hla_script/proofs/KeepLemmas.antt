@@ -87,3 +87,4 @@ steps_refused old new s e same h some = record {
   allowed = elim h [ inl r ↦ r | inr p ↦ absurd (some p.1) ];
   follows = ap (λ (f : FederationValue). Some (central (state_of f))) same;
 }
+

@@ -8,12 +8,12 @@ ghost use Rattle.hla_script.specs.Playing.{name_joining, with_name, act_of, comm
 ghost use Rattle.hla_federation.specs.State.{IsBuilt};
 ghost use Rattle.hla_script.specs.Keeping.{IsStepped, IsActed};
 
+use hla_federation::Federation;
 use crate::lines::Command;
 use crate::members::Member;
 use crate::steps;
 use hla_base::{ExecutionName, Fault, List, Plain};
 use hla_fed_file::Catalogue;
-use hla_federation::Federation;
 use hla_machine::{Act, Answer, Choice, Outcome, Record, Step};
 use std::alloc::Global;
 
