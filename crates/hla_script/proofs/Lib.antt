@@ -4,3 +4,4 @@ pub mod PairLemmas
 pub mod WriteLemmas
 pub mod KeepLemmas
 pub mod PlayLemmas
+pub mod ListLemmas

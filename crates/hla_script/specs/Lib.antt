@@ -5,3 +5,4 @@ pub mod Printed
 pub mod Playing
 pub mod Keeping
 pub mod FaultName
+pub mod Listed

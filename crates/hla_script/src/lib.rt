@@ -5,6 +5,7 @@ mod arguments;
 mod execution;
 mod history;
 mod lines;
+mod listing;
 mod members;
 mod player;
 mod printing;
@@ -17,6 +18,7 @@ mod writing;
 
 pub use history::HISTORY_LIMIT;
 pub use lines::{Call, Command, Line, NameValuePair, Script, ScriptFault, ScriptFaultKind};
+pub use listing::{ListFault, list};
 pub use player::{PlayFault, play};
 pub use reader::{SCRIPT_LIMIT, parse};
 

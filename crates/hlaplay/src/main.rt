@@ -1,4 +1,4 @@
-//! Plays scripts over FED files.
+//! Plays scripts over FED files, and lists what FED files declare.
 #![tactic(auto)]
 
 mod input;
@@ -9,7 +9,7 @@ use crate::input::{FILE_LIMIT, LoadFault, SHARED_LIMIT, load};
 use crate::parts::parts;
 use crate::words::{Task, parse};
 use clap::error::ErrorKind;
-use hla_script::{PlayFault, play};
+use hla_script::{ListFault, PlayFault, list, play};
 use std::alloc::Global;
 use std::io::{BufWriter, Write};
 use std::process::ExitCode;
@@ -116,6 +116,24 @@ fn play_files<R: Runtime + AllocGlobal>(rt: &R, fed_name: &str, script_name: &st
     }
 }
 
+/// Lists what a FED file declares on the standard output.
+fn list_bytes<R: Runtime + AllocGlobal>(rt: &R, fed: &[u8]) -> u8 {
+    match list(rt.alloc(), fed, &mut io::writer(rt)) {
+        Ok(()) => DONE,
+        Err(ListFault::Fed(fault)) => stopped(rt, PlayFault::Fed(fault)),
+        Err(ListFault::Write) => stopped(rt, PlayFault::Write),
+        Err(ListFault::Memory) => starved(rt),
+    }
+}
+
+/// Lists what a FED file declares.
+fn list_file<R: Runtime + AllocGlobal>(rt: &R, name: &str) -> u8 {
+    match bytes_of(rt, name) {
+        Ok(fed) => list_bytes(rt, fed.as_slice()),
+        Err(fault) => unread(rt, name, fault),
+    }
+}
+
 /// The words of the command line.
 fn given<R: Runtime + AllocGlobal>(rt: &R) -> io::Result<Vec<String>> {
     let mut words = Vec::new(rt.alloc());
@@ -141,6 +159,7 @@ fn run<R: Runtime + AllocGlobal>(rt: &R) -> io::Result<u8> {
     let texts = lent(alloc, words.as_slice())?;
     match parse(alloc, texts.as_slice()) {
         Ok(Task::Play { fed, script }) => Ok(play_files(rt, fed, script)),
+        Ok(Task::List { fed }) => Ok(list_file(rt, fed)),
         Err(Some(error)) if error.kind() != ErrorKind::OutOfMemory => {
             let _ = eprint!(rt; "{error}");
             Ok(MISUSED)

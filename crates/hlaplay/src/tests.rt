@@ -102,11 +102,14 @@ fn reads_the_command_line(rt: HostRuntime) {
     assert!(rt;
         matches!(&parse(alloc, &["hlaplay", "play", "a.fed", "-"]), Ok(task) if *task == named)
     );
+    let listed = Task::List { fed: "a.fed" };
+    assert!(rt; matches!(&parse(alloc, &["hlaplay", "fed", "a.fed"]), Ok(task) if *task == listed));
     for words in [
         ["hlaplay", "play", "a.fed"].as_slice(),
         ["hlaplay", "play", "a", "b", "c"].as_slice(),
         ["hlaplay", "--help"].as_slice(),
-        ["hlaplay", "fed", "a.fed"].as_slice(),
+        ["hlaplay", "fed"].as_slice(),
+        ["hlaplay", "fed", "a", "b"].as_slice(),
         ["hlaplay", "play", "--loud", "a", "b"].as_slice(),
     ] {
         assert!(rt;

@@ -1,6 +1,6 @@
 //! The command line.
 
-use clap::{Arg, Command, Error};
+use clap::{Arg, ArgMatches, Command, Error};
 use std::alloc::{AllocError, Global};
 
 /// What is to be done.
@@ -8,6 +8,8 @@ use std::alloc::{AllocError, Global};
 pub enum Task<'a> {
     /// A script is played over a FED file; `-` stands for the standard input.
     Play { fed: &'a str, script: &'a str },
+    /// What a FED file declares is listed; `-` stands for the standard input.
+    List { fed: &'a str },
 }
 
 fn file(alloc: Global, id: &str) -> Arg<'_> {
@@ -19,10 +21,27 @@ fn command<'a>(alloc: Global) -> Result<Command<'a>, AllocError> {
         .about("Plays a script over a FED file; - is the standard input")
         .arg(file(alloc, "FED"))?
         .arg(file(alloc, "SCRIPT"))?;
+    let fed = Command::new(alloc, "fed")
+        .about("Lists what a FED file declares; - is the standard input")
+        .arg(file(alloc, "FILE"))?;
     Command::new(alloc, "hlaplay")
         .about("Plays scripts over FED files; without arguments as play - -")
         .subcommand_required(true)
-        .subcommand(play)
+        .subcommand(play)?
+        .subcommand(fed)
+}
+
+/// What a subcommand asks for.
+fn asked<'a>(name: &str, found: &ArgMatches<'a>) -> Option<Task<'a>> {
+    if name == "fed" {
+        return Some(Task::List {
+            fed: found.get_str("FILE")?,
+        });
+    }
+    Some(Task::Play {
+        fed: found.get_str("FED")?,
+        script: found.get_str("SCRIPT")?,
+    })
 }
 
 /// What the words ask for, the program's name in front; without others it is `play - -`.
@@ -39,10 +58,7 @@ pub fn parse<'a>(alloc: Global, words: &'a [&'a str]) -> Result<Task<'a>, Option
     match command.try_get_matches_from(words) {
         Err(error) => Err(Some(error)),
         Ok(matches) => match matches.subcommand() {
-            Some((_, found)) => match (found.get_str("FED"), found.get_str("SCRIPT")) {
-                (Some(fed), Some(script)) => Ok(Task::Play { fed, script }),
-                _ => Err(None),
-            },
+            Some((name, found)) => asked(name, found).ok_or(None),
             None => Err(None),
         },
     }
