@@ -115,9 +115,12 @@ module _ (next : ℕ) (joined : ℕ → Bool) (row : ℕ → TimeRow) (serial : 
     rows = upd_each row f r (λ _ x. RowLaw x) ch.law (λ g _. k.rows g);
     bounded = by_number f _
         (rw upd_same (λ c. ((ch.bar c).0, λ g j ne. let en : f ≢ g = λ e. ne (sym e) in rw upd_other (λ reg. (ch.bar c).1 g j ne reg))))
-        (λ l nl. rw upd_other (λ c. ((k.bounded l c).0, by_number f _
-        (λ j ne. rw upd_same (λ reg. ch.out reg (row l).bar l (λ e. ne (sym e)) c refl))
-        (λ g ng j ne. rw upd_other (λ reg. out_low _ _ (row g) (row l).bar (λ x _. low_fewer to bag sent ch.fewer g x) ((k.bounded l c).1 g j ne reg))))));
+        (λ l nl. rw upd_other (λ c. (
+          (k.bounded l c).0,
+          by_number f _
+              (λ j ne. rw upd_same (λ reg. ch.out reg (row l).bar l (λ e. ne (sym e)) c refl))
+              (λ g ng j ne. rw upd_other (λ reg. out_low _ _ (row g) (row l).bar (λ x _. low_fewer to bag sent ch.fewer g x) ((k.bounded l c).1 g j ne reg))),
+        )));
     ahead = by_number f _ (rw upd_same ch.ahead) (λ l nl. rw upd_other (λ c. low_fewer to bag sent ch.fewer l (row l).time (k.ahead l c)));
     unused = λ g m l x is tso. k.unused g m l x (ch.fewer g m l x is tso) tso;
   }
@@ -200,10 +203,13 @@ module _ (c : Central) (f : ℕ) (stamp : Option ℕ) (out : Outgoing) (k : IsKe
       (cases_eq f l)) new.1))
       (λ (old : c.bag h m g ≡ Some x).
       let low = k.unused h m g x old tso in
-      inr (old, ⊎_elim
-      (λ (e : f ≡ h). let ne2 : c.serial f ≢ m = λ (e2 : c.serial f ≡ m). let l2 : m < c.serial f = subst (λ h. m < c.serial h) (sym e) low in omega arith in let ne : (f ≢ h) ⊎ (c.serial f ≢ m) = inr ne2 in rw upd2_other at live)
-      (λ (other : f ≢ h). let ne : (f ≢ h) ⊎ (c.serial f ≢ m) = inl other in rw upd2_other at live)
-      (cases_eq f h)))
+      inr (
+        old,
+        ⊎_elim
+            (λ (e : f ≡ h). let ne2 : c.serial f ≢ m = λ (e2 : c.serial f ≡ m). let l2 : m < c.serial f = subst (λ h. m < c.serial h) (sym e) low in omega arith in let ne : (f ≢ h) ⊎ (c.serial f ≢ m) = inr ne2 in rw upd2_other at live)
+            (λ (other : f ≢ h). let ne : (f ≢ h) ⊎ (c.serial f ≢ m) = inl other in rw upd2_other at live)
+            (cases_eq f h),
+      ))
       (copies_split c.directory.joined c.bag f (c.serial f) (copy_for c.directory (c.row f) stamp out) h m g x is)
 
   -- what was at most each stamp, and is at most some bar, still is

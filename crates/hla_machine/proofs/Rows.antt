@@ -137,32 +137,66 @@ law_requested r k a law idle rest free = record {
 
 pub law_constrained : (r : TimeRow) → RowLaw r → r.advance ≡ None → RowLaw (record r { constrained = Pending })
 law_constrained r law idle = record {
-  idle = λ _. idle; resting = λ _. idle; firsts = law.firsts; barred = λ e. absurd (cc); steady = λ e. absurd (cc);
-  floored = law.floored; entered = law.entered; asked = law.asked; covers = λ e. absurd (cc);
+  idle = λ _. idle;
+  resting = λ _. idle;
+  firsts = law.firsts;
+  barred = λ e. absurd (cc);
+  steady = λ e. absurd (cc);
+  floored = law.floored;
+  entered = law.entered;
+  asked = law.asked;
+  covers = λ e. absurd (cc);
 }
 
 pub law_free : (r : TimeRow) → RowLaw r → RowLaw (record r { constrained = Disabled })
 law_free r law = record {
-  idle = law.idle; resting = λ e. absurd (cc); firsts = law.firsts; barred = λ e. absurd (cc); steady = λ e. absurd (cc);
-  floored = law.floored; entered = law.entered; asked = law.asked; covers = λ e. absurd (cc);
+  idle = law.idle;
+  resting = λ e. absurd (cc);
+  firsts = law.firsts;
+  barred = λ e. absurd (cc);
+  steady = λ e. absurd (cc);
+  floored = law.floored;
+  entered = law.entered;
+  asked = law.asked;
+  covers = λ e. absurd (cc);
 }
 
 pub law_stopped : (r : TimeRow) → RowLaw r → RowLaw (record r { regulating = Disabled })
 law_stopped r law = record {
-  idle = λ e. absurd (cc); resting = law.resting; firsts = law.firsts; barred = law.barred; steady = λ _ e. absurd (cc);
-  floored = λ e. absurd (cc); entered = λ e. absurd (cc); asked = law.asked; covers = λ _ e. absurd (cc);
+  idle = λ e. absurd (cc);
+  resting = law.resting;
+  firsts = law.firsts;
+  barred = law.barred;
+  steady = λ _ e. absurd (cc);
+  floored = λ e. absurd (cc);
+  entered = λ e. absurd (cc);
+  asked = law.asked;
+  covers = λ _ e. absurd (cc);
 }
 
 pub law_asynchronous : (r : TimeRow) (b : Bool) → RowLaw r → RowLaw (record r { asynchronous = b })
 law_asynchronous r b law = record {
-  idle = law.idle; resting = law.resting; firsts = law.firsts; barred = law.barred; steady = law.steady;
-  floored = law.floored; entered = law.entered; asked = law.asked; covers = law.covers;
+  idle = law.idle;
+  resting = law.resting;
+  firsts = law.firsts;
+  barred = law.barred;
+  steady = law.steady;
+  floored = law.floored;
+  entered = law.entered;
+  asked = law.asked;
+  covers = law.covers;
 }
 
 pub law_lookahead : (r : TimeRow) (lookahead : ℕ) → RowLaw r → r.advance ≡ None → RowLaw (record r { lookahead = lookahead })
 law_lookahead r lookahead law idle = record {
-  idle = law.idle; resting = law.resting; firsts = law.firsts; barred = law.barred; steady = law.steady;
-  floored = law.floored; entered = law.entered; asked = λ q e. absurd (cc);
+  idle = law.idle;
+  resting = law.resting;
+  firsts = law.firsts;
+  barred = law.barred;
+  steady = law.steady;
+  floored = law.floored;
+  entered = law.entered;
+  asked = λ q e. absurd (cc);
   covers = λ c g. le_trans (idle_covered r law idle c g) (covered_floor r.floor lookahead r.advance r.first_pick);
 }
 

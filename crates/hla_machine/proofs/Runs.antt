@@ -38,7 +38,6 @@ use Rattle.hla_machine.specs.Laws.{IsSafe}
 use Rattle.hla_machine.proofs.Tests.{clear_call, caller_joined, ticker_joined}
 use Rattle.hla_machine.proofs.Rows.{law_new, law_constrained, law_lookahead, law_regulates, law_constrains, law_picked, law_granted, next_not_flush, le_reach, flush_not_strict, out_low, out_idle, out_picked, out_granted}
 use Rattle.hla_machine.proofs.Keeps.{LowIn, BoundIn, IsKept, NoMore, low_fewer, low_weaker, fewer_removed, fewer_demoted, fewer_moved, moved_else, keeps_low, keeps_row, old_bound, old_out, bound_max}
-
 use Rattle.hla_machine.proofs.Services.{none_from, same_bag, join_keeps, sends_keep, high_stamps, resign_keeps, rest, ask_keeps, stop_keeps, asynchronous_keeps, entry_may, not_early, enter_after, cease_after, retract_keeps}
 
 row_after_is : (r : TimeRow) (o : Option AdvanceRequest) (q : AdvanceRequest) (step : AdvanceRequest → TimeRow) → o ≡ Some q → row_after r o step ≡ step q
@@ -94,7 +93,7 @@ module _ (c : Central) (k : IsKept c) where
   carry_keeps g f (carried.Retraction e) = fewer_keeps (at_key c.bag g e.serial f None) (fewer_removed c.bag g e.serial f)
   carry_keeps g f (carried.Discovery object) = k
 
--- ---- ticks
+  -- ---- ticks
   module _ (f : ℕ) (member : c.directory.joined f ≡ true) where
     tso_keeps : (q : AdvanceRequest) (e : EventHandle) (s : ℕ) (x : Content) → (c.row f).advance ≡ Some q → is_constrained (c.row f) ≡ true → IsCopy c f e (record { order = Tso; stamp = s; content = x }) → MayPickIn c f q e s
         → IsKept (record c { row = upd c.row f (picked (c.row f) q s); bag = at_key c.bag e.sender e.serial f None })

@@ -42,8 +42,11 @@ join_keeps c name k =
       regulators = by_number n _ (λ _. upd_same c.directory.joined n true) (λ g ne. rw (upd_other, upd_other) (k.regulators g));
       constrained = by_number n _ (λ _. upd_same c.directory.joined n true) (λ g ne. rw (upd_other, upd_other) (k.constrained g));
       rows = upd_each c.row n new_row (λ _ x. RowLaw x) law_new (λ g _. k.rows g);
-      bounded = by_number n _ (rw upd_same (λ e. absurd (cc))) (λ l nl. rw upd_other (λ con. let b = k.bounded l con in (b.0, by_number n _
-          (λ j ne. rw upd_same (λ reg. absurd (cc))) (λ g ng j ne. rw upd_other (λ reg. b.1 g (rw upd_other at j) ne reg)))));
+      bounded = by_number n _ (rw upd_same (λ e. absurd (cc))) (λ l nl. rw upd_other (λ con. let b = k.bounded l con in (
+        b.0,
+        by_number n _
+            (λ j ne. rw upd_same (λ reg. absurd (cc))) (λ g ng j ne. rw upd_other (λ reg. b.1 g (rw upd_other at j) ne reg)),
+      )));
       ahead = by_number n _ (rw upd_same (λ e. absurd (cc))) (λ l nl. rw upd_other (k.ahead l));
       unused = k.unused;
     }
@@ -57,9 +60,12 @@ left_keeps c f k = record {
   regulators = by_number f _ (rw upd_same (λ e. absurd (cc))) (λ g ne. rw (upd_other, upd_other) (k.regulators g));
   constrained = by_number f _ (rw upd_same (λ e. absurd (cc))) (λ g ne. rw (upd_other, upd_other) (k.constrained g));
   rows = upd_each c.row f new_row (λ _ x. RowLaw x) law_new (λ g _. k.rows g);
-  bounded = by_number f _ (rw upd_same (λ e. absurd (cc))) (λ l nl. rw upd_other (λ con. let b = k.bounded l con in (b.0, by_number f _
-      (λ j ne. rw upd_same (λ reg. absurd (cc)))
-      (λ g ng j ne. rw upd_other (λ reg. out_low _ _ (c.row g) (c.row l).bar (λ x _. low_fewer (λ g m. upd (c.bag g m) f None) c.bag c.sent (left_fewer c f) g x) (b.1 g (rw upd_other at j) ne reg))))));
+  bounded = by_number f _ (rw upd_same (λ e. absurd (cc))) (λ l nl. rw upd_other (λ con. let b = k.bounded l con in (
+    b.0,
+    by_number f _
+        (λ j ne. rw upd_same (λ reg. absurd (cc)))
+        (λ g ng j ne. rw upd_other (λ reg. out_low _ _ (c.row g) (c.row l).bar (λ x _. low_fewer (λ g m. upd (c.bag g m) f None) c.bag c.sent (left_fewer c f) g x) (b.1 g (rw upd_other at j) ne reg))),
+  )));
   ahead = by_number f _ (rw upd_same (λ e. absurd (cc))) (λ l nl. rw upd_other (λ con. low_fewer (λ g m. upd (c.bag g m) f None) c.bag c.sent (left_fewer c f) l (c.row l).time (k.ahead l con)));
   unused = λ g m l x is tso. k.unused g m l x (left_fewer c f g m l x is tso) tso;
 }
@@ -134,7 +140,7 @@ module _ (c : Central) (f : ℕ) (k : IsKept c) (member : c.directory.joined f �
   enter_keeps lookahead e earliest idle late low =
       let base : earliest ≤ e = le_trans (greatest_ge c.directory.next_federate earliest (λ g. bar_of (c.row g))) low in
       let above : (g : ℕ) → is_constrained (c.row g) ≡ true → (c.row g).bar ≤ e = λ g con.
-          let h : cond (is_constrained (c.row g)) (c.row g).bar 0 ≤ e = le_trans (le_greatest c.directory.next_federate earliest (λ g. bar_of (c.row g)) g (k.members g (k.constrained g con))) low in rw con at h in
+      let h : cond (is_constrained (c.row g)) (c.row g).bar 0 ≤ e = le_trans (le_greatest c.directory.next_federate earliest (λ g. bar_of (c.row g)) g (k.members g (k.constrained g con))) low in rw con at h in
       keeps_row c.directory.next_federate c.directory.joined c.row c.serial c.bag c.bag c.sent f (regulating_from (c.row f) lookahead e) k (record {
         fewer = same_bag c.bag;
         member = member;
