@@ -37,3 +37,6 @@ pub mod Updates
 pub mod Resigns
 pub mod Runs
 mod Sound
+mod ExamplesOfObjects
+mod ExamplesOfTime
+mod ExamplesOfRoles

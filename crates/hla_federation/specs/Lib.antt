@@ -10,3 +10,7 @@ pub mod Members
 pub mod FederationValue
 pub mod State
 pub mod Soundness
+pub mod Examples
+pub mod ExamplesOfObjects
+pub mod ExamplesOfTime
+pub mod ExamplesOfRoles

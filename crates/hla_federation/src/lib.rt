@@ -2,6 +2,7 @@
 #![tactic(auto)]
 
 mod class_set;
+pub mod examples;
 mod federation;
 pub mod headline;
 mod incoming;

@@ -1,0 +1,28 @@
+-- The examples of the same name, each by computation
+use Rattle.std.proofs.Common.{refl}
+use Rattle.std.specs.Fmt.{digits}
+use Rattle.hla_base.specs.Tables.{upd, upd2, upd_row, upd_column, upd_new, clear, least, greatest, numbers_below}
+use Rattle.hla_machine.specs.Central.{low_entry}
+use Rattle.hla_federation.specs.Messages.{insert_event, find_event, remove_event, least_ordered, handles_of}
+use Rattle.hla_federation.specs.Federation.{entry}
+use Rattle.hla_federation.specs.ExamplesOfObjects.{Ancestor, AsynchronousDelivery, TwoOrdersAndATie, Refusals, LateSubscriber}
+
+pub ancestor : Ancestor
+unfolding upd upd2 upd_row upd_column upd_new clear least greatest numbers_below low_entry insert_event find_event remove_event least_ordered handles_of entry
+ancestor = refl
+
+pub asynchronous_delivery : AsynchronousDelivery
+unfolding upd upd2 upd_row upd_column upd_new clear least greatest numbers_below low_entry insert_event find_event remove_event least_ordered handles_of entry
+asynchronous_delivery = refl
+
+pub two_orders_and_a_tie : TwoOrdersAndATie
+unfolding upd upd2 upd_row upd_column upd_new clear least greatest numbers_below low_entry insert_event find_event remove_event least_ordered handles_of entry digits
+two_orders_and_a_tie = refl
+
+pub refusals : Refusals
+unfolding upd upd2 upd_row upd_column upd_new clear least greatest numbers_below low_entry insert_event find_event remove_event least_ordered handles_of entry
+refusals = refl
+
+pub late_subscriber : LateSubscriber
+unfolding upd upd2 upd_row upd_column upd_new clear least greatest numbers_below low_entry insert_event find_event remove_event least_ordered handles_of entry digits
+late_subscriber = refl
