@@ -191,7 +191,7 @@ module _ (c : Central) (f : ℕ) (stamp : Option ℕ) (out : Outgoing) (k : IsKe
   d = sent_one c f stamp out
 
   -- where a copy has come, it is at or above the bar of each constrained federate; another one is as before
-  new_or_old : (g h m : ℕ) (x : Copy) → d.bag h m g ≡ Some x → (d.sent h m).retracted ≡ false → x.order ≡ Tso
+  pub new_or_old : (g h m : ℕ) (x : Copy) → d.bag h m g ≡ Some x → (d.sent h m).retracted ≡ false → x.order ≡ Tso
       → ((l : ℕ) → is_constrained (c.row l) ≡ true → (c.row l).bar ≤ x.stamp) ⊎ (c.bag h m g ≡ Some x) × ((c.sent h m).retracted ≡ false)
   new_or_old g h m x is live tso = ⊎_elim
       (λ (w : ((is_key f (c.serial f) h m && is_other c.directory.joined f g) ≡ true) × (copy_for c.directory (c.row f) stamp out g ≡ Some x)).

@@ -4,3 +4,10 @@ pub mod Rows
 pub mod Keeps
 pub mod Services
 pub mod Runs
+pub mod Turns
+pub mod Ahead
+pub mod News
+pub mod Orders
+pub mod Fates
+pub mod Retractions
+pub mod Grants

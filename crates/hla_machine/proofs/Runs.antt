@@ -40,7 +40,7 @@ use Rattle.hla_machine.proofs.Rows.{law_new, law_constrained, law_lookahead, law
 use Rattle.hla_machine.proofs.Keeps.{LowIn, BoundIn, IsKept, NoMore, low_fewer, low_weaker, fewer_removed, fewer_demoted, fewer_moved, moved_else, keeps_low, keeps_row, old_bound, old_out, bound_max}
 use Rattle.hla_machine.proofs.Services.{none_from, same_bag, join_keeps, sends_keep, high_stamps, resign_keeps, rest, ask_keeps, stop_keeps, asynchronous_keeps, entry_may, not_early, enter_after, cease_after, retract_keeps}
 
-row_after_is : (r : TimeRow) (o : Option AdvanceRequest) (q : AdvanceRequest) (step : AdvanceRequest → TimeRow) → o ≡ Some q → row_after r o step ≡ step q
+pub row_after_is : (r : TimeRow) (o : Option AdvanceRequest) (q : AdvanceRequest) (step : AdvanceRequest → TimeRow) → o ≡ Some q → row_after r o step ≡ step q
 row_after_is r o q step e = rw e refl
 
 -- ---- services
@@ -201,7 +201,7 @@ done_keeps c (Carry from to) (answer.Carried x) o none may k = carry_keeps c k f
 done_keeps c (Tick f) (answer.Ticked (Some x)) o none may k = pick_keeps c k f (ticker_joined (seen c) f none) x o may
 done_keeps c step a o none may k = k
 
-step_keeps : (c : Central) (step : Step) (out : Outcome) (o : Choice) → Allowed c step out o → IsKept c → IsKept (after c step out o)
+pub step_keeps : (c : Central) (step : Step) (out : Outcome) (o : Choice) → Allowed c step out o → IsKept c → IsKept (after c step out o)
 step_keeps c step (outcome.Done a) o may k = done_keeps c step a o may.0 may.1 k
 step_keeps c (Tick f) (outcome.Failed x) o may k = pick_keeps c k f (ticker_joined (seen c) f may.0) x o may.1
 step_keeps c step out o may k = k
@@ -210,7 +210,7 @@ run_keeps : (c : Central) (hs : List Happening) (d : Central) → IsRun c hs d �
 run_keeps c [] d run k = subst IsKept run k
 run_keeps c (h ∷ hs) d run k = run_keeps (after c h.step h.outcome h.choice) hs d run.1 (step_keeps c h.step h.outcome h.choice run.0 k)
 
-start_keeps : (catalogue : Tables) → IsKept (new_central catalogue)
+pub start_keeps : (catalogue : Tables) → IsKept (new_central catalogue)
 start_keeps catalogue = record {
   members = λ f e. absurd (cc);
   regulators = λ g e. absurd (cc);

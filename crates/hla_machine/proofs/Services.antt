@@ -51,7 +51,7 @@ join_keeps c name k =
       unused = k.unused;
     }
 
-left_fewer : (c : Central) (f : ℕ) → NoMore (λ g m. upd (c.bag g m) f None) c.bag
+pub left_fewer : (c : Central) (f : ℕ) → NoMore (λ g m. upd (c.bag g m) f None) c.bag
 left_fewer c f g m = by_number f _ (λ k is tso. absurd (let e : None ≡ Some k = rw upd_same at is in cc)) (λ l ne k is tso. rw upd_other at is)
 
 pub left_keeps : (c : Central) (f : ℕ) → IsKept c → IsKept (left_by c f)
@@ -88,7 +88,7 @@ high_stamps r stamp outs fine = high_each r stamp outs (λ some. ⊎_elim
     (λ (n : ltb (unwrap_or stamp 0) (least_stamp r) ≡ false). ltb-false _ _ n)
     (and_cases _ _ (or_parts _ _ fine).1))
 
-unordered : (r : TimeRow) (outs : List Outgoing) → EachHigh r None outs
+pub unordered : (r : TimeRow) (outs : List Outgoing) → EachHigh r None outs
 unordered r [] = tt
 unordered r (out ∷ outs) = ((λ o. let p : false ≡ true = (and_parts (is_of_order Timestamp out.order) false (and_parts _ _ o).0).1 in absurd (cc)), unordered r outs)
 

@@ -5,4 +5,5 @@ pub mod Refusals
 pub mod Callbacks
 pub mod Machine
 pub mod Runs
+pub mod History
 pub mod Laws

@@ -1,0 +1,97 @@
+-- What a federate is given over a run
+use Rattle.std.specs.Prelude.{ℕ, ◌≡◌, ◌<◌, ◌⊎◌, true, false, Some, List, [], ◌∷◌}
+use Rattle.hla_base.specs.declared.number.EventHandle.{EventHandle}
+use Rattle.hla_base.specs.declared.row.AdvanceRequest.{AdvanceRequest}
+use Rattle.hla_base.specs.declared.row.TimeRow.{TimeRow}
+use Rattle.hla_base.specs.Rows.{is_flush, is_strict, is_advancing}
+use Rattle.hla_fed_file.specs.Tables.{Tables}
+use Rattle.hla_callbacks.specs.declared.callback.Callback.{Callback}
+use Rattle.hla_callbacks.specs.declared.callback.Callback.TheVariants as callback
+use Rattle.hla_callbacks.specs.declared.callback.Delivery.TheVariants as delivery
+use Rattle.hla_machine.specs.declared.step.Step.{Step}
+use Rattle.hla_machine.specs.declared.step.Step.TheVariants.{Tick}
+use Rattle.hla_machine.specs.declared.step.Answer.TheVariants as answer
+use Rattle.hla_machine.specs.declared.step.Outcome.{Outcome}
+use Rattle.hla_machine.specs.declared.step.Outcome.TheVariants as outcome
+use Rattle.hla_machine.specs.Central.{Central, Copy, Tso, new_central, demoted}
+use Rattle.hla_machine.specs.Callbacks.{IsCopy}
+use Rattle.hla_machine.specs.Machine.{Allowed, after}
+use Rattle.hla_machine.specs.Runs.{Happening, IsRun}
+
+-- the step gives f the callback k
+abbrev pub Gives : Step → Outcome → ℕ → Callback → Type 0
+Gives (Tick g) (outcome.Done (answer.Ticked (Some x))) f k = (g ≡ f) × (x ≡ k)
+Gives (Tick g) (outcome.Failed x) f k = (g ≡ f) × (x ≡ k)
+Gives step out f k = ⊥
+
+-- the callback brings event e in time-stamp order, with stamp s
+abbrev pub Brings : Callback → EventHandle → ℕ → Type 0
+Brings (callback.ReflectAttributeValues object values event d) e s = (event ≡ e) × (d ≡ delivery.TimeStamp s)
+Brings (callback.ReceiveInteraction class values event d) e s = (event ≡ e) × (d ≡ delivery.TimeStamp s)
+Brings (callback.RemoveObjectInstance object event d) e s = (event ≡ e) × (d ≡ delivery.TimeStamp s)
+Brings k e s = ⊥
+
+-- f picks up event e in time-stamp order, with stamp s
+pub record Picks (h : Happening) (f : ℕ) (e : EventHandle) (s : ℕ) : Type 0 where
+  pub given : Callback
+  pub gives : Gives h.step h.outcome f given
+  pub brings : Brings given e s
+
+-- f is granted t
+abbrev pub IsGranted : Happening → ℕ → ℕ → Type 0
+IsGranted h f t = Gives h.step h.outcome f (callback.TimeAdvanceGrant t)
+
+-- the state after a happening
+abbrev pub next_state : Central → Happening → Central
+next_state c h = after c h.step h.outcome h.choice
+
+-- a run leads to c, where the machine allows h
+pub record Happens (c : Central) (h : Happening) : Type 0 where
+  pub catalogue : Tables
+  pub before : List Happening
+  pub run : IsRun (new_central catalogue) before c
+  pub allowed : Allowed c h.step h.outcome h.choice
+
+-- a run leads to c, where h happens, and then another leads to d, where i happens
+pub record HappenAfter (c : Central) (h : Happening) (between : List Happening) (d : Central) (i : Happening) : Type 0 where
+  pub first : Happens c h
+  pub run : IsRun (next_state c h) between d
+  pub allowed : Allowed d i.step i.outcome i.choice
+
+-- no flush is under way
+abbrev pub IsInNoFlush : TimeRow → Type 0
+IsInNoFlush r = (q : AdvanceRequest) → r.advance ≡ Some q → is_flush q.kind ≡ false
+
+-- a strict request is under way
+abbrev pub IsInStrict : TimeRow → Type 0
+IsInStrict r = (q : AdvanceRequest) → r.advance ≡ Some q → is_strict q.kind ≡ true
+
+-- f is within one advance in each state of the run from c
+abbrev pub IsInOneAdvance : Central → List Happening → ℕ → Type 0
+IsInOneAdvance c [] f = is_advancing (c.row f) ≡ true
+IsInOneAdvance c (h ∷ hs) f = (is_advancing (c.row f) ≡ true) × IsInOneAdvance (next_state c h) hs f
+
+-- the key (stamp, sender, serial) of event e with stamp s is before that of x with stamp t
+abbrev pub IsBefore : EventHandle → ℕ → EventHandle → ℕ → Type 0
+IsBefore e s x t = (s < t) ⊎ ((s ≡ t) × ((e.sender < x.sender) ⊎ ((e.sender ≡ x.sender) × (e.serial < x.serial))))
+
+-- event e, with stamp s, was sent to f in time-stamp order, and waits so or is under way; it does from its sending on
+abbrev pub WaitsInOrder : Central → ℕ → EventHandle → ℕ → Type 0
+WaitsInOrder c f e s = (k : Copy) × IsCopy c f e k × (k.order ≡ Tso) × (k.stamp ≡ s)
+
+-- between the states c and d the event is moved to receive order
+abbrev pub IsMoved : Central → Central → ℕ → EventHandle → ℕ → Type 0
+IsMoved c d f e s = (k : Copy) × IsCopy c f e k × (k.order ≡ Tso) × (k.stamp ≡ s) × IsCopy d f e (demoted k)
+
+-- at some step of the run from c, f picks up the event in time-stamp order, or it is moved to receive order
+abbrev pub IsPickedOrMoved : Central → List Happening → ℕ → EventHandle → ℕ → Type 0
+IsPickedOrMoved c [] f e s = ⊥
+IsPickedOrMoved c (h ∷ hs) f e s = Picks h f e s ⊎ (IsMoved c (next_state c h) f e s ⊎ IsPickedOrMoved (next_state c h) hs f e s)
+
+-- a run leads to c, another from c to d, where the machine allows h
+pub record HappensLater (c : Central) (between : List Happening) (d : Central) (h : Happening) : Type 0 where
+  pub catalogue : Tables
+  pub before : List Happening
+  pub start : IsRun (new_central catalogue) before c
+  pub run : IsRun c between d
+  pub allowed : Allowed d h.step h.outcome h.choice
