@@ -10,7 +10,9 @@ use Rattle.hla_machine.specs.declared.step.Step.{Step}
 use Rattle.hla_machine.specs.declared.step.Step.TheVariants.{Join, Call, Carry, Announce, Tick}
 use Rattle.hla_machine.specs.Refusals.{refusal}
 use Rattle.hla_machine.specs.Central.{new_central}
-use Rattle.hla_machine.specs.Laws.{IsSafe}
+use Rattle.hla_machine.specs.Laws.{IsSafe, IsAhead}
+use Rattle.hla_machine.specs.History.{HappensLater}
+use Rattle.hla_machine.proofs.Ahead.{run_ahead}
 use Rattle.hla_machine.specs.Runs.{IsRun}
 use Rattle.hla_machine.proofs.Runs.{run_safe}
 use Rattle.hla_federation.specs.Messages.{ToDiscover, ToRetract, discoveries, discoveries_from, dues, events, occurs, find_event, retractions}
@@ -18,7 +20,7 @@ use Rattle.hla_federation.specs.Federation.{Federation, new_federation, local_bo
 use Rattle.hla_federation.specs.Next.{Outcomes, unless_refused, seen, done, comes, picks, next}
 use Rattle.hla_federation.specs.CentralOf.{central}
 use Rattle.hla_federation.specs.Invariant.{Kept, Laws, Inv}
-use Rattle.hla_federation.specs.Headline.{IsStep, IsKeptStep, happenings, state_after}
+use Rattle.hla_federation.specs.Headline.{IsStep, IsKeptStep, happening, happenings, state_after}
 use Rattle.hla_federation.proofs.Directories.{directory_start}
 use Rattle.hla_federation.proofs.Bags.{bag_ext, central_ext}
 use Rattle.hla_federation.proofs.Laws.{laws_after}
@@ -160,7 +162,42 @@ pub central_start : (catalogue : Tables) → central (new_federation catalogue) 
 unfolding events find_event retractions discoveries discoveries_from dues
 central_start catalogue = central_ext _ _ refl refl refl refl (bag_ext _ _ (λ _ _ _. refl)) (λ _ _. refl) (λ _ _ _. refl) (λ _ _ _. refl)
 
+-- what the components do from the beginning on is a run of the machine
+pub start_run : (catalogue : Tables) (steps : List Step) → IsRun (new_central catalogue) (happenings (new_federation catalogue) steps) (central (state_after (new_federation catalogue) steps))
+start_run catalogue steps =
+    let s = new_federation catalogue in
+    subst (λ c. IsRun c (happenings s steps) (central (state_after s steps))) (central_start catalogue) (is_run s steps (inv_start catalogue))
+
+pub inv_after : (s : Federation) (steps : List Step) → Inv s → Inv (state_after s steps)
+inv_after s [] inv = inv
+inv_after s (step ∷ steps) inv = inv_after (next s step).state steps (each_step s step inv).kept
+
+pub each_inv : (catalogue : Tables) (steps : List Step) → Inv (state_after (new_federation catalogue) steps)
+each_inv catalogue steps = inv_after (new_federation catalogue) steps (inv_start catalogue)
+
+pub each_ahead : (catalogue : Tables) (steps : List Step) (step : Step) (f : ℕ) → IsAhead (central (state_after (new_federation catalogue) steps)) (happening step (next (state_after (new_federation catalogue) steps) step)) f
+each_ahead catalogue steps step f =
+    let s = state_after (new_federation catalogue) steps in
+    run_ahead (central s) (happening step (next s step)) f (record {
+      catalogue = catalogue;
+      before = happenings (new_federation catalogue) steps;
+      run = start_run catalogue steps;
+      allowed = (each_step s step (each_inv catalogue steps)).machine.allowed;
+    })
+
+pub each_later : (catalogue : Tables) (before between : List Step) (step : Step) → (let sent = state_after (new_federation catalogue) before in let now = state_after sent between in HappensLater (central sent) (happenings sent between) (central now) (happening step (next now step)))
+each_later catalogue before between step =
+    let sent = state_after (new_federation catalogue) before in
+    let now = state_after sent between in
+    record {
+      catalogue = catalogue;
+      before = happenings (new_federation catalogue) before;
+      start = start_run catalogue before;
+      run = is_run sent between (each_inv catalogue before);
+      allowed = (each_step now step (inv_after sent between (each_inv catalogue before))).machine.allowed;
+    }
+
 pub each_safe : (catalogue : Tables) (steps : List Step) → IsSafe (central (state_after (new_federation catalogue) steps))
 each_safe catalogue steps =
     let s = new_federation catalogue in
-    run_safe catalogue (happenings s steps) (central (state_after s steps)) (subst (λ c. IsRun c (happenings s steps) (central (state_after s steps))) (central_start catalogue) (is_run s steps (inv_start catalogue)))
+    run_safe catalogue (happenings s steps) (central (state_after s steps)) (start_run catalogue steps)
