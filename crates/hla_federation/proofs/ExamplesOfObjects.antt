@@ -5,7 +5,7 @@ use Rattle.hla_base.specs.Tables.{upd, upd2, upd_row, upd_column, upd_new, clear
 use Rattle.hla_machine.specs.Central.{low_entry}
 use Rattle.hla_federation.specs.Messages.{insert_event, find_event, remove_event, least_ordered, handles_of}
 use Rattle.hla_federation.specs.Federation.{entry}
-use Rattle.hla_federation.specs.ExamplesOfObjects.{Ancestor, AsynchronousDelivery, TwoOrdersAndATie, Refusals, LateSubscriber}
+use Rattle.hla_federation.specs.ExamplesOfObjects.{Ancestor, AsynchronousDelivery, TwoOrdersAndATie, Refusals, LateSubscriber, CreateAndDestroy}
 
 pub ancestor : Ancestor
 unfolding upd upd2 upd_row upd_column upd_new clear least greatest numbers_below low_entry insert_event find_event remove_event least_ordered handles_of entry
@@ -26,3 +26,7 @@ refusals = refl
 pub late_subscriber : LateSubscriber
 unfolding upd upd2 upd_row upd_column upd_new clear least greatest numbers_below low_entry insert_event find_event remove_event least_ordered handles_of entry digits
 late_subscriber = refl
+
+pub create_and_destroy : CreateAndDestroy
+unfolding upd upd2 upd_row upd_column upd_new clear least greatest numbers_below
+create_and_destroy = record { created = refl; again = refl; joined = refl; resigned = refl; gone = λ _. refl }

@@ -1,5 +1,5 @@
 -- Worked examples of declarations, objects and receive order
-use Rattle.std.specs.Prelude.{Some, None, codes, [], ◌∷◌}
+use Rattle.std.specs.Prelude.{ℕ, ◌≡◌, Some, None, List, codes, [], ◌∷◌}
 use Rattle.hla_machine.specs.declared.service.Service.TheVariants as service
 use Rattle.hla_machine.specs.declared.service.ResignAction.TheVariants as action
 use Rattle.hla_machine.specs.declared.step.Answer.TheVariants as answer
@@ -8,7 +8,13 @@ use Rattle.hla_base.specs.declared.fault.Fault.TheVariants as fault
 use Rattle.hla_callbacks.specs.declared.callback.Callback.TheVariants as callback
 use Rattle.hla_callbacks.specs.declared.callback.Delivery.TheVariants as delivery
 use Rattle.hla_machine.specs.declared.step.Step.TheVariants.{Join, Call, Carry, Announce, Tick}
-use Rattle.hla_federation.specs.Examples.{Shows, ◌⟶◌, A, B, C, object_root, car, pos, paint, note, memo, hit, text, extra, pair, event, refused, answers, announces, brings, idle, told, sent, ok}
+use Rattle.hla_machine.specs.declared.step.Step.{Step}
+use Rattle.hla_machine.specs.declared.step.Choice.{Choice}
+use Rattle.hla_machine.specs.Runs.{Executions, no_executions, create_fault, destroy_fault, created, destroyed, AllowedIn}
+use Rattle.hla_federation.specs.Federation.{Federation, new_federation}
+use Rattle.hla_federation.specs.CentralOf.{central}
+use Rattle.hla_federation.specs.Headline.{state_after}
+use Rattle.hla_federation.specs.Examples.{Shows, catalogue, ◌⟶◌, A, B, C, object_root, car, pos, paint, note, memo, hit, text, extra, pair, event, refused, answers, announces, brings, idle, told, sent, ok}
 
 -- an interaction comes at the class that its receiver subscribes, with what that class has
 abbrev pub Ancestor : Type 0
@@ -115,3 +121,24 @@ LateSubscriber = Shows (
     ∷ Call B (service.UnsubscribeInteractionClass note) ⟶ ok
     ∷ Call B (service.UnsubscribeInteractionClass note) ⟶ refused fault.InteractionClassNotSubscribed
     ∷ [])
+
+abbrev pub play : List ℕ
+play = codes "play"
+
+-- the executions when that one was created, and when it was destroyed again
+abbrev pub with_play : Executions
+with_play = created no_executions play (Some catalogue)
+
+abbrev pub without_play : Executions
+without_play = destroyed with_play play
+
+abbrev pub play_after : List Step → Federation
+play_after steps = state_after (new_federation catalogue) steps
+
+-- an execution is created once, and destroyed when no federate is joined; then nobody joins it
+pub record CreateAndDestroy : Type 0 where
+  pub created : create_fault no_executions play (Some catalogue) ≡ None
+  pub again : create_fault with_play play (Some catalogue) ≡ Some fault.FederationExecutionAlreadyExists
+  pub joined : destroy_fault (Some (central (play_after (Join (codes "A") ∷ [])))) ≡ Some fault.FederatesCurrentlyJoined
+  pub resigned : destroy_fault (Some (central (play_after (Join (codes "A") ∷ Call A (service.Resign action.DeleteObjects) ∷ [])))) ≡ None
+  pub gone : (o : Choice) → AllowedIn (without_play.execution play) (Join (codes "A")) (refused fault.FederationExecutionDoesNotExist) o

@@ -1,6 +1,6 @@
 //! Worked examples: what given lists of steps end in, as the definitions have it.
 
-ghost use Rattle.hla_federation.specs.ExamplesOfObjects.{Ancestor, AsynchronousDelivery, TwoOrdersAndATie, Refusals, LateSubscriber};
+ghost use Rattle.hla_federation.specs.ExamplesOfObjects.{Ancestor, AsynchronousDelivery, TwoOrdersAndATie, Refusals, LateSubscriber, CreateAndDestroy};
 ghost use Rattle.hla_federation.specs.ExamplesOfTime.{StaleBound, Boundary, Creep, CreepAvailable, Flush, LargestTime, PickThenGrant};
 ghost use Rattle.hla_federation.specs.ExamplesOfRoles.{Newcomer, Epoch, Retraction, Floor, RegulatorResigns, CeasingToBeConstrained, BarAboveEntry};
 
@@ -11,6 +11,7 @@ pub fn objects()
     ensures two_orders_and_a_tie { TwoOrdersAndATie }
     ensures refusals { Refusals }
     ensures late_subscriber { LateSubscriber }
+    ensures create_and_destroy { CreateAndDestroy }
 {}
 
 /// Bounds, advances and queues.
