@@ -17,7 +17,9 @@ use Rattle.hla_machine.specs.Central.{is_key}
 use Rattle.hla_machine.specs.Callbacks.{IsNextDiscovery}
 use Rattle.hla_machine.specs.Machine.{after_subscribe}
 use Rattle.hla_machine.specs.Refusals.{refusal}
-use Rattle.hla_federation.specs.Messages.{Control, ToDiscover, ToRetract, events, discoveries, discoveries_from, retractions}
+use Rattle.hla_federation.specs.declared.control.Control.{Control}
+use Rattle.hla_federation.specs.declared.control.Control.TheVariants.{ToDiscover, ToRetract}
+use Rattle.hla_federation.specs.Messages.{events, discoveries, discoveries_from, retractions}
 use Rattle.hla_federation.specs.Federation.{Federation, PickControl}
 use Rattle.hla_federation.specs.Next.{seen, done, put_discoveries, subscribes, comes, picks}
 use Rattle.hla_federation.specs.CentralOf.{central}

@@ -1,11 +1,26 @@
-mod TakeBack
-mod PairLemmas
-mod States
-mod Declaring
-mod Receiving
+mod MemberTables
+mod LaneLemmas
+mod RoomyLemmas
+mod Posting
 mod Names
-mod Joining
-mod Offering
+mod Wholes
+mod Doing
+mod Finding
+mod Deletions
+mod Sound
+mod Running
+pub mod SendingAll
+mod Leaving
+mod Addressing
+mod Sent
+mod UpdateParts
+mod Receivers
+mod FoundObjects
+mod Subscribing
+mod NewObjects
+mod Registered
+mod StepStates
+mod PairLemmas
 pub mod Tables
 pub mod Queues
 pub mod Keys
@@ -36,7 +51,6 @@ pub mod Registrations
 pub mod Updates
 pub mod Resigns
 pub mod Runs
-mod Sound
 mod ExamplesOfObjects
 mod ExamplesOfTime
 mod ExamplesOfRoles

@@ -1,34 +1,27 @@
--- The names of those who have joined are the names of the members
-use Rattle.std.proofs.Common.{◌≡◌, ℕ, zero, suc, ◌+◌, ◌<◌, ◌≤◌, List, [], ◌∷◌, length, get_or, take, ◌&&◌, true, Bool, refl, ap, ◌∙◌, arith}
-use Rattle.std.proofs.lemmas.Bool.Decides.{nat_tests}
+-- What is asked of some member is asked of some number
+use Rattle.std.proofs.Common.{◌≡◌, ℕ, zero, suc, ◌+◌, ◌<◌, ◌≤◌, List, [], ◌∷◌, length, get_or, map, take, false, Bool, refl, ap, ◌∙◌, arith}
 use Rattle.std.proofs.lemmas.List.{take_more}
 use Rattle.std.proofs.lemmas.List.Folds.{list_any-append}
 use Rattle.std.proofs.Math.Seq.{take-length}
 use Rattle.std.specs.List.{list_any}
-use Rattle.std.specs.Str.{bytes_eq}
 use Rattle.hla_base.specs.Tables.{numbers_below}
-use Rattle.hla_federation.specs.MemberValue.{MemberValue}
-use Rattle.hla_federation.specs.Members.{no_member}
-use Rattle.hla_federation.specs.State.{item, is_number}
+use Rattle.hla_federation.specs.Items.{item}
 
-module _ (members : List MemberValue) (name : List ℕ) where
-  abbrev is_joined_as : ℕ → Bool
-  is_joined_as f = is_number (length members) f && bytes_eq (item no_member members f).name name
-
-  abbrev is_named : MemberValue → Bool
-  is_named m = bytes_eq m.name name
-
-  named_below : (k : ℕ) → k ≤ length members → list_any is_joined_as (numbers_below (suc k)) ≡ list_any is_named (take k members)
+module _ {X : Type 0} (d : X) (xs : List X) (asked : X → Bool) (no : asked d ≡ false) where
+  any_below : (k : ℕ) → k ≤ length xs → list_any (λ f. asked (item d xs f)) (numbers_below (suc k)) ≡ list_any asked (take k xs)
   unfolding numbers_below
-  named_below zero b = refl
-  named_below (suc k) b =
-      let within : k < length members = omega arith in
-      let number : is_number (length members) (suc k) ≡ true = grind (arith, nat_tests) in
+  any_below zero b = rw no refl
+  any_below (suc k) b =
+      let within : k < length xs = omega (arith, b) in
       let one : suc k ≡ k + 1 = omega arith in
-      list_any-append is_joined_as (numbers_below (suc k)) (suc k ∷ [])
-      ∙ rw (named_below k (omega arith), number, one, take_more members k no_member within, list_any-append is_named (take k members) (get_or members k no_member ∷ [])) refl
+      list_any-append (λ f. asked (item d xs f)) (numbers_below (suc k)) (suc k ∷ [])
+      ∙ rw (any_below k (omega (arith, b)), one, take_more xs k d within, list_any-append asked (take k xs) (get_or xs k d ∷ [])) refl
 
-  pub name_joined : list_any is_joined_as (numbers_below (length members + 1)) ≡ list_any is_named members
-  name_joined =
-      let one : length members + 1 ≡ suc (length members) = omega arith in
-      ap (λ (n : ℕ). list_any is_joined_as (numbers_below n)) one ∙ named_below (length members) (omega arith) ∙ ap (list_any is_named) (take-length members)
+  pub any_member : list_any (λ f. asked (item d xs f)) (numbers_below (length xs + 1)) ≡ list_any asked xs
+  any_member =
+      let one : length xs + 1 ≡ suc (length xs) = omega arith in
+      ap (λ (n : ℕ). list_any (λ f. asked (item d xs f)) (numbers_below n)) one ∙ any_below (length xs) (omega arith) ∙ ap (list_any asked) (take-length xs)
+
+pub any_map : {X Y : Type 0} (p : X → Y) (asked : Y → Bool) (xs : List X) → list_any asked (map p xs) ≡ list_any (λ x. asked (p x)) xs
+any_map p asked [] = refl
+any_map p asked (x ∷ xs) = rw (any_map p asked xs) refl

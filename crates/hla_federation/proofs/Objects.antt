@@ -9,7 +9,9 @@ use Rattle.hla_null_message.specs.declared.message.Message.{Message}
 use Rattle.hla_null_message.specs.declared.message.Message.TheVariants as message
 use Rattle.hla_base.specs.Tables.{upd, upd2}
 use Rattle.hla_machine.specs.Directory.{Directory}
-use Rattle.hla_federation.specs.Messages.{Control, ToDiscover, ToRetract, discoveries, insert_event, remove_event}
+use Rattle.hla_federation.specs.declared.control.Control.{Control}
+use Rattle.hla_federation.specs.declared.control.Control.TheVariants.{ToDiscover, ToRetract}
+use Rattle.hla_federation.specs.Messages.{discoveries, insert_event, remove_event}
 use Rattle.hla_federation.specs.Federation.{Federation}
 use Rattle.hla_federation.specs.Next.{put, put_discoveries, keeps_order, event_came, discovery_came, retraction_came}
 use Rattle.hla_federation.specs.Invariant.{EachOf, IsKnownOf, IsTold, IsBehind, Tells, IsWaiting, IsControl, ObjectInv}

@@ -6,7 +6,8 @@ use Rattle.hla_base.specs.declared.row.TimeRow.{TimeRow}
 use Rattle.hla_base.specs.declared.row.AdvanceRequest.{AdvanceRequest}
 use Rattle.hla_base.specs.Rows.{is_pending, is_constrained, is_flush, grant_time}
 use Rattle.hla_machine.specs.Central.{reach}
-use Rattle.hla_federation.specs.Messages.{Control, first_stamp}
+use Rattle.hla_federation.specs.declared.control.Control.{Control}
+use Rattle.hla_federation.specs.Messages.{first_stamp}
 use Rattle.hla_federation.specs.Federation.{Pick, NoPick, PickControl, PickRo, PickRegulates, PickConstrains, PickTso, PickGrant, reaches, fits_first, flush_time, is_picked, grant_pick, tso_pick, advance_pick, role_pick, holds_back, ro_pick, pick}
 
 pub record TsoFacts (r : TimeRow) (tso : List Event) (bound : ℕ) (q : AdvanceRequest) (e : Event) (rest : List Event) : Type 0 where

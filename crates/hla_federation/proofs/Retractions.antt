@@ -15,7 +15,9 @@ use Rattle.hla_machine.specs.declared.step.Step.TheVariants.{Call, Carry}
 use Rattle.hla_machine.specs.Central.{is_key, at_key, at3}
 use Rattle.hla_machine.specs.Sends.{one_if, is_told, owed_to_receivers}
 use Rattle.hla_machine.specs.Refusals.{refusal}
-use Rattle.hla_federation.specs.Messages.{Control, ToDiscover, ToRetract, is_event, find_event, remove_event, occurs, events, discoveries, discoveries_from, retractions, dues}
+use Rattle.hla_federation.specs.declared.control.Control.{Control}
+use Rattle.hla_federation.specs.declared.control.Control.TheVariants.{ToDiscover, ToRetract}
+use Rattle.hla_federation.specs.Messages.{is_event, find_event, remove_event, occurs, events, discoveries, discoveries_from, retractions, dues}
 use Rattle.hla_federation.specs.Federation.{Federation}
 use Rattle.hla_federation.specs.Next.{seen, done, put, put_retraction, retracts, retraction_came, comes}
 use Rattle.hla_federation.specs.CentralOf.{central, bag_of, wire_copy, tso_copy, ro_copy}

@@ -15,7 +15,8 @@ use Rattle.hla_machine.specs.History.{HappensLater}
 use Rattle.hla_machine.proofs.Ahead.{run_ahead}
 use Rattle.hla_machine.specs.Runs.{IsRun}
 use Rattle.hla_machine.proofs.Runs.{run_safe}
-use Rattle.hla_federation.specs.Messages.{ToDiscover, ToRetract, discoveries, discoveries_from, dues, events, occurs, find_event, retractions}
+use Rattle.hla_federation.specs.declared.control.Control.TheVariants.{ToDiscover, ToRetract}
+use Rattle.hla_federation.specs.Messages.{discoveries, discoveries_from, dues, events, occurs, find_event, retractions}
 use Rattle.hla_federation.specs.Federation.{Federation, new_federation, local_bound, Pick, NoPick, PickControl, PickRo, PickRegulates, PickConstrains, PickTso, PickGrant}
 use Rattle.hla_federation.specs.Next.{Outcomes, unless_refused, seen, done, comes, picks, next}
 use Rattle.hla_federation.specs.CentralOf.{central}

@@ -10,7 +10,8 @@ use Rattle.hla_base.specs.Tables.{forever, least, greatest}
 use Rattle.hla_base.specs.Rows.{is_next, is_flush, is_enabled, is_pending, is_advancing, is_constrained, next_request, width, grant_time, first_or, least_of, new_row}
 use Rattle.hla_machine.specs.Directory.{Directory, new_directory}
 use Rattle.hla_machine.specs.Central.{SentEvent, no_event, reach, bar_of}
-use Rattle.hla_federation.specs.Messages.{Control, first_stamp, least_ordered}
+use Rattle.hla_federation.specs.declared.control.Control.{Control}
+use Rattle.hla_federation.specs.Messages.{first_stamp, least_ordered}
 
 pub record Federation : Type 0 where
   pub directory : Directory

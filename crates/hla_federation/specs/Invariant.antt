@@ -13,7 +13,9 @@ use Rattle.hla_base.specs.Rows.{is_regulator, is_constrained, is_pending}
 use Rattle.hla_machine.specs.Directory.{Directory, served_object}
 use Rattle.hla_machine.specs.Central.{Central, Copy, Ro, Tso, SentEvent}
 use Rattle.hla_machine.specs.Sends.{is_told}
-use Rattle.hla_federation.specs.Messages.{is_before, occurs, events, discoveries, Control, ToDiscover, ToRetract}
+use Rattle.hla_federation.specs.declared.control.Control.{Control}
+use Rattle.hla_federation.specs.declared.control.Control.TheVariants.{ToDiscover, ToRetract}
+use Rattle.hla_federation.specs.Messages.{is_before, occurs, events, discoveries}
 use Rattle.hla_federation.specs.Federation.{Federation, fresh_of}
 use Rattle.hla_federation.specs.CentralOf.{central}
 

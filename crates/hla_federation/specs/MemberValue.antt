@@ -1,12 +1,29 @@
--- What contracts see of a member of a federation
+-- What contracts see of the members of a federation
 use Rattle.std.specs.Prelude.{ℕ, Bool, List}
 use Rattle.hla_base.specs.declared.content.Event.{Event}
 use Rattle.hla_null_message.specs.declared.message.Message.{Message}
+use Rattle.hla_federation.specs.declared.control.Control.{Control}
+
+-- the wires to one member, by sender, counted from 1
+pub record IncomingValue : Type 0 where
+  pub wires : List (List Message)
+  pub rooms : List ℕ  -- how many more messages each takes without more memory
 
 pub record MemberValue : Type 0 where
   pub name : List ℕ
+  pub joined : Bool
   pub next_serial : ℕ
-  pub published : List Bool  -- by interaction class
-  pub subscribed : List Bool
   pub received : List Event
-  pub incoming : List (List Message)  -- by sender, counted from 1
+  pub controls : List Control
+  pub incoming : List (List Message)
+
+-- a member, and the room on the wires to it
+pub record RoomyMember : Type 0 where
+  pub shown : MemberValue
+  pub rooms : List ℕ
+
+-- all of them, by number, counted from 1
+pub record RoomyMembers : Type 0 where
+  pub shown : List MemberValue
+  pub rooms : List (List ℕ)
+  pub spare : ℕ  -- how many more members there are without more memory

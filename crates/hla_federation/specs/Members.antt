@@ -1,103 +1,125 @@
--- The values of a federation's members, and what they do
-use Rattle.std.specs.Prelude.{ℕ, ◌+◌, ◌-◌, ◌≡◌, ◌<◌, cond, eqb, ltb, not, ◌&&◌, Bool, false, Option, None, Some, List, [], ◌∷◌, ◌++◌, length, replicate, filter, find, slice_set, slice_index_or, take}
-use Rattle.hla_base.specs.declared.content.HandleValuePair.{HandleValuePair}
-use Rattle.hla_base.specs.declared.content.Content.{Content}
-use Rattle.hla_base.specs.declared.content.Content.TheVariants as content
+-- The members of a federation as tables, and what is done with their wires
+use Rattle.std.specs.Prelude.{ℕ, ◌+◌, ◌≡◌, ◌<◌, ◌≤◌, cond, eqb, ltb, not, ◌&&◌, Bool, true, false, List, [], ◌∷◌, ◌++◌, length, map, drop}
 use Rattle.hla_base.specs.declared.content.Event.{Event}
+use Rattle.hla_base.specs.Tables.{upd, upd2, clear}
 use Rattle.hla_null_message.specs.declared.message.Message.{Message}
 use Rattle.hla_null_message.specs.declared.message.Message.TheVariants as message
-use Rattle.hla_fed_file.specs.Tables.{Tables}
-use Rattle.hla_fed_file.specs.Lookup.{interaction_lineage, has_parameter}
-use Rattle.hla_federation.specs.MemberValue.{MemberValue}
-use Rattle.hla_federation.specs.Next.{carried_event}
 use Rattle.hla_machine.specs.declared.step.Carried.{Carried}
 use Rattle.hla_machine.specs.declared.step.Carried.TheVariants as carried
-use Rattle.hla_federation.specs.Flags.{is_among}
+use Rattle.hla_federation.specs.declared.control.Control.{Control}
+use Rattle.hla_federation.specs.declared.control.Control.TheVariants.{ToDiscover}
+use Rattle.hla_federation.specs.declared.direction.Direction.{Direction}
+use Rattle.hla_federation.specs.declared.direction.Direction.TheVariants.{From, To}
+use Rattle.hla_federation.specs.Wiring.{is_along, peer_along}
+use Rattle.hla_federation.specs.MemberValue.{MemberValue, RoomyMember, RoomyMembers}
+use Rattle.hla_federation.specs.Items.{item}
+use Rattle.hla_federation.specs.Next.{carried_event}
 
--- at which class the member gets an interaction of a class, if it gets it
-abbrev pub served_at : Tables → ℕ → MemberValue → Option ℕ
-served_at c class m = find (is_among m.subscribed) (interaction_lineage c class)
-
-abbrev pub shown_at : Tables → ℕ → List HandleValuePair → List HandleValuePair
-shown_at c class values = filter (λ (v : HandleValuePair). has_parameter c class v.handle) values
-
-abbrev pub interaction_at : Tables → List HandleValuePair → ℕ → Content
-interaction_at c values k = content.Interaction k (shown_at c k values)
-
--- an interaction in receive order
-abbrev pub event_with : ℕ → ℕ → Content → Event
-event_with from serial x = record { sender = from; serial = serial; ordered = false; stamp = 0; content = x }
-
--- what lies on the wire from a federate
-abbrev pub wire_from : ℕ → MemberValue → List Message
-wire_from from m = slice_index_or m.incoming (from - 1) []
-
-abbrev pub with_wire : ℕ → List Message → MemberValue → MemberValue
-with_wire from ms m = record m { incoming = slice_set m.incoming (from - 1) ms }
-
-abbrev pub put_on_wire : ℕ → Message → MemberValue → MemberValue
-put_on_wire from x m = with_wire from (wire_from from m ++ x ∷ []) m
-
-abbrev pub offered_at : Tables → ℕ → ℕ → List HandleValuePair → Option ℕ → MemberValue → MemberValue
-offered_at c from serial values None m = m
-offered_at c from serial values (Some k) m = put_on_wire from (message.Event (event_with from serial (interaction_at c values k))) m
-
--- the member after an interaction was put on the wire to it, if it gets it
-abbrev pub offered : Tables → ℕ → ℕ → ℕ → List HandleValuePair → MemberValue → MemberValue
-offered c from serial class values m = offered_at c from serial values (served_at c class m) m
-
-abbrev pub taken_back_at : ℕ → Option ℕ → MemberValue → MemberValue
-taken_back_at from None m = m
-taken_back_at from (Some k) m = with_wire from (take (length (wire_from from m) - 1) (wire_from from m)) m
-
--- and after it was taken back
-abbrev pub taken_back : Tables → ℕ → ℕ → MemberValue → MemberValue
-taken_back c from class m = taken_back_at from (served_at c class m) m
-
+-- ---- one member
 abbrev pub no_member : MemberValue
-no_member = record { name = []; next_serial = 1; published = []; subscribed = []; received = []; incoming = [] }
+no_member = record { name = []; joined = false; next_serial = 1; received = []; controls = []; incoming = [] }
 
--- a federate that has just joined, where there are so many interaction classes
-abbrev pub new_member : List ℕ → ℕ → MemberValue
-new_member name classes = record {
-  name = name;
-  next_serial = 1;
-  published = replicate (classes + 1) false;
-  subscribed = replicate (classes + 1) false;
-  received = [];
-  incoming = replicate 16 [];
+-- nothing is on these wires
+abbrev pub AreQuiet : List (List Message) → Type 0
+AreQuiet wires = (g : ℕ) → item [] wires g ≡ []
+
+-- a federate that has just joined, and one that has resigned
+abbrev pub new_member : List ℕ → List (List Message) → MemberValue
+new_member name incoming = record { name = name; joined = true; next_serial = 1; received = []; controls = []; incoming = incoming }
+
+abbrev pub resigned : MemberValue → List (List Message) → MemberValue
+resigned m incoming = record m { joined = false; received = []; controls = []; incoming = incoming }
+
+-- what is said of the first message on a wire from g
+abbrev pub carried_of : ℕ → List Message → Carried
+carried_of g [] = carried.Nothing
+carried_of g (message.Event e ∷ ms) = carried_event e
+carried_of g (message.Null k v ∷ ms) = carried.Null v
+carried_of g (message.Retraction n ∷ ms) = carried.Retraction (record { sender = g; serial = n })
+carried_of g (message.Discovery d ∷ ms) = carried.Discovery d.object
+
+-- the member after it came, but for the wires
+abbrev pub received_by : ℕ → MemberValue → List Message → MemberValue
+received_by g m [] = m
+received_by g m (message.Event e ∷ ms) = record m { received = m.received ++ e ∷ [] }
+received_by g m (message.Null k v ∷ ms) = m
+received_by g m (message.Retraction n ∷ ms) = m
+received_by g m (message.Discovery d ∷ ms) = record m { controls = m.controls ++ ToDiscover g d ∷ [] }
+
+-- the first message is no retraction; as long as nobody regulates, none is ever sent
+abbrev pub IsUnretracting : List Message → Type 0
+IsUnretracting (message.Retraction n ∷ ms) = ⊥
+IsUnretracting ms = Unit {0}
+
+-- a bound is a number of ticks in code
+abbrev pub IsSmall : Carried → Type 0
+IsSmall (carried.Null v) = v ≤ 18446744073709551615
+IsSmall x = Unit {0}
+
+-- ---- all of them, as tables by number
+pub record MemberTables : Type 0 where
+  pub next_federate : ℕ
+  pub joined : ℕ → Bool
+  pub name : ℕ → List ℕ
+  pub serial : ℕ → ℕ
+  pub ro : ℕ → List Event
+  pub controls : ℕ → List Control
+  pub wire : ℕ → ℕ → List Message  -- from, to
+
+abbrev pub tables_of : List MemberValue → MemberTables
+tables_of members = record {
+  next_federate = length members + 1;
+  joined = λ f. (item no_member members f).joined;
+  name = λ f. (item no_member members f).name;
+  serial = λ f. (item no_member members f).next_serial;
+  ro = λ f. (item no_member members f).received;
+  controls = λ f. (item no_member members f).controls;
+  wire = λ g f. item [] (item no_member members f).incoming g;
 }
 
-abbrev pub member_at : List MemberValue → ℕ → MemberValue
-member_at members place = slice_index_or members place no_member
+abbrev pub roomy : List RoomyMember → ℕ → RoomyMembers
+roomy members spare = record { shown = map (λ (m : RoomyMember). m.shown) members; rooms = map (λ (m : RoomyMember). m.rooms) members; spare = spare }
 
--- is the member at a place another than the sender; numbers count from 1
-abbrev pub is_peer : ℕ → ℕ → Bool
-is_peer from place = not (eqb (place + 1) from)
+-- how many more messages a wire takes without more memory
+abbrev pub room_in : List (List ℕ) → ℕ → ℕ → ℕ
+room_in rooms g h = item 0 (item [] rooms h) g
 
--- what happened to each other member before a place
-abbrev pub ChangesPeers : (MemberValue → MemberValue) → ℕ → ℕ → List MemberValue → List MemberValue → Type 0
-ChangesPeers change from end old new = (k : ℕ) → member_at new k ≡ cond (ltb k end && is_peer from k) (change (member_at old k)) (member_at old k)
+-- is f below the end and counted from 1
+abbrev pub is_number : ℕ → ℕ → Bool
+is_number end f = not (eqb f 0) && ltb f end
 
-abbrev pub HaveWires : List MemberValue → Type 0
-HaveWires members = (k : ℕ) → k < length members → length (member_at members k).incoming ≡ 16
+-- ---- messages along the wires from one federate, or to one
+-- the wires after the messages for the peers below a number were put
+abbrev pub posted_below : Direction → (ℕ → List Message) → ℕ → (ℕ → ℕ → List Message) → ℕ → ℕ → List Message
+posted_below along messages end wire = λ g h. cond (is_along along g h && is_number end (peer_along along g h)) (wire g h ++ messages (peer_along along g h)) (wire g h)
 
--- ---- what arrives
--- nothing but interactions, updates and deletions is under way
-abbrev pub OnlyEvents : List Message → Type 0
-OnlyEvents [] = Unit {0}
-OnlyEvents (message.Event e ∷ ms) = OnlyEvents ms
-OnlyEvents (message.Null k v ∷ ms) = ⊥
-OnlyEvents (message.Retraction n ∷ ms) = ⊥
-OnlyEvents (message.Discovery d ∷ ms) = ⊥
+-- there is room for the messages for the peers from a number to another
+abbrev pub HasRoom : Direction → (ℕ → List Message) → ℕ → ℕ → List (List ℕ) → Type 0
+HasRoom along messages start end rooms =
+    (g h : ℕ) → is_along along g h ≡ true → start ≤ peer_along along g h → peer_along along g h < end → length (messages (peer_along along g h)) ≤ room_in rooms g h
 
-abbrev pub carried_of : List Message → Carried
-carried_of [] = carried.Nothing
-carried_of (message.Event e ∷ ms) = carried_event e
-carried_of (x ∷ ms) = carried.Nothing
+-- the one end of the wires is a federate that has joined
+abbrev pub IsEnd : Direction → ℕ → Type 0
+IsEnd (From f) next = (0 < f) × (f < next)
+IsEnd (To f) next = (0 < f) × (f < next)
 
--- the first message on the wire from a federate comes to the member
-abbrev pub arrived_of : ℕ → MemberValue → List Message → MemberValue
-arrived_of from m [] = m
-arrived_of from m (message.Event e ∷ ms) = record (with_wire from ms m) { received = m.received ++ e ∷ [] }
-arrived_of from m (x ∷ ms) = m
+-- ---- joining, resigning, arriving, picking up
+abbrev pub admitted : MemberTables → List ℕ → MemberTables
+admitted m name = record m { next_federate = m.next_federate + 1; joined = upd m.joined m.next_federate true; name = upd m.name m.next_federate name }
+
+abbrev pub withdrawn : MemberTables → ℕ → MemberTables
+withdrawn m f = record m { joined = upd m.joined f false; ro = upd m.ro f []; controls = upd m.controls f []; wire = clear m.wire f [] }
+
+abbrev pub queued : ℕ → ℕ → MemberTables → List Message → MemberTables
+queued g f m [] = m
+queued g f m (message.Event e ∷ ms) = record m { ro = upd m.ro f (m.ro f ++ e ∷ []) }
+queued g f m (message.Null k v ∷ ms) = m
+queued g f m (message.Retraction n ∷ ms) = m
+queued g f m (message.Discovery d ∷ ms) = record m { controls = upd m.controls f (m.controls f ++ ToDiscover g d ∷ []) }
+
+abbrev pub arrived : ℕ → ℕ → MemberTables → MemberTables
+arrived g f m = record (queued g f m (m.wire g f)) { wire = upd2 m.wire g f (drop 1 (m.wire g f)) }
+
+abbrev pub left_of : MemberTables → ℕ → List Control → MemberTables
+left_of m f [] = record m { ro = upd m.ro f (drop 1 (m.ro f)) }
+left_of m f (k ∷ ks) = record m { controls = upd m.controls f ks }

@@ -5,6 +5,8 @@ use Rattle.hla_base.specs.declared.content.Discovery.{Discovery}
 use Rattle.hla_base.specs.declared.number.EventHandle.{EventHandle}
 use Rattle.hla_null_message.specs.declared.message.Message.{Message}
 use Rattle.hla_null_message.specs.declared.message.Message.TheVariants as message
+use Rattle.hla_federation.specs.declared.control.Control.{Control}
+use Rattle.hla_federation.specs.declared.control.Control.TheVariants.{ToDiscover, ToRetract}
 use Rattle.hla_base.specs.Tables.{forever}
 use Rattle.hla_machine.specs.Sends.{one_if}
 
@@ -78,10 +80,6 @@ retractions m (message.Retraction k ∷ ms) = one_if (eqb m k) + retractions m m
 retractions m (message.Discovery d ∷ ms) = retractions m ms
 
 -- ---- controls: what a federate may be given at any tick
-pub data Control : Type 0 where
-  ToDiscover : (from : ℕ) (discovery : Discovery) → Control
-  ToRetract : (event : EventHandle) → Control
-
 -- the discoveries of one sender among the controls
 unfoldable pub discoveries_from : ℕ → List Control → List Discovery
 discoveries_from g [] = []

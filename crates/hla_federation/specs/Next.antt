@@ -39,7 +39,9 @@ use Rattle.hla_machine.specs.Central.{SentEvent}
 use Rattle.hla_machine.specs.Sends.{is_ordered, kept_stamp, sent_event, sent_handle, is_told}
 use Rattle.hla_machine.specs.Refusals.{Seen, refusal, is_known}
 use Rattle.hla_machine.specs.Machine.{is_removal}
-use Rattle.hla_federation.specs.Messages.{Control, ToDiscover, ToRetract, insert_event, remove_event, find_event, handle_of, handles_of}
+use Rattle.hla_federation.specs.declared.control.Control.{Control}
+use Rattle.hla_federation.specs.declared.control.Control.TheVariants.{ToDiscover, ToRetract}
+use Rattle.hla_federation.specs.Messages.{insert_event, remove_event, find_event, handle_of, handles_of}
 use Rattle.hla_federation.specs.Federation.{Federation, local_bound, fresh, entry, least_waiting, Pick, NoPick, PickControl, PickRo, PickRegulates, PickConstrains, PickTso, PickGrant, pick}
 
 pub record Outcomes : Type 0 where

@@ -1,56 +1,51 @@
--- The components and wires that a federation's lists stand for. What no service changes yet is as joining made it
-use Rattle.std.specs.Prelude.{ℕ, zero, suc, ◌+◌, ◌≡◌, ◌<◌, ◌≤◌, ◌⊎◌, eqb, ltb, not, ◌&&◌, Bool, false, None, Some, List, [], length, slice_index_or, Result, Ok, Err}
+-- The components and wires that a federation's parts stand for. What no service changes yet is as joining made it
+use Rattle.std.specs.Prelude.{ℕ, ◌+◌, ◌≡◌, ◌≤◌, ◌⊎◌, true, false, None, Some, List, [], length, Result, Ok, Err}
+use Rattle.std.specs.List.{All}
 use Rattle.hla_base.specs.declared.fault.Fault.{Fault}
 use Rattle.hla_base.specs.declared.fault.Fault.TheVariants.{OutOfMemory}
 use Rattle.hla_base.specs.Tables.{forever}
 use Rattle.hla_base.specs.Rows.{new_row}
 use Rattle.hla_fed_file.specs.Tables.{Tables}
+use Rattle.hla_declaration.specs.Declarations as declared
+use Rattle.hla_declaration.specs.Declarations.{DeclarationsValue}
+use Rattle.hla_object_registry.specs.Registered.{RegistryValue, registry_of}
 use Rattle.hla_machine.specs.declared.service.Service.{Service}
 use Rattle.hla_machine.specs.declared.service.Service.TheVariants as service
 use Rattle.hla_machine.specs.declared.step.Step.{Step}
 use Rattle.hla_machine.specs.declared.step.Step.TheVariants.{Join, Call, Carry, Announce, Tick}
 use Rattle.hla_machine.specs.declared.step.Answer.{Answer}
-use Rattle.hla_machine.specs.Directory.{no_object}
+use Rattle.hla_machine.specs.Directory.{Directory, default_name}
 use Rattle.hla_machine.specs.Central.{no_event}
 use Rattle.hla_machine.specs.Refusals.{refusal}
 use Rattle.hla_federation.specs.Federation.{Federation}
 use Rattle.hla_federation.specs.Next.{seen, next, answers}
-use Rattle.hla_federation.specs.Flags.{is_among}
-use Rattle.hla_federation.specs.MemberValue.{MemberValue}
-use Rattle.hla_federation.specs.Members.{no_member, member_at, OnlyEvents, wire_from}
+use Rattle.hla_federation.specs.Members.{MemberTables, tables_of}
 use Rattle.hla_federation.specs.FederationValue.{FederationValue}
 
--- the item with a number, counted from 1
-abbrev pub item : {X : Type 0} → X → List X → ℕ → X
-item d xs zero = d
-item d xs (suc k) = slice_index_or xs k d
+abbrev pub directory_from : Tables → DeclarationsValue → RegistryValue → MemberTables → Directory
+directory_from c d r m = record {
+  catalogue = c;
+  next_federate = m.next_federate;
+  joined = m.joined;
+  name = m.name;
+  published = d.published;
+  subscribed = d.subscribed;
+  published_interaction = d.published_interaction;
+  subscribed_interaction = d.subscribed_interaction;
+  next_object = r.next_object;
+  object = r.object;
+  known = r.known;
+}
 
--- is f one of the first n numbers
-abbrev pub is_number : ℕ → ℕ → Bool
-is_number n f = not (eqb f 0) && ltb f (n + 1)
-
--- n federates, with these members by number
-abbrev pub state_from : Tables → ℕ → (ℕ → MemberValue) → Federation
-state_from catalogue n member = record {
-  directory = record {
-    catalogue = catalogue;
-    next_federate = n + 1;
-    joined = is_number n;
-    name = λ f. (member f).name;
-    published = λ _ _. None;
-    subscribed = λ _ _. None;
-    published_interaction = λ f. is_among (member f).published;
-    subscribed_interaction = λ f. is_among (member f).subscribed;
-    next_object = 1;
-    object = λ _. no_object;
-    known = λ _ _. false;
-  };
+abbrev pub state_from : Tables → DeclarationsValue → RegistryValue → MemberTables → Federation
+state_from c d r m = record {
+  directory = directory_from c d r m;
   row = λ _. new_row;
-  serial = λ f. (member f).next_serial;
-  ro = λ f. (member f).received;
+  serial = m.serial;
+  ro = m.ro;
   tso = λ _. [];
-  controls = λ _. [];
-  wire = λ g f. item [] (member f).incoming g;
+  controls = m.controls;
+  wire = m.wire;
   bound = λ _ _. forever;
   known_epoch = λ _ _. 0;
   last = λ _. forever;
@@ -58,42 +53,82 @@ state_from catalogue n member = record {
   sent = λ _ _. no_event;
 }
 
-abbrev pub state_of_members : Tables → List MemberValue → Federation
-state_of_members catalogue members = state_from catalogue (length members) (item no_member members)
-
 abbrev pub state_of : FederationValue → Federation
-state_of v = state_of_members v.catalogue v.members
+state_of v = state_from v.catalogue (declared.tables_of v.declarations) (registry_of v.objects) (tables_of v.members)
 
--- a member's flags, wires and what lies on them, where there are so many interaction classes
-pub record IsMember (classes : ℕ) (m : MemberValue) : Type 0 where
-  pub published : length m.published ≡ classes + 1
-  pub subscribed : length m.subscribed ≡ classes + 1
-  pub wires : length m.incoming ≡ 16
-  pub events : (from : ℕ) → OnlyEvents (wire_from from m)
+-- nobody has declared anything
+abbrev pub nothing_declared : ℕ → ℕ → DeclarationsValue
+nothing_declared object_classes interaction_classes = record {
+  federates = 0;
+  object_classes = object_classes;
+  interaction_classes = interaction_classes;
+  published = λ _ _. None;
+  subscribed = λ _ _. None;
+  published_interaction = λ _ _. false;
+  subscribed_interaction = λ _ _. false;
+}
 
-pub record IsWhole (classes : ℕ) (members : List MemberValue) : Type 0 where
-  pub few : length members ≤ 16
-  pub each : (k : ℕ) → k < length members → IsMember classes (member_at members k)
+-- a federate that is not joined subscribes nothing of a class
+pub record SubscribesNothing (d : DeclarationsValue) (f class : ℕ) : Type 0 where
+  pub objects : d.subscribed f class ≡ None
+  pub interactions : d.subscribed_interaction f class ≡ false
 
--- nothing is under way from a federate that has not joined
-abbrev pub IsQuiet : List MemberValue → Type 0
-IsQuiet members = (f : ℕ) → item [] (item no_member members f).incoming (length members + 1) ≡ []
+-- the parts are of one execution
+pub record AreWhole (c : Tables) (d : DeclarationsValue) (m : MemberTables) : Type 0 where
+  pub few : m.next_federate ≤ 17
+  pub federates : d.federates + 1 ≡ m.next_federate
+  pub object_classes : d.object_classes ≡ length c.object_classes
+  pub interaction_classes : d.interaction_classes ≡ length c.interaction_classes
+  pub silent : (f class : ℕ) → m.joined f ≡ false → SubscribesNothing d f class
+
+-- the name of the next object is there once somebody is joined
+abbrev pub IsNamed : FederationValue → Type 0
+IsNamed v = (f : ℕ) → (tables_of v.members).joined f ≡ true → v.next_name ≡ default_name (registry_of v.objects).next_object
+
+pub record IsWhole (v : FederationValue) : Type 0 where
+  pub parts : AreWhole v.catalogue (declared.tables_of v.declarations) (tables_of v.members)
+  pub named : IsNamed v
 
 -- ---- what a step ends in: it does what the next-state function says, is refused as it says, or is refused for memory
-abbrev pub Does : Tables → List MemberValue → Step → Result Answer Fault → List MemberValue → Type 0
-Does c old step (Ok a) new = next (state_of_members c old) step ≡ answers a (state_of_members c new)
-Does c old step (Err e) new = Unit {0}
+abbrev pub Does : FederationValue → Step → Result Answer Fault → FederationValue → Type 0
+Does old step (Ok a) new = next (state_of old) step ≡ answers a (state_of new)
+Does old step (Err e) new = Unit {0}
 
-abbrev pub Refuses : Tables → List MemberValue → Step → Result Answer Fault → Type 0
-Refuses c old step (Ok a) = Unit {0}
-Refuses c old step (Err e) =
-    (refusal (seen (state_of_members c old)) step ≡ Some e) ⊎ ((refusal (seen (state_of_members c old)) step ≡ None) × (e ≡ OutOfMemory))
+abbrev pub Refuses : FederationValue → Step → Result Answer Fault → Type 0
+Refuses old step (Ok a) = Unit {0}
+Refuses old step (Err e) = (refusal (seen (state_of old)) step ≡ Some e) ⊎ ((refusal (seen (state_of old)) step ≡ None) × (e ≡ OutOfMemory))
+
+-- the support services that look names and numbers up
+abbrev pub IsLookUp : Service → Type 0
+IsLookUp (service.GetObjectClassHandle name) = Unit {0}
+IsLookUp (service.GetInteractionClassHandle name) = Unit {0}
+IsLookUp (service.GetAttributeHandle name class) = Unit {0}
+IsLookUp (service.GetParameterHandle name class) = Unit {0}
+IsLookUp (service.GetObjectInstanceHandle name) = Unit {0}
+IsLookUp (service.GetObjectInstanceName object) = Unit {0}
+IsLookUp service = ⊥
 
 -- the services that are built
 abbrev pub IsBuiltService : Service → Type 0
+IsBuiltService (service.Resign way) = Unit {0}
+IsBuiltService (service.PublishObjectClass class attributes) = Unit {0}
+IsBuiltService (service.UnpublishObjectClass class) = Unit {0}
+IsBuiltService (service.SubscribeObjectClassAttributes class attributes) = Unit {0}
+IsBuiltService (service.UnsubscribeObjectClass class) = Unit {0}
 IsBuiltService (service.PublishInteractionClass class) = Unit {0}
+IsBuiltService (service.UnpublishInteractionClass class) = Unit {0}
 IsBuiltService (service.SubscribeInteractionClass class) = Unit {0}
+IsBuiltService (service.UnsubscribeInteractionClass class) = Unit {0}
+IsBuiltService (service.RegisterObjectInstance class name) = Unit {0}
+IsBuiltService (service.UpdateAttributeValues object values None) = Unit {0}
 IsBuiltService (service.SendInteraction class values None) = Unit {0}
+IsBuiltService (service.DeleteObjectInstance object None) = Unit {0}
+IsBuiltService (service.GetObjectClassHandle name) = Unit {0}
+IsBuiltService (service.GetInteractionClassHandle name) = Unit {0}
+IsBuiltService (service.GetAttributeHandle name class) = Unit {0}
+IsBuiltService (service.GetParameterHandle name class) = Unit {0}
+IsBuiltService (service.GetObjectInstanceHandle name) = Unit {0}
+IsBuiltService (service.GetObjectInstanceName object) = Unit {0}
 IsBuiltService service = ⊥
 
 abbrev pub IsBuilt : Step → Type 0
@@ -102,3 +137,6 @@ IsBuilt (Call f service) = IsBuiltService service
 IsBuilt (Carry from to) = Unit {0}
 IsBuilt (Announce f) = ⊥
 IsBuilt (Tick f) = Unit {0}
+
+abbrev pub AreBuilt : List Step → Type 0
+AreBuilt steps = All IsBuilt steps

@@ -1,102 +1,55 @@
 //! A federation execution.
 
-ghost use Rattle.std.specs.Prelude.{◌≡◌, OnErr, length};
-ghost use Rattle.hla_machine.specs.declared.step.Step.TheVariants as step;
-ghost use Rattle.hla_federation.specs.State.{IsWhole, IsQuiet, IsBuilt, IsBuiltService, Does, Refuses};
-
-use crate::member::Member;
-use crate::services::{carry, join, publish, send, subscribe, tick};
-use hla_base::{Fault, FederateNo};
+use crate::parts::Parts;
+use hla_base::Fault;
 use hla_fed_file::Catalogue;
-use hla_machine::{Answer, Service, Step};
+use hla_machine::{Answer, Step};
 use std::alloc::Global;
 use std::marker::Model;
 
-/// A federation execution: the components of its federates and the wires between them. Contracts see its catalogue and
-/// its members; `state_of` leads from there to the components' state and `central` from that to the state of the central
-/// machine. A value of this type keeps what makes each step a step of that machine.
+/// A federation execution: its declarations and objects, the components of its federates and the wires between them.
+/// Contracts see what they say; `state_of` leads from there to the components' state and `central` from that to the state
+/// of the central machine. A value of this type keeps what makes each step a step of that machine.
 #[derive(Drop)]
 pub struct Federation {
-    catalogue: Catalogue,
-    members: Vec<Member>,
+    parts: Parts,
 }
 
 impl Model for Federation {
     ghost use Rattle.hla_federation.specs.FederationValue.{FederationValue};
+    ghost use Rattle.hla_federation.specs.Soundness.{IsSound};
 
     ghost Value = { FederationValue };
 
-    ghost use Rattle.hla_federation.specs.Soundness.{IsSound};
+    ghost view = { λ f. f.parts };
 
-    ghost view = { λ f. record { catalogue = f.catalogue; members = f.members.items } };
-
-    ghost invariant = { λ f. IsSound f.catalogue f.members.items };
-}
-
-/// A service that a federate calls.
-fn call(
-    catalogue: &Catalogue,
-    members: &mut Vec<Member>,
-    federate: FederateNo,
-    service: &Service,
-) -> Result<Answer, Fault>
-    requires whole { IsWhole (length catalogue.now.interaction_classes) members.old.items }
-    requires built { IsBuiltService service.now }
-    ensures whole { IsWhole (length catalogue.now.interaction_classes) members.new.items }
-    ensures done { Does catalogue.now members.old.items (step.Call federate service.now) result members.new.items }
-    ensures refused { Refuses catalogue.now members.old.items (step.Call federate service.now) result }
-    ensures unchanged { OnErr result (members.new.items ≡ members.old.items) }
-{
-    match service {
-        Service::PublishInteractionClass { class } => publish(catalogue, members, federate, *class),
-        Service::SubscribeInteractionClass { class } => subscribe(
-            catalogue, members, federate, *class,
-        ),
-        Service::SendInteraction {
-            class,
-            values,
-            stamp: None,
-        } => send(catalogue, members, federate, *class, values),
-        _ => unreachable!(),
-    }
-}
-
-/// A step, over the list of members.
-fn advance(catalogue: &Catalogue, members: &mut Vec<Member>, step: &Step) -> Result<Answer, Fault>
-    requires whole { IsWhole (length catalogue.now.interaction_classes) members.old.items }
-    requires quiet { IsQuiet members.old.items }
-    requires built { IsBuilt step.now }
-    ensures whole { IsWhole (length catalogue.now.interaction_classes) members.new.items }
-    ensures done { Does catalogue.now members.old.items step.now result members.new.items }
-    ensures refused { Refuses catalogue.now members.old.items step.now result }
-    ensures unchanged { OnErr result (members.new.items ≡ members.old.items) }
-{
-    match step {
-        Step::Join { name } => join(catalogue, members, name),
-        Step::Call { federate, service } => call(catalogue, members, *federate, service),
-        Step::Carry { from, to } => carry(catalogue, members, *from, *to),
-        Step::Tick { federate } => tick(catalogue, members, *federate),
-        Step::Announce { .. } => unreachable!(),
-    }
+    ghost invariant = { λ f. IsSound f.parts };
 }
 
 impl Federation {
-    ghost use Rattle.std.specs.Prelude.{◌≡◌, OnErr, IfOk, IfErr};
-    ghost use Rattle.hla_machine.specs.Runs.{IsMachineStep};
+    ghost use Rattle.std.specs.Prelude.{◌≡◌, OnErr, OnOk, IfOk, IfErr};
+    ghost use Rattle.hla_base.specs.declared.fault.Fault.TheVariants.{OutOfMemory};
+    ghost use Rattle.hla_machine.specs.Runs.{IsMachineStep, IsRun, is_joined_by_any};
     ghost use Rattle.hla_federation.specs.Federation.{new_federation};
     ghost use Rattle.hla_federation.specs.Next.{next, answers};
     ghost use Rattle.hla_federation.specs.CentralOf.{central};
-    ghost use Rattle.hla_federation.specs.State.{state_of, IsBuilt};
-    ghost use Rattle.hla_federation.specs.Soundness.{done_as, IsRefusedWith};
+    ghost use Rattle.hla_federation.specs.State.{state_of, IsBuilt, AreBuilt};
+    ghost use Rattle.hla_federation.specs.Soundness.{done_as, IsRefusedWith, AreSteps, happened};
 
     /// An execution that no federate has joined yet; it takes no memory.
     pub fn new(alloc: Global, catalogue: Catalogue) -> Federation
         ensures { state_of result ≡ new_federation catalogue }
     {
         Federation {
-            catalogue,
-            members: Vec::new(alloc),
+            parts: Parts::new(alloc, catalogue),
         }
+    }
+
+    /// Whether any federate is joined; then the execution may not be destroyed.
+    pub fn is_joined_by_any(&self) -> bool
+        ensures { result ≡ is_joined_by_any (central (state_of self.now)) }
+    {
+        self.parts.members.is_any_joined()
     }
 
     /// One step. It is what the components' next-state function says, and a step of the central machine. Refused, it
@@ -109,6 +62,25 @@ impl Federation {
         ensures refused { IfErr result (IsRefusedWith (state_of self.old) step.now) }
         ensures unchanged { OnErr result (self.new ≡ self.old) }
     {
-        advance(&self.catalogue, &mut self.members, step)
+        self.parts.advance(step)
+    }
+
+    /// One step after another, with what each answers. The answers are those of the components' next-state function, and
+    /// but for those that were refused for want of memory they are a run of the central machine. The room for the answers
+    /// is taken first; `OutOfMemory`, and nothing done, where that was refused.
+    pub fn run(&mut self, steps: &[Step]) -> Result<Vec<Result<Answer, Fault>>, Fault>
+        requires { AreBuilt steps.now }
+        ensures steps { IfOk result (λ answers. AreSteps (state_of self.old) steps.now answers.items (state_of self.new)) }
+        ensures machine { IfOk result (λ answers. IsRun (central (state_of self.old)) (happened steps.now answers.items) (central (state_of self.new))) }
+        ensures err { IfErr result (λ e. e ≡ Fault.OutOfMemory) }
+        ensures unchanged { OnErr result (self.new ≡ self.old) }
+    {
+        let Ok(mut answers) = Vec::with_capacity(self.parts.alloc, steps.len()) else {
+            return Err(Fault::OutOfMemory);
+        };
+        for step in steps {
+            answers.push_reserved(self.step(step));
+        }
+        Ok(answers)
     }
 }

@@ -1,8 +1,10 @@
 //! The wires to one federate.
 
-ghost use Rattle.std.specs.Prelude.{◌≡◌, ◌<◌, ◌≤◌, ◌-◌, ◌++◌, ◌∷◌, [], List, length, replicate, IfOk, IfErr, OnOk, OnErr, slice_set, slice_index_or, drop, slice_get, IsTrue, ◌↔◌, take};
-ghost use Rattle.hla_null_message.specs.declared.message.Message.{Message};
+ghost use Rattle.std.specs.Prelude.{◌≡◌, ◌≢◌, ◌<◌, ◌≤◌, ◌++◌, [], ℕ, length, IfOk, IfErr, OnOk, drop, slice_get, IsTrue, ◌↔◌};
 ghost use Rattle.hla_base.specs.declared.fault.Fault.TheVariants.{OutOfMemory};
+ghost use Rattle.hla_base.specs.Tables.{upd};
+ghost use Rattle.hla_federation.specs.Items.{item};
+ghost use Rattle.hla_federation.specs.Members.{AreQuiet};
 
 use hla_base::{Fault, FederateNo};
 use hla_null_message::{Message, Wire};
@@ -20,18 +22,21 @@ pub struct Incoming {
 }
 
 impl Model for Incoming {
-    ghost use Rattle.std.specs.Prelude.{List};
-    ghost use Rattle.hla_null_message.specs.declared.message.Message.{Message};
+    ghost use Rattle.std.specs.Prelude.{◌≡◌, length};
+    ghost use Rattle.hla_federation.specs.MemberValue.{IncomingValue};
+    ghost use Rattle.hla_federation.specs.Lanes.{incoming_of};
 
-    ghost Value = { List (List Message) };
+    ghost Value = { IncomingValue };
 
-    ghost view = { λ w. w.wires.items };
+    ghost view = { λ w. incoming_of w.wires.items };
+
+    ghost invariant = { λ w. length w.wires.items ≡ 16 };
 }
 
 impl Incoming {
     /// A wire from each federate that may join, with nothing on it.
     pub fn new(alloc: Global) -> Result<Incoming, Fault>
-        ensures ok { IfOk result (λ w. w ≡ replicate 16 []) }
+        ensures ok { IfOk result (λ w. AreQuiet w.wires) }
         ensures err { IfErr result (λ e. e ≡ Fault.OutOfMemory) }
     {
         let mut wires = Vec::new(alloc);
@@ -43,23 +48,35 @@ impl Incoming {
         Ok(Incoming { wires })
     }
 
-    /// Puts a message on the wire from a federate; `OutOfMemory`, and all as it was, where a growth was refused.
-    pub fn put(&mut self, from: FederateNo, message: Message) -> Result<(), Fault>
+    /// Makes room for this many more messages on the wire from a federate; `OutOfMemory` where that was refused.
+    pub fn reserve(&mut self, from: FederateNo, count: usize) -> Result<(), Fault>
         requires some { 0 < from }
-        requires within { from ≤ length self.old }
-        ensures ok { OnOk result (self.new ≡ slice_set self.old (from - 1) (slice_index_or self.old (from - 1) [] ++ message ∷ [])) }
+        requires within { from ≤ 16 }
+        ensures wires { self.new.wires ≡ self.old.wires }
+        ensures ok { OnOk result (count ≤ item 0 self.new.rooms from) }
+        ensures more { (g : ℕ) → item 0 self.old.rooms g ≤ item 0 self.new.rooms g }
         ensures err { IfErr result (λ e. e ≡ Fault.OutOfMemory) }
-        ensures unchanged { OnErr result (self.new ≡ self.old) }
     {
-        self.wires[from as usize - 1].put(message)
+        self.wires[from as usize - 1].reserve(count)
+    }
+
+    /// Puts messages on the wire from a federate. It takes no memory.
+    pub fn append(&mut self, from: FederateNo, messages: Vec<Message>)
+        requires some { 0 < from }
+        requires within { from ≤ 16 }
+        requires room { length messages.items ≤ item 0 self.old.rooms from }
+        ensures wires { item [] self.new.wires ≡ upd (item [] self.old.wires) from (item [] self.old.wires from ++ messages.items) }
+        ensures room { (g : ℕ) → from ≢ g → item 0 self.new.rooms g ≡ item 0 self.old.rooms g }
+    {
+        self.wires[from as usize - 1].append(messages)
     }
 
     /// The first message on the wire from a federate, taken off, if there is one.
     pub fn take_first(&mut self, from: FederateNo) -> Option<Message>
         requires some { 0 < from }
-        requires within { from ≤ length self.old }
-        ensures first { result ≡ slice_get (slice_index_or self.old (from - 1) []) 0 }
-        ensures rest { self.new ≡ slice_set self.old (from - 1) (drop 1 (slice_index_or self.old (from - 1) [])) }
+        requires within { from ≤ 16 }
+        ensures first { result ≡ slice_get (item [] self.old.wires from) 0 }
+        ensures rest { item [] self.new.wires ≡ upd (item [] self.old.wires) from (drop 1 (item [] self.old.wires from)) }
     {
         self.wires[from as usize - 1].take_first()
     }
@@ -67,18 +84,18 @@ impl Incoming {
     /// Whether nothing is on the wire from a federate.
     pub fn is_empty(&self, from: FederateNo) -> bool
         requires some { 0 < from }
-        requires within { from ≤ length self.now }
-        ensures { IsTrue result ↔ (slice_index_or self.now (from - 1) [] ≡ []) }
+        requires within { from ≤ 16 }
+        ensures { IsTrue result ↔ (item [] self.now.wires from ≡ []) }
     {
         self.wires[from as usize - 1].is_empty()
     }
 
-    /// Takes back the message that was put last on the wire from a federate.
-    pub fn take_back(&mut self, from: FederateNo)
-        requires some { 0 < from }
-        requires within { from ≤ length self.old }
-        ensures { let wire = slice_index_or self.old (from - 1) [] in self.new ≡ slice_set self.old (from - 1) (take (length wire - 1) wire) }
+    /// Takes all messages off all wires.
+    pub fn clear(&mut self)
+        ensures { AreQuiet self.new.wires }
     {
-        let _ = self.wires[from as usize - 1].take_last();
+        for k in 0..self.wires.len() {
+            self.wires[k].clear();
+        }
     }
 }

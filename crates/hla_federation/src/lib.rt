@@ -1,15 +1,26 @@
 //! A federation of local components that know of each other only by what comes over wires.
 #![tactic(auto)]
 
-mod class_set;
+mod control;
+mod declaring;
+mod delivering;
+mod direction;
+mod dispatch;
 pub mod examples;
 mod federation;
 pub mod headline;
 mod incoming;
+mod joining;
+mod lookups;
 mod member;
+mod members;
+mod messages;
+mod naming;
+mod outbox;
 mod pairs;
+mod parts;
 mod refusals;
+mod registering;
 mod sending;
-mod services;
 
 pub use federation::Federation;

@@ -1,87 +1,346 @@
-//! Which fault a step is refused with.
+//! Which fault a step is refused with: the first of its list that applies.
 
-ghost use Rattle.std.specs.Prelude.{◌≡◌, ◌≤◌, None, length, not};
+ghost use Rattle.std.specs.Prelude.{◌≡◌, ◌≤◌, ℕ, None, not, length, ◌∷◌, []};
 ghost use Rattle.std.specs.List.{list_any};
-ghost use Rattle.std.specs.Str.{bytes_eq};
 ghost use Rattle.hla_base.specs.declared.content.HandleValuePair.{HandleValuePair};
-ghost use Rattle.hla_fed_file.specs.Lookup.{has_parameter};
-ghost use Rattle.hla_machine.specs.Refusals.{refusal, is_name_joined};
+ghost use Rattle.hla_fed_file.specs.Lookup.{attribute_order, has_attribute, has_parameter};
+ghost use Rattle.hla_machine.specs.Directory.{is_of_order, update_sent};
+ghost use Rattle.hla_machine.specs.Refusals.{refusal, first_fault, not_joined, no_object_class, no_interaction_class, no_attribute, is_owned, is_published};
 ghost use Rattle.hla_machine.specs.declared.service.Service.TheVariants as service;
 ghost use Rattle.hla_machine.specs.declared.step.Step.TheVariants as step;
-ghost use Rattle.hla_federation.specs.MemberValue.{MemberValue};
 ghost use Rattle.hla_federation.specs.Next.{seen};
-ghost use Rattle.hla_federation.specs.State.{is_number, state_of_members};
+ghost use Rattle.hla_federation.specs.State.{state_of, IsNamed};
 
 use crate::incoming::MAX_FEDERATES;
-use crate::member::Member;
-use hla_base::{ClassNo, Fault, FederateNo, HandleValuePair, MAX_TIME};
-use hla_fed_file::Catalogue;
+use crate::parts::Parts;
+use hla_base::{
+    AttributeNo, ClassNo, Fault, FederateNo, HandleValuePair, List, MAX_TIME, ObjectNo,
+};
+use hla_fed_file::Order;
+use hla_machine::ResignAction;
 
-/// Whether a federate has joined.
-pub fn is_joined(members: &[Member], federate: FederateNo) -> bool
-    ensures { result ≡ is_number (length members.now) federate }
-{
-    federate != 0 && federate as usize <= members.len()
-}
+/// How many objects may ever be registered in an execution.
+const MAX_OBJECTS: ObjectNo = 4096;
 
-/// Whether a class lacks one of these parameters.
-fn lacks_parameter(catalogue: &Catalogue, class: ClassNo, values: &[HandleValuePair]) -> bool
-    ensures { result ≡ list_any (λ (v : HandleValuePair). not (has_parameter catalogue.now class v.handle)) values.now }
-{
-    values
-        .iter()
-        .any(|v| !catalogue.has_parameter(class, v.handle))
-}
-
-/// Why an interaction without a stamp may not be sent, if it may not.
-pub fn send_fault(
-    catalogue: &Catalogue,
-    members: &[Member],
-    federate: FederateNo,
-    class: ClassNo,
-    values: &[HandleValuePair],
-) -> Option<Fault>
-    ensures { result ≡ refusal (seen (state_of_members catalogue.now members.now)) (step.Call federate (service.SendInteraction class values.now None)) }
-{
-    if !is_joined(members, federate) {
-        Some(Fault::FederateNotExecutionMember)
-    } else if !catalogue.is_interaction_class(class) {
-        Some(Fault::InteractionClassNotDefined)
-    } else if lacks_parameter(catalogue, class, values) {
-        Some(Fault::InteractionParameterNotDefined)
-    } else if !members[federate as usize - 1].publishes(class) {
-        Some(Fault::InteractionClassNotPublished)
-    } else if members[federate as usize - 1].next_serial() > MAX_TIME {
-        Some(Fault::LimitReached)
-    } else {
-        None
+impl Parts {
+    /// Whether a class lacks one of these attributes.
+    fn lacks_attribute(&self, class: ClassNo, attributes: &[AttributeNo]) -> bool
+        ensures { result ≡ list_any (λ a. not (has_attribute self.now.catalogue class a)) attributes.now }
+    {
+        attributes
+            .iter()
+            .any(|a| !self.catalogue.has_attribute(class, *a))
     }
-}
 
-/// Whether a member has this name.
-fn is_named(members: &[Member], name: &[u8]) -> bool
-    ensures { result ≡ list_any (λ (m : MemberValue). bytes_eq m.name name.now) members.now }
-{
-    members.iter().any(|m| m.name() == name)
-}
+    /// Whether a class lacks one of these parameters.
+    fn lacks_parameter(&self, class: ClassNo, values: &[HandleValuePair]) -> bool
+        ensures { result ≡ list_any (λ (v : HandleValuePair). not (has_parameter self.now.catalogue class v.handle)) values.now }
+    {
+        values
+            .iter()
+            .any(|v| !self.catalogue.has_parameter(class, v.handle))
+    }
 
-/// Whether a joined federate has this name.
-fn is_name_joined(catalogue: &Catalogue, members: &[Member], name: &[u8]) -> bool
-    ensures { result ≡ is_name_joined (state_of_members catalogue.now members.now).directory name.now }
-{
-    let _ = catalogue;
-    is_named(members, name)
-}
+    /// Whether a class lacks one of the attributes that have these values.
+    fn lacks_value(&self, class: ClassNo, values: &[HandleValuePair]) -> bool
+        ensures { result ≡ list_any (λ (v : HandleValuePair). not (has_attribute self.now.catalogue class v.handle)) values.now }
+    {
+        values
+            .iter()
+            .any(|v| !self.catalogue.has_attribute(class, v.handle))
+    }
 
-/// Why a federate may not join under a name, if it may not.
-pub fn join_fault(catalogue: &Catalogue, members: &[Member], name: &[u8]) -> Option<Fault>
-    ensures { result ≡ refusal (seen (state_of_members catalogue.now members.now)) (step.Join name.now) }
-{
-    if is_name_joined(catalogue, members, name) {
-        Some(Fault::FederateAlreadyExecutionMember)
-    } else if members.len() >= MAX_FEDERATES || name.is_empty() || name.len() > 64 {
-        Some(Fault::LimitReached)
-    } else {
-        None
+    /// Whether a federate does not own one of these attributes of an object.
+    fn lacks_ownership(
+        &self,
+        federate: FederateNo,
+        object: ObjectNo,
+        values: &[HandleValuePair],
+    ) -> bool
+        ensures { result ≡ list_any (λ (v : HandleValuePair). not (is_owned (state_of self.now).directory federate object v.handle)) values.now }
+    {
+        values.iter().any(|v| !self.registry.owns_attribute(federate, object, v.handle))
+    }
+
+    /// Whether a federate does not publish one of these attributes of a class.
+    fn lacks_publication(
+        &self,
+        federate: FederateNo,
+        class: ClassNo,
+        values: &[HandleValuePair],
+    ) -> bool
+        ensures { result ≡ list_any (λ (v : HandleValuePair). not (is_published (state_of self.now).directory federate class v.handle)) values.now }
+    {
+        values.iter().any(|v| !self
+            .declarations
+            .publishes_attribute(federate, class, v.handle))
+    }
+
+    /// Why an object class may not be published or subscribed with these attributes, if it may not.
+    pub fn attributes_fault(
+        &self,
+        federate: FederateNo,
+        class: ClassNo,
+        attributes: &[AttributeNo],
+    ) -> Option<Fault>
+        ensures { let d = (state_of self.now).directory in result ≡ first_fault (not_joined d federate ∷ no_object_class d class ∷ no_attribute d class attributes.now ∷ []) }
+    {
+        if !self.members.is_joined(federate) {
+            Some(Fault::FederateNotExecutionMember)
+        } else if !self.catalogue.is_object_class(class) {
+            Some(Fault::ObjectClassNotDefined)
+        } else if self.lacks_attribute(class, attributes) {
+            Some(Fault::AttributeNotDefined)
+        } else {
+            None
+        }
+    }
+
+    /// Why an object class may not be unpublished, if it may not.
+    pub fn unpublish_object_fault(&self, federate: FederateNo, class: ClassNo) -> Option<Fault>
+        ensures { result ≡ refusal (seen (state_of self.now)) (step.Call federate (service.UnpublishObjectClass class)) }
+    {
+        if !self.members.is_joined(federate) {
+            Some(Fault::FederateNotExecutionMember)
+        } else if !self.catalogue.is_object_class(class) {
+            Some(Fault::ObjectClassNotDefined)
+        } else if !self.declarations.publishes_object_class(federate, class) {
+            Some(Fault::ObjectClassNotPublished)
+        } else {
+            None
+        }
+    }
+
+    /// Why an object class may not be unsubscribed, if it may not.
+    pub fn unsubscribe_object_fault(&self, federate: FederateNo, class: ClassNo) -> Option<Fault>
+        ensures { result ≡ refusal (seen (state_of self.now)) (step.Call federate (service.UnsubscribeObjectClass class)) }
+    {
+        if !self.members.is_joined(federate) {
+            Some(Fault::FederateNotExecutionMember)
+        } else if !self.catalogue.is_object_class(class) {
+            Some(Fault::ObjectClassNotDefined)
+        } else if !self.declarations.subscribes_object_class(federate, class) {
+            Some(Fault::ObjectClassNotSubscribed)
+        } else {
+            None
+        }
+    }
+
+    /// Why an interaction class may not be published or subscribed, if it may not.
+    pub fn interaction_fault(&self, federate: FederateNo, class: ClassNo) -> Option<Fault>
+        ensures { let d = (state_of self.now).directory in result ≡ first_fault (not_joined d federate ∷ no_interaction_class d class ∷ []) }
+    {
+        if !self.members.is_joined(federate) {
+            Some(Fault::FederateNotExecutionMember)
+        } else if !self.catalogue.is_interaction_class(class) {
+            Some(Fault::InteractionClassNotDefined)
+        } else {
+            None
+        }
+    }
+
+    /// Why an interaction class may not be unpublished, if it may not.
+    pub fn unpublish_interaction_fault(&self, federate: FederateNo, class: ClassNo) -> Option<Fault>
+        ensures { result ≡ refusal (seen (state_of self.now)) (step.Call federate (service.UnpublishInteractionClass class)) }
+    {
+        if !self.members.is_joined(federate) {
+            Some(Fault::FederateNotExecutionMember)
+        } else if !self.catalogue.is_interaction_class(class) {
+            Some(Fault::InteractionClassNotDefined)
+        } else if !self
+            .declarations
+            .publishes_interaction_class(federate, class)
+        {
+            Some(Fault::InteractionClassNotPublished)
+        } else {
+            None
+        }
+    }
+
+    /// Why an interaction class may not be unsubscribed, if it may not.
+    pub fn unsubscribe_interaction_fault(
+        &self,
+        federate: FederateNo,
+        class: ClassNo,
+    ) -> Option<Fault>
+        ensures { result ≡ refusal (seen (state_of self.now)) (step.Call federate (service.UnsubscribeInteractionClass class)) }
+    {
+        if !self.members.is_joined(federate) {
+            Some(Fault::FederateNotExecutionMember)
+        } else if !self.catalogue.is_interaction_class(class) {
+            Some(Fault::InteractionClassNotDefined)
+        } else if !self
+            .declarations
+            .subscribes_interaction_class(federate, class)
+        {
+            Some(Fault::InteractionClassNotSubscribed)
+        } else {
+            None
+        }
+    }
+
+    /// Why an interaction without a stamp may not be sent, if it may not.
+    pub fn send_fault(
+        &self,
+        federate: FederateNo,
+        class: ClassNo,
+        values: &[HandleValuePair],
+    ) -> Option<Fault>
+        ensures { result ≡ refusal (seen (state_of self.now)) (step.Call federate (service.SendInteraction class values.now None)) }
+    {
+        if !self.members.is_joined(federate) {
+            Some(Fault::FederateNotExecutionMember)
+        } else if !self.catalogue.is_interaction_class(class) {
+            Some(Fault::InteractionClassNotDefined)
+        } else if self.lacks_parameter(class, values) {
+            Some(Fault::InteractionParameterNotDefined)
+        } else if !self
+            .declarations
+            .publishes_interaction_class(federate, class)
+        {
+            Some(Fault::InteractionClassNotPublished)
+        } else if self.members.next_serial(federate) > MAX_TIME {
+            Some(Fault::LimitReached)
+        } else {
+            None
+        }
+    }
+
+    /// Why a federate may not join under a name, if it may not.
+    pub fn join_fault(&self, name: &[u8]) -> Option<Fault>
+        ensures { result ≡ refusal (seen (state_of self.now)) (step.Join name.now) }
+    {
+        if self.members.is_name_joined(name) {
+            Some(Fault::FederateAlreadyExecutionMember)
+        } else if self.members.next_federate() as usize > MAX_FEDERATES
+            || name.is_empty()
+            || name.len() > 64
+        {
+            Some(Fault::LimitReached)
+        } else {
+            None
+        }
+    }
+
+    /// Whether one of these values is of an attribute whose updates have this order.
+    fn has_order(&self, order: Order, values: &[HandleValuePair]) -> bool
+        ensures { result ≡ list_any (λ (v : HandleValuePair). is_of_order order (attribute_order self.now.catalogue v.handle)) values.now }
+    {
+        values
+            .iter()
+            .any(|v| self.catalogue.attribute_order(v.handle) == order)
+    }
+
+    /// How many messages an update makes: one for each order that one of its attributes has.
+    fn count_parts(&self, values: &[HandleValuePair]) -> u64
+        ensures count { (object : ℕ) → result ≡ length (update_sent (state_of self.now).directory object values.now) }
+        ensures few { result ≤ 2 }
+    {
+        let received = self.has_order(Order::Receive, values);
+        let stamped = self.has_order(Order::Timestamp, values);
+        u64::from(received) + u64::from(stamped)
+    }
+
+    /// Why attributes may not be updated without a stamp, if they may not.
+    pub fn update_fault(
+        &self,
+        federate: FederateNo,
+        object: ObjectNo,
+        values: &[HandleValuePair],
+    ) -> Option<Fault>
+        ensures { result ≡ refusal (seen (state_of self.now)) (step.Call federate (service.UpdateAttributeValues object values.now None)) }
+    {
+        let class = self.registry.class_of(object);
+        if !self.members.is_joined(federate) {
+            Some(Fault::FederateNotExecutionMember)
+        } else if !self.registry.is_known(object, federate) {
+            Some(Fault::ObjectNotKnown)
+        } else if self.lacks_value(class, values) {
+            Some(Fault::AttributeNotDefined)
+        } else if self.lacks_ownership(federate, object, values) {
+            Some(Fault::AttributeNotOwned)
+        } else if self.lacks_publication(federate, class, values) {
+            Some(Fault::AttributeNotPublished)
+        } else if self.members.next_serial(federate) > MAX_TIME + 1 - self.count_parts(values) {
+            Some(Fault::LimitReached)
+        } else {
+            None
+        }
+    }
+
+    /// Why an object may not be deleted without a stamp, if it may not.
+    pub fn delete_fault(&self, federate: FederateNo, object: ObjectNo) -> Option<Fault>
+        ensures { result ≡ refusal (seen (state_of self.now)) (step.Call federate (service.DeleteObjectInstance object None)) }
+    {
+        if !self.members.is_joined(federate) {
+            Some(Fault::FederateNotExecutionMember)
+        } else if !self.registry.is_known(object, federate) {
+            Some(Fault::ObjectNotKnown)
+        } else if self.registry.owner(object) != federate {
+            Some(Fault::DeletePrivilegeNotHeld)
+        } else if self.members.next_serial(federate) > MAX_TIME {
+            Some(Fault::LimitReached)
+        } else {
+            None
+        }
+    }
+
+    /// Why an object may not be registered, if it may not.
+    pub fn register_fault(
+        &self,
+        federate: FederateNo,
+        class: ClassNo,
+        name: &Option<List<u8>>,
+    ) -> Option<Fault>
+        requires { IsNamed self.now }
+        ensures { result ≡ refusal (seen (state_of self.now)) (step.Call federate (service.RegisterObjectInstance class name.now)) }
+    {
+        let given = match name {
+            Some(name) => name.as_slice(),
+            None => self.next_name.as_slice(),
+        };
+        if !self.members.is_joined(federate) {
+            Some(Fault::FederateNotExecutionMember)
+        } else if !self.catalogue.is_object_class(class) {
+            Some(Fault::ObjectClassNotDefined)
+        } else if !self.declarations.publishes_object_class(federate, class) {
+            Some(Fault::ObjectClassNotPublished)
+        } else if self.registry.is_name_used(given) {
+            Some(Fault::ObjectAlreadyRegistered)
+        } else if self.registry.next_object() > MAX_OBJECTS
+            || given.is_empty()
+            || given.len() > 255
+        {
+            Some(Fault::LimitReached)
+        } else {
+            None
+        }
+    }
+
+    /// Why a federate may not resign, if it may not.
+    pub fn resign_fault(&self, federate: FederateNo, action: ResignAction) -> Option<Fault>
+        ensures { result ≡ refusal (seen (state_of self.now)) (step.Call federate (service.Resign action)) }
+    {
+        if !self.members.is_joined(federate) {
+            return Some(Fault::FederateNotExecutionMember);
+        }
+        let owned = self.registry.count_owned_by(federate) as u64;
+        match action {
+            ResignAction::NoAction => {
+                if owned > 0 {
+                    Some(Fault::FederateOwnsAttributes)
+                } else {
+                    None
+                }
+            }
+            ResignAction::DeleteObjects => {
+                if self.members.next_serial(federate).saturating_add(owned) > MAX_TIME + 1 {
+                    Some(Fault::LimitReached)
+                } else {
+                    None
+                }
+            }
+            _ => Some(Fault::InvalidResignAction),
+        }
     }
 }

@@ -1,68 +1,284 @@
-//! Sending to all other members.
+//! Sending messages without a stamp.
 
-ghost use Rattle.std.specs.Prelude.{◌≡◌, ◌<◌, ◌≤◌, length, IfErr, OnOk, OnErr};
+ghost use Rattle.std.specs.Prelude.{◌≡◌, ◌≤◌, ◌<◌, ◌+◌, ◌&&◌, [], ◌∷◌, ℕ, None, false, true, length, filter, IfOk, IfErr, OnOk, OnErr};
+ghost use Rattle.hla_base.specs.declared.content.HandleValuePair.{HandleValuePair};
 ghost use Rattle.hla_base.specs.declared.fault.Fault.TheVariants.{OutOfMemory};
-ghost use Rattle.hla_federation.specs.Members.{offered, taken_back, ChangesPeers, HaveWires, is_peer};
+ghost use Rattle.hla_base.specs.Tables.{is_other};
+ghost use Rattle.hla_fed_file.specs.Lookup.{has_parameter};
+ghost use Rattle.hla_fed_file.specs.declared.declared.Order.TheVariants.{Receive};
+ghost use Rattle.hla_machine.specs.Directory.{AnInteraction, AnUpdate, ADeletion, subscribed_values, values_of_order, part_sent};
+ghost use Rattle.hla_machine.specs.declared.service.Service.TheVariants as service;
+ghost use Rattle.hla_machine.specs.declared.step.Step.TheVariants as step;
+ghost use Rattle.hla_federation.specs.Sending.{HasAdded, message_to, messages_to, plain_event};
+ghost use Rattle.hla_federation.specs.Soundness.{IsSound};
+ghost use Rattle.hla_federation.specs.State.{state_of, IsWhole, Does, Refuses};
 
-use crate::member::{Interaction, Member};
-use hla_base::{Fault, FederateNo};
-use hla_fed_file::Catalogue;
-use std::alloc::Global;
+use crate::outbox::Outbox;
+use crate::pairs::by_handle;
+use crate::parts::Parts;
+use hla_base::{
+    ClassNo, Content, Event, Fault, FederateNo, HandleValuePair, List, ObjectNo, Plain, Serial,
+};
+use hla_fed_file::Order;
+use hla_machine::Answer;
+use hla_null_message::Message;
 
-/// Whether the member at a place is another than the sender; numbers count from 1.
-fn is_peer(place: usize, from: FederateNo) -> bool
-    requires { place < 16 }
-    ensures { result ≡ is_peer from place }
+/// A message in receive order.
+fn plain_event(sender: FederateNo, serial: Serial, content: Content) -> Message
+    ensures { result ≡ plain_event sender serial content }
 {
-    place + 1 != from as usize
+    Message::Event(Event {
+        sender,
+        serial,
+        ordered: false,
+        stamp: 0,
+        content,
+    })
 }
 
-/// Takes an interaction back from each other member before a place.
-fn take_back_all(
-    catalogue: &Catalogue,
-    members: &mut Vec<Member>,
-    end: usize,
-    sent: &Interaction<'_>,
-)
-    requires place { end ≤ length members.old.items }
-    requires some { 0 < sent.now.from }
-    requires within { sent.now.from ≤ 16 }
-    requires wires { HaveWires members.old.items }
-    requires few { length members.old.items ≤ 16 }
-    ensures length { length members.new.items ≡ length members.old.items }
-    ensures peers { ChangesPeers (taken_back catalogue.now sent.now.from sent.now.class) sent.now.from end members.old.items members.new.items }
-{
-    for k in 0..end {
-        if is_peer(k, sent.from) {
-            members[k].take_back(catalogue, sent);
-        }
-    }
-}
-
-/// Puts an interaction on the wire to each other member that gets it; `OutOfMemory`, and all as it was, where a growth
-/// was refused.
-pub fn offer_all(
-    alloc: Global,
-    catalogue: &Catalogue,
-    members: &mut Vec<Member>,
-    sent: &Interaction<'_>,
-) -> Result<(), Fault>
-    requires some { 0 < sent.now.from }
-    requires within { sent.now.from ≤ 16 }
-    requires wires { HaveWires members.old.items }
-    requires few { length members.old.items ≤ 16 }
-    ensures length { length members.new.items ≡ length members.old.items }
-    ensures ok { OnOk result (ChangesPeers (offered catalogue.now sent.now.from sent.now.serial sent.now.class sent.now.values.now) sent.now.from (length members.old.items) members.old.items members.new.items) }
-    ensures err { IfErr result (λ e. e ≡ Fault.OutOfMemory) }
-    ensures unchanged { OnErr result (members.new.items ≡ members.old.items) }
-{
-    for k in 0..members.len() {
-        if is_peer(k, sent.from) {
-            if let Err(fault) = members[k].offer(alloc, catalogue, sent) {
-                take_back_all(catalogue, members, k, sent);
-                return Err(fault);
+impl Parts {
+    /// The values of the parameters that a class has.
+    fn shown_parameters(
+        &self,
+        class: ClassNo,
+        values: &[HandleValuePair],
+    ) -> Result<List<HandleValuePair>, Fault>
+        ensures ok { IfOk result (λ shown. shown ≡ filter (λ (v : HandleValuePair). has_parameter self.now.catalogue class v.handle) values.now) }
+        ensures err { IfErr result (λ e. e ≡ Fault.OutOfMemory) }
+    {
+        let mut shown = List::new(self.alloc);
+        for value in values {
+            if self.catalogue.has_parameter(class, value.handle) {
+                shown.push(value.copy()?)?;
             }
         }
+        Ok(shown)
     }
-    Ok(())
+
+    /// The values of the attributes that a federate subscribes at a class.
+    fn shown_attributes(
+        &self,
+        federate: FederateNo,
+        class: ClassNo,
+        values: &[HandleValuePair],
+    ) -> Result<List<HandleValuePair>, Fault>
+        ensures ok { IfOk result (λ shown. shown ≡ subscribed_values (state_of self.now).directory federate class values.now) }
+        ensures err { IfErr result (λ e. e ≡ Fault.OutOfMemory) }
+    {
+        let mut shown = List::new(self.alloc);
+        for value in values {
+            if self
+                .declarations
+                .subscribes_attribute(federate, class, value.handle)
+            {
+                shown.push(value.copy()?)?;
+            }
+        }
+        Ok(shown)
+    }
+
+    /// The values of the attributes whose updates have this order.
+    fn values_of_order(
+        &self,
+        order: Order,
+        values: &[HandleValuePair],
+    ) -> Result<List<HandleValuePair>, Fault>
+        ensures ok { IfOk result (λ part. part ≡ values_of_order (state_of self.now).directory order values.now) }
+        ensures err { IfErr result (λ e. e ≡ Fault.OutOfMemory) }
+    {
+        let mut part = List::new(self.alloc);
+        for value in values {
+            if self.catalogue.attribute_order(value.handle) == order {
+                part.push(value.copy()?)?;
+            }
+        }
+        Ok(part)
+    }
+
+    /// Adds an interaction for each federate that receives it, at the class at which it does.
+    fn address_interaction(
+        &self,
+        outbox: &mut Outbox,
+        sender: FederateNo,
+        serial: Serial,
+        class: ClassNo,
+        values: &[HandleValuePair],
+    ) -> Result<(), Fault>
+        requires { IsWhole self.now }
+        ensures ok { OnOk result (HasAdded (message_to (state_of self.now).directory sender serial (record { order = Receive; body = AnInteraction class values.now })) outbox.old outbox.new) }
+        ensures err { IfErr result (λ e. e ≡ Fault.OutOfMemory) }
+    {
+        let receivers = self
+            .declarations
+            .receivers_of_interaction_class(self.alloc, &self.catalogue, sender, class)?;
+        for receiver in receivers.as_slice() {
+            let values = self.shown_parameters(receiver.class, values)?;
+            let content = Content::Interaction {
+                class: receiver.class,
+                values,
+            };
+            outbox.put(receiver.federate, plain_event(sender, serial, content))?;
+        }
+        Ok(())
+    }
+
+    /// Adds an update for each federate that receives it, with the attributes that it is shown.
+    fn address_update(
+        &self,
+        outbox: &mut Outbox,
+        sender: FederateNo,
+        serial: Serial,
+        object: ObjectNo,
+        values: &[HandleValuePair],
+    ) -> Result<(), Fault>
+        requires { IsWhole self.now }
+        ensures ok { OnOk result (HasAdded (message_to (state_of self.now).directory sender serial (record { order = Receive; body = AnUpdate object values.now })) outbox.old outbox.new) }
+        ensures err { IfErr result (λ e. e ≡ Fault.OutOfMemory) }
+    {
+        let class = self.registry.class_of(object);
+        let receivers = self
+            .declarations
+            .receivers_of_object_class(self.alloc, &self.catalogue, sender, class)?;
+        for receiver in receivers.as_slice() {
+            let values = self.shown_attributes(receiver.federate, receiver.class, values)?;
+            if !values.is_empty() {
+                let content = Content::Reflection { object, values };
+                outbox.put(receiver.federate, plain_event(sender, serial, content))?;
+            }
+        }
+        Ok(())
+    }
+
+    /// Whether the removal of an object goes to a federate: to each other to which it is known.
+    fn receives_removal(&self, sender: FederateNo, object: ObjectNo, federate: FederateNo) -> bool
+        ensures { let d = (state_of self.now).directory in result ≡ is_other d.joined sender federate && d.known object federate }
+    {
+        federate != sender
+            && self.members.is_joined(federate)
+            && self.registry.was_made_known(object, federate)
+    }
+
+    /// Adds the removal of an object for each other federate to which it is known.
+    pub fn address_removal(
+        &self,
+        outbox: &mut Outbox,
+        sender: FederateNo,
+        serial: Serial,
+        object: ObjectNo,
+    ) -> Result<(), Fault>
+        requires { IsWhole self.now }
+        ensures ok { OnOk result (HasAdded (message_to (state_of self.now).directory sender serial (record { order = Receive; body = ADeletion object })) outbox.old outbox.new) }
+        ensures err { IfErr result (λ e. e ≡ Fault.OutOfMemory) }
+    {
+        let end = self.members.next_federate();
+        for peer in 1..end {
+            if self.receives_removal(sender, object, peer) {
+                let content = Content::Removal { object };
+                outbox.put(peer, plain_event(sender, serial, content))?;
+            }
+        }
+        Ok(())
+    }
+
+    /// Adds the part of an update that has one order, if there is one, and answers how many messages that makes.
+    fn address_part(
+        &self,
+        outbox: &mut Outbox,
+        sender: FederateNo,
+        serial: Serial,
+        object: ObjectNo,
+        values: &[HandleValuePair],
+    ) -> Result<u64, Fault>
+        requires { IsWhole self.now }
+        ensures count { IfOk result (λ n. n ≡ length (part_sent Receive object values.now)) }
+        ensures ok { OnOk result (HasAdded (messages_to (state_of self.now).directory sender serial (part_sent Receive object values.now)) outbox.old outbox.new) }
+        ensures err { IfErr result (λ e. e ≡ Fault.OutOfMemory) }
+    {
+        if values.is_empty() {
+            return Ok(0);
+        }
+        self.address_update(outbox, sender, serial, object, values)?;
+        Ok(1)
+    }
+
+    /// Send Interaction, without a stamp.
+    pub fn send_interaction(
+        &mut self,
+        federate: FederateNo,
+        class: ClassNo,
+        values: &[HandleValuePair],
+    ) -> Result<Answer, Fault>
+        requires { IsSound self.old }
+        ensures whole { IsWhole self.new }
+        ensures done { Does self.old (step.Call federate (service.SendInteraction class values.now None)) result self.new }
+        ensures refused { Refuses self.old (step.Call federate (service.SendInteraction class values.now None)) result }
+        ensures unchanged { OnErr result (self.new ≡ self.old) }
+    {
+        if let Some(fault) = self.send_fault(federate, class, values) {
+            return Err(fault);
+        }
+        let serial = self.members.next_serial(federate);
+        let values = by_handle(self.alloc, values)?;
+        let mut outbox = Outbox::new(self.alloc)?;
+        self.address_interaction(&mut outbox, federate, serial, class, values.as_slice())?;
+        self.members.send_all(federate, outbox, 1)?;
+        Ok(Answer::Sent(None))
+    }
+
+    /// Update Attribute Values, without a stamp. The attributes whose updates go in receive order make one message, the
+    /// others another one after it.
+    pub fn update_attribute_values(
+        &mut self,
+        federate: FederateNo,
+        object: ObjectNo,
+        values: &[HandleValuePair],
+    ) -> Result<Answer, Fault>
+        requires { IsSound self.old }
+        ensures whole { IsWhole self.new }
+        ensures done { Does self.old (step.Call federate (service.UpdateAttributeValues object values.now None)) result self.new }
+        ensures refused { Refuses self.old (step.Call federate (service.UpdateAttributeValues object values.now None)) result }
+        ensures unchanged { OnErr result (self.new ≡ self.old) }
+    {
+        if let Some(fault) = self.update_fault(federate, object, values) {
+            return Err(fault);
+        }
+        let serial = self.members.next_serial(federate);
+        let values = by_handle(self.alloc, values)?;
+        let received = self.values_of_order(Order::Receive, values.as_slice())?;
+        let stamped = self.values_of_order(Order::Timestamp, values.as_slice())?;
+        let mut outbox = Outbox::new(self.alloc)?;
+        let first = self.address_part(&mut outbox, federate, serial, object, received.as_slice())?;
+        let second = self.address_part(
+            &mut outbox,
+            federate,
+            serial + first,
+            object,
+            stamped.as_slice(),
+        )?;
+        self.members.send_all(federate, outbox, first + second)?;
+        Ok(Answer::Sent(None))
+    }
+
+    /// Delete Object Instance, without a stamp.
+    pub fn delete_object_instance(
+        &mut self,
+        federate: FederateNo,
+        object: ObjectNo,
+    ) -> Result<Answer, Fault>
+        requires { IsSound self.old }
+        ensures whole { IsWhole self.new }
+        ensures done { Does self.old (step.Call federate (service.DeleteObjectInstance object None)) result self.new }
+        ensures refused { Refuses self.old (step.Call federate (service.DeleteObjectInstance object None)) result }
+        ensures unchanged { OnErr result (self.new ≡ self.old) }
+    {
+        if let Some(fault) = self.delete_fault(federate, object) {
+            return Err(fault);
+        }
+        let serial = self.members.next_serial(federate);
+        let mut outbox = Outbox::new(self.alloc)?;
+        self.address_removal(&mut outbox, federate, serial, object)?;
+        self.members.send_all(federate, outbox, 1)?;
+        self.registry.delete(object);
+        Ok(Answer::Done)
+    }
 }

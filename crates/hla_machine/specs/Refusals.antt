@@ -43,8 +43,9 @@ pub record Seen : Type 0 where
 abbrev pub is_name_joined : Directory → List ℕ → Bool
 is_name_joined d name = list_any (λ f. d.joined f && bytes_eq (d.name f) name) (numbers_below d.next_federate)
 
+-- was the name ever given to an object; their numbers begin with 1
 abbrev pub is_name_used : Directory → List ℕ → Bool
-is_name_used d name = list_any (λ h. bytes_eq (d.object h).name name) (numbers_below d.next_object)
+is_name_used d name = list_any (λ h. not (eqb h 0) && bytes_eq (d.object h).name name) (numbers_below d.next_object)
 
 abbrev pub is_length_in : ℕ → ℕ → List ℕ → Bool
 is_length_in least most name = not (ltb (length name) least) && not (ltb most (length name))

@@ -1,6 +1,6 @@
 //! A wire from one component to another.
 
-ghost use Rattle.std.specs.Prelude.{◌≡◌, ◌++◌, ◌∷◌, [], OnOk, OnErr, IfErr, drop, slice_get, IsTrue, ◌↔◌, ◌-◌, take, length};
+ghost use Rattle.std.specs.Prelude.{◌≡◌, ◌++◌, ◌∷◌, ◌<◌, ◌≤◌, ◌-◌, [], OnOk, IfErr, drop, slice_get, IsTrue, ◌↔◌, length};
 ghost use Rattle.std.specs.Option.{option_copied};
 ghost use Rattle.hla_base.specs.declared.fault.Fault.TheVariants.{OutOfMemory};
 
@@ -10,69 +10,91 @@ use std::alloc::Global;
 use std::collections::VecDeque;
 use std::marker::Model;
 
-/// The messages that are under way from one federate to another, first in, first out.
+/// The messages that are under way from one federate to another, first in, first out. Contracts see them, and for how
+/// many more there is room.
 #[derive(Debug, Drop)]
 pub struct Wire {
     messages: VecDeque<Message>,
 }
 
 impl Model for Wire {
-    ghost use Rattle.std.specs.Prelude.{List};
-    ghost use Rattle.hla_null_message.specs.declared.message.Message.{Message};
+    ghost use Rattle.std.specs.Prelude.{◌-◌};
+    ghost use Rattle.std.specs.VecDeque.{deque_capacity, deque_len};
+    ghost use Rattle.hla_null_message.specs.WireValue.{WireValue};
 
-    ghost Value = { List Message };
+    ghost Value = { WireValue };
 
-    ghost view = { λ w. w.messages.items };
+    ghost view = { λ w. record { messages = w.messages.items; room = deque_capacity w.messages - deque_len w.messages } };
 }
 
 impl Wire {
     /// A wire with nothing on it; it takes no memory.
     pub fn new(alloc: Global) -> Wire
-        ensures { result ≡ [] }
+        ensures { result.messages ≡ [] }
     {
         Wire {
             messages: VecDeque::new(alloc),
         }
     }
 
-    /// Puts a message on the wire, behind the others; `OutOfMemory`, and the wire as it was, where a growth was refused.
-    pub fn put(&mut self, message: Message) -> Result<(), Fault>
-        ensures ok { OnOk result (self.new ≡ self.old ++ message ∷ []) }
+    /// Makes room for this many more messages; `OutOfMemory` where that was refused. The messages stay as they are.
+    pub fn reserve(&mut self, count: usize) -> Result<(), Fault>
+        ensures messages { self.new.messages ≡ self.old.messages }
+        ensures ok { OnOk result (count ≤ self.new.room) }
+        ensures more { self.old.room ≤ self.new.room }
         ensures err { IfErr result (λ e. e ≡ Fault.OutOfMemory) }
-        ensures unchanged { OnErr result (self.new ≡ self.old) }
     {
-        match self.messages.push_back(message) {
+        match self.messages.reserve(count) {
             Ok(()) => Ok(()),
             Err(_) => Err(Fault::OutOfMemory),
         }
     }
 
+    /// Puts a message on the wire, behind the others. It takes no memory.
+    pub fn put(&mut self, message: Message)
+        requires { 0 < self.old.room }
+        ensures messages { self.new.messages ≡ self.old.messages ++ message ∷ [] }
+        ensures room { self.new.room ≡ self.old.room - 1 }
+    {
+        self.messages.push_back_reserved(message);
+    }
+
+    /// Puts messages on the wire, one behind the other. It takes no memory.
+    pub fn append(&mut self, messages: Vec<Message>)
+        requires { length messages.items ≤ self.old.room }
+        ensures { self.new.messages ≡ self.old.messages ++ messages.items }
+    {
+        for message in messages {
+            self.put(message);
+        }
+    }
+
     /// The message that was put first, if there is one.
     pub fn first(&self) -> Option<&Message>
-        ensures { option_copied result ≡ slice_get self.now 0 }
+        ensures { option_copied result ≡ slice_get self.now.messages 0 }
     {
         self.messages.front()
     }
 
     /// Whether nothing is on the wire.
     pub fn is_empty(&self) -> bool
-        ensures { IsTrue result ↔ (self.now ≡ []) }
+        ensures { IsTrue result ↔ (self.now.messages ≡ []) }
     {
         self.messages.is_empty()
     }
 
     /// Takes the message that was put first, if there is one.
     pub fn take_first(&mut self) -> Option<Message>
-        ensures first { result ≡ slice_get self.old 0 }
-        ensures rest { self.new ≡ drop 1 self.old }
+        ensures first { result ≡ slice_get self.old.messages 0 }
+        ensures rest { self.new.messages ≡ drop 1 self.old.messages }
     {
         self.messages.pop_front()
     }
 
-    /// Takes back the message that was put last, if there is one.
-    pub fn take_last(&mut self) -> Option<Message>
-        ensures { self.new ≡ take (length self.old - 1) self.old }
+    /// Takes all messages off.
+    pub fn clear(&mut self)
+        ensures { self.new.messages ≡ [] }
     {
-        self.messages.pop_back()
+        self.messages.clear();
     }
 }

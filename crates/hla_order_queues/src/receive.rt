@@ -65,4 +65,11 @@ impl RoQueue {
     {
         self.events.pop_front()
     }
+
+    /// Takes all events out.
+    pub fn clear(&mut self)
+        ensures { self.new.events ≡ [] }
+    {
+        self.events.clear();
+    }
 }

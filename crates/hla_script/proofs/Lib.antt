@@ -2,6 +2,8 @@ pub mod WordLemmas
 pub mod LineLemmas
 pub mod PairLemmas
 pub mod WriteLemmas
+pub mod NumberLemmas
+pub mod MemberLemmas
 pub mod KeepLemmas
 pub mod PlayLemmas
 pub mod ListLemmas

@@ -11,7 +11,9 @@ use Rattle.hla_machine.specs.declared.step.Outcome.{Outcome}
 use Rattle.hla_machine.specs.declared.step.Outcome.TheVariants as outcome
 use Rattle.hla_machine.specs.declared.step.Record.{Record}
 use Rattle.hla_script.specs.declared.lines.Line.{Line}
-use Rattle.hla_script.specs.Playing.{Ends, WithoutStep, Full, OutOfMemory, IsAnswered, IsPlayed, Plays, transcript, members, without_step}
+use Rattle.hla_script.specs.Playing.{Ends, WithoutStep, Full, OutOfMemory, IsAnswered, IsPlayed, Plays, transcript}
+use Rattle.hla_script.specs.Members.{members}
+use Rattle.hla_script.specs.Requests.{without_step}
 use Rattle.hla_script.specs.Printed.{line_text}
 use Rattle.hla_script.proofs.WriteLemmas.{appends_none, appends_more}
 use Rattle.std.specs.Io.KnownBytes.{Appends}

@@ -2,6 +2,8 @@ pub mod Words
 pub mod Reading
 pub mod Script
 pub mod Printed
+pub mod Members
+pub mod Requests
 pub mod Playing
 pub mod Keeping
 pub mod FaultName

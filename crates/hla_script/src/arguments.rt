@@ -1,14 +1,17 @@
 //! The words of a command, one after another.
 
-ghost use Rattle.std.specs.Prelude.{◌≡◌, ◌==◌, ◌≤◌, ◌∷◌, [], length, not, IfOk, IfErr, OnOk};
-ghost use Rattle.std.specs.List.{prefix_len, position_or_len};
+ghost use Rattle.std.specs.Prelude.{◌≡◌, ◌==◌, ◌<◌, ◌≤◌, ◌++◌, ◌∷◌, [], length, not, true, nat_lt, IfOk, IfErr, OnOk, IfSome, MatchOption};
+ghost use Rattle.std.specs.List.{prefix_len, position_or_len, list_all};
+ghost use Rattle.std.specs.Char.{is_ascii_digit};
+ghost use Rattle.std.specs.Str.Parse.{digits_value};
 ghost use Rattle.hla_script.specs.Reading.{Means, Reads};
-ghost use Rattle.hla_script.specs.Script.{name_in, federate_in, pair_of, pairs_of};
+ghost use Rattle.hla_script.specs.Script.{name_in, optional_in, names_in, federate_in, action_in, number_of, number_in, pair_of, pairs_of};
 
 use crate::lines::{NameValuePair, ScriptFaultKind};
-use crate::vocabulary::Opening;
+use crate::vocabulary::{Opening, action_of};
 use crate::words::Words;
 use hla_base::List;
+use hla_machine::ResignAction;
 use std::alloc::Global;
 
 /// The next word.
@@ -39,6 +42,83 @@ pub fn name(alloc: Global, words: &mut Words<'_>) -> Result<List<u8>, ScriptFaul
 {
     let word = word(words)?;
     owned(alloc, word)
+}
+
+/// A name that may be left out.
+pub fn optional(alloc: Global, words: &mut Words<'_>) -> Result<Option<List<u8>>, ScriptFaultKind>
+    ensures { Reads result words.new (optional_in words.old) }
+{
+    match words.next() {
+        Some(word) => Ok(Some(owned(alloc, word)?)),
+        None => Ok(None),
+    }
+}
+
+/// Names from the FED file up to the end of the line.
+pub fn names(alloc: Global, words: &mut Words<'_>) -> Result<List<List<u8>>, ScriptFaultKind>
+    ensures { Reads result words.new (names_in words.old) }
+{
+    let mut found = List::new(alloc);
+    while let Some(word) = words.next() {
+        let name = owned(alloc, word)?;
+        if found.push(name).is_err() {
+            return Err(ScriptFaultKind::OutOfMemory);
+        }
+    }
+    Ok(found)
+}
+
+/// The action of a resignation.
+pub fn action(words: &mut Words<'_>) -> Result<ResignAction, ScriptFaultKind>
+    ensures { Reads result words.new (action_in words.old) }
+{
+    let word = word(words)?;
+    match action_of(word) {
+        Some(action) => Ok(action),
+        None => Err(ScriptFaultKind::BadWord),
+    }
+}
+
+fn are_digits(word: &[u8]) -> bool
+    ensures { result ≡ list_all is_ascii_digit word.now }
+{
+    word.iter().all(u8::is_ascii_digit)
+}
+
+/// The number that decimal digits say, if it is not above the largest.
+fn digits_value(digits: &[u8]) -> Option<u64>
+    requires { list_all is_ascii_digit digits.now ≡ true }
+    ensures value { MatchOption result (18446744073709551615 < digits_value 10 digits.now) (λ n. n ≡ digits_value 10 digits.now) }
+    ensures within { IfSome result (λ n. n ≤ 18446744073709551615) }
+{
+    let mut value: u64 = 0;
+    for digit in digits {
+        value = value
+            .checked_mul(10)?
+            .checked_add(u64::from(*digit - b'0'))?;
+    }
+    Some(value)
+}
+
+/// The number that a word of decimal digits says.
+fn number_of(word: &[u8]) -> Result<u64, ScriptFaultKind>
+    ensures { result ≡ number_of word.now }
+{
+    if word.is_empty() || !are_digits(word) {
+        return Err(ScriptFaultKind::BadNumber);
+    }
+    match digits_value(word) {
+        Some(number) => Ok(number),
+        None => Err(ScriptFaultKind::BadNumber),
+    }
+}
+
+/// A number.
+pub fn number(words: &mut Words<'_>) -> Result<u64, ScriptFaultKind>
+    ensures { Reads result words.new (number_in words.old) }
+{
+    let word = word(words)?;
+    number_of(word)
 }
 
 /// A federate's name.

@@ -3,53 +3,34 @@
 ghost use Rattle.std.specs.Prelude.{◌≡◌, ◌<◌, ◌+◌, ◌≤◌, [], Some, None, IfOk, IfErr, OnErr, option_map, codes, vec_len, vec_capacity};
 ghost use Rattle.hla_machine.specs.declared.step.Choice.TheVariants as choice;
 ghost use Rattle.hla_machine.specs.declared.step.Act.TheVariants as act;
-ghost use Rattle.hla_script.specs.Keeping.{central_of};
-ghost use Rattle.hla_script.specs.Playing.{name_joining, with_name, act_of, command_step, created_with};
+ghost use Rattle.hla_script.specs.Requests.{request_of};
+ghost use Rattle.hla_script.specs.Playing.{act_of, created_with};
 ghost use Rattle.hla_federation.specs.State.{IsBuilt};
-ghost use Rattle.hla_script.specs.Keeping.{IsStepped, IsActed};
+ghost use Rattle.hla_script.specs.Keeping.{central_of, standing, IsStepped, IsDestroyed, IsActed};
 
 use crate::lines::Command;
-use crate::members::Member;
-use crate::steps;
-use hla_base::{ExecutionName, Fault, List, Plain};
+use crate::members::{Change, Member, note};
+use crate::steps::Request;
+use hla_base::{ExecutionName, Fault, Plain};
 use hla_fed_file::Catalogue;
 use hla_federation::Federation;
 use hla_machine::{Act, Answer, Choice, Outcome, Record, Step};
 use std::alloc::Global;
 
-/// The execution named `play`, which may not be there, with what its FED file says and the federates that have joined.
+/// The most executions that a script may create, one after another.
+const CREATE_LIMIT: u32 = 64;
+
+/// The execution named `play`, which may not be there, with what its FED file says and the federates that have joined
+/// since it was last created.
 #[derive(Drop)]
 pub struct Execution {
     pub alloc: Global,
     pub name: ExecutionName,
     pub catalogue: Catalogue,
+    /// How often it was created.
+    pub creates: u32,
     pub federation: Option<Federation>,
     pub members: Vec<Member>,
-}
-
-/// The name under which a step joins.
-fn name_joining(step: &Step) -> Result<Option<List<u8>>, Fault>
-    ensures ok { IfOk result (λ name. name ≡ name_joining step.now) }
-{
-    match step {
-        Step::Join { name } => Ok(Some(name.copy()?)),
-        _ => Ok(None),
-    }
-}
-
-/// Adds the federate that joined, if one did.
-fn note(members: &mut Vec<Member>, name: Option<List<u8>>, outcome: &Outcome)
-    requires { vec_len members.old + 1 ≤ vec_capacity members.old }
-    ensures { members.new.items ≡ with_name members.old.items name outcome.now }
-{
-    if let Some(name) = name {
-        if let Outcome::Done(Answer::Federate(number)) = outcome {
-            members.push_reserved(Member {
-                name,
-                number: *number,
-            });
-        }
-    }
 }
 
 /// Does a step, and answers how it ended; where memory ran out it is not done.
@@ -72,6 +53,22 @@ fn stepped(federation: &mut Option<Federation>, step: &Step) -> Result<Outcome, 
     }
 }
 
+/// Destroys the execution where it is there and no federate is joined.
+fn destroyed(federation: &mut Option<Federation>) -> Outcome
+    ensures { IsDestroyed (option_map central_of federation.old) result (option_map central_of federation.new) }
+{
+    match federation {
+        None => return Outcome::Refused(Fault::FederationExecutionDoesNotExist),
+        Some(here) => {
+            if here.is_joined_by_any() {
+                return Outcome::Refused(Fault::FederatesCurrentlyJoined);
+            }
+        }
+    }
+    *federation = None;
+    Outcome::Done(Answer::Done)
+}
+
 fn recorded(name: ExecutionName, act: Act, outcome: Outcome) -> Record
     ensures { result ≡ record { actor = 0; execution = name; act = act; outcome = outcome; choice = choice.None } }
 {
@@ -89,6 +86,7 @@ impl Execution {
     pub fn new(alloc: Global, name: ExecutionName, catalogue: Catalogue) -> Execution
         ensures name { result.name ≡ name }
         ensures catalogue { result.catalogue ≡ catalogue }
+        ensures creates { result.creates ≡ 0 }
         ensures federation { result.federation ≡ None }
         ensures members { result.members.items ≡ [] }
     {
@@ -96,6 +94,7 @@ impl Execution {
             alloc,
             name,
             catalogue,
+            creates: 0,
             federation: None,
             members: Vec::new(alloc),
         }
@@ -104,29 +103,32 @@ impl Execution {
     /// Does what a line asks for that makes a step, and answers its record. Where memory runs out, nothing has changed.
     pub fn act(&mut self, command: &Command) -> Result<Record, Fault>
         requires { self.old.name ≡ codes "play" }
-        ensures ok { IfOk result (λ r. IsActed (act_of self.old.catalogue (command_step self.old.catalogue self.old.members.items command.now) r.outcome) (option_map central_of self.old.federation) self.old.members.items r (option_map central_of self.new.federation) self.new.members.items) }
+        ensures ok { IfOk result (λ r. IsActed (act_of self.old.catalogue (request_of self.old.catalogue self.old.members.items command.now) r.outcome) (standing self.old.creates self.old.federation) self.old.members.items r (standing self.new.creates self.new.federation) self.new.members.items) }
         ensures err { OnErr result (self.new.federation ≡ self.old.federation) }
+        ensures creates { OnErr result (self.new.creates ≡ self.old.creates) }
         ensures members { OnErr result (self.new.members.items ≡ self.old.members.items) }
         ensures catalogue { self.new.catalogue ≡ self.old.catalogue }
         ensures name { self.new.name ≡ self.old.name }
     {
-        let step = steps::command_step(
+        let request = Request::of(
             self.alloc,
             &self.catalogue,
             self.members.as_slice(),
             command,
         )?;
-        match step {
-            None => self.create(),
-            Some(step) => self.take(step),
+        match request {
+            Request::Create => self.create(),
+            Request::Destroy => Ok(self.destroy()),
+            Request::Step(step) => self.take(step),
         }
     }
 
     /// Creates the execution, unless it is there.
     fn create(&mut self) -> Result<Record, Fault>
         requires { self.old.name ≡ codes "play" }
-        ensures ok { IfOk result (λ r. IsActed (act.Create (created_with self.old.catalogue r.outcome)) (option_map central_of self.old.federation) self.old.members.items r (option_map central_of self.new.federation) self.new.members.items) }
+        ensures ok { IfOk result (λ r. IsActed (act.Create (created_with self.old.catalogue r.outcome)) (standing self.old.creates self.old.federation) self.old.members.items r (standing self.new.creates self.new.federation) self.new.members.items) }
         ensures err { OnErr result (self.new.federation ≡ self.old.federation) }
+        ensures creates { OnErr result (self.new.creates ≡ self.old.creates) }
         ensures members { OnErr result (self.new.members.items ≡ self.old.members.items) }
         ensures catalogue { self.new.catalogue ≡ self.old.catalogue }
         ensures name { self.new.name ≡ self.old.name }
@@ -139,8 +141,18 @@ impl Execution {
             ));
         }
         let held = self.catalogue.copy()?;
+        if self.creates >= CREATE_LIMIT {
+            return Ok(recorded(
+                self.name,
+                Act::Create {
+                    catalogue: Some(held),
+                },
+                Outcome::Refused(Fault::LimitReached),
+            ));
+        }
         let used = self.catalogue.copy()?;
         self.federation = Some(Federation::new(self.alloc, used));
+        self.creates += 1;
         self.members.clear();
         Ok(recorded(
             self.name,
@@ -151,22 +163,34 @@ impl Execution {
         ))
     }
 
+    /// Destroys the execution, where it may be.
+    fn destroy(&mut self) -> Record
+        requires { self.old.name ≡ codes "play" }
+        ensures ok { IsActed act.Destroy (standing self.old.creates self.old.federation) self.old.members.items result (standing self.new.creates self.new.federation) self.new.members.items }
+        ensures catalogue { self.new.catalogue ≡ self.old.catalogue }
+        ensures name { self.new.name ≡ self.old.name }
+    {
+        let outcome = destroyed(&mut self.federation);
+        recorded(self.name, Act::Destroy, outcome)
+    }
+
     /// Does a step of the execution.
     fn take(&mut self, step: Step) -> Result<Record, Fault>
         requires name { self.old.name ≡ codes "play" }
         requires built { IsBuilt step }
-        ensures ok { IfOk result (λ r. IsActed (act.Step step) (option_map central_of self.old.federation) self.old.members.items r (option_map central_of self.new.federation) self.new.members.items) }
+        ensures ok { IfOk result (λ r. IsActed (act.Step step) (standing self.old.creates self.old.federation) self.old.members.items r (standing self.new.creates self.new.federation) self.new.members.items) }
         ensures err { OnErr result (self.new.federation ≡ self.old.federation) }
+        ensures creates { OnErr result (self.new.creates ≡ self.old.creates) }
         ensures members { OnErr result (self.new.members.items ≡ self.old.members.items) }
         ensures catalogue { self.new.catalogue ≡ self.old.catalogue }
         ensures name { self.new.name ≡ self.old.name }
     {
-        let name = name_joining(&step)?;
+        let change = Change::of(&step)?;
         if self.members.reserve(1).is_err() {
             return Err(Fault::OutOfMemory);
         }
         let outcome = stepped(&mut self.federation, &step)?;
-        note(&mut self.members, name, &outcome);
+        note(&mut self.members, change, &outcome);
         Ok(recorded(self.name, Act::Step(step), outcome))
     }
 }

@@ -1,16 +1,15 @@
 //! The records of what a script does.
 
-ghost use Rattle.std.specs.Prelude.{◌≡◌, ◌≢◌, ◌++◌, ◌∷◌, ◌≤◌, ◌<◌, [], OnOk, OnErr, IfErr, length, option_map, codes, vec_len, vec_capacity};
-ghost use Rattle.hla_script.specs.Keeping.{central_of};
+ghost use Rattle.std.specs.Prelude.{◌≡◌, ◌≢◌, ◌++◌, ◌∷◌, ◌≤◌, ◌<◌, [], OnOk, OnErr, IfErr, length, codes, vec_len, vec_capacity};
 ghost use Rattle.hla_script.specs.Playing.{IsAnswered};
 ghost use Rattle.hla_script.specs.Printed.{line_text};
-ghost use Rattle.hla_script.specs.Keeping.{IsKept};
+ghost use Rattle.hla_script.specs.Keeping.{standing, IsKept};
 ghost use Rattle.hla_machine.specs.declared.step.Outcome.TheVariants as outcome;
 
 use crate::execution::Execution;
 use crate::lines::Line;
 use crate::printing;
-use crate::steps::without_step;
+use crate::refusals::without_step;
 use crate::text::Text;
 use hla_base::Fault;
 use hla_fed_file::Catalogue;
@@ -35,10 +34,10 @@ pub fn play_line(
     text: &mut Text,
 ) -> Result<(), Fault>
     requires name { execution.old.name ≡ codes "play" }
-    requires kept { IsKept records.old.items (option_map central_of execution.old.federation) execution.old.members.items }
+    requires kept { IsKept records.old.items (standing execution.old.creates execution.old.federation) execution.old.members.items }
     ensures name { execution.new.name ≡ execution.old.name }
     ensures catalogue { execution.new.catalogue ≡ execution.old.catalogue }
-    ensures kept { OnOk result (IsKept records.new.items (option_map central_of execution.new.federation) execution.new.members.items) }
+    ensures kept { OnOk result (IsKept records.new.items (standing execution.new.creates execution.new.federation) execution.new.members.items) }
     ensures answered { OnOk result (IsAnswered execution.old.catalogue line.now records.old.items records.new.items text.old text.new) }
 {
     let number = line.number;

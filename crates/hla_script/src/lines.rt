@@ -4,41 +4,94 @@ ghost use Rattle.std.specs.Prelude.{◌≡◌};
 ghost use Rattle.hla_script.specs.FaultName.{kind_name};
 
 use hla_base::List;
+use hla_machine::ResignAction;
 use thiserror::Error;
 
-/// A parameter by its name, with its value.
+/// An attribute or a parameter by its name, with its value.
 #[derive(Debug, Drop)]
 pub struct NameValuePair {
     pub name: List<u8>,
     pub value: List<u8>,
 }
 
-/// What a federate does.
+/// What a federate declares of a class.
+#[derive(Clone, Copy, Debug, PartialEq, Eq)]
+pub enum Declaration {
+    /// That it publishes the class.
+    Publication,
+    /// That it subscribes to the class.
+    Subscription,
+}
+
+/// What a federate does. Classes, attributes and parameters are named as in the FED file; an object goes by its number,
+/// from 1, which may be larger than that of any object.
 #[derive(Debug, Drop)]
 pub enum Call {
-    /// It picks up a callback.
+    /// Tick: it picks up a callback.
     Tick,
-    /// It publishes an interaction class.
-    PublishInteraction {
+    /// Resign Federation Execution.
+    Resign {
+        action: ResignAction,
+    },
+    /// Publish Object Class, or Subscribe Object Class Attributes.
+    DeclareObject {
+        declaration: Declaration,
+        class: List<u8>,
+        attributes: List<List<u8>>,
+    },
+    /// Unpublish Object Class, or Unsubscribe Object Class.
+    WithdrawObject {
+        declaration: Declaration,
         class: List<u8>,
     },
-    /// It subscribes to an interaction class.
-    SubscribeInteraction {
+    /// Publish Interaction Class, or Subscribe Interaction Class.
+    DeclareInteraction {
+        declaration: Declaration,
         class: List<u8>,
     },
-    /// It sends an interaction.
+    /// Unpublish Interaction Class, or Unsubscribe Interaction Class.
+    WithdrawInteraction {
+        declaration: Declaration,
+        class: List<u8>,
+    },
+    /// Register Object Instance, under a name or under that of its number.
+    Register {
+        class: List<u8>,
+        name: Option<List<u8>>,
+    },
+    /// Update Attribute Values, in receive order. The class is where the attributes are looked up.
+    Update {
+        object: u64,
+        class: List<u8>,
+        values: List<NameValuePair>,
+    },
+    /// Send Interaction, in receive order.
     Send {
         class: List<u8>,
         values: List<NameValuePair>,
+    },
+    /// Delete Object Instance, in receive order.
+    Delete {
+        object: u64,
+    },
+    /// Get Object Instance Handle.
+    ObjectHandle {
+        name: List<u8>,
+    },
+    /// Get Object Instance Name.
+    ObjectName {
+        object: u64,
     },
 }
 
 /// What a line asks for.
 #[derive(Debug, Drop)]
 pub enum Command {
-    /// The execution is created.
+    /// Create Federation Execution.
     Create,
-    /// A federate joins under a name.
+    /// Destroy Federation Execution.
+    Destroy,
+    /// Join Federation Execution, under a name.
     Join { name: List<u8> },
     /// The first message on the wire from one federate to another arrives.
     Carry { from: List<u8>, to: List<u8> },

@@ -3,11 +3,12 @@
 ghost use Rattle.std.specs.Prelude.{◌≡◌, ◌≤◌, length};
 ghost use Rattle.std.specs.List.{list_all};
 ghost use Rattle.hla_script.specs.Reading.{Means, Reads};
-ghost use Rattle.hla_script.specs.Script.{call_in, call_by, command_in, command_by, command_of, is_plain, script_of, Gives};
+ghost use Rattle.hla_script.specs.Script.{command_in, command_by, command_of, is_plain, script_of, Gives};
 
-use crate::arguments::{federate, name, owned, pairs, word};
-use crate::lines::{Call, Command, Line, Script, ScriptFault, ScriptFaultKind};
-use crate::vocabulary::{Opening, Verb};
+use crate::arguments::{federate, owned};
+use crate::calls::call;
+use crate::lines::{Command, Line, Script, ScriptFault, ScriptFaultKind};
+use crate::vocabulary::Opening;
 use crate::words::Words;
 use bstr::ByteSlice;
 use hla_base::List;
@@ -18,37 +19,6 @@ pub const SCRIPT_LIMIT: usize = 1_048_576;
 
 /// The most bytes of a line, without its line end.
 const LINE_LIMIT: usize = 4096;
-
-/// A verb with its words.
-fn call_by(alloc: Global, verb: Verb, words: &mut Words<'_>) -> Result<Call, ScriptFaultKind>
-    ensures { Reads result words.new (call_by verb words.old) }
-{
-    match verb {
-        Verb::Tick => Ok(Call::Tick),
-        Verb::PublishInteraction => Ok(Call::PublishInteraction {
-            class: name(alloc, words)?,
-        }),
-        Verb::SubscribeInteraction => Ok(Call::SubscribeInteraction {
-            class: name(alloc, words)?,
-        }),
-        Verb::Send => {
-            let class = name(alloc, words)?;
-            let values = pairs(alloc, words)?;
-            Ok(Call::Send { class, values })
-        }
-    }
-}
-
-/// What a federate does.
-fn call(alloc: Global, words: &mut Words<'_>) -> Result<Call, ScriptFaultKind>
-    ensures { Reads result words.new (call_in words.old) }
-{
-    let word = word(words)?;
-    match Verb::of(word) {
-        Some(verb) => call_by(alloc, verb, words),
-        None => Err(ScriptFaultKind::UnknownWord),
-    }
-}
 
 /// A command by its first word.
 fn command_by(
@@ -61,6 +31,7 @@ fn command_by(
 {
     match opening {
         Opening::Create => Ok(Command::Create),
+        Opening::Destroy => Ok(Command::Destroy),
         Opening::Join => Ok(Command::Join {
             name: federate(alloc, words)?,
         }),
@@ -154,3 +125,6 @@ pub fn parse(alloc: Global, text: &[u8]) -> Result<Script, ScriptFault>
     }
     Ok(found)
 }
+
+#[cfg(test)]
+mod tests;

@@ -1,130 +1,187 @@
-//! What a line asks for, as a step of the execution.
+//! What a line asks of the execution.
 
-ghost use Rattle.std.specs.Prelude.{◌≡◌, IfSome, ℕ, IfOk, map, nat_lt, length};
-ghost use Rattle.std.specs.List.{list_any};
-ghost use Rattle.hla_federation.specs.State.{IsBuilt};
-ghost use Rattle.hla_script.specs.Playing.{unknown_federate, unknown_class, class_number, is_unknown, is_too_long, bad_values, call_without_step, without_step, pair_value, call_step, federate_number, command_step};
+ghost use Rattle.std.specs.Prelude.{◌≡◌, IfSome, IfOk, None, map};
+ghost use Rattle.hla_machine.specs.declared.service.Service.TheVariants as service;
+ghost use Rattle.hla_federation.specs.State.{IsBuilt, IsBuiltService};
+ghost use Rattle.hla_script.specs.Keeping.{IsBuiltRequest};
+ghost use Rattle.hla_script.specs.Requests.{declared_object, withdrawn_object, declared_interaction, withdrawn_interaction, object_class_number, interaction_class_number, attribute_number, attribute_value, parameter_value, object_number, step_by, service_of, federate_number, joined_number, request_of};
 
-use crate::lines::{Call, Command, NameValuePair};
-use crate::members::{Member, federate_named};
-use hla_base::{ClassNo, Fault, FederateNo, HandleValuePair, List, Plain, Value};
+use crate::lines::{Call, Command, Declaration, NameValuePair};
+use crate::lookups::{
+    attribute_numbers, attribute_values, interaction_class_number, object_class_number,
+    object_number, parameter_values,
+};
+use crate::members::{Member, federate_named, joined_named};
+use hla_base::{Fault, FederateNo, List, Plain};
 use hla_fed_file::Catalogue;
 use hla_machine::{Service, Step};
 use std::alloc::Global;
 
-fn unknown_federate(members: &[Member], name: &[u8]) -> Option<Fault>
-    ensures { result ≡ unknown_federate members.now name.now }
-{
-    match federate_named(members, name) {
-        Some(_) => None,
-        None => Some(Fault::FederateNotExecutionMember),
-    }
+/// What a line asks of the execution.
+#[derive(Debug, Drop)]
+pub enum Request {
+    /// To create it.
+    Create,
+    /// To destroy it.
+    Destroy,
+    /// A step of it.
+    Step(Step),
 }
 
-fn unknown_class(catalogue: &Catalogue, class: &[u8]) -> Option<Fault>
-    ensures { result ≡ unknown_class catalogue.now class.now }
-{
-    match catalogue.interaction_class(class) {
-        Some(_) => None,
-        None => Some(Fault::NameNotFound),
-    }
-}
-
-fn class_number(catalogue: &Catalogue, class: &[u8]) -> ClassNo
-    ensures { result ≡ class_number catalogue.now class.now }
-{
-    catalogue.interaction_class(class).unwrap_or(0)
-}
-
-fn is_unknown(catalogue: &Catalogue, class: ClassNo, pair: &NameValuePair) -> bool
-    ensures { result ≡ is_unknown catalogue.now class pair.now }
-{
-    catalogue.parameter(class, pair.name.as_slice()).is_none()
-}
-
-fn is_too_long(pair: &NameValuePair) -> bool
-    ensures { result ≡ is_too_long pair.now }
-{
-    pair.value.len() > Value::LIMIT
-}
-
-fn any_unknown(catalogue: &Catalogue, class: ClassNo, values: &[NameValuePair]) -> bool
-    ensures { result ≡ list_any (is_unknown catalogue.now class) values.now }
-{
-    values.iter().any(|p| is_unknown(catalogue, class, p))
-}
-
-fn any_too_long(values: &[NameValuePair]) -> bool
-    ensures { result ≡ list_any is_too_long values.now }
-{
-    values.iter().any(is_too_long)
-}
-
-fn bad_values(catalogue: &Catalogue, class: ClassNo, values: &[NameValuePair]) -> Option<Fault>
-    ensures { result ≡ bad_values catalogue.now class values.now }
-{
-    if any_unknown(catalogue, class, values) {
-        Some(Fault::NameNotFound)
-    } else if any_too_long(values) {
-        Some(Fault::LimitReached)
-    } else {
-        None
-    }
-}
-
-fn call_without_step(catalogue: &Catalogue, call: &Call) -> Option<Fault>
-    ensures { result ≡ call_without_step catalogue.now call.now }
-{
-    match call {
-        Call::Tick => None,
-        Call::PublishInteraction { class } => unknown_class(catalogue, class.as_slice()),
-        Call::SubscribeInteraction { class } => unknown_class(catalogue, class.as_slice()),
-        Call::Send { class, values } => match unknown_class(catalogue, class.as_slice()) {
-            Some(fault) => Some(fault),
-            None => bad_values(
-                catalogue,
-                class_number(catalogue, class.as_slice()),
-                values.as_slice(),
-            ),
-        },
-    }
-}
-
-/// The fault with which a line is answered that makes no step, if it is one.
-pub fn without_step(catalogue: &Catalogue, members: &[Member], command: &Command) -> Option<Fault>
-    ensures { result ≡ without_step catalogue.now members.now command.now }
-{
-    match command {
-        Command::Create | Command::Join { .. } => None,
-        Command::Carry { from, to } => match unknown_federate(members, from.as_slice()) {
-            Some(fault) => Some(fault),
-            None => unknown_federate(members, to.as_slice()),
-        },
-        Command::Federate { name, call } => match unknown_federate(members, name.as_slice()) {
-            Some(fault) => Some(fault),
-            None => call_without_step(catalogue, call),
-        },
-    }
-}
-
-/// Pairs by their numbers.
-fn pair_values(
+fn declare_object(
     alloc: Global,
     catalogue: &Catalogue,
-    class: ClassNo,
-    values: &[NameValuePair],
-) -> Result<List<HandleValuePair>, Fault>
-    ensures { IfOk result (λ pairs. pairs ≡ map (pair_value catalogue.now class) values.now) }
+    declaration: Declaration,
+    class: &List<u8>,
+    attributes: &List<List<u8>>,
+) -> Result<Service, Fault>
+    ensures meant { IfOk result (λ s. s ≡ declared_object declaration (object_class_number catalogue.now class.now) (map (attribute_number catalogue.now (object_class_number catalogue.now class.now)) attributes.now)) }
+    ensures built { IfOk result IsBuiltService }
 {
-    let mut pairs = List::new(alloc);
-    for pair in values {
-        let handle = catalogue
-            .parameter(class, pair.name.as_slice())
-            .unwrap_or(0);
-        let value = Value::new(alloc, pair.value.as_slice())?;
-        pairs.push(HandleValuePair { handle, value })?;
+    let class = object_class_number(catalogue, class.as_slice());
+    let attributes = attribute_numbers(alloc, catalogue, class, attributes.as_slice())?;
+    match declaration {
+        Declaration::Publication => Ok(Service::PublishObjectClass { class, attributes }),
+        Declaration::Subscription => Ok(Service::SubscribeObjectClassAttributes {
+            class,
+            attributes,
+        }),
     }
-    Ok(pairs)
+}
+
+fn withdraw_object(catalogue: &Catalogue, declaration: Declaration, class: &List<u8>) -> Service
+    ensures meant { result ≡ withdrawn_object declaration (object_class_number catalogue.now class.now) }
+    ensures built { IsBuiltService result }
+{
+    let class = object_class_number(catalogue, class.as_slice());
+    match declaration {
+        Declaration::Publication => Service::UnpublishObjectClass { class },
+        Declaration::Subscription => Service::UnsubscribeObjectClass { class },
+    }
+}
+
+fn declare_interaction(catalogue: &Catalogue, declaration: Declaration, class: &List<u8>) -> Service
+    ensures meant { result ≡ declared_interaction declaration (interaction_class_number catalogue.now class.now) }
+    ensures built { IsBuiltService result }
+{
+    let class = interaction_class_number(catalogue, class.as_slice());
+    match declaration {
+        Declaration::Publication => Service::PublishInteractionClass { class },
+        Declaration::Subscription => Service::SubscribeInteractionClass { class },
+    }
+}
+
+fn withdraw_interaction(
+    catalogue: &Catalogue,
+    declaration: Declaration,
+    class: &List<u8>,
+) -> Service
+    ensures meant { result ≡ withdrawn_interaction declaration (interaction_class_number catalogue.now class.now) }
+    ensures built { IsBuiltService result }
+{
+    let class = interaction_class_number(catalogue, class.as_slice());
+    match declaration {
+        Declaration::Publication => Service::UnpublishInteractionClass { class },
+        Declaration::Subscription => Service::UnsubscribeInteractionClass { class },
+    }
+}
+
+fn register(
+    catalogue: &Catalogue,
+    class: &List<u8>,
+    name: &Option<List<u8>>,
+) -> Result<Service, Fault>
+    ensures meant { IfOk result (λ s. s ≡ service.RegisterObjectInstance (object_class_number catalogue.now class.now) name.now) }
+    ensures built { IfOk result IsBuiltService }
+{
+    Ok(Service::RegisterObjectInstance {
+        class: object_class_number(catalogue, class.as_slice()),
+        name: name.copy()?,
+    })
+}
+
+fn update(
+    alloc: Global,
+    catalogue: &Catalogue,
+    object: u64,
+    class: &List<u8>,
+    values: &List<NameValuePair>,
+) -> Result<Service, Fault>
+    ensures meant { IfOk result (λ s. s ≡ service.UpdateAttributeValues (object_number object) (map (attribute_value catalogue.now (object_class_number catalogue.now class.now)) values.now) None) }
+    ensures built { IfOk result IsBuiltService }
+{
+    let class = object_class_number(catalogue, class.as_slice());
+    Ok(Service::UpdateAttributeValues {
+        object: object_number(object),
+        values: attribute_values(alloc, catalogue, class, values.as_slice())?,
+        stamp: None,
+    })
+}
+
+fn send(
+    alloc: Global,
+    catalogue: &Catalogue,
+    class: &List<u8>,
+    values: &List<NameValuePair>,
+) -> Result<Service, Fault>
+    ensures meant { IfOk result (λ s. s ≡ service.SendInteraction (interaction_class_number catalogue.now class.now) (map (parameter_value catalogue.now (interaction_class_number catalogue.now class.now)) values.now) None) }
+    ensures built { IfOk result IsBuiltService }
+{
+    let class = interaction_class_number(catalogue, class.as_slice());
+    Ok(Service::SendInteraction {
+        class,
+        values: parameter_values(alloc, catalogue, class, values.as_slice())?,
+        stamp: None,
+    })
+}
+
+fn delete(object: u64) -> Service
+    ensures meant { result ≡ service.DeleteObjectInstance (object_number object) None }
+    ensures built { IsBuiltService result }
+{
+    Service::DeleteObjectInstance {
+        object: object_number(object),
+        stamp: None,
+    }
+}
+
+/// The service that a federate calls; a tick calls none.
+fn service(alloc: Global, catalogue: &Catalogue, call: &Call) -> Result<Option<Service>, Fault>
+    ensures meant { IfOk result (λ service. service ≡ service_of catalogue.now call.now) }
+    ensures built { IfOk result (λ service. IfSome service IsBuiltService) }
+{
+    match call {
+        Call::Tick => Ok(None),
+        Call::Resign { action } => Ok(Some(Service::Resign { action: *action })),
+        Call::DeclareObject {
+            declaration,
+            class,
+            attributes,
+        } => Ok(Some(declare_object(alloc, catalogue, *declaration, class, attributes)?)),
+        Call::WithdrawObject { declaration, class } => {
+            Ok(Some(withdraw_object(catalogue, *declaration, class)))
+        }
+        Call::DeclareInteraction { declaration, class } => {
+            Ok(Some(declare_interaction(catalogue, *declaration, class)))
+        }
+        Call::WithdrawInteraction { declaration, class } => {
+            Ok(Some(withdraw_interaction(catalogue, *declaration, class)))
+        }
+        Call::Register { class, name } => Ok(Some(register(catalogue, class, name)?)),
+        Call::Update {
+            object,
+            class,
+            values,
+        } => Ok(Some(update(alloc, catalogue, *object, class, values)?)),
+        Call::Send { class, values } => Ok(Some(send(alloc, catalogue, class, values)?)),
+        Call::Delete { object } => Ok(Some(delete(*object))),
+        Call::ObjectHandle { name } => Ok(Some(Service::GetObjectInstanceHandle {
+            name: name.copy()?,
+        })),
+        Call::ObjectName { object } => Ok(Some(Service::GetObjectInstanceName {
+            object: object_number(*object),
+        })),
+    }
 }
 
 fn call_step(
@@ -133,27 +190,13 @@ fn call_step(
     federate: FederateNo,
     call: &Call,
 ) -> Result<Step, Fault>
-    ensures meant { IfOk result (λ step. step ≡ call_step catalogue.now federate call.now) }
+    ensures meant { IfOk result (λ step. step ≡ step_by federate (service_of catalogue.now call.now)) }
     ensures built { IfOk result IsBuilt }
 {
-    let service = match call {
-        Call::Tick => return Ok(Step::Tick { federate }),
-        Call::PublishInteraction { class } => Service::PublishInteractionClass {
-            class: class_number(catalogue, class.as_slice()),
-        },
-        Call::SubscribeInteraction { class } => Service::SubscribeInteractionClass {
-            class: class_number(catalogue, class.as_slice()),
-        },
-        Call::Send { class, values } => {
-            let class = class_number(catalogue, class.as_slice());
-            Service::SendInteraction {
-                class,
-                values: pair_values(alloc, catalogue, class, values.as_slice())?,
-                stamp: None,
-            }
-        }
-    };
-    Ok(Step::Call { federate, service })
+    match service(alloc, catalogue, call)? {
+        None => Ok(Step::Tick { federate }),
+        Some(service) => Ok(Step::Call { federate, service }),
+    }
 }
 
 fn federate_number(members: &[Member], name: &[u8]) -> FederateNo
@@ -162,26 +205,35 @@ fn federate_number(members: &[Member], name: &[u8]) -> FederateNo
     federate_named(members, name).unwrap_or(0)
 }
 
-/// The step that a line asks for, `create` aside.
-pub fn command_step(
-    alloc: Global,
-    catalogue: &Catalogue,
-    members: &[Member],
-    command: &Command,
-) -> Result<Option<Step>, Fault>
-    ensures meant { IfOk result (λ step. step ≡ command_step catalogue.now members.now command.now) }
-    ensures built { IfOk result (λ step. IfSome step IsBuilt) }
+fn joined_number(members: &[Member], name: &[u8]) -> FederateNo
+    ensures { result ≡ joined_number members.now name.now }
 {
-    match command {
-        Command::Create => Ok(None),
-        Command::Join { name } => Ok(Some(Step::Join { name: name.copy()? })),
-        Command::Carry { from, to } => Ok(Some(Step::Carry {
-            from: federate_number(members, from.as_slice()),
-            to: federate_number(members, to.as_slice()),
-        })),
-        Command::Federate { name, call } => {
-            let federate = federate_number(members, name.as_slice());
-            Ok(Some(call_step(alloc, catalogue, federate, call)?))
+    joined_named(members, name).unwrap_or(0)
+}
+
+impl Request {
+    /// What a line asks for; an error is want of memory.
+    pub fn of(
+        alloc: Global,
+        catalogue: &Catalogue,
+        members: &[Member],
+        command: &Command,
+    ) -> Result<Request, Fault>
+        ensures meant { IfOk result (λ request. request ≡ request_of catalogue.now members.now command.now) }
+        ensures built { IfOk result IsBuiltRequest }
+    {
+        match command {
+            Command::Create => Ok(Request::Create),
+            Command::Destroy => Ok(Request::Destroy),
+            Command::Join { name } => Ok(Request::Step(Step::Join { name: name.copy()? })),
+            Command::Carry { from, to } => Ok(Request::Step(Step::Carry {
+                from: federate_number(members, from.as_slice()),
+                to: federate_number(members, to.as_slice()),
+            })),
+            Command::Federate { name, call } => {
+                let federate = joined_number(members, name.as_slice());
+                Ok(Request::Step(call_step(alloc, catalogue, federate, call)?))
+            }
         }
     }
 }

@@ -11,7 +11,7 @@ use std::io::Write;
 use std::process::Abort;
 use std::test::Fail;
 
-const FED: &str = "(FED
+pub const FED: &str = "(FED
  (Federation Demo)
  (FEDversion v1.3)
  (spaces)
@@ -32,7 +32,7 @@ const FED: &str = "(FED
 ";
 
 /// What a script prints over `FED`.
-fn played(rt: &impl Abort, alloc: Global, script: &str) -> Result<String, Fail> {
+pub fn played(rt: &impl Abort, alloc: Global, script: &str) -> Result<String, Fail> {
     let mut out = Vec::new(alloc);
     let _ = play(alloc, FED.as_bytes(), script.as_bytes(), &mut out)?;
     match String::from_utf8(out) {
@@ -173,17 +173,115 @@ carry\tA  A
 }
 
 #[test]
+fn tests_names_before_the_step(rt: HostRuntime) -> Result<(), Fail> {
+    let text = played(
+        &rt,
+        rt.alloc(),
+        "create
+join A
+A publishObject Hit
+A subscribeObject Car Text
+A subscribeObject ObjectRoot Pos
+A unpublishObject Note
+A unsubscribeObject Wrong
+A publishInteraction Car
+A unpublishInteraction ObjectRoot
+A unsubscribeInteraction Car
+A register Hit
+A update 1 Hit Force=7
+A update 1 Car Text=a
+A update 1 ObjectRoot Pos=1
+B update 1 Car Text=a
+",
+    )?;
+    for (at, line) in text.as_str().lines().enumerate() {
+        let want = match at {
+            0..=1 => "ok",
+            14 => "error 6 FederateNotExecutionMember",
+            _ => "error 34 NameNotFound",
+        };
+        assert!(rt; line.contains(want), "{line}");
+    }
+    Ok(())
+}
+
+#[test]
+fn creates_and_destroys(rt: HostRuntime) -> Result<(), Fail> {
+    let text = played(
+        &rt,
+        rt.alloc(),
+        "destroy
+create
+destroy
+destroy
+join A
+A tick
+carry A A
+create
+join A
+destroy
+create
+A tick
+",
+    )?;
+    assert_eq!(rt;
+        text.as_str(),
+        "1 error 2 FederationExecutionDoesNotExist
+2 ok
+3 ok
+4 error 2 FederationExecutionDoesNotExist
+5 error 2 FederationExecutionDoesNotExist
+6 error 6 FederateNotExecutionMember
+7 error 6 FederateNotExecutionMember
+8 ok
+9 ok 1
+10 error 3 FederatesCurrentlyJoined
+11 error 1 FederationExecutionAlreadyExists
+12 ok nothing
+"
+    );
+    Ok(())
+}
+
+#[test]
+fn creates_sixty_four_times(rt: HostRuntime) -> Result<(), Fail> {
+    let mut script = String::new(rt.alloc());
+    for _ in 0..64 {
+        script.push_str("create\ncreate\ndestroy\n")?;
+    }
+    script.push_str("create\njoin A\n")?;
+    let text = played(&rt, rt.alloc(), script.as_str())?;
+    assert!(rt;
+        text.as_str().ends_with(
+            "190 ok
+191 error 1 FederationExecutionAlreadyExists
+192 ok
+193 error 36 LimitReached
+194 error 2 FederationExecutionDoesNotExist
+"
+        )
+    );
+    Ok(())
+}
+
+#[test]
 fn refuses_values_of_1025_bytes(rt: HostRuntime) -> Result<(), Fail> {
-    for (len, want) in [(1024usize, "5 ok\n"), (1025, "5 error 36 LimitReached\n")] {
+    for (len, line, want) in [
+        (1024usize, "A send Hit Force=", "5 ok\n"),
+        (1025, "A send Hit Force=", "5 error 36 LimitReached\n"),
+        (1025, "A update 9 Car Pos=", "5 error 36 LimitReached\n"),
+        (1025, "A update 9 Car Text=", "5 error 34 NameNotFound\n"),
+    ] {
         let mut script = String::from_str(
             rt.alloc(),
-            "create\njoin A\njoin B\nA publishInteraction Hit\nA send Hit Force=",
+            "create\njoin A\njoin B\nA publishInteraction Hit\n",
         )?;
+        script.push_str(line)?;
         for _ in 0..len {
             script.push_str("x")?;
         }
         let text = played(&rt, rt.alloc(), script.as_str())?;
-        assert!(rt; text.as_str().ends_with(want), "at {len}");
+        assert!(rt; text.as_str().ends_with(want), "{line} at {len}");
     }
     Ok(())
 }
@@ -241,78 +339,6 @@ fn tests_the_fed_file_first(rt: HostRuntime) -> Result<(), Fail> {
         _ => panic!(rt; "the script is not refused"),
     }
     assert_eq!(rt; out.len(), 0);
-    Ok(())
-}
-
-#[test]
-fn finds_the_first_fault(rt: HostRuntime) -> Result<(), Fail> {
-    let faults = [
-        ("create\ncreate x", 2, "ExtraWord"),
-        ("\n\n # x", 3, "UnknownWord"),
-        ("join", 1, "MissingWord"),
-        ("A", 1, "MissingWord"),
-        ("carry A", 1, "MissingWord"),
-        ("carry create", 1, "BadWord"),
-        ("join announce x", 1, "BadWord"),
-        ("A frobnicate", 1, "UnknownWord"),
-        ("announce A", 1, "UnknownWord"),
-        ("A send Hit x", 1, "BadWord"),
-        ("A send Hit =x", 1, "BadWord"),
-        ("A send Hit @5", 1, "BadWord"),
-        ("create\n# \x01\ncreate", 2, "BadByte"),
-        ("create\rx\n", 1, "BadByte"),
-        ("create\ncreate\r", 2, "BadByte"),
-        ("create\r\r\n", 1, "BadByte"),
-        ("A tick x \x7f", 1, "BadByte"),
-    ];
-    for (text, line, kind) in faults {
-        match parse(rt.alloc(), text.as_bytes()) {
-            Ok(_) => panic!(rt; "{text:?} is read"),
-            Err(fault) => {
-                assert_eq!(rt; fault.line, line, "in {text:?}");
-                assert_eq!(rt; fault.kind.name(), kind, "in {text:?}");
-            }
-        }
-    }
-    Ok(())
-}
-
-#[test]
-fn reads_what_is_no_fault(rt: HostRuntime) -> Result<(), Fail> {
-    for (text, lines) in [
-        ("", 0usize),
-        ("\r\n \t\n#A \n", 0),
-        ("create\r\n\tjoin\tA \n", 2),
-        ("A send Hit @5=x a==", 1),
-        ("join tick\ntick tick", 2),
-    ] {
-        let script = parse(rt.alloc(), text.as_bytes())?;
-        assert_eq!(rt; script.len(), lines, "in {text:?}");
-    }
-    Ok(())
-}
-
-#[test]
-fn limits_scripts_and_lines(rt: HostRuntime) -> Result<(), Fail> {
-    let mut text = vec![in rt.alloc(); b'#'; SCRIPT_LIMIT]?;
-    for i in (4096..SCRIPT_LIMIT).step_by(4097) {
-        if let Some(byte) = text.get_mut(i) {
-            *byte = b'\n';
-        }
-    }
-    assert_eq!(rt; parse(rt.alloc(), text.as_slice())?.len(), 0);
-    if let Some(byte) = text.get_mut(4096) {
-        *byte = b'\r';
-    }
-    match parse(rt.alloc(), text.as_slice()) {
-        Err(fault) => assert_eq!(rt; fault.kind.name(), "TooLarge"),
-        Ok(_) => panic!(rt; "a long line is read"),
-    }
-    text.push(b'\n')?;
-    match parse(rt.alloc(), text.as_slice()) {
-        Err(fault) => assert_eq!(rt; (fault.line, fault.kind.name()), (1, "TooLarge")),
-        Ok(_) => panic!(rt; "a long script is read"),
-    }
     Ok(())
 }
 

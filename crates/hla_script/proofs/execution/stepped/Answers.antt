@@ -1,4 +1,4 @@
-use Rattle.std.proofs.Common.{◌≡◌, rules, ap, arith}
+use Rattle.std.proofs.Common.{ap, arith}
 use Rattle.hla_base.specs.Fault.{number_of}
 use Rattle.hla_script.proofs.KeepLemmas.{steps_done, steps_refused}
 use Rattle.hla_script.proofs.execution.stepped.Goals as goal

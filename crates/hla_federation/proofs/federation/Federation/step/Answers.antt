@@ -1,18 +1,14 @@
-use Rattle.hla_federation.proofs.Sound.{quiet, ends_sound, ends_next, ends_machine, ends_refused}
+use Rattle.hla_federation.proofs.Sound.{ends_sound, ends_next, ends_machine, ends_refused}
 use Rattle.hla_federation.proofs.federation.Federation.step.Goals as goal
 
-pub advance-requires-clause-quiet : goal.advance-requires-clause-quiet
-advance-requires-clause-quiet c = quiet c.self.inside.catalogue c.self.inside.members.items c.self.invariant.kept
-
 pub invariant_of-self : goal.invariant_of-self
-invariant_of-self c = ends_sound c.self.inside.catalogue c.self.inside.members.items c.args.step.now c.self.invariant c.advance.result c.advance.new.members.items
-    c.advance.ensures.whole c.advance.ensures.done c.advance.ensures.unchanged
+invariant_of-self c = ends_sound c.self.inside.parts c.args.step.now c.self.invariant c.advance.result c.advance.new.self c.advance.ensures.whole c.advance.ensures.done c.advance.ensures.unchanged
 
 pub returns-clause-next : goal.returns-clause-next
-returns-clause-next c = rw (← c.self.view_is) (ends_next c.self.inside.catalogue c.self.inside.members.items c.args.step.now c.self.invariant c.advance.result c.advance.new.members.items c.advance.ensures.done)
+returns-clause-next c = rw (← c.self.view_is) (ends_next c.self.inside.parts c.args.step.now c.self.invariant c.advance.result c.advance.new.self c.advance.ensures.done)
 
 pub returns-clause-machine : goal.returns-clause-machine
-returns-clause-machine c = rw (← c.self.view_is) (ends_machine c.self.inside.catalogue c.self.inside.members.items c.args.step.now c.self.invariant c.advance.result c.advance.new.members.items c.advance.ensures.done)
+returns-clause-machine c = rw (← c.self.view_is) (ends_machine c.self.inside.parts c.args.step.now c.self.invariant c.advance.result c.advance.new.self c.advance.ensures.done)
 
 pub returns-clause-refused : goal.returns-clause-refused
-returns-clause-refused c = rw (← c.self.view_is) (ends_refused c.self.inside.catalogue c.self.inside.members.items c.args.step.now c.self.invariant c.advance.result c.advance.ensures.refused)
+returns-clause-refused c = rw (← c.self.view_is) (ends_refused c.self.inside.parts c.args.step.now c.self.invariant c.advance.result c.advance.ensures.refused)

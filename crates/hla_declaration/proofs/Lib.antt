@@ -1,0 +1,4 @@
+pub mod EntryLemmas
+pub mod TableLemmas
+pub mod ReceiverLemmas
+pub mod Bounds

@@ -1,0 +1,17 @@
+-- What contracts see of declarations: the federates' lists
+use Rattle.std.specs.Prelude.{ℕ, ◌≤◌, List, length}
+use Rattle.std.specs.List.{All}
+use Rattle.hla_declaration.specs.declared.member.Member.{Member}
+use Rattle.hla_declaration.specs.Members.{IsMember}
+
+-- `tables_of` reads them as tables
+pub record DeclarationLists : Type 0 where
+  pub object_classes : ℕ
+  pub interaction_classes : ℕ
+  pub members : List Member  -- by number, counted from 1
+
+pub record IsWhole (object_classes interaction_classes : ℕ) (members : List Member) : Type 0 where
+  pub few_objects : object_classes ≤ 512
+  pub few_interactions : interaction_classes ≤ 512
+  pub few : length members ≤ 16
+  pub each : All (IsMember object_classes interaction_classes) members

@@ -1,0 +1,255 @@
+//! What the federates of one execution declare.
+
+ghost use Rattle.std.specs.Prelude.{◌≡◌, ◌<◌, ◌≤◌, ◌+◌, [], None, Some, false, true, IfOk, IfErr, OnOk, OnErr, is_some};
+ghost use Rattle.std.specs.Option.{option_map_or, option_copied};
+ghost use Rattle.hla_base.specs.declared.fault.Fault.TheVariants.{OutOfMemory};
+ghost use Rattle.hla_base.specs.Tables.{upd, upd2};
+ghost use Rattle.hla_fed_file.specs.Lookup.{numbered, contains_number};
+ghost use Rattle.hla_declaration.specs.Declarations.{tables_of, IsBounded};
+
+use crate::member::Member;
+use hla_base::{AttributeNo, ClassNo, Fault, FederateNo, List};
+use std::alloc::Global;
+use std::marker::Model;
+
+/// What each federate of an execution publishes and subscribes (HLA 1.3, declaration management). Federates and classes
+/// are numbered from 1. Contracts see lists; `tables_of` reads them as tables by federate and class, which say for a
+/// number of no federate or of no class that nothing is declared. The room for declarations is taken when a federate
+/// joins, so that none takes memory later.
+#[derive(Debug, Drop)]
+pub struct Declarations {
+    object_classes: usize,
+    interaction_classes: usize,
+    members: Vec<Member>,
+}
+
+impl Model for Declarations {
+    ghost use Rattle.hla_declaration.specs.Lists.{DeclarationLists, IsWhole};
+
+    ghost Value = { DeclarationLists };
+
+    ghost view = { λ d. record { object_classes = d.object_classes; interaction_classes = d.interaction_classes; members = d.members.items } };
+
+    ghost invariant = { λ d. IsWhole d.object_classes d.interaction_classes d.members.items };
+}
+
+impl Declarations {
+    /// The declarations of an execution that no federate has joined yet, with this many object classes and interaction
+    /// classes; it takes no memory.
+    pub fn new(alloc: Global, object_classes: usize, interaction_classes: usize) -> Declarations
+        requires objects { object_classes ≤ 512 }
+        requires interactions { interaction_classes ≤ 512 }
+        ensures { tables_of result ≡ record { federates = 0; object_classes = object_classes; interaction_classes = interaction_classes; published = λ _ _. None; subscribed = λ _ _. None; published_interaction = λ _ _. false; subscribed_interaction = λ _ _. false } }
+    {
+        Declarations {
+            object_classes,
+            interaction_classes,
+            members: Vec::new(alloc),
+        }
+    }
+
+    /// How many federates have joined so far. Nothing is declared of any other number, nor of a number of no class.
+    pub fn federates(&self) -> usize
+        ensures count { result ≡ (tables_of self.now).federates }
+        ensures few { result ≤ 16 }
+        ensures bounds { IsBounded (tables_of self.now) }
+    {
+        self.members.len()
+    }
+
+    /// What a federate declares; `None` where no federate has the number.
+    pub(crate) fn member(&self, federate: FederateNo) -> Option<&Member>
+        ensures { option_copied result ≡ numbered self.now.members federate }
+    {
+        if federate == 0 {
+            return None;
+        }
+        self.members.get(federate as usize - 1)
+    }
+
+    /// One more federate, which declares nothing (Join Federation Execution). Its number is the next one, and there are at
+    /// most 16. `OutOfMemory`, and all as it was, where a growth was refused.
+    pub fn admit(&mut self) -> Result<(), Fault>
+        requires { (tables_of self.old).federates < 16 }
+        ensures ok { OnOk result (tables_of self.new ≡ record (tables_of self.old) { federates = (tables_of self.old).federates + 1 }) }
+        ensures err { IfErr result (λ e. e ≡ Fault.OutOfMemory) }
+        ensures unchanged { OnErr result (self.new ≡ self.old) }
+    {
+        let alloc = *self.members.allocator();
+        let member = Member::new(alloc, self.object_classes, self.interaction_classes)?;
+        let Ok(()) = self.members.push(member) else {
+            return Err(Fault::OutOfMemory);
+        };
+        Ok(())
+    }
+
+    /// A federate declares nothing any more (Resign Federation Execution). Its number stays its own.
+    pub fn withdraw(&mut self, federate: FederateNo)
+        requires some { 0 < federate }
+        requires joined { federate ≤ (tables_of self.old).federates }
+        ensures { let old = tables_of self.old in tables_of self.new ≡ record old { published = upd old.published federate (λ _. None); subscribed = upd old.subscribed federate (λ _. None); published_interaction = upd old.published_interaction federate (λ _. false); subscribed_interaction = upd old.subscribed_interaction federate (λ _. false) } }
+    {
+        self.members[federate as usize - 1].clear();
+    }
+
+    /// A federate publishes these attributes of an object class from now on, or does not publish it any more.
+    fn set_published(
+        &mut self,
+        federate: FederateNo,
+        class: ClassNo,
+        attributes: Option<List<AttributeNo>>,
+    )
+        requires some { 0 < federate }
+        requires joined { federate ≤ (tables_of self.old).federates }
+        requires numbered { 0 < class }
+        requires defined { class ≤ (tables_of self.old).object_classes }
+        ensures { tables_of self.new ≡ record (tables_of self.old) { published = upd2 (tables_of self.old).published federate class attributes } }
+    {
+        self.members[federate as usize - 1]
+            .published
+            .set(class, attributes);
+    }
+
+    /// A federate subscribes these attributes of an object class from now on, or does not subscribe it any more.
+    fn set_subscribed(
+        &mut self,
+        federate: FederateNo,
+        class: ClassNo,
+        attributes: Option<List<AttributeNo>>,
+    )
+        requires some { 0 < federate }
+        requires joined { federate ≤ (tables_of self.old).federates }
+        requires numbered { 0 < class }
+        requires defined { class ≤ (tables_of self.old).object_classes }
+        ensures { tables_of self.new ≡ record (tables_of self.old) { subscribed = upd2 (tables_of self.old).subscribed federate class attributes } }
+    {
+        self.members[federate as usize - 1]
+            .subscribed
+            .set(class, attributes);
+    }
+
+    /// A federate publishes an interaction class from now on, or not any more.
+    fn set_published_interaction(&mut self, federate: FederateNo, class: ClassNo, publishes: bool)
+        requires some { 0 < federate }
+        requires joined { federate ≤ (tables_of self.old).federates }
+        requires numbered { 0 < class }
+        requires defined { class ≤ (tables_of self.old).interaction_classes }
+        ensures { tables_of self.new ≡ record (tables_of self.old) { published_interaction = upd2 (tables_of self.old).published_interaction federate class publishes } }
+    {
+        self.members[federate as usize - 1]
+            .published_interactions
+            .set(class, publishes);
+    }
+
+    /// A federate subscribes an interaction class from now on, or not any more.
+    fn set_subscribed_interaction(&mut self, federate: FederateNo, class: ClassNo, subscribes: bool)
+        requires some { 0 < federate }
+        requires joined { federate ≤ (tables_of self.old).federates }
+        requires numbered { 0 < class }
+        requires defined { class ≤ (tables_of self.old).interaction_classes }
+        ensures { tables_of self.new ≡ record (tables_of self.old) { subscribed_interaction = upd2 (tables_of self.old).subscribed_interaction federate class subscribes } }
+    {
+        self.members[federate as usize - 1]
+            .subscribed_interactions
+            .set(class, subscribes);
+    }
+
+    /// Publish Object Class: the federate publishes just these attributes of the class from now on. It takes no memory.
+    pub fn publish_object_class(
+        &mut self,
+        federate: FederateNo,
+        class: ClassNo,
+        attributes: List<AttributeNo>,
+    )
+        requires some { 0 < federate }
+        requires joined { federate ≤ (tables_of self.old).federates }
+        requires numbered { 0 < class }
+        requires defined { class ≤ (tables_of self.old).object_classes }
+        ensures { tables_of self.new ≡ record (tables_of self.old) { published = upd2 (tables_of self.old).published federate class (Some attributes) } }
+    {
+        self.set_published(federate, class, Some(attributes));
+    }
+
+    /// Unpublish Object Class: the federate publishes nothing of the class from now on.
+    pub fn unpublish_object_class(&mut self, federate: FederateNo, class: ClassNo)
+        requires some { 0 < federate }
+        requires joined { federate ≤ (tables_of self.old).federates }
+        requires numbered { 0 < class }
+        requires defined { class ≤ (tables_of self.old).object_classes }
+        ensures { tables_of self.new ≡ record (tables_of self.old) { published = upd2 (tables_of self.old).published federate class None } }
+    {
+        self.set_published(federate, class, None);
+    }
+
+    /// Subscribe Object Class Attributes: the federate subscribes just these attributes of the class from now on. It takes
+    /// no memory.
+    pub fn subscribe_object_class_attributes(
+        &mut self,
+        federate: FederateNo,
+        class: ClassNo,
+        attributes: List<AttributeNo>,
+    )
+        requires some { 0 < federate }
+        requires joined { federate ≤ (tables_of self.old).federates }
+        requires numbered { 0 < class }
+        requires defined { class ≤ (tables_of self.old).object_classes }
+        ensures { tables_of self.new ≡ record (tables_of self.old) { subscribed = upd2 (tables_of self.old).subscribed federate class (Some attributes) } }
+    {
+        self.set_subscribed(federate, class, Some(attributes));
+    }
+
+    /// Unsubscribe Object Class: the federate subscribes nothing of the class from now on.
+    pub fn unsubscribe_object_class(&mut self, federate: FederateNo, class: ClassNo)
+        requires some { 0 < federate }
+        requires joined { federate ≤ (tables_of self.old).federates }
+        requires numbered { 0 < class }
+        requires defined { class ≤ (tables_of self.old).object_classes }
+        ensures { tables_of self.new ≡ record (tables_of self.old) { subscribed = upd2 (tables_of self.old).subscribed federate class None } }
+    {
+        self.set_subscribed(federate, class, None);
+    }
+
+    /// Publish Interaction Class: the federate publishes the class from now on.
+    pub fn publish_interaction_class(&mut self, federate: FederateNo, class: ClassNo)
+        requires some { 0 < federate }
+        requires joined { federate ≤ (tables_of self.old).federates }
+        requires numbered { 0 < class }
+        requires defined { class ≤ (tables_of self.old).interaction_classes }
+        ensures { tables_of self.new ≡ record (tables_of self.old) { published_interaction = upd2 (tables_of self.old).published_interaction federate class true } }
+    {
+        self.set_published_interaction(federate, class, true);
+    }
+
+    /// Unpublish Interaction Class: the federate does not publish the class any more.
+    pub fn unpublish_interaction_class(&mut self, federate: FederateNo, class: ClassNo)
+        requires some { 0 < federate }
+        requires joined { federate ≤ (tables_of self.old).federates }
+        requires numbered { 0 < class }
+        requires defined { class ≤ (tables_of self.old).interaction_classes }
+        ensures { tables_of self.new ≡ record (tables_of self.old) { published_interaction = upd2 (tables_of self.old).published_interaction federate class false } }
+    {
+        self.set_published_interaction(federate, class, false);
+    }
+
+    /// Subscribe Interaction Class: the federate subscribes the class from now on.
+    pub fn subscribe_interaction_class(&mut self, federate: FederateNo, class: ClassNo)
+        requires some { 0 < federate }
+        requires joined { federate ≤ (tables_of self.old).federates }
+        requires numbered { 0 < class }
+        requires defined { class ≤ (tables_of self.old).interaction_classes }
+        ensures { tables_of self.new ≡ record (tables_of self.old) { subscribed_interaction = upd2 (tables_of self.old).subscribed_interaction federate class true } }
+    {
+        self.set_subscribed_interaction(federate, class, true);
+    }
+
+    /// Unsubscribe Interaction Class: the federate does not subscribe the class any more.
+    pub fn unsubscribe_interaction_class(&mut self, federate: FederateNo, class: ClassNo)
+        requires some { 0 < federate }
+        requires joined { federate ≤ (tables_of self.old).federates }
+        requires numbered { 0 < class }
+        requires defined { class ≤ (tables_of self.old).interaction_classes }
+        ensures { tables_of self.new ≡ record (tables_of self.old) { subscribed_interaction = upd2 (tables_of self.old).subscribed_interaction federate class false } }
+    {
+        self.set_subscribed_interaction(federate, class, false);
+    }
+}

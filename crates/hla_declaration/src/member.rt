@@ -1,0 +1,50 @@
+//! What one federate declares.
+
+ghost use Rattle.std.specs.Prelude.{◌≡◌, ℕ, None, false, length, IfOk, IfErr};
+ghost use Rattle.hla_base.specs.declared.fault.Fault.TheVariants.{OutOfMemory};
+ghost use Rattle.hla_declaration.specs.Entries.{entry};
+ghost use Rattle.hla_declaration.specs.Members.{new_member, IsMember, IsCleared};
+
+use crate::attribute_lists::AttributeLists;
+use crate::class_set::ClassSet;
+use hla_base::Fault;
+use std::alloc::Global;
+
+/// What one federate publishes and subscribes.
+#[derive(Debug, Drop)]
+pub struct Member {
+    pub published: AttributeLists,
+    pub subscribed: AttributeLists,
+    pub published_interactions: ClassSet,
+    pub subscribed_interactions: ClassSet,
+}
+
+impl Member {
+    /// A federate that declares nothing, where there are this many object classes and interaction classes;
+    /// `OutOfMemory` where the room for them was refused.
+    pub fn new(
+        alloc: Global,
+        object_classes: usize,
+        interaction_classes: usize,
+    ) -> Result<Member, Fault>
+        ensures ok { IfOk result (λ m. m ≡ new_member object_classes interaction_classes) }
+        ensures err { IfErr result (λ e. e ≡ Fault.OutOfMemory) }
+    {
+        Ok(Member {
+            published: AttributeLists::new(alloc, object_classes)?,
+            subscribed: AttributeLists::new(alloc, object_classes)?,
+            published_interactions: ClassSet::new(alloc, interaction_classes)?,
+            subscribed_interactions: ClassSet::new(alloc, interaction_classes)?,
+        })
+    }
+
+    /// It declares nothing any more.
+    pub fn clear(&mut self)
+        ensures { IsCleared self.old self.new }
+    {
+        self.published.clear();
+        self.subscribed.clear();
+        self.published_interactions.clear();
+        self.subscribed_interactions.clear();
+    }
+}

@@ -1,0 +1,108 @@
+//! Who receives what is sent of a class.
+
+ghost use Rattle.std.specs.Prelude.{◌≡◌, not, eqb, option_map, IfOk, IfErr};
+ghost use Rattle.hla_base.specs.declared.fault.Fault.TheVariants.{OutOfMemory};
+ghost use Rattle.hla_base.specs.Tables.{when};
+ghost use Rattle.hla_declaration.specs.Declarations.{tables_of};
+ghost use Rattle.hla_declaration.specs.Receivers.{served_object, served_interaction, receivers_of};
+
+use crate::declarations::Declarations;
+use crate::receiver::Receiver;
+use hla_base::{ClassNo, Fault, FederateNo, List};
+use hla_fed_file::Catalogue;
+use std::alloc::Global;
+
+/// A federate as a receiver, where it is served and is not the sender.
+fn receiver(sender: FederateNo, federate: FederateNo, served: Option<ClassNo>) -> Option<Receiver>
+    ensures { result ≡ when (not (eqb sender federate)) (option_map (λ k. record { federate = federate; class = k }) served) }
+{
+    if sender == federate {
+        return None;
+    }
+    match served {
+        Some(class) => Some(Receiver { federate, class }),
+        None => None,
+    }
+}
+
+impl Declarations {
+    /// At which class a federate receives what is sent of an object class: the most derived one that it subscribes of
+    /// the class and of those around it; `None` where it subscribes none.
+    pub fn object_class_served(
+        &self,
+        catalogue: &Catalogue,
+        federate: FederateNo,
+        class: ClassNo,
+    ) -> Option<ClassNo>
+        ensures { result ≡ served_object catalogue.now (tables_of self.now).subscribed federate class }
+    {
+        catalogue
+            .object_lineage(class)
+            .iter()
+            .copied()
+            .find(|k| self.subscribes_object_class(federate, *k))
+    }
+
+    /// At which class a federate receives an interaction of a class: the most derived one that it subscribes of the
+    /// class and of those around it; `None` where it subscribes none.
+    pub fn interaction_class_served(
+        &self,
+        catalogue: &Catalogue,
+        federate: FederateNo,
+        class: ClassNo,
+    ) -> Option<ClassNo>
+        ensures { result ≡ served_interaction catalogue.now (tables_of self.now).subscribed_interaction federate class }
+    {
+        catalogue
+            .interaction_lineage(class)
+            .iter()
+            .copied()
+            .find(|k| self.subscribes_interaction_class(federate, *k))
+    }
+
+    /// Who but the sender receives what is sent of an object class, and at which class, by rising number of the
+    /// federate; `OutOfMemory` where a growth was refused.
+    pub fn receivers_of_object_class(
+        &self,
+        alloc: Global,
+        catalogue: &Catalogue,
+        sender: FederateNo,
+        class: ClassNo,
+    ) -> Result<List<Receiver>, Fault>
+        ensures ok { IfOk result (λ rs. rs ≡ receivers_of (λ g. served_object catalogue.now (tables_of self.now).subscribed g class) (tables_of self.now).federates sender) }
+        ensures err { IfErr result (λ e. e ≡ Fault.OutOfMemory) }
+    {
+        let mut receivers = List::new(alloc);
+        for place in 0..self.federates() {
+            let federate = place as FederateNo + 1;
+            let served = self.object_class_served(catalogue, federate, class);
+            if let Some(receiver) = receiver(sender, federate, served) {
+                receivers.push(receiver)?;
+            }
+        }
+        Ok(receivers)
+    }
+
+    /// Who but the sender receives an interaction of a class, and at which class, by rising number of the federate;
+    /// `OutOfMemory` where a growth was refused.
+    pub fn receivers_of_interaction_class(
+        &self,
+        alloc: Global,
+        catalogue: &Catalogue,
+        sender: FederateNo,
+        class: ClassNo,
+    ) -> Result<List<Receiver>, Fault>
+        ensures ok { IfOk result (λ rs. rs ≡ receivers_of (λ g. served_interaction catalogue.now (tables_of self.now).subscribed_interaction g class) (tables_of self.now).federates sender) }
+        ensures err { IfErr result (λ e. e ≡ Fault.OutOfMemory) }
+    {
+        let mut receivers = List::new(alloc);
+        for place in 0..self.federates() {
+            let federate = place as FederateNo + 1;
+            let served = self.interaction_class_served(catalogue, federate, class);
+            if let Some(receiver) = receiver(sender, federate, served) {
+                receivers.push(receiver)?;
+            }
+        }
+        Ok(receivers)
+    }
+}

@@ -1,0 +1,41 @@
+use Rattle.std.proofs.Common.{◌≡◌, true, ℕ, Bool, Option, refl, sym, ap, subst, ◌∙◌}
+use Rattle.hla_callbacks.specs.declared.callback.Callback.{Callback}
+use Rattle.hla_machine.specs.declared.step.Step.TheVariants.{Tick}
+use Rattle.hla_machine.specs.declared.step.Answer.TheVariants as answer
+use Rattle.hla_declaration.specs.Declarations as declared
+use Rattle.hla_object_registry.specs.Registered.{registry_of}
+use Rattle.hla_federation.specs.Members.{MemberTables, tables_of}
+use Rattle.hla_federation.specs.Next.{next, answers}
+use Rattle.hla_federation.specs.State.{state_of, state_from}
+use Rattle.hla_federation.specs.Federation.{local_bound}
+use Rattle.hla_federation.specs.FederationValue.{FederationValue}
+use Rattle.hla_federation.specs.Picking.{picked_at}
+use Rattle.hla_federation.proofs.Doing.{does_next}
+use Rattle.hla_federation.proofs.StepStates.{picked, left_same}
+use Rattle.hla_federation.proofs.Wholes.{whole_same}
+use Rattle.hla_federation.proofs.parts.Parts.tick.Goals as goal
+
+pub returns-clause-whole : goal.returns-clause-whole
+returns-clause-whole c =
+    let whole = rw (← c.self.view_is) at c.requires.whole in
+    let old = tables_of c.self.inside.members.shown in
+    let state = c.pick_up.ensures.state in
+    let same = left_same old c.args.federate (old.controls c.args.federate) in
+    let joined = ap (λ (t : MemberTables). t.joined) state ∙ same.1 in
+    record {
+      parts = whole_same _ _ old _ whole.parts (ap (λ (t : MemberTables). t.next_federate) state ∙ same.0) joined;
+      named = λ f y. whole.named f (ap (λ (j : ℕ → Bool). j f) (sym joined) ∙ y);
+    }
+
+pub returns-clause-done : goal.returns-clause-done
+returns-clause-done c =
+    let old = tables_of c.self.inside.members.shown in
+    let joined : old.joined c.args.federate ≡ true = sym c.is_joined.ensures ∙ c.if-not-is_joined.false in
+    let ks = old.controls c.args.federate in
+    let es = old.ro c.args.federate in
+    let next_is = does_next (state_from c.self.inside.catalogue (declared.tables_of c.self.inside.declarations) (registry_of c.self.inside.registry) (tables_of c.self.inside.members.shown)) (Tick c.args.federate) (rw joined refl)
+    ∙ picked c.self.inside.catalogue (declared.tables_of c.self.inside.declarations) (registry_of c.self.inside.registry) (tables_of c.self.inside.members.shown) c.args.federate ks es (local_bound (state_from c.self.inside.catalogue (declared.tables_of c.self.inside.declarations) (registry_of c.self.inside.registry) (tables_of c.self.inside.members.shown)) c.args.federate) refl refl
+    ∙ ap (λ (t : MemberTables). answers (answer.Ticked (picked_at ks es)) (state_from c.self.inside.catalogue (declared.tables_of c.self.inside.declarations) (registry_of c.self.inside.registry) t)) (sym c.pick_up.ensures.state)
+    ∙ ap (λ (k : Option Callback). answers (answer.Ticked k) (state_from c.self.inside.catalogue (declared.tables_of c.self.inside.declarations) (registry_of c.self.inside.registry) (tables_of c.pick_up.new.self.shown))) (sym c.pick_up.ensures.callback) in
+    subst (λ (v : FederationValue). next (state_of v) (Tick c.args.federate) ≡ answers (answer.Ticked c.pick_up.result) (state_from c.self.inside.catalogue (declared.tables_of c.self.inside.declarations) (registry_of c.self.inside.registry) (tables_of c.pick_up.new.self.shown)))
+    c.self.view_is next_is

@@ -1,0 +1,151 @@
+//! Declaration management, but for subscribing an object class, which may make objects known.
+
+ghost use Rattle.std.specs.Prelude.{◌≡◌, OnErr};
+ghost use Rattle.hla_machine.specs.declared.service.Service.TheVariants as service;
+ghost use Rattle.hla_machine.specs.declared.step.Step.TheVariants as step;
+ghost use Rattle.hla_federation.specs.State.{IsWhole, Does, Refuses};
+
+use crate::parts::Parts;
+use hla_base::{AttributeNo, ClassNo, Fault, FederateNo, List, Plain};
+use hla_machine::Answer;
+
+impl Parts {
+    /// Publish Object Class, with these attributes in place of those that were published before.
+    pub fn publish_object_class(
+        &mut self,
+        federate: FederateNo,
+        class: ClassNo,
+        attributes: &List<AttributeNo>,
+    ) -> Result<Answer, Fault>
+        requires { IsWhole self.old }
+        ensures whole { IsWhole self.new }
+        ensures done { Does self.old (step.Call federate (service.PublishObjectClass class attributes.now)) result self.new }
+        ensures refused { Refuses self.old (step.Call federate (service.PublishObjectClass class attributes.now)) result }
+        ensures unchanged { OnErr result (self.new ≡ self.old) }
+    {
+        if let Some(fault) = self.attributes_fault(federate, class, attributes.as_slice()) {
+            return Err(fault);
+        }
+        let attributes = attributes.copy()?;
+        self.declarations
+            .publish_object_class(federate, class, attributes);
+        Ok(Answer::Done)
+    }
+
+    /// Unpublish Object Class.
+    pub fn unpublish_object_class(
+        &mut self,
+        federate: FederateNo,
+        class: ClassNo,
+    ) -> Result<Answer, Fault>
+        requires { IsWhole self.old }
+        ensures whole { IsWhole self.new }
+        ensures done { Does self.old (step.Call federate (service.UnpublishObjectClass class)) result self.new }
+        ensures refused { Refuses self.old (step.Call federate (service.UnpublishObjectClass class)) result }
+        ensures unchanged { OnErr result (self.new ≡ self.old) }
+    {
+        if let Some(fault) = self.unpublish_object_fault(federate, class) {
+            return Err(fault);
+        }
+        self.declarations.unpublish_object_class(federate, class);
+        Ok(Answer::Done)
+    }
+
+    /// Unsubscribe Object Class.
+    pub fn unsubscribe_object_class(
+        &mut self,
+        federate: FederateNo,
+        class: ClassNo,
+    ) -> Result<Answer, Fault>
+        requires { IsWhole self.old }
+        ensures whole { IsWhole self.new }
+        ensures done { Does self.old (step.Call federate (service.UnsubscribeObjectClass class)) result self.new }
+        ensures refused { Refuses self.old (step.Call federate (service.UnsubscribeObjectClass class)) result }
+        ensures unchanged { OnErr result (self.new ≡ self.old) }
+    {
+        if let Some(fault) = self.unsubscribe_object_fault(federate, class) {
+            return Err(fault);
+        }
+        self.declarations.unsubscribe_object_class(federate, class);
+        Ok(Answer::Done)
+    }
+
+    /// Publish Interaction Class.
+    pub fn publish_interaction_class(
+        &mut self,
+        federate: FederateNo,
+        class: ClassNo,
+    ) -> Result<Answer, Fault>
+        requires { IsWhole self.old }
+        ensures whole { IsWhole self.new }
+        ensures done { Does self.old (step.Call federate (service.PublishInteractionClass class)) result self.new }
+        ensures refused { Refuses self.old (step.Call federate (service.PublishInteractionClass class)) result }
+        ensures unchanged { OnErr result (self.new ≡ self.old) }
+    {
+        if let Some(fault) = self.interaction_fault(federate, class) {
+            return Err(fault);
+        }
+        self.declarations.publish_interaction_class(federate, class);
+        Ok(Answer::Done)
+    }
+
+    /// Unpublish Interaction Class.
+    pub fn unpublish_interaction_class(
+        &mut self,
+        federate: FederateNo,
+        class: ClassNo,
+    ) -> Result<Answer, Fault>
+        requires { IsWhole self.old }
+        ensures whole { IsWhole self.new }
+        ensures done { Does self.old (step.Call federate (service.UnpublishInteractionClass class)) result self.new }
+        ensures refused { Refuses self.old (step.Call federate (service.UnpublishInteractionClass class)) result }
+        ensures unchanged { OnErr result (self.new ≡ self.old) }
+    {
+        if let Some(fault) = self.unpublish_interaction_fault(federate, class) {
+            return Err(fault);
+        }
+        self.declarations
+            .unpublish_interaction_class(federate, class);
+        Ok(Answer::Done)
+    }
+
+    /// Subscribe Interaction Class.
+    pub fn subscribe_interaction_class(
+        &mut self,
+        federate: FederateNo,
+        class: ClassNo,
+    ) -> Result<Answer, Fault>
+        requires { IsWhole self.old }
+        ensures whole { IsWhole self.new }
+        ensures done { Does self.old (step.Call federate (service.SubscribeInteractionClass class)) result self.new }
+        ensures refused { Refuses self.old (step.Call federate (service.SubscribeInteractionClass class)) result }
+        ensures unchanged { OnErr result (self.new ≡ self.old) }
+    {
+        if let Some(fault) = self.interaction_fault(federate, class) {
+            return Err(fault);
+        }
+        self.declarations
+            .subscribe_interaction_class(federate, class);
+        Ok(Answer::Done)
+    }
+
+    /// Unsubscribe Interaction Class.
+    pub fn unsubscribe_interaction_class(
+        &mut self,
+        federate: FederateNo,
+        class: ClassNo,
+    ) -> Result<Answer, Fault>
+        requires { IsWhole self.old }
+        ensures whole { IsWhole self.new }
+        ensures done { Does self.old (step.Call federate (service.UnsubscribeInteractionClass class)) result self.new }
+        ensures refused { Refuses self.old (step.Call federate (service.UnsubscribeInteractionClass class)) result }
+        ensures unchanged { OnErr result (self.new ≡ self.old) }
+    {
+        if let Some(fault) = self.unsubscribe_interaction_fault(federate, class) {
+            return Err(fault);
+        }
+        self.declarations
+            .unsubscribe_interaction_class(federate, class);
+        Ok(Answer::Done)
+    }
+}

@@ -1,0 +1,84 @@
+//! Joining and resigning.
+
+ghost use Rattle.std.specs.Prelude.{◌≡◌, ◌+◌, ◌≤◌, length, OnErr, OnOk, IfErr};
+ghost use Rattle.hla_base.specs.declared.fault.Fault.TheVariants.{OutOfMemory};
+ghost use Rattle.hla_machine.specs.Directory.{deletions_sent};
+ghost use Rattle.hla_machine.specs.declared.service.Service.TheVariants as service;
+ghost use Rattle.hla_machine.specs.declared.step.Step.TheVariants as step;
+ghost use Rattle.hla_federation.specs.Sending.{HasAdded, messages_to};
+ghost use Rattle.hla_federation.specs.Soundness.{IsSound};
+ghost use Rattle.hla_federation.specs.State.{state_of, IsWhole, Does, Refuses};
+
+use crate::member::Member;
+use crate::naming::{copied, default_name};
+use crate::outbox::Outbox;
+use crate::parts::Parts;
+use hla_base::{Fault, FederateNo, ObjectNo, Serial};
+use hla_machine::{Answer, ResignAction};
+
+impl Parts {
+    /// Join Federation Execution.
+    pub fn join(&mut self, name: &[u8]) -> Result<Answer, Fault>
+        requires { IsSound self.old }
+        ensures whole { IsWhole self.new }
+        ensures done { Does self.old (step.Join name.now) result self.new }
+        ensures refused { Refuses self.old (step.Join name.now) result }
+        ensures unchanged { OnErr result (self.new ≡ self.old) }
+    {
+        if let Some(fault) = self.join_fault(name) {
+            return Err(fault);
+        }
+        let federate = self.members.next_federate();
+        let member = Member::new(self.alloc, copied(self.alloc, name)?)?;
+        let next_name = default_name(self.alloc, self.registry.next_object())?;
+        self.members.reserve_one()?;
+        self.declarations.admit()?;
+        self.members.admit(member);
+        self.next_name = next_name;
+        Ok(Answer::Federate(federate))
+    }
+
+    /// Adds the removals of these objects, in their order.
+    fn address_removals(
+        &self,
+        outbox: &mut Outbox,
+        sender: FederateNo,
+        serial: Serial,
+        objects: &[ObjectNo],
+    ) -> Result<(), Fault>
+        requires whole { IsWhole self.now }
+        requires serials { serial + length objects.now ≤ 18446744073709551615 }
+        ensures ok { OnOk result (HasAdded (messages_to (state_of self.now).directory sender serial (deletions_sent objects.now)) outbox.old outbox.new) }
+        ensures err { IfErr result (λ e. e ≡ Fault.OutOfMemory) }
+    {
+        let mut next = serial;
+        for object in objects {
+            self.address_removal(outbox, sender, next, *object)?;
+            next += 1;
+        }
+        Ok(())
+    }
+
+    /// Resign Federation Execution.
+    pub fn resign(&mut self, federate: FederateNo, action: ResignAction) -> Result<Answer, Fault>
+        requires { IsSound self.old }
+        ensures whole { IsWhole self.new }
+        ensures done { Does self.old (step.Call federate (service.Resign action)) result self.new }
+        ensures refused { Refuses self.old (step.Call federate (service.Resign action)) result }
+        ensures unchanged { OnErr result (self.new ≡ self.old) }
+    {
+        if let Some(fault) = self.resign_fault(federate, action) {
+            return Err(fault);
+        }
+        let serial = self.members.next_serial(federate);
+        let objects = self.registry.owned_by(self.alloc, federate)?;
+        let mut outbox = Outbox::new(self.alloc)?;
+        self.address_removals(&mut outbox, federate, serial, objects.as_slice())?;
+        self.members
+            .send_all(federate, outbox, objects.len() as u64)?;
+        self.registry.delete_owned_by(federate);
+        self.declarations.withdraw(federate);
+        self.members.resign(federate);
+        Ok(Answer::Done)
+    }
+}

@@ -1,0 +1,253 @@
+//! The federates of an execution.
+
+ghost use Rattle.std.specs.Prelude.{◌≡◌, ◌≢◌, ◌<◌, ◌≤◌, ◌+◌, ◌++◌, [], ℕ, length, false, true, ◌&&◌, ◌⊎◌, IfOk, IfErr, OnOk, OnErr};
+ghost use Rattle.std.specs.List.{list_any};
+ghost use Rattle.std.specs.Str.{bytes_eq};
+ghost use Rattle.hla_base.specs.declared.fault.Fault.TheVariants.{OutOfMemory};
+ghost use Rattle.hla_base.specs.Tables.{upd, upd2, numbers_below};
+ghost use Rattle.hla_federation.specs.Members.{tables_of, room_in, IsEnd, AreQuiet, new_member, admitted, withdrawn, left_of, HasRoom, posted_below, IsUnretracting, IsSmall, carried_of, arrived};
+ghost use Rattle.hla_federation.specs.declared.direction.Direction.TheVariants.{From};
+ghost use Rattle.hla_federation.specs.Items.{item};
+ghost use Rattle.hla_federation.specs.MemberValue.{RoomyMember};
+ghost use Rattle.hla_federation.specs.Picking.{picked_at};
+
+use crate::direction::Direction;
+use crate::incoming::MAX_FEDERATES;
+use crate::member::Member;
+use crate::outbox::Outbox;
+use hla_base::{Fault, FederateNo, Serial};
+use hla_callbacks::Callback;
+use hla_machine::Carried;
+use hla_null_message::Message;
+use std::alloc::Global;
+use std::marker::Model;
+
+/// The federates that have ever joined, by number, with their components and the wires between them. Contracts see them
+/// as tables by federate number, counted from 1.
+#[derive(Debug, Drop)]
+pub struct Members {
+    members: Vec<Member>,
+}
+
+impl Model for Members {
+    ghost use Rattle.std.specs.Prelude.{length, ◌≤◌, ◌-◌, vec_len, vec_capacity};
+    ghost use Rattle.hla_federation.specs.MemberValue.{RoomyMembers};
+    ghost use Rattle.hla_federation.specs.Members.{roomy};
+
+    ghost Value = { RoomyMembers };
+
+    ghost view = { λ m. roomy m.members.items (vec_capacity m.members - vec_len m.members) };
+
+    ghost invariant = { λ m. length m.members.items ≤ 16 };
+}
+
+/// Whether one of these is joined.
+fn any_joined(members: &[Member]) -> bool
+    ensures { result ≡ list_any (λ (m : RoomyMember). m.shown.joined) members.now }
+{
+    members.iter().any(|m| m.is_joined())
+}
+
+/// Whether one of these is joined under a name.
+fn any_joined_as(members: &[Member], name: &[u8]) -> bool
+    ensures { result ≡ list_any (λ (m : RoomyMember). m.shown.joined && bytes_eq m.shown.name name.now) members.now }
+{
+    members.iter().any(|m| m.is_joined() && m.name() == name)
+}
+
+impl Members {
+    /// Nobody; it takes no memory.
+    pub fn new(alloc: Global) -> Members
+        ensures { result.shown ≡ [] }
+    {
+        Members {
+            members: Vec::new(alloc),
+        }
+    }
+
+    /// The number of the federate that joins next.
+    pub fn next_federate(&self) -> FederateNo
+        ensures number { result ≡ (tables_of self.now.shown).next_federate }
+        ensures few { result ≤ 17 }
+    {
+        self.members.len() as FederateNo + 1
+    }
+
+    /// Whether a federate is joined.
+    pub fn is_joined(&self, federate: FederateNo) -> bool
+        ensures { result ≡ (tables_of self.now.shown).joined federate }
+    {
+        if federate == 0 || federate as usize > self.members.len() {
+            return false;
+        }
+        self.members[federate as usize - 1].is_joined()
+    }
+
+    /// Whether a joined federate has this name.
+    pub fn is_name_joined(&self, name: &[u8]) -> bool
+        ensures { result ≡ list_any (λ f. (tables_of self.now.shown).joined f && bytes_eq ((tables_of self.now.shown).name f) name.now) (numbers_below (tables_of self.now.shown).next_federate) }
+    {
+        any_joined_as(&self.members, name)
+    }
+
+    /// Whether any federate is joined.
+    pub fn is_any_joined(&self) -> bool
+        ensures { result ≡ list_any (tables_of self.now.shown).joined (numbers_below (tables_of self.now.shown).next_federate) }
+    {
+        any_joined(&self.members)
+    }
+
+    /// The serial of a federate's next message.
+    pub fn next_serial(&self, federate: FederateNo) -> Serial
+        requires some { 0 < federate }
+        requires within { federate < (tables_of self.now.shown).next_federate }
+        ensures { result ≡ (tables_of self.now.shown).serial federate }
+    {
+        self.members[federate as usize - 1].next_serial()
+    }
+
+    /// So many more messages were sent by a federate.
+    pub fn count_messages(&mut self, federate: FederateNo, count: u64)
+        requires some { 0 < federate }
+        requires within { federate < (tables_of self.old.shown).next_federate }
+        requires serials { (tables_of self.old.shown).serial federate + count ≤ 18446744073709551615 }
+        ensures { tables_of self.new.shown ≡ record (tables_of self.old.shown) { serial = upd (tables_of self.old.shown).serial federate ((tables_of self.old.shown).serial federate + count) } }
+    {
+        self.members[federate as usize - 1].count_messages(count);
+    }
+
+    /// Makes room for one more federate; `OutOfMemory` where that was refused.
+    pub fn reserve_one(&mut self) -> Result<(), Fault>
+        ensures same { self.new.shown ≡ self.old.shown }
+        ensures ok { OnOk result (0 < self.new.spare) }
+        ensures err { IfErr result (λ e. e ≡ Fault.OutOfMemory) }
+    {
+        match self.members.reserve(1) {
+            Ok(()) => Ok(()),
+            Err(_) => Err(Fault::OutOfMemory),
+        }
+    }
+
+    /// A federate joins. It takes no memory.
+    pub fn admit(&mut self, member: Member)
+        requires room { 0 < self.old.spare }
+        requires few { (tables_of self.old.shown).next_federate ≤ 16 }
+        requires new { member.shown ≡ new_member member.shown.name member.shown.incoming }
+        requires quiet { AreQuiet member.shown.incoming }
+        ensures { tables_of self.new.shown ≡ admitted (tables_of self.old.shown) member.shown.name }
+    {
+        self.members.push_reserved(member);
+    }
+
+    /// A federate resigns; what waits for it and what is under way to it is dropped.
+    pub fn resign(&mut self, federate: FederateNo)
+        requires some { 0 < federate }
+        requires within { federate < (tables_of self.old.shown).next_federate }
+        ensures { tables_of self.new.shown ≡ withdrawn (tables_of self.old.shown) federate }
+    {
+        self.members[federate as usize - 1].resign();
+    }
+
+    /// Makes room for this many more messages on a wire; `OutOfMemory` where that was refused.
+    fn reserve(&mut self, from: FederateNo, to: FederateNo, count: usize) -> Result<(), Fault>
+        requires some_from { 0 < from }
+        requires within_from { from ≤ 16 }
+        requires some { 0 < to }
+        requires within { to < (tables_of self.old.shown).next_federate }
+        ensures same { self.new.shown ≡ self.old.shown }
+        ensures ok { OnOk result (count ≤ room_in self.new.rooms from to) }
+        ensures more { (g h : ℕ) → room_in self.old.rooms g h ≤ room_in self.new.rooms g h }
+        ensures err { IfErr result (λ e. e ≡ Fault.OutOfMemory) }
+    {
+        self.members[to as usize - 1].reserve(from, count)
+    }
+
+    /// Puts messages on a wire. It takes no memory.
+    fn append(&mut self, from: FederateNo, to: FederateNo, messages: Vec<Message>)
+        requires some_from { 0 < from }
+        requires within_from { from ≤ 16 }
+        requires some { 0 < to }
+        requires within { to < (tables_of self.old.shown).next_federate }
+        requires room { length messages.items ≤ room_in self.old.rooms from to }
+        ensures wires { tables_of self.new.shown ≡ record (tables_of self.old.shown) { wire = upd2 (tables_of self.old.shown).wire from to ((tables_of self.old.shown).wire from to ++ messages.items) } }
+        ensures room { (g h : ℕ) → (from ≢ g) ⊎ (to ≢ h) → room_in self.new.rooms g h ≡ room_in self.old.rooms g h }
+    {
+        self.members[to as usize - 1].append(from, messages);
+    }
+
+    /// Makes room for all messages of an outbox on their wires; `OutOfMemory` where that was refused.
+    pub fn reserve_all(&mut self, along: Direction, outbox: &Outbox) -> Result<(), Fault>
+        requires { IsEnd along (tables_of self.old.shown).next_federate }
+        ensures same { self.new.shown ≡ self.old.shown }
+        ensures ok { OnOk result (HasRoom along (item [] outbox.now) 1 (tables_of self.old.shown).next_federate self.new.rooms) }
+        ensures err { IfErr result (λ e. e ≡ Fault.OutOfMemory) }
+    {
+        let end = self.next_federate();
+        for peer in 1..end {
+            self.reserve(along.source(peer), along.target(peer), outbox.count(peer))?;
+        }
+        Ok(())
+    }
+
+    /// Puts all messages of an outbox on their wires. It takes no memory.
+    pub fn post_all(&mut self, along: Direction, outbox: Outbox)
+        requires end { IsEnd along (tables_of self.old.shown).next_federate }
+        requires room { HasRoom along (item [] outbox) 1 (tables_of self.old.shown).next_federate self.old.rooms }
+        ensures { tables_of self.new.shown ≡ record (tables_of self.old.shown) { wire = posted_below along (item [] outbox) (tables_of self.old.shown).next_federate (tables_of self.old.shown).wire } }
+    {
+        let mut outbox = outbox;
+        let end = self.next_federate();
+        for peer in 1..end {
+            let messages = outbox.take(peer);
+            self.append(along.source(peer), along.target(peer), messages);
+        }
+    }
+
+    /// Puts all messages of an outbox on the wires from a federate, and counts them; `OutOfMemory`, and all as it was, where
+    /// a growth was refused.
+    pub fn send_all(
+        &mut self,
+        federate: FederateNo,
+        outbox: Outbox,
+        count: u64,
+    ) -> Result<(), Fault>
+        requires some { 0 < federate }
+        requires within { federate < (tables_of self.old.shown).next_federate }
+        requires serials { (tables_of self.old.shown).serial federate + count ≤ 18446744073709551615 }
+        ensures ok { OnOk result (tables_of self.new.shown ≡ record (tables_of self.old.shown) { serial = upd (tables_of self.old.shown).serial federate ((tables_of self.old.shown).serial federate + count); wire = posted_below (From federate) (item [] outbox) (tables_of self.old.shown).next_federate (tables_of self.old.shown).wire }) }
+        ensures err { IfErr result (λ e. e ≡ Fault.OutOfMemory) }
+        ensures unchanged { OnErr result (self.new.shown ≡ self.old.shown) }
+    {
+        let along = Direction::From(federate);
+        self.reserve_all(along, &outbox)?;
+        self.post_all(along, outbox);
+        self.count_messages(federate, count);
+        Ok(())
+    }
+
+    /// The first message on a wire comes to its receiver; `OutOfMemory`, and all as it was, where a growth was refused.
+    pub fn arrive(&mut self, from: FederateNo, to: FederateNo) -> Result<Carried, Fault>
+        requires some_from { 0 < from }
+        requires within_from { from ≤ 16 }
+        requires some { 0 < to }
+        requires within { to < (tables_of self.old.shown).next_federate }
+        requires unretracting { IsUnretracting ((tables_of self.old.shown).wire from to) }
+        ensures answer { IfOk result (λ x. x ≡ carried_of from ((tables_of self.old.shown).wire from to)) }
+        ensures small { IfOk result (λ x. IsSmall x) }
+        ensures state { OnOk result (tables_of self.new.shown ≡ arrived from to (tables_of self.old.shown)) }
+        ensures err { IfErr result (λ e. e ≡ Fault.OutOfMemory) }
+        ensures unchanged { OnErr result (self.new.shown ≡ self.old.shown) }
+    {
+        self.members[to as usize - 1].arrive(from)
+    }
+
+    /// A federate picks up the first of its controls, or else the message that has waited longest, if there is any.
+    pub fn pick_up(&mut self, federate: FederateNo) -> Option<Callback>
+        requires some { 0 < federate }
+        requires within { federate < (tables_of self.old.shown).next_federate }
+        ensures callback { result ≡ picked_at ((tables_of self.old.shown).controls federate) ((tables_of self.old.shown).ro federate) }
+        ensures state { tables_of self.new.shown ≡ left_of (tables_of self.old.shown) federate ((tables_of self.old.shown).controls federate) }
+    {
+        self.members[federate as usize - 1].pick_up()
+    }
+}

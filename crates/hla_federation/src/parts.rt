@@ -1,0 +1,56 @@
+//! The parts of a federation.
+
+ghost use Rattle.std.specs.Prelude.{◌≡◌, length, []};
+ghost use Rattle.hla_declaration.specs.Declarations as declared;
+ghost use Rattle.hla_object_registry.specs.Registered.{registry_of, new_registry};
+ghost use Rattle.hla_federation.specs.State.{nothing_declared};
+
+use crate::members::Members;
+use hla_base::List;
+use hla_declaration::Declarations;
+use hla_fed_file::Catalogue;
+use hla_object_registry::Registry;
+use std::alloc::Global;
+use std::marker::Model;
+
+/// The parts of a federation execution. Contracts see what they say, but not for how much there is room.
+#[derive(Drop)]
+pub struct Parts {
+    pub alloc: Global,
+    pub catalogue: Catalogue,
+    pub declarations: Declarations,
+    pub registry: Registry,
+    pub members: Members,
+    /// The name of the object that is registered next, where none is given. It is made ahead, so that a refusal takes no
+    /// memory.
+    pub next_name: List<u8>,
+}
+
+impl Model for Parts {
+    ghost use Rattle.hla_federation.specs.FederationValue.{FederationValue};
+
+    ghost Value = { FederationValue };
+
+    ghost view = { λ p. record { catalogue = p.catalogue; declarations = p.declarations; objects = p.registry; members = p.members.shown; next_name = p.next_name } };
+}
+
+impl Parts {
+    /// No federate and no object; it takes no memory.
+    pub fn new(alloc: Global, catalogue: Catalogue) -> Parts
+        ensures catalogue { result.catalogue ≡ catalogue }
+        ensures members { result.members ≡ [] }
+        ensures declarations { declared.tables_of result.declarations ≡ nothing_declared (length catalogue.object_classes) (length catalogue.interaction_classes) }
+        ensures objects { registry_of result.objects ≡ new_registry }
+    {
+        let object_classes = catalogue.object_classes().len();
+        let interaction_classes = catalogue.interaction_classes().len();
+        Parts {
+            alloc,
+            catalogue,
+            declarations: Declarations::new(alloc, object_classes, interaction_classes),
+            registry: Registry::new(alloc),
+            members: Members::new(alloc),
+            next_name: List::new(alloc),
+        }
+    }
+}

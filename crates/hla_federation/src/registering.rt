@@ -1,0 +1,222 @@
+//! Registering objects and subscribing their classes: what makes objects known.
+
+ghost use Rattle.std.specs.Prelude.{◌≡◌, ◌<◌, ◌≤◌, ◌||◌, eqb, find, is_some, Some, ℕ, List, [], option_map, map, OnErr, OnOk, IfErr, IfOk};
+ghost use Rattle.std.specs.Option.{option_map_or};
+ghost use Rattle.hla_base.specs.declared.content.Discovery.{Discovery};
+ghost use Rattle.hla_base.specs.declared.fault.Fault.TheVariants.{OutOfMemory};
+ghost use Rattle.hla_fed_file.specs.Lookup.{object_lineage};
+ghost use Rattle.hla_null_message.specs.declared.message.Message.TheVariants as message;
+ghost use Rattle.hla_machine.specs.Directory.{discovery_of, discoveries_of, discovered_by, with_subscribed};
+ghost use Rattle.hla_machine.specs.declared.service.Service.TheVariants as service;
+ghost use Rattle.hla_machine.specs.declared.step.Step.TheVariants as step;
+ghost use Rattle.hla_object_registry.specs.Registered.{registry_of};
+ghost use Rattle.hla_federation.specs.Discovering.{AreFederates, discovery_to, known_among};
+ghost use Rattle.hla_federation.specs.Sending.{HasAdded, messages_among};
+ghost use Rattle.hla_federation.specs.Soundness.{IsSound};
+ghost use Rattle.hla_federation.specs.State.{state_of, IsWhole, Does, Refuses};
+
+use crate::direction::Direction;
+use crate::naming::{copied, default_name};
+use crate::outbox::Outbox;
+use crate::parts::Parts;
+use hla_base::{AttributeNo, ClassNo, Discovery, Fault, FederateNo, List, ObjectNo, Plain};
+use hla_declaration::Receiver;
+use hla_machine::Answer;
+use hla_null_message::Message;
+
+impl Parts {
+    /// A copy of the attributes that a federate publishes of a class.
+    fn published_copy(
+        &self,
+        federate: FederateNo,
+        class: ClassNo,
+    ) -> Result<List<AttributeNo>, Fault>
+        ensures ok { IfOk result (λ xs. xs ≡ option_map_or (λ ys. ys) ((state_of self.now).directory.published federate class) []) }
+        ensures err { IfErr result (λ e. e ≡ Fault.OutOfMemory) }
+    {
+        let published = self.declarations.published_attributes(federate, class);
+        match Vec::from_slice(self.alloc, published) {
+            Ok(copy) => Ok(List::from_vec(copy)),
+            Err(_) => Err(Fault::OutOfMemory),
+        }
+    }
+
+    /// Adds the discovery of a new object for each of its receivers.
+    fn address_discoveries(
+        &self,
+        outbox: &mut Outbox,
+        receivers: &[Receiver],
+        object: ObjectNo,
+        name: &[u8],
+    ) -> Result<(), Fault>
+        requires { AreFederates receivers.now }
+        ensures ok { OnOk result (HasAdded (messages_among (discovery_to object name.now) receivers.now) outbox.old outbox.new) }
+        ensures err { IfErr result (λ e. e ≡ Fault.OutOfMemory) }
+    {
+        for receiver in receivers {
+            let discovery = Discovery {
+                object,
+                class: receiver.class,
+                name: copied(self.alloc, name)?,
+            };
+            outbox.put(receiver.federate, Message::Discovery(discovery))?;
+        }
+        Ok(())
+    }
+
+    /// Makes a new object known to its receivers.
+    fn make_known_to(&mut self, receivers: &[Receiver], object: ObjectNo)
+        requires federates { AreFederates receivers.now }
+        requires some { 0 < object }
+        requires registered { object < (registry_of self.old.objects).next_object }
+        ensures same { self.new ≡ record self.old { objects = self.new.objects } }
+        ensures known { registry_of self.new.objects ≡ record (registry_of self.old.objects) { known = known_among receivers.now object (registry_of self.old.objects).known } }
+    {
+        for receiver in receivers {
+            self.registry.make_known(object, receiver.federate);
+        }
+    }
+
+    /// Register Object Instance.
+    pub fn register_object_instance(
+        &mut self,
+        federate: FederateNo,
+        class: ClassNo,
+        name: &Option<List<u8>>,
+    ) -> Result<Answer, Fault>
+        requires { IsSound self.old }
+        ensures whole { IsWhole self.new }
+        ensures done { Does self.old (step.Call federate (service.RegisterObjectInstance class name.now)) result self.new }
+        ensures refused { Refuses self.old (step.Call federate (service.RegisterObjectInstance class name.now)) result }
+        ensures unchanged { OnErr result (self.new ≡ self.old) }
+    {
+        if let Some(fault) = self.register_fault(federate, class, name) {
+            return Err(fault);
+        }
+        let object = self.registry.next_object();
+        let given = match name {
+            Some(name) => name.copy()?,
+            None => self.next_name.copy()?,
+        };
+        let answered = given.copy()?;
+        let next_name = default_name(self.alloc, object + 1)?;
+        let attributes = self.published_copy(federate, class)?;
+        let receivers = self
+            .declarations
+            .receivers_of_object_class(self.alloc, &self.catalogue, federate, class)?;
+        let mut outbox = Outbox::new(self.alloc)?;
+        self.address_discoveries(&mut outbox, receivers.as_slice(), object, given.as_slice())?;
+        let along = Direction::From(federate);
+        self.members.reserve_all(along, &outbox)?;
+        self.registry.register(class, given, federate, attributes)?;
+        self.members.post_all(along, outbox);
+        self.make_known_to(receivers.as_slice(), object);
+        self.next_name = next_name;
+        Ok(Answer::Registered {
+            object,
+            name: answered,
+        })
+    }
+
+    /// At which class a federate is served once it subscribes another class too, if it is.
+    fn served_with(
+        &self,
+        federate: FederateNo,
+        subscribed: ClassNo,
+        class: ClassNo,
+    ) -> Option<ClassNo>
+        ensures { result ≡ find (λ k. eqb k subscribed || is_some ((state_of self.now).directory.subscribed federate k)) (object_lineage self.now.catalogue class) }
+    {
+        self.catalogue.object_lineage(class).iter().copied().find(|k| {
+            *k == subscribed || self.declarations.subscribes_object_class(federate, *k)
+        })
+    }
+
+    /// At which class a federate is to discover an object once it subscribes a class too, if it is to.
+    fn discovered_at(
+        &self,
+        federate: FederateNo,
+        class: ClassNo,
+        object: ObjectNo,
+    ) -> Option<ClassNo>
+        ensures { (attributes : List ℕ) → result ≡ option_map (λ (d : Discovery). d.class) (discovery_of (with_subscribed (state_of self.now).directory federate class (Some attributes)) federate object) }
+    {
+        if !self.registry.exists(object)
+            || self.registry.owner(object) == federate
+            || self.registry.was_made_known(object, federate)
+        {
+            return None;
+        }
+        self.served_with(federate, class, self.registry.class_of(object))
+    }
+
+    /// Adds the discovery of each object that a federate is to discover once it subscribes a class too, for the wire from
+    /// its owner.
+    fn address_found(
+        &self,
+        outbox: &mut Outbox,
+        federate: FederateNo,
+        class: ClassNo,
+    ) -> Result<(), Fault>
+        requires { IsSound self.now }
+        ensures ok { OnOk result ((attributes : List ℕ) → HasAdded (λ g. map message.Discovery (discoveries_of (with_subscribed (state_of self.now).directory federate class (Some attributes)) g federate)) outbox.old outbox.new) }
+        ensures err { IfErr result (λ e. e ≡ Fault.OutOfMemory) }
+    {
+        let end = self.registry.next_object();
+        for object in 1..end {
+            if let Some(class) = self.discovered_at(federate, class, object) {
+                let discovery = Discovery {
+                    object,
+                    class,
+                    name: copied(self.alloc, self.registry.name_of(object))?,
+                };
+                outbox.put(self.registry.owner(object), Message::Discovery(discovery))?;
+            }
+        }
+        Ok(())
+    }
+
+    /// Makes each object known to a federate that it is to discover once it subscribes a class too.
+    fn make_found_known(&mut self, federate: FederateNo, class: ClassNo)
+        requires some { 0 < federate }
+        requires within { federate ≤ 16 }
+        ensures same { self.new ≡ record self.old { objects = self.new.objects } }
+        ensures known { (attributes : List ℕ) → registry_of self.new.objects ≡ record (registry_of self.old.objects) { known = (discovered_by (with_subscribed (state_of self.old).directory federate class (Some attributes)) federate).known } }
+    {
+        let end = self.registry.next_object();
+        for object in 1..end {
+            if self.discovered_at(federate, class, object).is_some() {
+                self.registry.make_known(object, federate);
+            }
+        }
+    }
+
+    /// Subscribe Object Class Attributes, with these in place of those that were subscribed before. The federate is to
+    /// discover what fits its subscriptions then.
+    pub fn subscribe_object_class_attributes(
+        &mut self,
+        federate: FederateNo,
+        class: ClassNo,
+        attributes: &List<AttributeNo>,
+    ) -> Result<Answer, Fault>
+        requires { IsSound self.old }
+        ensures whole { IsWhole self.new }
+        ensures done { Does self.old (step.Call federate (service.SubscribeObjectClassAttributes class attributes.now)) result self.new }
+        ensures refused { Refuses self.old (step.Call federate (service.SubscribeObjectClassAttributes class attributes.now)) result }
+        ensures unchanged { OnErr result (self.new ≡ self.old) }
+    {
+        if let Some(fault) = self.attributes_fault(federate, class, attributes.as_slice()) {
+            return Err(fault);
+        }
+        let attributes = attributes.copy()?;
+        let mut outbox = Outbox::new(self.alloc)?;
+        self.address_found(&mut outbox, federate, class)?;
+        let along = Direction::To(federate);
+        self.members.reserve_all(along, &outbox)?;
+        self.members.post_all(along, outbox);
+        self.make_found_known(federate, class);
+        self.declarations
+            .subscribe_object_class_attributes(federate, class, attributes);
+        Ok(Answer::Done)
+    }
+}

@@ -1,0 +1,105 @@
+-- The objects of a registry's entries
+use Rattle.std.proofs.Common.{◌≡◌, ℕ, zero, suc, ◌+◌, ◌-◌, ◌<◌, ◌≤◌, List, [], ◌∷◌, ◌++◌, length, set, slice_get, eqb, not, ◌&&◌, Bool, true, false, Some, unwrap_or, refl, sym, ap, subst, ◌∙◌, arith}
+use Rattle.std.proofs.lemmas.List.{length-append}
+use Rattle.std.specs.Map.{values_of}
+use Rattle.hla_base.specs.Tables.{upd, upd2}
+use Rattle.hla_object_registry.specs.Registered.{Registered, unregistered, item, is_in, registry_of}
+use Rattle.hla_object_registry.proofs.Items.{numbered_within}
+use Rattle.hla_object_registry.proofs.Changes.{one_more, one_known, one_changed, IsWithdrawn, withdrawn, one_withdrawn}
+use Rattle.std.specs.Option.{option_map}
+use Rattle.std.specs.declared.vec.Vec.{Vec}
+use Rattle.std.specs.declared.alloc.Global.{Global}
+use Rattle.indexmap.specs.IndexMap.{set_value_at}
+use Rattle.hla_object_registry.specs.declared.entry.Entry.{Entry}
+use Rattle.hla_object_registry.specs.Queries.{with_object}
+use Rattle.hla_object_registry.specs.Entries.{registered, registered_as}
+
+abbrev pub Entries : Type 0
+Entries = List (Vec ℕ Global × Entry)
+
+pub length-registered : (es : Entries) → length (registered es) ≡ length es
+length-registered [] = refl
+length-registered (e ∷ es) = ap suc (length-registered es)
+
+pub registered-append : (es : Entries) (k : Vec ℕ Global) (v : Entry) → registered (es ++ (k, v) ∷ []) ≡ registered es ++ registered_as (k, v) ∷ []
+registered-append [] k v = refl
+registered-append (e ∷ es) k v = ap (λ r. registered_as e ∷ r) (registered-append es k v)
+
+pub slice_get-registered : (es : Entries) (i : ℕ) → option_map registered_as (slice_get es i) ≡ slice_get (registered es) i
+slice_get-registered [] i = refl
+slice_get-registered (e ∷ es) zero = refl
+slice_get-registered (e ∷ es) (suc i) = slice_get-registered es i
+
+-- an entry that changes, its key staying
+pub registered-set : (es : Entries) (i : ℕ) (k : Vec ℕ Global) (v w : Entry) → slice_get es i ≡ Some (k, v) → registered (set_value_at es i w) ≡ set (registered es) i (registered_as (k, w))
+registered-set [] i k v w at = cc
+registered-set (e ∷ es) zero k v w at = let same : e ≡ (k, v) = cc in ap (λ (x : Vec ℕ Global × Entry). registered_as (x.0, w) ∷ registered es) same
+registered-set (e ∷ es) (suc i) k v w at = ap (λ r. registered_as e ∷ r) (registered-set es i k v w at)
+
+length-set_value_at : (es : Entries) (i : ℕ) (w : Entry) → length (set_value_at es i w) ≡ length es
+length-set_value_at [] i w = refl
+length-set_value_at (e ∷ es) zero w = refl
+length-set_value_at (e ∷ es) (suc i) w = ap suc (length-set_value_at es i w)
+
+pub still_few : (es : Entries) (i : ℕ) (w : Entry) → length es ≤ 4096 → length (set_value_at es i w) ≤ 4096
+still_few es i w few = omega (arith, few, length-set_value_at es i w)
+
+-- the key of a value
+key_at : (es : Entries) (i : ℕ) (v : Entry) → slice_get (values_of es) i ≡ Some v → (k : Vec ℕ Global) × (slice_get es i ≡ Some (k, v))
+key_at [] i v at = cc
+key_at (e ∷ es) zero v at = let same : e.1 ≡ v = cc in (e.0, ap (λ (w : Entry). Some (e.0, w)) same)
+key_at (e ∷ es) (suc i) v at = key_at es i v at
+
+-- the place of an object in the list
+pub place_within : (es : Entries) (rs : List Registered) (h : ℕ) → registered es ≡ rs → 0 < h → h < length rs + 1 → h - 1 < length es
+place_within es rs h view some within = omega (arith, within, ap length view, length-registered es)
+
+module _ (es : Entries) (h : ℕ) (v : Entry) (some : 0 < h) (within : h - 1 < length es) (at : slice_get (values_of es) (h - 1) ≡ Some v) where
+  key : Vec ℕ Global
+  key = (key_at es (h - 1) v at).0
+
+  is_there : slice_get es (h - 1) ≡ Some (key, v)
+  unfolding key
+  is_there = (key_at es (h - 1) v at).1
+
+  item_there : item unregistered (registered es) h ≡ registered_as (key, v)
+  item_there = ap (λ o. unwrap_or o unregistered) (numbered_within (registered es) h (λ z. absurd (omega arith)) ∙ sym (slice_get-registered es (h - 1)) ∙ ap (option_map registered_as) is_there)
+
+  short : h ≤ length (registered es)
+  short = omega (arith, within, length-registered es)
+
+  pub entry_known : (flags : List Bool) (f : ℕ) → is_in flags ≡ upd (is_in v.known) f true
+      → registry_of (registered (set_value_at es (h - 1) (record v { known = flags }))) ≡ record (registry_of (registered es)) { known = upd2 (registry_of (registered es)).known h f true }
+  entry_known flags f same =
+      ap registry_of (registered-set es (h - 1) key v (record v { known = flags }) is_there ∙ ap (λ (r : Registered). set (registered es) (h - 1) (record r { known = flags })) (sym item_there))
+      ∙ one_known (registered es) h some short flags f (same ∙ ap (λ (r : Registered). upd (is_in r.known) f true) (sym item_there))
+
+  pub entry_deleted : registry_of (registered (set_value_at es (h - 1) (record v { exists = false })))
+      ≡ record (registry_of (registered es)) { object = upd (registry_of (registered es)).object h (record ((registry_of (registered es)).object h) { exists = false }) }
+  entry_deleted =
+      ap registry_of (registered-set es (h - 1) key v (record v { exists = false }) is_there ∙ ap (λ (r : Registered). set (registered es) (h - 1) (record r { object = record r.object { exists = false } })) (sym item_there))
+      ∙ one_changed (registered es) h some short (record (item unregistered (registered es) h).object { exists = false })
+
+-- one more entry
+pub one_longer : (es new : Entries) (rs : List Registered) (k : Vec ℕ Global) (v : Entry) → registered es ≡ rs → length rs + 1 ≤ 4096 → new ≡ es ++ (k, v) ∷ [] → length new ≤ 4096
+one_longer es new rs k v view room added = omega (arith, room, ap length view, length-registered es, ap length added, length-append es ((k, v) ∷ []))
+
+pub entry_added : (es new : Entries) (rs : List Registered) (k : Vec ℕ Global) (name : List ℕ) (class owner : ℕ) (attributes : List ℕ) (flags : List Bool) → registered es ≡ rs → k.items ≡ name
+    → new ≡ es ++ (k, record { class = class; owner = owner; attributes = attributes; exists = true; known = flags }) ∷ [] → is_in flags ≡ upd (λ _. false) owner true
+    → registry_of (registered new) ≡ with_object (registry_of rs) class name owner attributes
+entry_added es new rs k name class owner attributes flags view same added known =
+    let x : List ℕ → Registered = λ n. record { object = record { class = class; name = n; owner = owner; attributes = attributes; exists = true }; known = flags } in
+    ap (λ l. registry_of (registered l)) added
+    ∙ ap registry_of (registered-append es k _ ∙ (λ i. view i ++ x (same i) ∷ []))
+    ∙ one_more rs (x name) owner known
+
+-- one more entry is withdrawn
+pub entry_withdrawn : (f n : ℕ) (old new : Entries) (v : Entry) → slice_get (values_of new) n ≡ Some v → n < length new → IsWithdrawn f n (registered old) (registered new)
+    → IsWithdrawn f (n + 1) (registered old) (registered (set_value_at new n (record v { exists = v.exists && not (eqb v.owner f) })))
+entry_withdrawn f n old new v at within before =
+    let back : n ≡ suc n - 1 = omega arith in
+    let there : slice_get (values_of new) (suc n - 1) ≡ Some v = subst (λ m. slice_get (values_of new) m ≡ Some v) back at in
+    let k = key_at new n v at in
+    let x : item unregistered (registered new) (suc n) ≡ registered_as (k.0, v) = ap (λ o. unwrap_or o unregistered) (numbered_within (registered new) (suc n) (λ z. absurd (omega arith)) ∙ ap (slice_get (registered new)) (sym back) ∙ sym (slice_get-registered new n) ∙ ap (option_map registered_as) k.1) in
+    subst (IsWithdrawn f (n + 1) (registered old)) (ap (λ (r : Registered). set (registered new) n (withdrawn f r)) x ∙ sym (registered-set new n k.0 v _ k.1))
+    (one_withdrawn f n (registered old) (registered new) before (omega (arith, within, length-registered new)))

@@ -1,0 +1,3 @@
+pub mod Registered
+pub mod Queries
+pub mod Entries

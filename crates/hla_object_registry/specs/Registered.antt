@@ -1,0 +1,37 @@
+-- What contracts see of a registry of objects, and the tables that it stands for
+use Rattle.std.specs.Prelude.{ℕ, ◌+◌, Bool, false, List, [], length, unwrap_or}
+use Rattle.hla_fed_file.specs.Lookup.{numbered}
+use Rattle.hla_machine.specs.Directory.{Object, no_object}
+
+-- an object that was registered, and a flag for each federate in the order of their numbers: is it known there
+pub record Registered : Type 0 where
+  pub object : Object
+  pub known : List Bool
+
+abbrev pub unregistered : Registered
+unregistered = record { object = no_object; known = [] }
+
+pub record RegistryValue : Type 0 where
+  pub next_object : ℕ  -- the number of the object that is registered next; numbers begin with 1
+  pub object : ℕ → Object
+  pub known : ℕ → ℕ → Bool  -- to which federates an object is known, deleted or not
+
+-- the item with a number, counted from 1, and d where there is none
+abbrev pub item : {X : Type 0} → X → List X → ℕ → X
+item d xs n = unwrap_or (numbered xs n) d
+
+-- is a federate in a set of federates
+abbrev pub is_in : List Bool → ℕ → Bool
+is_in flags federate = item false flags federate
+
+-- the tables of the objects that were registered, in the order of their numbers
+abbrev pub registry_of : List Registered → RegistryValue
+registry_of objects = record {
+  next_object = length objects + 1;
+  object = λ h. (item unregistered objects h).object;
+  known = λ h f. is_in (item unregistered objects h).known f;
+}
+
+-- no object was registered
+abbrev pub new_registry : RegistryValue
+new_registry = record { next_object = 1; object = λ _. no_object; known = λ _ _. false }
