@@ -6,15 +6,15 @@ subscribe their class, until there are so many steps."""
 import sys
 
 objects, receivers, steps = (int(word) for word in sys.argv[1:4])
-names = [f"F{k}" for k in range(16)]
+names = [chr(ord("A") + k) for k in range(16)]
 lines = ["create"] + [f"join {name}" for name in names]
-lines.append("F0 publishObject Body Position Velocity")
-lines += [f"{name} subscribeObject Body Position Velocity" for name in names[1:receivers + 1]]
-lines += ["F0 register Body"] * objects
+lines.append("A publishObject Body P V")
+lines += [f"{name} subscribeObject Body P V" for name in names[1:receivers + 1]]
+lines += ["A register Body"] * objects
 number = 0
 while len(lines) < steps:
-    lines.append(f"F0 update {number % objects + 1} Body Position={number} Velocity=1")
+    lines.append(f"A update {number % objects + 1} Body P={number} V=1")
     number += 1
-print("(FED (objects (class Body (attribute Position reliable receive) (attribute Velocity reliable receive))))")
+print("(FED (objects (class Body (attribute P reliable receive) (attribute V reliable receive))))")
 print("%%")
 print("\n".join(lines))

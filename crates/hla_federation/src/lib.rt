@@ -21,6 +21,8 @@ mod pairs;
 mod parts;
 mod refusals;
 mod registering;
+#[cfg(test)]
+mod scenarios;
 mod sending;
 
 pub use federation::Federation;
