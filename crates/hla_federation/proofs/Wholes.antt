@@ -1,13 +1,12 @@
 -- The parts stay of one execution
-use Rattle.std.proofs.Common.{◌≡◌, ◌≢◌, ⊎_elim, ℕ, ◌+◌, ◌<◌, ◌≤◌, cond, ltb, ◌||◌, Bool, true, false, Option, Some, None, List, sym, ap, ◌∙◌, arith}
+use Rattle.std.proofs.Common.{◌≡◌, ◌≢◌, ⊎_elim, ℕ, ◌+◌, ◌≤◌, cond, ltb, ◌||◌, Bool, true, false, Option, Some, None, List, sym, ap, ◌∙◌, arith}
 use Rattle.std.proofs.lemmas.Bool.{cases_Bool, cases_eq}
 use Rattle.std.proofs.lemmas.Bool.Decides.{nat_tests}
 use Rattle.hla_base.specs.declared.fault.Fault.TheVariants as fault
 use Rattle.hla_base.specs.Tables.{upd, upd2}
 use Rattle.hla_fed_file.specs.Tables.{Tables}
 use Rattle.hla_declaration.specs.Declarations.{DeclarationsValue}
-use Rattle.hla_federation.specs.Members.{MemberTables, tables_of}
-use Rattle.hla_federation.specs.MemberValue.{MemberValue}
+use Rattle.hla_federation.specs.Members.{MemberTables}
 use Rattle.hla_federation.specs.State.{AreWhole}
 use Rattle.hla_federation.proofs.Tables.{upd_other, upd_same, upd2_other}
 use Rattle.std.proofs.Common.{inl}
@@ -92,13 +91,6 @@ whole_withdrawn c d m n f whole next joined = record {
       })
       (cases_eq f g);
 }
-
--- a joined federate has a number
-pub joined_some : (members : List MemberValue) (f : ℕ) → (tables_of members).joined f ≡ true → 0 < f
-joined_some members f y = ⊎_elim
-    (λ (e : f ≡ 0). let t : (tables_of members).joined 0 ≡ true = ap (tables_of members).joined (sym e) ∙ y in absurd (cc))
-    (λ (ne : f ≢ 0). omega (arith, ne))
-    (cases_eq f 0)
 
 -- who may join is one of the first sixteen
 pub few_joined : (b l : Bool) (next : ℕ) → cond b (Some fault.FederateAlreadyExecutionMember) (cond (ltb 16 next || l) (Some fault.LimitReached) None) ≡ None → next ≤ 16
