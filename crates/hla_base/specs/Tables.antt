@@ -1,13 +1,6 @@
 -- Tables by number, as functions, and the least and the greatest of their entries
 use Rattle.std.specs.Prelude.{ℕ, zero, suc, min, max, cond, eqb, not, ◌&&◌, Bool, Option, Some, None, List, [], ◌∷◌, ◌++◌}
-
--- above every time, stamp, floor and bound
-abbrev pub forever : ℕ
-forever = 18446744073709551615
-
--- the largest time, stamp, lookahead and serial
-abbrev pub max_time : ℕ
-max_time = 1000000000000000000
+pub use Rattle.hla_base.specs.Limits.{forever, max_time}
 
 -- the table with x at i
 unfoldable pub upd : {X : Type 0} → (ℕ → X) → ℕ → X → ℕ → X
@@ -60,3 +53,6 @@ or_else None o = o
 -- what is there, where the test holds
 abbrev pub when : {X : Type 0} → Bool → Option X → Option X
 when b o = cond b o None
+
+abbrev pub one_if : Bool → ℕ
+one_if b = cond b 1 0

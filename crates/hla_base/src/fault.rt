@@ -1,4 +1,4 @@
-//! Faults of calls: the exceptions of HLA 1.3, and four of this profile.
+//! Faults of calls: the exceptions of HLA 1.3, and three of this profile.
 
 ghost use Rattle.std.specs.Prelude.{◌≡◌, IsTrue, ◌↔◌};
 ghost use Rattle.hla_base.specs.Fault.{number_of, name_of};

@@ -3,6 +3,7 @@
 
 mod content;
 mod fault;
+mod limits;
 mod list;
 mod name;
 mod number;
@@ -12,11 +13,16 @@ mod value;
 
 pub use content::{Content, Discovery, Event, HandleValuePair};
 pub use fault::Fault;
+pub use limits::{
+    FOREVER, MAX_ATTRIBUTES, MAX_CLASSES, MAX_CREATES, MAX_ENABLINGS, MAX_EXECUTION_NAME,
+    MAX_EXECUTIONS, MAX_FED_FILE, MAX_FED_NESTING, MAX_FEDERATE_NAME, MAX_HISTORY, MAX_JOINS,
+    MAX_NAME, MAX_OBJECTS, MAX_PARAMETERS, MAX_SCRIPT, MAX_SCRIPT_LINE, MAX_SERIAL, MAX_TIME,
+    MAX_VALUE,
+};
 pub use list::List;
 pub use name::ExecutionName;
 pub use number::{
-    AttributeNo, ClassNo, EventHandle, FOREVER, FederateNo, MAX_TIME, ObjectNo, ParameterNo,
-    Serial, Ticks,
+    AttributeNo, ClassNo, EventHandle, FederateNo, ObjectNo, ParameterNo, Serial, Ticks,
 };
 pub use plain::Plain;
 pub use row::{AdvanceKind, AdvanceRequest, Role, TimeRow};

@@ -1,11 +1,13 @@
 //! Lists that contracts see as such.
 
 ghost use Rattle.std.specs.Prelude.{◌≡◌, ◌++◌, ◌∷◌, [], IfOk, IfErr, OnErr, OnOk, List, length, take, ◌-◌, ◌↔◌, IsTrue, option_to_list};
+ghost use Rattle.std.specs.Cmp.Lexicographic.{pointwise, lists_per};
+ghost use Rattle.std.proofs.lemmas.Cmp.{lists_equiv};
 ghost use Rattle.hla_base.specs.declared.fault.Fault.TheVariants.{OutOfMemory};
 
 use crate::fault::Fault;
 use crate::plain::Plain;
-use std::alloc::Global;
+use std::alloc::{AllocError, Global};
 use std::marker::Model;
 
 /// A list of values. It is made from a `Vec` and gives it back.
@@ -90,29 +92,32 @@ impl<T> List<T> {
     }
 }
 
-impl<T: Plain> Plain for List<T> {
-    fn is_same(&self, other: &List<T>) -> bool {
-        let xs = self.items.as_slice();
-        let ys = other.items.as_slice();
-        if xs.len() != ys.len() {
-            return false;
-        }
-        for (i, x) in xs.iter().enumerate() {
-            if !x.is_same(&ys[i]) {
-                return false;
-            }
-        }
-        true
-    }
+impl<T: Plain> PartialEq for List<T> {
+    ghost eq = { pointwise T.eq };
 
-    fn copy(&self) -> Result<List<T>, Fault> {
-        let mut items = Vec::new(*self.items.allocator());
-        for item in self.items.as_slice() {
-            let copy = item.copy()?;
-            if items.push(copy).is_err() {
-                return Err(Fault::OutOfMemory);
-            }
-        }
-        Ok(List { items })
+    ghost laws = { lists_per T.PartialEq.laws };
+
+    fn eq(&self, other: &List<T>) -> bool {
+        self.items == other.items
     }
+}
+
+impl<T: Plain> Eq for List<T> {
+    ghost laws = { lists_equiv T.Eq.laws };
+}
+
+impl<T: Plain> Clone for List<T> {
+    ghost is_clone = { λ xs ys. ys ≡ xs };
+
+    fn clone(&self) -> Result<List<T>, AllocError> {
+        Ok(List {
+            items: self.items.clone()?,
+        })
+    }
+}
+
+impl<T: Plain> Plain for List<T> {
+    ghost exact = { T.lists };
+
+    ghost cloned = { λ xs ys same. same };
 }

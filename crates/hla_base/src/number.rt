@@ -2,20 +2,14 @@
 
 ghost use Rattle.std.specs.Prelude.{◌≡◌, ◌++◌, ◌∷◌, [], Some, codes};
 ghost use Rattle.std.specs.Fmt.{decimal};
+ghost use Rattle.std.proofs.Common.{rules};
 
-use crate::fault::Fault;
 use crate::plain::Plain;
 use std::fmt;
 
 /// A logical time, a time stamp or a lookahead, in ticks: a whole number from 0 to `MAX_TIME`. Floors and bounds reach
 /// twice as far, and a bound may be `FOREVER`.
 pub type Ticks = u64;
-
-/// The largest logical time, time stamp and lookahead.
-pub const MAX_TIME: Ticks = 1_000_000_000_000_000_000;
-
-/// Above every time, stamp, floor and bound: the bound of a federate that no other can send anything to.
-pub const FOREVER: Ticks = u64::MAX;
 
 /// The number of a federate in its execution: 1, 2, .. in order of joining, never used again.
 pub type FederateNo = u32;
@@ -54,11 +48,7 @@ impl fmt::Display for EventHandle {
 }
 
 impl Plain for EventHandle {
-    fn is_same(&self, other: &EventHandle) -> bool {
-        self.sender == other.sender && self.serial == other.serial
-    }
+    ghost exact = { Prim.search rules };
 
-    fn copy(&self) -> Result<EventHandle, Fault> {
-        Ok(*self)
-    }
+    ghost cloned = { Prim.search rules };
 }

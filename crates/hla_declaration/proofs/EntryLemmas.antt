@@ -6,7 +6,7 @@ use Rattle.std.proofs.lemmas.List.{get_or-replicate, length-replicate}
 use Rattle.std.proofs.lemmas.Bool.{cases_eq, cases_lt}
 use Rattle.std.proofs.lemmas.Bool.Decides.{nat_tests}
 use Rattle.hla_fed_file.specs.Lookup.{numbered}
-use Rattle.hla_declaration.specs.Entries.{entry}
+use Rattle.hla_declaration.specs.Entries.{entry_at}
 
 pub numbered-suc : {X : Type 0} (xs : List X) (k : ℕ) → numbered xs (suc k) ≡ slice_get xs k
 numbered-suc xs k =
@@ -70,17 +70,17 @@ numbered-push_last xs x =
     rw e (numbered-suc (xs ++ x ∷ []) (length xs) ∙ slice_get-push_last xs x)
 
 -- where nothing stands at any place, nothing stands at any number
-pub entry_absent : {X : Type 0} (absent : X) (xs : List X) → ((k : ℕ) → k < length xs → get_or xs k absent ≡ absent) → (n : ℕ) → entry absent xs n ≡ absent
+pub entry_absent : {X : Type 0} (absent : X) (xs : List X) → ((k : ℕ) → k < length xs → get_or xs k absent ≡ absent) → (n : ℕ) → entry_at absent xs n ≡ absent
 entry_absent absent xs nothing zero = refl
 entry_absent absent xs nothing (suc k) = rw (numbered-suc xs k)
     (⊎_elim (λ (within : k < length xs). rw (slice_get-get_or xs k absent within) (nothing k within))
     (λ (past : length xs ≤ k). rw (slice_get_past xs k past) refl)
     (cases_lt k (length xs)))
 
-pub entry-replicate : {X : Type 0} (absent : X) (count n : ℕ) → entry absent (replicate count absent) n ≡ absent
+pub entry-replicate : {X : Type 0} (absent : X) (count n : ℕ) → entry_at absent (replicate count absent) n ≡ absent
 entry-replicate absent count n = entry_absent absent (replicate count absent) (λ k within. get_or-replicate count k absent absent (let e : length (replicate count absent) ≡ count = length-replicate count absent in omega arith)) n
 
-pub entry-set : {X : Type 0} (absent : X) (xs : List X) (k : ℕ) (x : X) → 0 < k → k ≤ length xs → (l : ℕ) → entry absent (set xs (k - 1) x) l ≡ cond (eqb k l) x (entry absent xs l)
+pub entry-set : {X : Type 0} (absent : X) (xs : List X) (k : ℕ) (x : X) → 0 < k → k ≤ length xs → (l : ℕ) → entry_at absent (set xs (k - 1) x) l ≡ cond (eqb k l) x (entry_at absent xs l)
 entry-set absent xs k x some within l = ⊎_elim
     (λ (e : k ≡ l). let y : eqb k l ≡ true = grind (arith, nat_tests) in rw (y, ← e, numbered-set_same xs k x some within) refl)
     (λ (ne : k ≢ l). let n : eqb k l ≡ false = grind (arith, nat_tests) in rw (n, numbered-set_other xs k l x some ne) refl)

@@ -6,11 +6,11 @@ use Rattle.std.proofs.lemmas.List.{append-nil}
 use Rattle.std.proofs.lemmas.List.Elements.{filter_map-append, All-append, All-cons, All-nil, All-weaker}
 use Rattle.std.proofs.lemmas.Bool.Decides.{nat_tests}
 use Rattle.hla_base.specs.Tables.{numbers_below, when}
-use Rattle.hla_fed_file.specs.Tables.{Tables}
+use Rattle.hla_fed_file.specs.CatalogueValue.{CatalogueValue}
 use Rattle.hla_fed_file.specs.Lookup.{object_lineage, interaction_lineage}
 use Rattle.hla_declaration.specs.Lists.{DeclarationLists}
-use Rattle.hla_declaration.specs.Declarations.{tables_of}
-use Rattle.hla_declaration.specs.Receivers.{served_object, served_interaction, receivers_of, IsReceiver}
+use Rattle.hla_declaration.specs.Declarations.{declarations_of}
+use Rattle.hla_declaration.specs.Receivers.{object_class_served, interaction_class_served, receivers_of, IsReceiver}
 use Rattle.hla_declaration.specs.declared.receiver.Receiver.{Receiver}
 
 find_none : (p : ℕ → Bool) (xs : List ℕ) → ((x : ℕ) → p x ≡ false) → find p xs ≡ None
@@ -18,10 +18,10 @@ find_none p [] none = refl
 find_none p (x ∷ xs) none = rw (none x) (find_none p xs none)
 
 -- number 0, which no federate has, is never served
-pub nobody_object : (c : Tables) (d : DeclarationLists) (class : ℕ) → served_object c (tables_of d).subscribed 0 class ≡ None
+pub nobody_object : (c : CatalogueValue) (d : DeclarationLists) (class : ℕ) → object_class_served c (declarations_of d).subscribed 0 class ≡ None
 nobody_object c d class = find_none (λ k. false) (object_lineage c class) (λ k. refl)
 
-pub nobody_interaction : (c : Tables) (d : DeclarationLists) (class : ℕ) → served_interaction c (tables_of d).subscribed_interaction 0 class ≡ None
+pub nobody_interaction : (c : CatalogueValue) (d : DeclarationLists) (class : ℕ) → interaction_class_served c (declarations_of d).subscribed_interaction 0 class ≡ None
 nobody_interaction c d class = find_none (λ k. false) (interaction_lineage c class) (λ k. refl)
 
 -- a federate as a receiver, where it is served and is not the sender
@@ -77,10 +77,10 @@ module _ (served : ℕ → Option ℕ) (sender : ℕ) (nobody : served 0 ≡ Non
       rw (← add-one n, grown served n sender)
       (All-append (IsReceiver (n + 1) sender) (receivers_of served n sender) (filter_map (receiver_at served sender) ((n + 1) ∷ [])) before (last_receivers (n + 1) (receiver_at served sender (n + 1)) refl))
 
-module _ (c : Tables) (d : DeclarationLists) (class sender : ℕ) where
-  pub object_receivers : All (IsReceiver (tables_of d).federates sender) (receivers_of (λ g. served_object c (tables_of d).subscribed g class) (tables_of d).federates sender)
-  object_receivers = all_receivers (λ g. served_object c (tables_of d).subscribed g class) sender (nobody_object c d class) (tables_of d).federates
+module _ (c : CatalogueValue) (d : DeclarationLists) (class sender : ℕ) where
+  pub object_receivers : All (IsReceiver (declarations_of d).federates sender) (receivers_of (λ g. object_class_served c (declarations_of d).subscribed g class) (declarations_of d).federates sender)
+  object_receivers = all_receivers (λ g. object_class_served c (declarations_of d).subscribed g class) sender (nobody_object c d class) (declarations_of d).federates
 
   pub interaction_receivers
-      : All (IsReceiver (tables_of d).federates sender) (receivers_of (λ g. served_interaction c (tables_of d).subscribed_interaction g class) (tables_of d).federates sender)
-  interaction_receivers = all_receivers (λ g. served_interaction c (tables_of d).subscribed_interaction g class) sender (nobody_interaction c d class) (tables_of d).federates
+      : All (IsReceiver (declarations_of d).federates sender) (receivers_of (λ g. interaction_class_served c (declarations_of d).subscribed_interaction g class) (declarations_of d).federates sender)
+  interaction_receivers = all_receivers (λ g. interaction_class_served c (declarations_of d).subscribed_interaction g class) sender (nobody_interaction c d class) (declarations_of d).federates

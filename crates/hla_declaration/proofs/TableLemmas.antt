@@ -6,10 +6,10 @@ use Rattle.std.proofs.lemmas.Bool.Decides.{nat_tests}
 use Rattle.std.proofs.lemmas.List.Elements.{All-get_or}
 use Rattle.std.proofs.Math.Path.{fun_ext}
 use Rattle.hla_base.specs.Tables.{upd, upd2}
-use Rattle.hla_declaration.specs.Entries.{entry}
-use Rattle.hla_declaration.specs.Members.{IsMember, IsCleared, new_member}
-use Rattle.hla_declaration.specs.Lists.{IsWhole}
-use Rattle.hla_declaration.specs.Declarations.{DeclarationsValue, table, tables_of}
+use Rattle.hla_declaration.specs.Entries.{entry_at}
+use Rattle.hla_declaration.specs.Members.{IsMember, IsCleared, new_declarer}
+use Rattle.hla_declaration.specs.Lists.{AreListsWhole}
+use Rattle.hla_declaration.specs.Declarations.{DeclarationsValue, table, declarations_of}
 use Rattle.hla_declaration.specs.declared.member.Member.{Member}
 use Rattle.hla_declaration.proofs.EntryLemmas.{numbered-set_same, numbered-set_other, numbered_read, numbered_past, numbered-push, numbered-push_last, entry-set, entry-replicate}
 
@@ -20,19 +20,19 @@ by_number f P here there g = ⊎_elim (λ (e : f ≡ g). subst P e here) (λ (ne
 -- ---- one table
 module _ {X : Type 0} (absent : X) (row : Member → List X) (members : List Member) where
   module _ (f : ℕ) (m new : Member) (some : 0 < f) (within : f ≤ length members) (is : m ≡ get_or members (f - 1) m) where
-    changed_here : (k : ℕ) → table absent row (set members (f - 1) new) f k ≡ entry absent (row new) k
-    changed_here k = ap (λ o. option_map_or (λ m. entry absent (row m) k) o absent) (numbered-set_same members f new some within)
+    changed_here : (k : ℕ) → table absent row (set members (f - 1) new) f k ≡ entry_at absent (row new) k
+    changed_here k = ap (λ o. option_map_or (λ m. entry_at absent (row m) k) o absent) (numbered-set_same members f new some within)
 
     changed_there : (g : ℕ) → f ≢ g → (k : ℕ) → table absent row (set members (f - 1) new) g k ≡ table absent row members g k
-    changed_there g ne k = ap (λ o. option_map_or (λ m. entry absent (row m) k) o absent) (numbered-set_other members f g new some ne)
+    changed_there g ne k = ap (λ o. option_map_or (λ m. entry_at absent (row m) k) o absent) (numbered-set_other members f g new some ne)
 
-    before_here : (k : ℕ) → table absent row members f k ≡ entry absent (row m) k
-    before_here k = ap (λ o. option_map_or (λ m. entry absent (row m) k) o absent) (numbered_read members f m some within is)
+    before_here : (k : ℕ) → table absent row members f k ≡ entry_at absent (row m) k
+    before_here k = ap (λ o. option_map_or (λ m. entry_at absent (row m) k) o absent) (numbered_read members f m some within is)
 
     -- a row that stays
     pub table_kept : row new ≡ row m → table absent row (set members (f - 1) new) ≡ table absent row members
     table_kept same = fun_ext (λ g. fun_ext (λ k. by_number f (λ g. table absent row (set members (f - 1) new) g k ≡ table absent row members g k)
-        (changed_here k ∙ ap (λ xs. entry absent xs k) same ∙ sym (before_here k))
+        (changed_here k ∙ ap (λ xs. entry_at absent xs k) same ∙ sym (before_here k))
         (λ g ne. changed_there g ne k) g))
 
     -- a row with another entry
@@ -41,12 +41,12 @@ module _ {X : Type 0} (absent : X) (row : Member → List X) (members : List Mem
     unfolding upd2
     table_put class x first last put = fun_ext (λ g. fun_ext (λ k. by_number f (λ g. table absent row (set members (f - 1) new) g k ≡ cond (eqb f g && eqb class k) x (table absent row members g k))
         (let y : eqb f f ≡ true = grind (arith, nat_tests) in
-        changed_here k ∙ ap (λ xs. entry absent xs k) put ∙ entry-set absent (row m) class x first last k
+        changed_here k ∙ ap (λ xs. entry_at absent xs k) put ∙ entry-set absent (row m) class x first last k
         ∙ rw y (ap (λ o. cond (eqb class k) x o) (sym (before_here k))))
         (λ g ne. let n : eqb f g ≡ false = grind (arith, nat_tests) in changed_there g ne k ∙ rw n refl) g))
 
     -- a row with nothing
-    pub table_cleared : ((class : ℕ) → entry absent (row new) class ≡ absent) → table absent row (set members (f - 1) new) ≡ upd (table absent row members) f (λ _. absent)
+    pub table_cleared : ((class : ℕ) → entry_at absent (row new) class ≡ absent) → table absent row (set members (f - 1) new) ≡ upd (table absent row members) f (λ _. absent)
     unfolding upd
     table_cleared nothing = fun_ext (λ g. fun_ext (λ k. by_number f (λ g. table absent row (set members (f - 1) new) g k ≡ cond (eqb f g) (λ (_ : ℕ). absent) (table absent row members g) k)
         (let y : eqb f f ≡ true = grind (arith, nat_tests) in
@@ -55,11 +55,11 @@ module _ {X : Type 0} (absent : X) (row : Member → List X) (members : List Mem
         changed_there g ne k ∙ sym (ap (λ (b : Bool). cond b (λ (_ : ℕ). absent) (table absent row members g) k) n)) g))
 
   -- one more row, with nothing
-  pub table_more : (new : Member) → ((class : ℕ) → entry absent (row new) class ≡ absent) → table absent row (members ++ new ∷ []) ≡ table absent row members
+  pub table_more : (new : Member) → ((class : ℕ) → entry_at absent (row new) class ≡ absent) → table absent row (members ++ new ∷ []) ≡ table absent row members
   table_more new nothing = fun_ext (λ g. fun_ext (λ k. by_number (length members + 1) (λ g. table absent row (members ++ new ∷ []) g k ≡ table absent row members g k)
-      (ap (λ o. option_map_or (λ m. entry absent (row m) k) o absent) (numbered-push_last members new) ∙ nothing k
-      ∙ sym (ap (λ o. option_map_or (λ m. entry absent (row m) k) o absent) (numbered_past members (length members + 1) (omega arith))))
-      (λ g ne. ap (λ o. option_map_or (λ m. entry absent (row m) k) o absent) (numbered-push members new g (λ e. ne (sym e)))) g))
+      (ap (λ o. option_map_or (λ m. entry_at absent (row m) k) o absent) (numbered-push_last members new) ∙ nothing k
+      ∙ sym (ap (λ o. option_map_or (λ m. entry_at absent (row m) k) o absent) (numbered_past members (length members + 1) (omega arith))))
+      (λ g ne. ap (λ o. option_map_or (λ m. entry_at absent (row m) k) o absent) (numbered-push members new g (λ e. ne (sym e)))) g))
 
 -- ---- all tables
 abbrev tables_with : ℕ → ℕ → ℕ → (ℕ → ℕ → Option (List ℕ)) → (ℕ → ℕ → Option (List ℕ)) → (ℕ → ℕ → Bool) → (ℕ → ℕ → Bool) → DeclarationsValue
@@ -91,9 +91,9 @@ subscribed_flags m = m.subscribed_interactions
 
 -- the tables of lists with these counts
 abbrev pub tables : ℕ → ℕ → List Member → DeclarationsValue
-tables objects interactions members = tables_of (record { object_classes = objects; interaction_classes = interactions; members = members })
+tables objects interactions members = declarations_of (record { object_classes = objects; interaction_classes = interactions; members = members })
 
-module _ (objects interactions : ℕ) (members : List Member) (whole : IsWhole objects interactions members) where
+module _ (objects interactions : ℕ) (members : List Member) (whole : AreListsWhole objects interactions members) where
   module _ (f : ℕ) (m : Member) (some : 0 < f) (within : f ≤ length members) (is : m ≡ get_or members (f - 1) m) where
     room : IsMember objects interactions m
     room = subst (IsMember objects interactions) (sym is) (All-get_or (IsMember objects interactions) members (f - 1) m (omega arith) whole.each)
@@ -155,9 +155,9 @@ module _ (objects interactions : ℕ) (members : List Member) (whole : IsWhole o
 
 -- one more federate, which declares nothing
 pub member_more : (objects interactions : ℕ) (members : List Member)
-    → tables objects interactions (members ++ new_member objects interactions ∷ []) ≡ record (tables objects interactions members) { federates = length members + 1 }
+    → tables objects interactions (members ++ new_declarer objects interactions ∷ []) ≡ record (tables objects interactions members) { federates = length members + 1 }
 member_more objects interactions members =
-    let new : Member = new_member objects interactions in
+    let new : Member = new_declarer objects interactions in
     same_tables objects interactions (length-append members (new ∷ []))
     (table_more None published_row members new (entry-replicate None objects)) (table_more None subscribed_row members new (entry-replicate None objects))
     (table_more false published_flags members new (entry-replicate false interactions)) (table_more false subscribed_flags members new (entry-replicate false interactions))

@@ -4,5 +4,5 @@ use Rattle.std.specs.Option.{option_map_or}
 use Rattle.hla_fed_file.specs.Lookup.{numbered}
 
 -- the entry with a number, counted from 1; this where there is none
-abbrev pub entry : {X : Type 0} → X → List X → ℕ → X
-entry absent xs n = option_map_or (λ x. x) (numbered xs n) absent
+abbrev pub entry_at : {X : Type 0} → X → List X → ℕ → X
+entry_at absent xs n = option_map_or (λ x. x) (numbered xs n) absent

@@ -1,6 +1,7 @@
 -- What contracts see of declarations: the federates' lists
 use Rattle.std.specs.Prelude.{ℕ, ◌≤◌, List, length}
 use Rattle.std.specs.List.{All}
+use Rattle.hla_base.specs.Limits.{max_classes, max_joins}
 use Rattle.hla_declaration.specs.declared.member.Member.{Member}
 use Rattle.hla_declaration.specs.Members.{IsMember}
 
@@ -10,8 +11,8 @@ pub record DeclarationLists : Type 0 where
   pub interaction_classes : ℕ
   pub members : List Member  -- by number, counted from 1
 
-pub record IsWhole (object_classes interaction_classes : ℕ) (members : List Member) : Type 0 where
-  pub few_objects : object_classes ≤ 512
-  pub few_interactions : interaction_classes ≤ 512
-  pub few : length members ≤ 16
+pub record AreListsWhole (object_classes interaction_classes : ℕ) (members : List Member) : Type 0 where
+  pub few_objects : object_classes ≤ max_classes
+  pub few_interactions : interaction_classes ≤ max_classes
+  pub few : length members ≤ max_joins
   pub each : All (IsMember object_classes interaction_classes) members

@@ -1,11 +1,11 @@
 -- What one federate declares
 use Rattle.std.specs.Prelude.{◌≡◌, ℕ, None, false, length, replicate}
-use Rattle.hla_declaration.specs.Entries.{entry}
+use Rattle.hla_declaration.specs.Entries.{entry_at}
 use Rattle.hla_declaration.specs.declared.member.Member.{Member}
 
 -- it declares nothing of these many object classes and interaction classes
-abbrev pub new_member : ℕ → ℕ → Member
-new_member object_classes interaction_classes = record {
+abbrev pub new_declarer : ℕ → ℕ → Member
+new_declarer object_classes interaction_classes = record {
   published = replicate object_classes None;
   subscribed = replicate object_classes None;
   published_interactions = replicate interaction_classes false;
@@ -21,8 +21,8 @@ pub record IsMember (object_classes interaction_classes : ℕ) (m : Member) : Ty
 
 -- it declares nothing any more, and has room as before
 pub record IsCleared (old new : Member) : Type 0 where
-  pub published : (class : ℕ) → entry None new.published class ≡ None
-  pub subscribed : (class : ℕ) → entry None new.subscribed class ≡ None
-  pub published_interactions : (class : ℕ) → entry false new.published_interactions class ≡ false
-  pub subscribed_interactions : (class : ℕ) → entry false new.subscribed_interactions class ≡ false
+  pub published : (class : ℕ) → entry_at None new.published class ≡ None
+  pub subscribed : (class : ℕ) → entry_at None new.subscribed class ≡ None
+  pub published_interactions : (class : ℕ) → entry_at false new.published_interactions class ≡ false
+  pub subscribed_interactions : (class : ℕ) → entry_at false new.subscribed_interactions class ≡ false
   pub room : IsMember (length old.published) (length old.published_interactions) old → IsMember (length old.published) (length old.published_interactions) new

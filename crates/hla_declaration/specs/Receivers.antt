@@ -2,16 +2,16 @@
 use Rattle.std.specs.Prelude.{ℕ, ◌+◌, ◌<◌, ◌≤◌, ◌≢◌, eqb, not, Bool, Option, is_some, option_map, List, find}
 use Rattle.std.specs.List.{filter_map}
 use Rattle.hla_base.specs.Tables.{numbers_below, when}
-use Rattle.hla_fed_file.specs.Tables.{Tables}
+use Rattle.hla_fed_file.specs.CatalogueValue.{CatalogueValue}
 use Rattle.hla_fed_file.specs.Lookup.{object_lineage, interaction_lineage}
 use Rattle.hla_declaration.specs.declared.receiver.Receiver.{Receiver}
 
 -- at which class a federate is served: the most derived one that it subscribes
-abbrev pub served_object : Tables → (ℕ → ℕ → Option (List ℕ)) → ℕ → ℕ → Option ℕ
-served_object c subscribed f class = find (λ k. is_some (subscribed f k)) (object_lineage c class)
+abbrev pub object_class_served : CatalogueValue → (ℕ → ℕ → Option (List ℕ)) → ℕ → ℕ → Option ℕ
+object_class_served c subscribed f class = find (λ k. is_some (subscribed f k)) (object_lineage c class)
 
-abbrev pub served_interaction : Tables → (ℕ → ℕ → Bool) → ℕ → ℕ → Option ℕ
-served_interaction c subscribed f class = find (λ k. subscribed f k) (interaction_lineage c class)
+abbrev pub interaction_class_served : CatalogueValue → (ℕ → ℕ → Bool) → ℕ → ℕ → Option ℕ
+interaction_class_served c subscribed f class = find (λ k. subscribed f k) (interaction_lineage c class)
 
 -- who but the sender is served, at which class, by rising number
 abbrev pub receivers_of : (ℕ → Option ℕ) → ℕ → ℕ → List Receiver

@@ -3,7 +3,7 @@
 ghost use Rattle.std.specs.Prelude.{◌≡◌, ◌<◌, ◌≤◌, ◌-◌, ℕ, length, replicate, None, IfOk, IfErr, slice_set};
 ghost use Rattle.std.specs.Option.{option_copied};
 ghost use Rattle.hla_base.specs.declared.fault.Fault.TheVariants.{OutOfMemory};
-ghost use Rattle.hla_declaration.specs.Entries.{entry};
+ghost use Rattle.hla_declaration.specs.Entries.{entry_at};
 
 use hla_base::{AttributeNo, ClassNo, Fault, List};
 use std::alloc::Global;
@@ -41,7 +41,7 @@ impl AttributeLists {
 
     /// The attributes that are declared of a class; `None` where it is not declared, or no class has the number.
     pub fn get(&self, class: ClassNo) -> Option<&List<AttributeNo>>
-        ensures { option_copied result ≡ entry None self.now class }
+        ensures { option_copied result ≡ entry_at None self.now class }
     {
         if class == 0 {
             return None;
@@ -63,7 +63,7 @@ impl AttributeLists {
 
     /// No class is declared any more.
     pub fn clear(&mut self)
-        ensures nothing { (class : ℕ) → entry None self.new class ≡ None }
+        ensures nothing { (class : ℕ) → entry_at None self.new class ≡ None }
         ensures room { length self.new ≡ length self.old }
     {
         for list in self.lists.iter_mut() {

@@ -2,7 +2,7 @@
 
 ghost use Rattle.std.specs.Prelude.{◌≡◌, ◌<◌, ◌≤◌, ◌-◌, ℕ, length, replicate, false, IfOk, IfErr, slice_set};
 ghost use Rattle.hla_base.specs.declared.fault.Fault.TheVariants.{OutOfMemory};
-ghost use Rattle.hla_declaration.specs.Entries.{entry};
+ghost use Rattle.hla_declaration.specs.Entries.{entry_at};
 
 use hla_base::{ClassNo, Fault};
 use std::alloc::Global;
@@ -37,7 +37,7 @@ impl ClassSet {
 
     /// Whether a class is in the set; no for a number of no class.
     pub fn contains(&self, class: ClassNo) -> bool
-        ensures { result ≡ entry false self.now class }
+        ensures { result ≡ entry_at false self.now class }
     {
         if class == 0 {
             return false;
@@ -56,7 +56,7 @@ impl ClassSet {
 
     /// No class is in the set any more.
     pub fn clear(&mut self)
-        ensures nothing { (class : ℕ) → entry false self.new class ≡ false }
+        ensures nothing { (class : ℕ) → entry_at false self.new class ≡ false }
         ensures room { length self.new ≡ length self.old }
     {
         self.flags.fill(false);

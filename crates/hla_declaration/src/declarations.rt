@@ -2,10 +2,11 @@
 
 ghost use Rattle.std.specs.Prelude.{◌≡◌, ◌<◌, ◌≤◌, ◌+◌, [], None, Some, false, true, IfOk, IfErr, OnOk, OnErr, is_some};
 ghost use Rattle.std.specs.Option.{option_map_or, option_copied};
+ghost use Rattle.hla_base.specs.Limits.{max_classes, max_joins};
 ghost use Rattle.hla_base.specs.declared.fault.Fault.TheVariants.{OutOfMemory};
 ghost use Rattle.hla_base.specs.Tables.{upd, upd2};
 ghost use Rattle.hla_fed_file.specs.Lookup.{numbered, contains_number};
-ghost use Rattle.hla_declaration.specs.Declarations.{tables_of, IsBounded};
+ghost use Rattle.hla_declaration.specs.Declarations.{declarations_of, IsBounded};
 
 use crate::member::Member;
 use hla_base::{AttributeNo, ClassNo, Fault, FederateNo, List};
@@ -24,22 +25,22 @@ pub struct Declarations {
 }
 
 impl Model for Declarations {
-    ghost use Rattle.hla_declaration.specs.Lists.{DeclarationLists, IsWhole};
+    ghost use Rattle.hla_declaration.specs.Lists.{DeclarationLists, AreListsWhole};
 
     ghost Value = { DeclarationLists };
 
     ghost view = { λ d. record { object_classes = d.object_classes; interaction_classes = d.interaction_classes; members = d.members.items } };
 
-    ghost invariant = { λ d. IsWhole d.object_classes d.interaction_classes d.members.items };
+    ghost invariant = { λ d. AreListsWhole d.object_classes d.interaction_classes d.members.items };
 }
 
 impl Declarations {
     /// The declarations of an execution that no federate has joined yet, with this many object classes and interaction
     /// classes; it takes no memory.
     pub fn new(alloc: Global, object_classes: usize, interaction_classes: usize) -> Declarations
-        requires objects { object_classes ≤ 512 }
-        requires interactions { interaction_classes ≤ 512 }
-        ensures { tables_of result ≡ record { federates = 0; object_classes = object_classes; interaction_classes = interaction_classes; published = λ _ _. None; subscribed = λ _ _. None; published_interaction = λ _ _. false; subscribed_interaction = λ _ _. false } }
+        requires objects { object_classes ≤ max_classes }
+        requires interactions { interaction_classes ≤ max_classes }
+        ensures { declarations_of result ≡ record { federates = 0; object_classes = object_classes; interaction_classes = interaction_classes; published = λ _ _. None; subscribed = λ _ _. None; published_interaction = λ _ _. false; subscribed_interaction = λ _ _. false } }
     {
         Declarations {
             object_classes,
@@ -50,9 +51,9 @@ impl Declarations {
 
     /// How many federates have joined so far. Nothing is declared of any other number, nor of a number of no class.
     pub fn federates(&self) -> usize
-        ensures count { result ≡ (tables_of self.now).federates }
-        ensures few { result ≤ 16 }
-        ensures bounds { IsBounded (tables_of self.now) }
+        ensures count { result ≡ (declarations_of self.now).federates }
+        ensures few { result ≤ max_joins }
+        ensures bounds { IsBounded (declarations_of self.now) }
     {
         self.members.len()
     }
@@ -70,8 +71,8 @@ impl Declarations {
     /// One more federate, which declares nothing (Join Federation Execution). Its number is the next one, and there are at
     /// most 16. `OutOfMemory`, and all as it was, where a growth was refused.
     pub fn admit(&mut self) -> Result<(), Fault>
-        requires { (tables_of self.old).federates < 16 }
-        ensures ok { OnOk result (tables_of self.new ≡ record (tables_of self.old) { federates = (tables_of self.old).federates + 1 }) }
+        requires { (declarations_of self.old).federates < max_joins }
+        ensures ok { OnOk result (declarations_of self.new ≡ record (declarations_of self.old) { federates = (declarations_of self.old).federates + 1 }) }
         ensures err { IfErr result (λ e. e ≡ Fault.OutOfMemory) }
         ensures unchanged { OnErr result (self.new ≡ self.old) }
     {
@@ -86,8 +87,8 @@ impl Declarations {
     /// A federate declares nothing any more (Resign Federation Execution). Its number stays its own.
     pub fn withdraw(&mut self, federate: FederateNo)
         requires some { 0 < federate }
-        requires joined { federate ≤ (tables_of self.old).federates }
-        ensures { let old = tables_of self.old in tables_of self.new ≡ record old { published = upd old.published federate (λ _. None); subscribed = upd old.subscribed federate (λ _. None); published_interaction = upd old.published_interaction federate (λ _. false); subscribed_interaction = upd old.subscribed_interaction federate (λ _. false) } }
+        requires joined { federate ≤ (declarations_of self.old).federates }
+        ensures { let old = declarations_of self.old in declarations_of self.new ≡ record old { published = upd old.published federate (λ _. None); subscribed = upd old.subscribed federate (λ _. None); published_interaction = upd old.published_interaction federate (λ _. false); subscribed_interaction = upd old.subscribed_interaction federate (λ _. false) } }
     {
         self.members[federate as usize - 1].clear();
     }
@@ -100,10 +101,10 @@ impl Declarations {
         attributes: Option<List<AttributeNo>>,
     )
         requires some { 0 < federate }
-        requires joined { federate ≤ (tables_of self.old).federates }
+        requires joined { federate ≤ (declarations_of self.old).federates }
         requires numbered { 0 < class }
-        requires defined { class ≤ (tables_of self.old).object_classes }
-        ensures { tables_of self.new ≡ record (tables_of self.old) { published = upd2 (tables_of self.old).published federate class attributes } }
+        requires defined { class ≤ (declarations_of self.old).object_classes }
+        ensures { declarations_of self.new ≡ record (declarations_of self.old) { published = upd2 (declarations_of self.old).published federate class attributes } }
     {
         self.members[federate as usize - 1]
             .published
@@ -118,10 +119,10 @@ impl Declarations {
         attributes: Option<List<AttributeNo>>,
     )
         requires some { 0 < federate }
-        requires joined { federate ≤ (tables_of self.old).federates }
+        requires joined { federate ≤ (declarations_of self.old).federates }
         requires numbered { 0 < class }
-        requires defined { class ≤ (tables_of self.old).object_classes }
-        ensures { tables_of self.new ≡ record (tables_of self.old) { subscribed = upd2 (tables_of self.old).subscribed federate class attributes } }
+        requires defined { class ≤ (declarations_of self.old).object_classes }
+        ensures { declarations_of self.new ≡ record (declarations_of self.old) { subscribed = upd2 (declarations_of self.old).subscribed federate class attributes } }
     {
         self.members[federate as usize - 1]
             .subscribed
@@ -131,10 +132,10 @@ impl Declarations {
     /// A federate publishes an interaction class from now on, or not any more.
     fn set_published_interaction(&mut self, federate: FederateNo, class: ClassNo, publishes: bool)
         requires some { 0 < federate }
-        requires joined { federate ≤ (tables_of self.old).federates }
+        requires joined { federate ≤ (declarations_of self.old).federates }
         requires numbered { 0 < class }
-        requires defined { class ≤ (tables_of self.old).interaction_classes }
-        ensures { tables_of self.new ≡ record (tables_of self.old) { published_interaction = upd2 (tables_of self.old).published_interaction federate class publishes } }
+        requires defined { class ≤ (declarations_of self.old).interaction_classes }
+        ensures { declarations_of self.new ≡ record (declarations_of self.old) { published_interaction = upd2 (declarations_of self.old).published_interaction federate class publishes } }
     {
         self.members[federate as usize - 1]
             .published_interactions
@@ -144,10 +145,10 @@ impl Declarations {
     /// A federate subscribes an interaction class from now on, or not any more.
     fn set_subscribed_interaction(&mut self, federate: FederateNo, class: ClassNo, subscribes: bool)
         requires some { 0 < federate }
-        requires joined { federate ≤ (tables_of self.old).federates }
+        requires joined { federate ≤ (declarations_of self.old).federates }
         requires numbered { 0 < class }
-        requires defined { class ≤ (tables_of self.old).interaction_classes }
-        ensures { tables_of self.new ≡ record (tables_of self.old) { subscribed_interaction = upd2 (tables_of self.old).subscribed_interaction federate class subscribes } }
+        requires defined { class ≤ (declarations_of self.old).interaction_classes }
+        ensures { declarations_of self.new ≡ record (declarations_of self.old) { subscribed_interaction = upd2 (declarations_of self.old).subscribed_interaction federate class subscribes } }
     {
         self.members[federate as usize - 1]
             .subscribed_interactions
@@ -162,10 +163,10 @@ impl Declarations {
         attributes: List<AttributeNo>,
     )
         requires some { 0 < federate }
-        requires joined { federate ≤ (tables_of self.old).federates }
+        requires joined { federate ≤ (declarations_of self.old).federates }
         requires numbered { 0 < class }
-        requires defined { class ≤ (tables_of self.old).object_classes }
-        ensures { tables_of self.new ≡ record (tables_of self.old) { published = upd2 (tables_of self.old).published federate class (Some attributes) } }
+        requires defined { class ≤ (declarations_of self.old).object_classes }
+        ensures { declarations_of self.new ≡ record (declarations_of self.old) { published = upd2 (declarations_of self.old).published federate class (Some attributes) } }
     {
         self.set_published(federate, class, Some(attributes));
     }
@@ -173,10 +174,10 @@ impl Declarations {
     /// Unpublish Object Class: the federate publishes nothing of the class from now on.
     pub fn unpublish_object_class(&mut self, federate: FederateNo, class: ClassNo)
         requires some { 0 < federate }
-        requires joined { federate ≤ (tables_of self.old).federates }
+        requires joined { federate ≤ (declarations_of self.old).federates }
         requires numbered { 0 < class }
-        requires defined { class ≤ (tables_of self.old).object_classes }
-        ensures { tables_of self.new ≡ record (tables_of self.old) { published = upd2 (tables_of self.old).published federate class None } }
+        requires defined { class ≤ (declarations_of self.old).object_classes }
+        ensures { declarations_of self.new ≡ record (declarations_of self.old) { published = upd2 (declarations_of self.old).published federate class None } }
     {
         self.set_published(federate, class, None);
     }
@@ -190,10 +191,10 @@ impl Declarations {
         attributes: List<AttributeNo>,
     )
         requires some { 0 < federate }
-        requires joined { federate ≤ (tables_of self.old).federates }
+        requires joined { federate ≤ (declarations_of self.old).federates }
         requires numbered { 0 < class }
-        requires defined { class ≤ (tables_of self.old).object_classes }
-        ensures { tables_of self.new ≡ record (tables_of self.old) { subscribed = upd2 (tables_of self.old).subscribed federate class (Some attributes) } }
+        requires defined { class ≤ (declarations_of self.old).object_classes }
+        ensures { declarations_of self.new ≡ record (declarations_of self.old) { subscribed = upd2 (declarations_of self.old).subscribed federate class (Some attributes) } }
     {
         self.set_subscribed(federate, class, Some(attributes));
     }
@@ -201,10 +202,10 @@ impl Declarations {
     /// Unsubscribe Object Class: the federate subscribes nothing of the class from now on.
     pub fn unsubscribe_object_class(&mut self, federate: FederateNo, class: ClassNo)
         requires some { 0 < federate }
-        requires joined { federate ≤ (tables_of self.old).federates }
+        requires joined { federate ≤ (declarations_of self.old).federates }
         requires numbered { 0 < class }
-        requires defined { class ≤ (tables_of self.old).object_classes }
-        ensures { tables_of self.new ≡ record (tables_of self.old) { subscribed = upd2 (tables_of self.old).subscribed federate class None } }
+        requires defined { class ≤ (declarations_of self.old).object_classes }
+        ensures { declarations_of self.new ≡ record (declarations_of self.old) { subscribed = upd2 (declarations_of self.old).subscribed federate class None } }
     {
         self.set_subscribed(federate, class, None);
     }
@@ -212,10 +213,10 @@ impl Declarations {
     /// Publish Interaction Class: the federate publishes the class from now on.
     pub fn publish_interaction_class(&mut self, federate: FederateNo, class: ClassNo)
         requires some { 0 < federate }
-        requires joined { federate ≤ (tables_of self.old).federates }
+        requires joined { federate ≤ (declarations_of self.old).federates }
         requires numbered { 0 < class }
-        requires defined { class ≤ (tables_of self.old).interaction_classes }
-        ensures { tables_of self.new ≡ record (tables_of self.old) { published_interaction = upd2 (tables_of self.old).published_interaction federate class true } }
+        requires defined { class ≤ (declarations_of self.old).interaction_classes }
+        ensures { declarations_of self.new ≡ record (declarations_of self.old) { published_interaction = upd2 (declarations_of self.old).published_interaction federate class true } }
     {
         self.set_published_interaction(federate, class, true);
     }
@@ -223,10 +224,10 @@ impl Declarations {
     /// Unpublish Interaction Class: the federate does not publish the class any more.
     pub fn unpublish_interaction_class(&mut self, federate: FederateNo, class: ClassNo)
         requires some { 0 < federate }
-        requires joined { federate ≤ (tables_of self.old).federates }
+        requires joined { federate ≤ (declarations_of self.old).federates }
         requires numbered { 0 < class }
-        requires defined { class ≤ (tables_of self.old).interaction_classes }
-        ensures { tables_of self.new ≡ record (tables_of self.old) { published_interaction = upd2 (tables_of self.old).published_interaction federate class false } }
+        requires defined { class ≤ (declarations_of self.old).interaction_classes }
+        ensures { declarations_of self.new ≡ record (declarations_of self.old) { published_interaction = upd2 (declarations_of self.old).published_interaction federate class false } }
     {
         self.set_published_interaction(federate, class, false);
     }
@@ -234,10 +235,10 @@ impl Declarations {
     /// Subscribe Interaction Class: the federate subscribes the class from now on.
     pub fn subscribe_interaction_class(&mut self, federate: FederateNo, class: ClassNo)
         requires some { 0 < federate }
-        requires joined { federate ≤ (tables_of self.old).federates }
+        requires joined { federate ≤ (declarations_of self.old).federates }
         requires numbered { 0 < class }
-        requires defined { class ≤ (tables_of self.old).interaction_classes }
-        ensures { tables_of self.new ≡ record (tables_of self.old) { subscribed_interaction = upd2 (tables_of self.old).subscribed_interaction federate class true } }
+        requires defined { class ≤ (declarations_of self.old).interaction_classes }
+        ensures { declarations_of self.new ≡ record (declarations_of self.old) { subscribed_interaction = upd2 (declarations_of self.old).subscribed_interaction federate class true } }
     {
         self.set_subscribed_interaction(federate, class, true);
     }
@@ -245,10 +246,10 @@ impl Declarations {
     /// Unsubscribe Interaction Class: the federate does not subscribe the class any more.
     pub fn unsubscribe_interaction_class(&mut self, federate: FederateNo, class: ClassNo)
         requires some { 0 < federate }
-        requires joined { federate ≤ (tables_of self.old).federates }
+        requires joined { federate ≤ (declarations_of self.old).federates }
         requires numbered { 0 < class }
-        requires defined { class ≤ (tables_of self.old).interaction_classes }
-        ensures { tables_of self.new ≡ record (tables_of self.old) { subscribed_interaction = upd2 (tables_of self.old).subscribed_interaction federate class false } }
+        requires defined { class ≤ (declarations_of self.old).interaction_classes }
+        ensures { declarations_of self.new ≡ record (declarations_of self.old) { subscribed_interaction = upd2 (declarations_of self.old).subscribed_interaction federate class false } }
     {
         self.set_subscribed_interaction(federate, class, false);
     }

@@ -2,8 +2,8 @@
 
 ghost use Rattle.std.specs.Prelude.{◌≡◌, ℕ, None, false, length, IfOk, IfErr};
 ghost use Rattle.hla_base.specs.declared.fault.Fault.TheVariants.{OutOfMemory};
-ghost use Rattle.hla_declaration.specs.Entries.{entry};
-ghost use Rattle.hla_declaration.specs.Members.{new_member, IsMember, IsCleared};
+ghost use Rattle.hla_declaration.specs.Entries.{entry_at};
+ghost use Rattle.hla_declaration.specs.Members.{new_declarer, IsMember, IsCleared};
 
 use crate::attribute_lists::AttributeLists;
 use crate::class_set::ClassSet;
@@ -27,7 +27,7 @@ impl Member {
         object_classes: usize,
         interaction_classes: usize,
     ) -> Result<Member, Fault>
-        ensures ok { IfOk result (λ m. m ≡ new_member object_classes interaction_classes) }
+        ensures ok { IfOk result (λ m. m ≡ new_declarer object_classes interaction_classes) }
         ensures err { IfErr result (λ e. e ≡ Fault.OutOfMemory) }
     {
         Ok(Member {

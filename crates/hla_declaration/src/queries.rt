@@ -3,7 +3,7 @@
 ghost use Rattle.std.specs.Prelude.{◌≡◌, [], false, is_some};
 ghost use Rattle.std.specs.Option.{option_map_or, option_copied};
 ghost use Rattle.hla_fed_file.specs.Lookup.{contains_number};
-ghost use Rattle.hla_declaration.specs.Declarations.{tables_of};
+ghost use Rattle.hla_declaration.specs.Declarations.{declarations_of};
 
 use crate::declarations::Declarations;
 use hla_base::{AttributeNo, ClassNo, FederateNo, List};
@@ -11,7 +11,7 @@ use hla_base::{AttributeNo, ClassNo, FederateNo, List};
 impl Declarations {
     /// The attributes that a federate publishes of an object class; `None` where it does not publish it.
     fn published(&self, federate: FederateNo, class: ClassNo) -> Option<&List<AttributeNo>>
-        ensures { option_copied result ≡ (tables_of self.now).published federate class }
+        ensures { option_copied result ≡ (declarations_of self.now).published federate class }
     {
         match self.member(federate) {
             Some(member) => member.published.get(class),
@@ -21,7 +21,7 @@ impl Declarations {
 
     /// The attributes that a federate subscribes of an object class; `None` where it does not subscribe it.
     fn subscribed(&self, federate: FederateNo, class: ClassNo) -> Option<&List<AttributeNo>>
-        ensures { option_copied result ≡ (tables_of self.now).subscribed federate class }
+        ensures { option_copied result ≡ (declarations_of self.now).subscribed federate class }
     {
         match self.member(federate) {
             Some(member) => member.subscribed.get(class),
@@ -31,21 +31,21 @@ impl Declarations {
 
     /// Whether a federate publishes an object class; no for a number of no federate or of no class.
     pub fn publishes_object_class(&self, federate: FederateNo, class: ClassNo) -> bool
-        ensures { result ≡ is_some ((tables_of self.now).published federate class) }
+        ensures { result ≡ is_some ((declarations_of self.now).published federate class) }
     {
         self.published(federate, class).is_some()
     }
 
     /// Whether a federate subscribes an object class; no for a number of no federate or of no class.
     pub fn subscribes_object_class(&self, federate: FederateNo, class: ClassNo) -> bool
-        ensures { result ≡ is_some ((tables_of self.now).subscribed federate class) }
+        ensures { result ≡ is_some ((declarations_of self.now).subscribed federate class) }
     {
         self.subscribed(federate, class).is_some()
     }
 
     /// Whether a federate publishes an interaction class; no for a number of no federate or of no class.
     pub fn publishes_interaction_class(&self, federate: FederateNo, class: ClassNo) -> bool
-        ensures { result ≡ (tables_of self.now).published_interaction federate class }
+        ensures { result ≡ (declarations_of self.now).published_interaction federate class }
     {
         match self.member(federate) {
             Some(member) => member.published_interactions.contains(class),
@@ -55,7 +55,7 @@ impl Declarations {
 
     /// Whether a federate subscribes an interaction class; no for a number of no federate or of no class.
     pub fn subscribes_interaction_class(&self, federate: FederateNo, class: ClassNo) -> bool
-        ensures { result ≡ (tables_of self.now).subscribed_interaction federate class }
+        ensures { result ≡ (declarations_of self.now).subscribed_interaction federate class }
     {
         match self.member(federate) {
             Some(member) => member.subscribed_interactions.contains(class),
@@ -70,7 +70,7 @@ impl Declarations {
         class: ClassNo,
         attribute: AttributeNo,
     ) -> bool
-        ensures { result ≡ option_map_or (contains_number attribute) ((tables_of self.now).published federate class) false }
+        ensures { result ≡ option_map_or (contains_number attribute) ((declarations_of self.now).published federate class) false }
     {
         match self.published(federate, class) {
             Some(published) => published.as_slice().contains(&attribute),
@@ -85,7 +85,7 @@ impl Declarations {
         class: ClassNo,
         attribute: AttributeNo,
     ) -> bool
-        ensures { result ≡ option_map_or (contains_number attribute) ((tables_of self.now).subscribed federate class) false }
+        ensures { result ≡ option_map_or (contains_number attribute) ((declarations_of self.now).subscribed federate class) false }
     {
         match self.subscribed(federate, class) {
             Some(subscribed) => subscribed.as_slice().contains(&attribute),
@@ -95,7 +95,7 @@ impl Declarations {
 
     /// The attributes that a federate publishes of an object class, as it named them; none where it does not publish it.
     pub fn published_attributes(&self, federate: FederateNo, class: ClassNo) -> &[AttributeNo]
-        ensures { result.now ≡ option_map_or (λ xs. xs) ((tables_of self.now).published federate class) [] }
+        ensures { result.now ≡ option_map_or (λ xs. xs) ((declarations_of self.now).published federate class) [] }
     {
         match self.published(federate, class) {
             Some(attributes) => attributes.as_slice(),

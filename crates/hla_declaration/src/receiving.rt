@@ -3,8 +3,8 @@
 ghost use Rattle.std.specs.Prelude.{◌≡◌, not, eqb, option_map, IfOk, IfErr};
 ghost use Rattle.hla_base.specs.declared.fault.Fault.TheVariants.{OutOfMemory};
 ghost use Rattle.hla_base.specs.Tables.{when};
-ghost use Rattle.hla_declaration.specs.Declarations.{tables_of};
-ghost use Rattle.hla_declaration.specs.Receivers.{served_object, served_interaction, receivers_of};
+ghost use Rattle.hla_declaration.specs.Declarations.{declarations_of};
+ghost use Rattle.hla_declaration.specs.Receivers.{object_class_served, interaction_class_served, receivers_of};
 
 use crate::declarations::Declarations;
 use crate::receiver::Receiver;
@@ -34,7 +34,7 @@ impl Declarations {
         federate: FederateNo,
         class: ClassNo,
     ) -> Option<ClassNo>
-        ensures { result ≡ served_object catalogue.now (tables_of self.now).subscribed federate class }
+        ensures { result ≡ object_class_served catalogue.now (declarations_of self.now).subscribed federate class }
     {
         catalogue
             .object_lineage(class)
@@ -51,7 +51,7 @@ impl Declarations {
         federate: FederateNo,
         class: ClassNo,
     ) -> Option<ClassNo>
-        ensures { result ≡ served_interaction catalogue.now (tables_of self.now).subscribed_interaction federate class }
+        ensures { result ≡ interaction_class_served catalogue.now (declarations_of self.now).subscribed_interaction federate class }
     {
         catalogue
             .interaction_lineage(class)
@@ -69,7 +69,7 @@ impl Declarations {
         sender: FederateNo,
         class: ClassNo,
     ) -> Result<List<Receiver>, Fault>
-        ensures ok { IfOk result (λ rs. rs ≡ receivers_of (λ g. served_object catalogue.now (tables_of self.now).subscribed g class) (tables_of self.now).federates sender) }
+        ensures ok { IfOk result (λ rs. rs ≡ receivers_of (λ g. object_class_served catalogue.now (declarations_of self.now).subscribed g class) (declarations_of self.now).federates sender) }
         ensures err { IfErr result (λ e. e ≡ Fault.OutOfMemory) }
     {
         let mut receivers = List::new(alloc);
@@ -92,7 +92,7 @@ impl Declarations {
         sender: FederateNo,
         class: ClassNo,
     ) -> Result<List<Receiver>, Fault>
-        ensures ok { IfOk result (λ rs. rs ≡ receivers_of (λ g. served_interaction catalogue.now (tables_of self.now).subscribed_interaction g class) (tables_of self.now).federates sender) }
+        ensures ok { IfOk result (λ rs. rs ≡ receivers_of (λ g. interaction_class_served catalogue.now (declarations_of self.now).subscribed_interaction g class) (declarations_of self.now).federates sender) }
         ensures err { IfErr result (λ e. e ≡ Fault.OutOfMemory) }
     {
         let mut receivers = List::new(alloc);

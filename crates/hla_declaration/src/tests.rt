@@ -1,5 +1,5 @@
 ghost use Rattle.std.specs.Prelude.{◌≡◌, IfOk};
-ghost use Rattle.hla_declaration.specs.Declarations.{tables_of};
+ghost use Rattle.hla_declaration.specs.Declarations.{declarations_of};
 
 use crate::Declarations;
 use hla_base::{AttributeNo, List};
@@ -29,9 +29,9 @@ const FED: &[u8] = b"(FED
 
 /// Three federates, which declare nothing.
 fn three_federates(alloc: Global) -> Result<Declarations, Fail>
-    ensures federates { IfOk result (λ d. (tables_of d).federates ≡ 3) }
-    ensures objects { IfOk result (λ d. (tables_of d).object_classes ≡ 3) }
-    ensures interactions { IfOk result (λ d. (tables_of d).interaction_classes ≡ 3) }
+    ensures federates { IfOk result (λ d. (declarations_of d).federates ≡ 3) }
+    ensures objects { IfOk result (λ d. (declarations_of d).object_classes ≡ 3) }
+    ensures interactions { IfOk result (λ d. (declarations_of d).interaction_classes ≡ 3) }
 {
     let mut declarations = Declarations::new(alloc, 3, 3);
     declarations.admit()?;

@@ -4,11 +4,10 @@ use Rattle.std.proofs.lemmas.Bool.Decides.{nat_tests}
 use Rattle.hla_fed_file.specs.Lexical as text
 use Rattle.hla_fed_file.specs.Lexical.{Lexed, tokens}
 use Rattle.hla_fed_file.specs.Keywords.{keyword_of}
-use Rattle.hla_fed_file.specs.Tables.{Tables}
+use Rattle.hla_fed_file.specs.CatalogueValue.{CatalogueValue}
 use Rattle.hla_fed_file.specs.Declaring.{innermost, with_interaction_class, with_parameter, has_parameter_named}
-use Rattle.hla_fed_file.specs.Reading.{reading, stepped, opened, closed, worded, quoted, named_at, begun, class_option, Step}
-use Rattle.hla_fed_file.specs.Grammar.{Symbol, LeftParen, RightParen, Means, Named, AnyName, Fits, Options, Bare, Ordered, SecLevels, NoLevel, ALevel, InteractionItems, NoEntry, AParameter, ALevelList, ASubclass}
-use Rattle.hla_fed_file.specs.Grammar.{space_then, options_then, levels_then, interaction_items_then, transport_of, order_of, interaction_items_declare, IsShort, levels_fit, ParameterFits, interaction_items_fit}
+use Rattle.hla_fed_file.specs.Reading.{reading, after_token, opened, closed, worded, after_quoted, named_at, begun, class_option, Step}
+use Rattle.hla_fed_file.specs.Grammar.{Symbol, LeftParen, RightParen, Means, Named, AnyName, Fits, Options, Bare, Ordered, SecLevels, NoLevel, ALevel, InteractionItems, NoEntry, AParameter, ALevelList, ASubclass, space_then, options_then, levels_then, interaction_items_then, transport_of, order_of, interaction_items_declare, IsShort, levels_fit, ParameterFits, interaction_items_fit}
 use Rattle.hla_fed_file.specs.declared.declared.InteractionClass.{InteractionClass}
 use Rattle.hla_fed_file.specs.declared.declared.Order.{Order}
 use Rattle.hla_fed_file.specs.declared.declared.Transport.{Transport}
@@ -30,9 +29,9 @@ use Rattle.hla_fed_file.proofs.BackSteps.{Tail, at_next, back, between_token, he
 use Rattle.hla_fed_file.proofs.BackObjects.{Carries, OptionNext, Orders, Paren}
 
 -- Parameters.
-parameter_end_token : (token : text.Token) (d : ℕ) (l : List ℕ) (c : Tables) (next : Reader) → stepped (reader at.ParameterEnd d l c) token ≡ Ok next
+parameter_end_token : (token : text.Token) (d : ℕ) (l : List ℕ) (c : CatalogueValue) (next : Reader) → after_token (reader at.ParameterEnd d l c) token ≡ Ok next
     → (Fits token LeftParen × (d < 64) × (next ≡ reader (at.Head head.ParameterItem) (d + 1) l c)) ⊎ (Fits token RightParen × (closed (reader at.ParameterEnd d l c) ≡ Ok next))
-unfolding opened worded quoted
+unfolding opened worded after_quoted
 parameter_end_token text.Open d l c next ok = let p = went_deeper (at.Head head.ParameterItem) (reader at.ParameterEnd d l c) next ok in inl (tt, p.0, p.1)
 parameter_end_token text.Close d l c next ok = inr (tt, ok)
 parameter_end_token (text.Word w) d l c next ok = cc
@@ -41,12 +40,12 @@ parameter_end_token text.Bad d l c next ok = cc
 parameter_end_token text.Unclosed d l c next ok = cc
 parameter_end_token text.End d l c next ok = cc
 
-record ParameterLevelsRead (d : ℕ) (l : List ℕ) (c : Tables) (ts : List Lexed) (final : Tables) : Type 0 where
+record ParameterLevelsRead (d : ℕ) (l : List ℕ) (c : CatalogueValue) (ts : List Lexed) (final : CatalogueValue) : Type 0 where
   levels : SecLevels
   fit : levels_fit (d + 1) levels
   tail : Tail (λ ss. levels_then levels (RightParen ∷ ss)) ts (reader (at.Between lists.InteractionItems) d l c) final
 
-parameter_levels : (n : ℕ) (d : ℕ) (l : List ℕ) (c : Tables) (ts : List Lexed) (final : Tables) → length ts ≤ n → reading (reader at.ParameterEnd (d + 1) l c) ts ≡ Ok final → ParameterLevelsRead d l c ts final
+parameter_levels : (n : ℕ) (d : ℕ) (l : List ℕ) (c : CatalogueValue) (ts : List Lexed) (final : CatalogueValue) → length ts ≤ n → reading (reader at.ParameterEnd (d + 1) l c) ts ≡ Ok final → ParameterLevelsRead d l c ts final
 parameter_levels n d l c [] final few h = absurd (none_left (reader at.ParameterEnd (d + 1) l c) final refl h)
 parameter_levels zero d l c (t ∷ ts) final few h = absurd (omega arith)
 parameter_levels (suc n) d l c (t ∷ []) final few h =
@@ -81,7 +80,7 @@ parameter_levels (suc n) d l c (t ∷ k ∷ ts) final few h =
           }
     ]
 
-record ParameterRead (d : ℕ) (l : List ℕ) (c : Tables) (ts : List Lexed) (final : Tables) : Type 0 where
+record ParameterRead (d : ℕ) (l : List ℕ) (c : CatalogueValue) (ts : List Lexed) (final : CatalogueValue) : Type 0 where
   name : List ℕ
   levels : SecLevels
   short : IsShort name
@@ -89,19 +88,19 @@ record ParameterRead (d : ℕ) (l : List ℕ) (c : Tables) (ts : List Lexed) (fi
   fit : levels_fit (d + 1) levels
   tail : Tail (λ ss. Named name ∷ levels_then levels (RightParen ∷ ss)) ts (reader (at.Between lists.InteractionItems) d l (with_parameter l name c)) final
 
-parameter_named : (n : List ℕ) (d : ℕ) (l : List ℕ) (c : Tables) (next : Reader) → named_at name.Parameter (reader (at.Name name.Parameter) d l c) n ≡ Ok next
+parameter_named : (n : List ℕ) (d : ℕ) (l : List ℕ) (c : CatalogueValue) (next : Reader) → named_at name.Parameter (reader (at.Name name.Parameter) d l c) n ≡ Ok next
     → ParameterFits l n c × (next ≡ reader at.ParameterEnd d l (with_parameter l n c))
 parameter_named n d l c next ok =
     let more = record c { parameters = c.parameters ++ record { class = innermost l; name = n } ∷ [] } in
     once (has_parameter_named c l n) (nat_le 4096 (length c.parameters)) more refl ok
   where
-    once : (b e : Bool) (more : Tables) → nat_le 4096 (length c.parameters) ≡ e → cond {A = Step} b (Ok (reader at.ParameterEnd d l c)) (cond {A = Step} e (Err kind.TooLarge) (Ok (reader at.ParameterEnd d l (cond b c more)))) ≡ Ok next
+    once : (b e : Bool) (more : CatalogueValue) → nat_le 4096 (length c.parameters) ≡ e → cond {A = Step} b (Ok (reader at.ParameterEnd d l c)) (cond {A = Step} e (Err kind.TooLarge) (Ok (reader at.ParameterEnd d l (cond b c more)))) ≡ Ok next
         → (b ≡ false → length c.parameters < 4096) × (next ≡ reader at.ParameterEnd d l (cond b c more))
     once true e more g ok = ((λ bad. cc), cc)
     once false true more g ok = cc
     once false false more g ok = let less : length c.parameters < 4096 = grind (arith, nat_tests) in ((λ _. less), cc)
 
-parameter_back : (d : ℕ) (l : List ℕ) (c : Tables) (ts : List Lexed) (final : Tables) → reading (reader (at.Name name.Parameter) (d + 1) l c) ts ≡ Ok final → ParameterRead d l c ts final
+parameter_back : (d : ℕ) (l : List ℕ) (c : CatalogueValue) (ts : List Lexed) (final : CatalogueValue) → reading (reader (at.Name name.Parameter) (d + 1) l c) ts ≡ Ok final → ParameterRead d l c ts final
 parameter_back d l c [] final h = absurd (none_left (reader (at.Name name.Parameter) (d + 1) l c) final refl h)
 parameter_back d l c (t ∷ ts) final h =
     let b = back (reader (at.Name name.Parameter) (d + 1) l c) t ts final refl h in
@@ -115,25 +114,25 @@ parameter_back d l c (t ∷ ts) final h =
 -- Interaction classes.
 
 -- what options leave: reading goes on in the class
-record ClassOptionsRead (before : Options → List Symbol → List Symbol) (d : ℕ) (l : List ℕ) (k : InteractionClass) (c : Tables) (ts : List Lexed) (final : Tables) : Type 0 where
+record ClassOptionsRead (before : Options → List Symbol → List Symbol) (d : ℕ) (l : List ℕ) (k : InteractionClass) (c : CatalogueValue) (ts : List Lexed) (final : CatalogueValue) : Type 0 where
   options : Options
   tail : Tail (before options) ts (inside d (class_amended options k) c) final
 
-abbrev pending_carried : ℕ → List ℕ → InteractionClass → Tables → Transport → Reader
+abbrev pending_carried : ℕ → List ℕ → InteractionClass → CatalogueValue → Transport → Reader
 pending_carried d l k c t = pending (at.ClassOptions stage.Carried) d l (class_carried (Some t) k) c
 
-abbrev pending_ordered : ℕ → List ℕ → InteractionClass → Tables → Order → Reader
+abbrev pending_ordered : ℕ → List ℕ → InteractionClass → CatalogueValue → Order → Reader
 pending_ordered d l k c o = pending (at.ClassOptions stage.Ordered) d l (record k { order = o }) c
 
-class_named_word : (w : List ℕ) (kw : Option Keyword) (d : ℕ) (l : List ℕ) (k : InteractionClass) (c : Tables) (next : Reader) → keyword_of w ≡ kw
+class_named_word : (w : List ℕ) (kw : Option Keyword) (d : ℕ) (l : List ℕ) (k : InteractionClass) (c : CatalogueValue) (next : Reader) → keyword_of w ≡ kw
     → class_option stage.Named kw (pending (at.ClassOptions stage.Named) d l k c) ≡ Ok next → OptionNext (text.Word w) next (pending_carried d l k c) (pending_ordered d l k c)
 class_named_word w (Some (word.Carried t)) d l k c next e ok = Carries t e cc
 class_named_word w (Some (word.Ordered o)) d l k c next e ok = Orders o e cc
 class_named_word w kw d l k c next e ok = cc
 
-class_named_token : (token : text.Token) (d : ℕ) (l : List ℕ) (k : InteractionClass) (c : Tables) (next : Reader) → stepped (pending (at.ClassOptions stage.Named) d l k c) token ≡ Ok next
+class_named_token : (token : text.Token) (d : ℕ) (l : List ℕ) (k : InteractionClass) (c : CatalogueValue) (next : Reader) → after_token (pending (at.ClassOptions stage.Named) d l k c) token ≡ Ok next
     → OptionNext token next (pending_carried d l k c) (pending_ordered d l k c)
-unfolding worded quoted
+unfolding worded after_quoted
 class_named_token text.Open d l k c next ok = Paren (inl tt)
 class_named_token text.Close d l k c next ok = Paren (inr tt)
 class_named_token (text.Word w) d l k c next ok = class_named_word w (keyword_of w) d l k c next refl ok
@@ -142,9 +141,9 @@ class_named_token text.Bad d l k c next ok = cc
 class_named_token text.Unclosed d l k c next ok = cc
 class_named_token text.End d l k c next ok = cc
 
-class_carried_token : (token : text.Token) (d : ℕ) (l : List ℕ) (k : InteractionClass) (c : Tables) (next : Reader) → stepped (pending (at.ClassOptions stage.Carried) d l k c) token ≡ Ok next
+class_carried_token : (token : text.Token) (d : ℕ) (l : List ℕ) (k : InteractionClass) (c : CatalogueValue) (next : Reader) → after_token (pending (at.ClassOptions stage.Carried) d l k c) token ≡ Ok next
     → (Fits token LeftParen ⊎ Fits token RightParen) ⊎ ((o : Order) × Fits token (Means (word.Ordered o)) × (next ≡ pending_ordered d l k c o))
-unfolding worded quoted
+unfolding worded after_quoted
 class_carried_token text.Open d l k c next ok = inl (inl tt)
 class_carried_token text.Close d l k c next ok = inl (inr tt)
 class_carried_token (text.Word w) d l k c next ok = only_order w (keyword_of w) refl ok
@@ -158,9 +157,9 @@ class_carried_token text.Bad d l k c next ok = cc
 class_carried_token text.Unclosed d l k c next ok = cc
 class_carried_token text.End d l k c next ok = cc
 
-class_ordered_token : (token : text.Token) (d : ℕ) (l : List ℕ) (k : InteractionClass) (c : Tables) (next : Reader) → stepped (pending (at.ClassOptions stage.Ordered) d l k c) token ≡ Ok next
+class_ordered_token : (token : text.Token) (d : ℕ) (l : List ℕ) (k : InteractionClass) (c : CatalogueValue) (next : Reader) → after_token (pending (at.ClassOptions stage.Ordered) d l k c) token ≡ Ok next
     → (Fits token LeftParen ⊎ Fits token RightParen) ⊎ (Fits token AnyName × (next ≡ inside d k c))
-unfolding worded quoted
+unfolding worded after_quoted
 class_ordered_token text.Open d l k c next ok = inl (inl tt)
 class_ordered_token text.Close d l k c next ok = inl (inr tt)
 class_ordered_token (text.Word w) d l k c next ok = inr (tt, cc)
@@ -170,7 +169,7 @@ class_ordered_token text.Unclosed d l k c next ok = cc
 class_ordered_token text.End d l k c next ok = cc
 
 -- where a parenthesis is next, the class counts as declared
-behind_paren : (o : Stage) (d : ℕ) (l : List ℕ) (k : InteractionClass) (c : Tables) (t : Lexed) (ts : List Lexed) (final : Tables) → Fits t.token LeftParen ⊎ Fits t.token RightParen
+behind_paren : (o : Stage) (d : ℕ) (l : List ℕ) (k : InteractionClass) (c : CatalogueValue) (t : Lexed) (ts : List Lexed) (final : CatalogueValue) → Fits t.token LeftParen ⊎ Fits t.token RightParen
     → reading (pending (at.ClassOptions o) d l k c) (t ∷ ts) ≡ Ok final → reading (inside d k c) (t ∷ ts) ≡ Ok final
 behind_paren o d l k c t ts final (inl left) h =
     let f = fits_left t.token (pending (at.ClassOptions o) d l k c) left in
@@ -181,11 +180,11 @@ behind_paren o d l k c t ts final (inr right) h =
     let g = fits_right t.token (inside d k c) right in
     sym (alike _ _ t ts f.0 (f.1 ∙ behind_closes k d l c _ (Waits o) ∙ sym g.1)) ∙ h
 
-record ClassSpaceRead (d : ℕ) (l : List ℕ) (k : InteractionClass) (c : Tables) (ts : List Lexed) (final : Tables) : Type 0 where
+record ClassSpaceRead (d : ℕ) (l : List ℕ) (k : InteractionClass) (c : CatalogueValue) (ts : List Lexed) (final : CatalogueValue) : Type 0 where
   space : Bool
   tail : Tail (space_then space) ts (inside d k c) final
 
-class_space_back : (d : ℕ) (l : List ℕ) (k : InteractionClass) (c : Tables) (ts : List Lexed) (final : Tables) → reading (pending (at.ClassOptions stage.Ordered) d l k c) ts ≡ Ok final → ClassSpaceRead d l k c ts final
+class_space_back : (d : ℕ) (l : List ℕ) (k : InteractionClass) (c : CatalogueValue) (ts : List Lexed) (final : CatalogueValue) → reading (pending (at.ClassOptions stage.Ordered) d l k c) ts ≡ Ok final → ClassSpaceRead d l k c ts final
 class_space_back d l k c [] final h = absurd (none_left (pending (at.ClassOptions stage.Ordered) d l k c) final refl h)
 class_space_back d l k c (t ∷ ts) final h =
     let b = back (pending (at.ClassOptions stage.Ordered) d l k c) t ts final refl h in
@@ -194,7 +193,7 @@ class_space_back d l k c (t ∷ ts) final h =
       | inr p ↦ record { space = true; tail = record { rest = ts; fewer = omega arith; spelled = λ ss sp. (p.0, sp); read = at_next _ _ ts final p.1 b.read } }
     ]
 
-class_carried_back : (t : Transport) (d : ℕ) (l : List ℕ) (k : InteractionClass) (c : Tables) (u : Lexed) (ts : List Lexed) (final : Tables) → Fits u.token (Means (word.Carried t))
+class_carried_back : (t : Transport) (d : ℕ) (l : List ℕ) (k : InteractionClass) (c : CatalogueValue) (u : Lexed) (ts : List Lexed) (final : CatalogueValue) → Fits u.token (Means (word.Carried t))
     → reading (pending_carried d l k c t) ts ≡ Ok final → ClassOptionsRead options_then d l k c (u ∷ ts) final
 class_carried_back t d l k c u [] final fits h = absurd (none_left (pending_carried d l k c t) final refl h)
 class_carried_back t d l k c u (v ∷ ts) final fits h =
@@ -207,7 +206,7 @@ class_carried_back t d l k c u (v ∷ ts) final fits h =
           record { options = Ordered (Some t) p.0 r.space; tail = record { rest = r.tail.rest; fewer = less; spelled = λ ss sp. (fits, (p.1, r.tail.spelled ss sp)); read = r.tail.read } }
     ]
 
-class_options_back : (d : ℕ) (l : List ℕ) (k : InteractionClass) (c : Tables) (ts : List Lexed) (final : Tables) → reading (pending (at.ClassOptions stage.Named) d l k c) ts ≡ Ok final → ClassOptionsRead options_then d l k c ts final
+class_options_back : (d : ℕ) (l : List ℕ) (k : InteractionClass) (c : CatalogueValue) (ts : List Lexed) (final : CatalogueValue) → reading (pending (at.ClassOptions stage.Named) d l k c) ts ≡ Ok final → ClassOptionsRead options_then d l k c ts final
 class_options_back d l k c [] final h = absurd (none_left (pending (at.ClassOptions stage.Named) d l k c) final refl h)
 class_options_back d l k c (t ∷ ts) final h =
     let b = back (pending (at.ClassOptions stage.Named) d l k c) t ts final refl h in
@@ -220,14 +219,14 @@ class_options_back d l k c (t ∷ ts) final h =
           record { options = Ordered None o r.space; tail = record { rest = r.tail.rest; fewer = less; spelled = λ ss sp. (fits, r.tail.spelled ss sp); read = r.tail.read } }
     ]
 
-pub record SubclassRead (d : ℕ) (l : List ℕ) (c : Tables) (ts : List Lexed) (final : Tables) : Type 0 where
+pub record SubclassRead (d : ℕ) (l : List ℕ) (c : CatalogueValue) (ts : List Lexed) (final : CatalogueValue) : Type 0 where
   pub name : List ℕ
   pub options : Options
   pub short : IsShort name
   pub room : length c.interaction_classes < 512
   pub tail : Tail (λ ss. Named name ∷ options_then options ss) ts (reader (at.Between lists.InteractionItems) d ((length c.interaction_classes + 1) ∷ l) (with_interaction_class l name (transport_of options) (order_of options) c)) final
 
-pub subclass_back : (d : ℕ) (l : List ℕ) (c : Tables) (ts : List Lexed) (final : Tables) → reading (reader (at.Name name.InteractionClass) d l c) ts ≡ Ok final → SubclassRead d l c ts final
+pub subclass_back : (d : ℕ) (l : List ℕ) (c : CatalogueValue) (ts : List Lexed) (final : CatalogueValue) → reading (reader (at.Name name.InteractionClass) d l c) ts ≡ Ok final → SubclassRead d l c ts final
 subclass_back d l c [] final h = absurd (none_left (reader (at.Name name.InteractionClass) d l c) final refl h)
 subclass_back d l c (t ∷ ts) final h =
     let b = back (reader (at.Name name.InteractionClass) d l c) t ts final refl h in
@@ -257,14 +256,14 @@ interaction_item_begun word.SecLevel d place h = BeginsLevels refl cc
 interaction_item_begun k d place h = cc
 
 -- what was read in an interaction class, up to the parenthesis that closes it
-pub record InteractionBody (d : ℕ) (l : List ℕ) (c : Tables) (ts : List Lexed) (final : Tables) : Type 0 where
+pub record InteractionBody (d : ℕ) (l : List ℕ) (c : CatalogueValue) (ts : List Lexed) (final : CatalogueValue) : Type 0 where
   pub items : InteractionItems
   pub fit : interaction_items_fit d l items c
   pub after : Reader
   pub closing : closed (reader (at.Between lists.InteractionItems) d l (interaction_items_declare l items c)) ≡ Ok after
   pub tail : Tail (λ ss. interaction_items_then items (RightParen ∷ ss)) ts after final
 
-pub interaction_body : (n : ℕ) (d : ℕ) (l : List ℕ) (c : Tables) (ts : List Lexed) (final : Tables) → length ts ≤ n → 0 < length l → reading (reader (at.Between lists.InteractionItems) d l c) ts ≡ Ok final → InteractionBody d l c ts final
+pub interaction_body : (n : ℕ) (d : ℕ) (l : List ℕ) (c : CatalogueValue) (ts : List Lexed) (final : CatalogueValue) → length ts ≤ n → 0 < length l → reading (reader (at.Between lists.InteractionItems) d l c) ts ≡ Ok final → InteractionBody d l c ts final
 interaction_body n d l c [] final few some h = absurd (none_left (reader (at.Between lists.InteractionItems) d l c) final refl h)
 interaction_body zero d l c (t ∷ ts) final few some h = absurd (omega arith)
 interaction_body (suc n) d l c (t ∷ []) final few some h =

@@ -3,11 +3,10 @@ use Rattle.std.proofs.Common.{◌≡◌, ℕ, ◌+◌, ◌<◌, ◌≤◌, Bool,
 use Rattle.hla_fed_file.specs.Lexical as text
 use Rattle.hla_fed_file.specs.Lexical.{Lexed, tokens}
 use Rattle.hla_fed_file.specs.Keywords.{keyword_of}
-use Rattle.hla_fed_file.specs.Tables.{Tables}
+use Rattle.hla_fed_file.specs.CatalogueValue.{CatalogueValue}
 use Rattle.hla_fed_file.specs.Declaring.{innermost, with_object_class, with_attribute, has_attribute_named}
-use Rattle.hla_fed_file.specs.Reading.{reading, stepped, opened, closed, worded, quoted, named_at, begun, attribute_option, is_done}
-use Rattle.hla_fed_file.specs.Grammar.{Symbol, LeftParen, RightParen, Means, Named, AnyName, Fits, Options, Bare, Ordered, SecLevels, NoLevel, ALevel, ObjectItems, NoItem, AnAttribute, ASecLevel, AClass}
-use Rattle.hla_fed_file.specs.Grammar.{space_then, options_then, levels_then, object_items_then, transport_of, order_of, object_items_declare, IsShort, levels_fit, AttributeFits, object_items_fit}
+use Rattle.hla_fed_file.specs.Reading.{reading, after_token, opened, closed, worded, after_quoted, named_at, begun, attribute_option, is_done}
+use Rattle.hla_fed_file.specs.Grammar.{Symbol, LeftParen, RightParen, Means, Named, AnyName, Fits, Options, Bare, Ordered, SecLevels, NoLevel, ALevel, ObjectItems, NoItem, AnAttribute, ASecLevel, AClass, space_then, options_then, levels_then, object_items_then, transport_of, order_of, object_items_declare, IsShort, levels_fit, AttributeFits, object_items_fit}
 use Rattle.hla_fed_file.specs.declared.declared.Attribute.{Attribute}
 use Rattle.hla_fed_file.specs.declared.declared.Order.{Order}
 use Rattle.hla_fed_file.specs.declared.declared.Order.TheVariants as order
@@ -30,8 +29,8 @@ use Rattle.hla_fed_file.proofs.BackSteps.{Tail, at_next, back, between_token, he
 -- Attributes.
 
 -- behind a token at a place in which an attribute may end
-attribute_end_token : (token : text.Token) (d : ℕ) (l : List ℕ) (kept : Option Attribute) (c : Tables) (next : Reader) → stepped (half at.AttributeEnd d l kept c) token ≡ Ok next → Fits token LeftParen ⊎ Fits token RightParen
-unfolding worded quoted
+attribute_end_token : (token : text.Token) (d : ℕ) (l : List ℕ) (kept : Option Attribute) (c : CatalogueValue) (next : Reader) → after_token (half at.AttributeEnd d l kept c) token ≡ Ok next → Fits token LeftParen ⊎ Fits token RightParen
+unfolding worded after_quoted
 attribute_end_token text.Open d l kept c next ok = inl tt
 attribute_end_token text.Close d l kept c next ok = inr tt
 attribute_end_token (text.Word w) d l kept c next ok = cc
@@ -40,13 +39,13 @@ attribute_end_token text.Bad d l kept c next ok = cc
 attribute_end_token text.Unclosed d l kept c next ok = cc
 attribute_end_token text.End d l kept c next ok = cc
 
-attribute_deeper : (p : Place) (d : ℕ) (l : List ℕ) (kept : Option Attribute) (c : Tables) (next : Reader) → EndsAttribute p → opened (half p d l kept c) ≡ Ok next
+attribute_deeper : (p : Place) (d : ℕ) (l : List ℕ) (kept : Option Attribute) (c : CatalogueValue) (next : Reader) → EndsAttribute p → opened (half p d l kept c) ≡ Ok next
     → (d < 64) × (next ≡ half (at.Head head.AttributeItem) (d + 1) l kept c)
 unfolding opened
 attribute_deeper p d l kept c next e ok = went_deeper (at.Head head.AttributeItem) (half p d l kept c) next (sym (e.opens (half p d l kept c)) ∙ ok)
 
 -- the security levels of an attribute, and its end
-record LevelsRead (d : ℕ) (l : List ℕ) (kept : Option Attribute) (c : Tables) (ts : List Lexed) (final : Tables) : Type 0 where
+record LevelsRead (d : ℕ) (l : List ℕ) (kept : Option Attribute) (c : CatalogueValue) (ts : List Lexed) (final : CatalogueValue) : Type 0 where
   levels : SecLevels
   fit : levels_fit (d + 1) levels
   tail : Tail (λ ss. levels_then levels (RightParen ∷ ss)) ts (reader (at.Between lists.ObjectItems) d l (with_kept kept c)) final
@@ -59,13 +58,13 @@ abbrev StartsParen : List Lexed → Type 0
 StartsParen [] = ⊥
 StartsParen (t ∷ ts) = Fits t.token LeftParen ⊎ Fits t.token RightParen
 
-ends_or_opens : (d : ℕ) (l : List ℕ) (kept : Option Attribute) (c : Tables) (ts : List Lexed) (final : Tables) → reading (half at.AttributeEnd d l kept c) ts ≡ Ok final → StartsParen ts
+ends_or_opens : (d : ℕ) (l : List ℕ) (kept : Option Attribute) (c : CatalogueValue) (ts : List Lexed) (final : CatalogueValue) → reading (half at.AttributeEnd d l kept c) ts ≡ Ok final → StartsParen ts
 ends_or_opens d l kept c [] final h = none_left (half at.AttributeEnd d l kept c) final refl h
 ends_or_opens d l kept c (t ∷ ts) final h =
     let b = back (half at.AttributeEnd d l kept c) t ts final refl h in
     attribute_end_token t.token d l kept c b.next b.step
 
-levels_back : (n : ℕ) (p : Place) (d : ℕ) (l : List ℕ) (kept : Option Attribute) (c : Tables) (ts : List Lexed) (final : Tables) → length ts ≤ n → EndsAttribute p → NotDone p
+levels_back : (n : ℕ) (p : Place) (d : ℕ) (l : List ℕ) (kept : Option Attribute) (c : CatalogueValue) (ts : List Lexed) (final : CatalogueValue) → length ts ≤ n → EndsAttribute p → NotDone p
     → StartsParen ts → reading (half p (d + 1) l kept c) ts ≡ Ok final → LevelsRead d l kept c ts final
 levels_back n p d l kept c [] final few e nd paren h = absurd paren
 levels_back n p d l kept c (t ∷ ts) final few e nd (inr right) h =
@@ -105,21 +104,21 @@ pub data OptionNext (token : text.Token) (next : Reader) (at_carried : Transport
   Carries : (t : Transport) (fits : Fits token (Means (word.Carried t))) (then : next ≡ at_carried t) → OptionNext token next at_carried at_ordered
   Orders : (o : Order) (fits : Fits token (Means (word.Ordered o))) (then : next ≡ at_ordered o) → OptionNext token next at_carried at_ordered
 
-abbrev half_carried : ℕ → List ℕ → Option Attribute → Tables → Transport → Reader
+abbrev half_carried : ℕ → List ℕ → Option Attribute → CatalogueValue → Transport → Reader
 half_carried d l kept c t = half (at.AttributeOptions stage.Carried) d l (carried (Some t) kept) c
 
-abbrev half_ordered : ℕ → List ℕ → Option Attribute → Tables → Order → Reader
+abbrev half_ordered : ℕ → List ℕ → Option Attribute → CatalogueValue → Order → Reader
 half_ordered d l kept c o = half (at.AttributeOptions stage.Ordered) d l (ordered o kept) c
 
-named_word : (w : List ℕ) (k : Option Keyword) (d : ℕ) (l : List ℕ) (kept : Option Attribute) (c : Tables) (next : Reader) → keyword_of w ≡ k
+named_word : (w : List ℕ) (k : Option Keyword) (d : ℕ) (l : List ℕ) (kept : Option Attribute) (c : CatalogueValue) (next : Reader) → keyword_of w ≡ k
     → attribute_option stage.Named k (half (at.AttributeOptions stage.Named) d l kept c) ≡ Ok next → OptionNext (text.Word w) next (half_carried d l kept c) (half_ordered d l kept c)
 named_word w (Some (word.Carried t)) d l kept c next e ok = Carries t e cc
 named_word w (Some (word.Ordered o)) d l kept c next e ok = Orders o e cc
 named_word w k d l kept c next e ok = cc
 
-named_token : (token : text.Token) (d : ℕ) (l : List ℕ) (kept : Option Attribute) (c : Tables) (next : Reader) → stepped (half (at.AttributeOptions stage.Named) d l kept c) token ≡ Ok next
+named_token : (token : text.Token) (d : ℕ) (l : List ℕ) (kept : Option Attribute) (c : CatalogueValue) (next : Reader) → after_token (half (at.AttributeOptions stage.Named) d l kept c) token ≡ Ok next
     → OptionNext token next (half_carried d l kept c) (half_ordered d l kept c)
-unfolding worded quoted
+unfolding worded after_quoted
 named_token text.Open d l kept c next ok = Paren (inl tt)
 named_token text.Close d l kept c next ok = Paren (inr tt)
 named_token (text.Word w) d l kept c next ok = named_word w (keyword_of w) d l kept c next refl ok
@@ -128,9 +127,9 @@ named_token text.Bad d l kept c next ok = cc
 named_token text.Unclosed d l kept c next ok = cc
 named_token text.End d l kept c next ok = cc
 
-carried_token : (token : text.Token) (d : ℕ) (l : List ℕ) (kept : Option Attribute) (c : Tables) (next : Reader) → stepped (half (at.AttributeOptions stage.Carried) d l kept c) token ≡ Ok next
+carried_token : (token : text.Token) (d : ℕ) (l : List ℕ) (kept : Option Attribute) (c : CatalogueValue) (next : Reader) → after_token (half (at.AttributeOptions stage.Carried) d l kept c) token ≡ Ok next
     → (Fits token LeftParen ⊎ Fits token RightParen) ⊎ ((o : Order) × Fits token (Means (word.Ordered o)) × (next ≡ half_ordered d l kept c o))
-unfolding worded quoted
+unfolding worded after_quoted
 carried_token text.Open d l kept c next ok = inl (inl tt)
 carried_token text.Close d l kept c next ok = inl (inr tt)
 carried_token (text.Word w) d l kept c next ok = only_order w (keyword_of w) refl ok
@@ -144,9 +143,9 @@ carried_token text.Bad d l kept c next ok = cc
 carried_token text.Unclosed d l kept c next ok = cc
 carried_token text.End d l kept c next ok = cc
 
-ordered_token : (token : text.Token) (d : ℕ) (l : List ℕ) (kept : Option Attribute) (c : Tables) (next : Reader) → stepped (half (at.AttributeOptions stage.Ordered) d l kept c) token ≡ Ok next
+ordered_token : (token : text.Token) (d : ℕ) (l : List ℕ) (kept : Option Attribute) (c : CatalogueValue) (next : Reader) → after_token (half (at.AttributeOptions stage.Ordered) d l kept c) token ≡ Ok next
     → (Fits token LeftParen ⊎ Fits token RightParen) ⊎ (Fits token AnyName × (next ≡ half at.AttributeEnd d l kept c))
-unfolding worded quoted
+unfolding worded after_quoted
 ordered_token text.Open d l kept c next ok = inl (inl tt)
 ordered_token text.Close d l kept c next ok = inl (inr tt)
 ordered_token (text.Word w) d l kept c next ok = inr (tt, cc)
@@ -156,20 +155,20 @@ ordered_token text.Unclosed d l kept c next ok = cc
 ordered_token text.End d l kept c next ok = cc
 
 -- the options and the security levels of an attribute, and its end
-record OptionsRead (before : Options → List Symbol → List Symbol) (d : ℕ) (l : List ℕ) (kept : Option Attribute) (c : Tables) (ts : List Lexed) (final : Tables) : Type 0 where
+record OptionsRead (before : Options → List Symbol → List Symbol) (d : ℕ) (l : List ℕ) (kept : Option Attribute) (c : CatalogueValue) (ts : List Lexed) (final : CatalogueValue) : Type 0 where
   options : Options
   levels : SecLevels
   fit : levels_fit (d + 1) levels
   tail : Tail (λ ss. before options (levels_then levels (RightParen ∷ ss))) ts (reader (at.Between lists.ObjectItems) d l (with_kept (amended options kept) c)) final
 
 -- a routing space, or none
-record SpaceRead (o : Order) (d : ℕ) (l : List ℕ) (kept : Option Attribute) (c : Tables) (ts : List Lexed) (final : Tables) : Type 0 where
+record SpaceRead (o : Order) (d : ℕ) (l : List ℕ) (kept : Option Attribute) (c : CatalogueValue) (ts : List Lexed) (final : CatalogueValue) : Type 0 where
   space : Bool
   levels : SecLevels
   fit : levels_fit (d + 1) levels
   tail : Tail (λ ss. space_then space (levels_then levels (RightParen ∷ ss))) ts (reader (at.Between lists.ObjectItems) d l (with_kept kept c)) final
 
-space_back : (o : Order) (d : ℕ) (l : List ℕ) (kept : Option Attribute) (c : Tables) (ts : List Lexed) (final : Tables) → reading (half (at.AttributeOptions stage.Ordered) (d + 1) l kept c) ts ≡ Ok final → SpaceRead o d l kept c ts final
+space_back : (o : Order) (d : ℕ) (l : List ℕ) (kept : Option Attribute) (c : CatalogueValue) (ts : List Lexed) (final : CatalogueValue) → reading (half (at.AttributeOptions stage.Ordered) (d + 1) l kept c) ts ≡ Ok final → SpaceRead o d l kept c ts final
 space_back o d l kept c [] final h = absurd (none_left (half (at.AttributeOptions stage.Ordered) (d + 1) l kept c) final refl h)
 space_back o d l kept c (t ∷ ts) final h =
     let b = back (half (at.AttributeOptions stage.Ordered) (d + 1) l kept c) t ts final refl h in
@@ -185,7 +184,7 @@ space_back o d l kept c (t ∷ ts) final h =
     ]
 
 -- behind a transport
-carried_back : (t : Transport) (d : ℕ) (l : List ℕ) (kept : Option Attribute) (c : Tables) (u : Lexed) (ts : List Lexed) (final : Tables) → Fits u.token (Means (word.Carried t))
+carried_back : (t : Transport) (d : ℕ) (l : List ℕ) (kept : Option Attribute) (c : CatalogueValue) (u : Lexed) (ts : List Lexed) (final : CatalogueValue) → Fits u.token (Means (word.Carried t))
     → reading (half_carried (d + 1) l kept c t) ts ≡ Ok final → OptionsRead options_then d l kept c (u ∷ ts) final
 carried_back t d l kept c u [] final fits h = absurd (none_left (half_carried (d + 1) l kept c t) final refl h)
 carried_back t d l kept c u (v ∷ ts) final fits h =
@@ -201,7 +200,7 @@ carried_back t d l kept c u (v ∷ ts) final fits h =
           record { options = Ordered (Some t) p.0 r.space; levels = r.levels; fit = r.fit; tail = record { rest = r.tail.rest; fewer = less; spelled = λ ss sp. (fits, (p.1, r.tail.spelled ss sp)); read = r.tail.read } }
     ]
 
-options_back : (d : ℕ) (l : List ℕ) (kept : Option Attribute) (c : Tables) (ts : List Lexed) (final : Tables) → reading (half (at.AttributeOptions stage.Named) (d + 1) l kept c) ts ≡ Ok final → OptionsRead options_then d l kept c ts final
+options_back : (d : ℕ) (l : List ℕ) (kept : Option Attribute) (c : CatalogueValue) (ts : List Lexed) (final : CatalogueValue) → reading (half (at.AttributeOptions stage.Named) (d + 1) l kept c) ts ≡ Ok final → OptionsRead options_then d l kept c ts final
 options_back d l kept c [] final h = absurd (none_left (half (at.AttributeOptions stage.Named) (d + 1) l kept c) final refl h)
 options_back d l kept c (t ∷ ts) final h =
     let b = back (half (at.AttributeOptions stage.Named) (d + 1) l kept c) t ts final refl h in
@@ -217,7 +216,7 @@ options_back d l kept c (t ∷ ts) final h =
     ]
 
 -- an attribute behind its keyword
-record AttributeRead (d : ℕ) (l : List ℕ) (c : Tables) (ts : List Lexed) (final : Tables) : Type 0 where
+record AttributeRead (d : ℕ) (l : List ℕ) (c : CatalogueValue) (ts : List Lexed) (final : CatalogueValue) : Type 0 where
   name : List ℕ
   options : Options
   levels : SecLevels
@@ -226,7 +225,7 @@ record AttributeRead (d : ℕ) (l : List ℕ) (c : Tables) (ts : List Lexed) (fi
   fit : levels_fit (d + 1) levels
   tail : Tail (λ ss. Named name ∷ options_then options (levels_then levels (RightParen ∷ ss))) ts (reader (at.Between lists.ObjectItems) d l (with_attribute l name (transport_of options) (order_of options) c)) final
 
-attribute_named : (n : List ℕ) (d : ℕ) (l : List ℕ) (c : Tables) (next : Reader) → named_at name.Attribute (reader (at.Name name.Attribute) d l c) n ≡ Ok next
+attribute_named : (n : List ℕ) (d : ℕ) (l : List ℕ) (c : CatalogueValue) (next : Reader) → named_at name.Attribute (reader (at.Name name.Attribute) d l c) n ≡ Ok next
     → AttributeFits l n c × (next ≡ half (at.AttributeOptions stage.Named) d l (kept_of l n c) c)
 attribute_named n d l c next ok =
     let k = kept_room (has_attribute_named c l n) (nat_le 4096 (length c.attributes)) 4096 (length c.attributes) (half (at.AttributeOptions stage.Named) d l None c)
@@ -237,7 +236,7 @@ attribute_named n d l c next ok =
     chosen true some = refl
     chosen false some = refl
 
-attribute_back : (d : ℕ) (l : List ℕ) (c : Tables) (ts : List Lexed) (final : Tables) → reading (reader (at.Name name.Attribute) (d + 1) l c) ts ≡ Ok final → AttributeRead d l c ts final
+attribute_back : (d : ℕ) (l : List ℕ) (c : CatalogueValue) (ts : List Lexed) (final : CatalogueValue) → reading (reader (at.Name name.Attribute) (d + 1) l c) ts ≡ Ok final → AttributeRead d l c ts final
 attribute_back d l c [] final h = absurd (none_left (reader (at.Name name.Attribute) (d + 1) l c) final refl h)
 attribute_back d l c (t ∷ ts) final h =
     let b = back (reader (at.Name name.Attribute) (d + 1) l c) t ts final refl h in
@@ -258,13 +257,13 @@ attribute_back d l c (t ∷ ts) final h =
     }
 
 -- Object classes.
-pub record ClassRead (d : ℕ) (l : List ℕ) (c : Tables) (ts : List Lexed) (final : Tables) : Type 0 where
+pub record ClassRead (d : ℕ) (l : List ℕ) (c : CatalogueValue) (ts : List Lexed) (final : CatalogueValue) : Type 0 where
   pub name : List ℕ
   pub short : IsShort name
   pub room : length c.object_classes < 512
   pub tail : Tail (λ ss. Named name ∷ ss) ts (reader (at.Between lists.ObjectItems) d ((length c.object_classes + 1) ∷ l) (with_object_class l name c)) final
 
-pub class_back : (d : ℕ) (l : List ℕ) (c : Tables) (ts : List Lexed) (final : Tables) → reading (reader (at.Name name.ObjectClass) d l c) ts ≡ Ok final → ClassRead d l c ts final
+pub class_back : (d : ℕ) (l : List ℕ) (c : CatalogueValue) (ts : List Lexed) (final : CatalogueValue) → reading (reader (at.Name name.ObjectClass) d l c) ts ≡ Ok final → ClassRead d l c ts final
 class_back d l c [] final h = absurd (none_left (reader (at.Name name.ObjectClass) d l c) final refl h)
 class_back d l c (t ∷ ts) final h =
     let b = back (reader (at.Name name.ObjectClass) d l c) t ts final refl h in
@@ -285,14 +284,14 @@ object_item_begun word.SecLevel d place h = BeginsLevel refl cc
 object_item_begun k d place h = cc
 
 -- what was read in an object class, up to the parenthesis that closes it
-pub record ObjectBody (d : ℕ) (l : List ℕ) (c : Tables) (ts : List Lexed) (final : Tables) : Type 0 where
+pub record ObjectBody (d : ℕ) (l : List ℕ) (c : CatalogueValue) (ts : List Lexed) (final : CatalogueValue) : Type 0 where
   pub items : ObjectItems
   pub fit : object_items_fit d l items c
   pub after : Reader
   pub closing : closed (reader (at.Between lists.ObjectItems) d l (object_items_declare l items c)) ≡ Ok after
   pub tail : Tail (λ ss. object_items_then items (RightParen ∷ ss)) ts after final
 
-pub object_body : (n : ℕ) (d : ℕ) (l : List ℕ) (c : Tables) (ts : List Lexed) (final : Tables) → length ts ≤ n → 0 < length l → reading (reader (at.Between lists.ObjectItems) d l c) ts ≡ Ok final → ObjectBody d l c ts final
+pub object_body : (n : ℕ) (d : ℕ) (l : List ℕ) (c : CatalogueValue) (ts : List Lexed) (final : CatalogueValue) → length ts ≤ n → 0 < length l → reading (reader (at.Between lists.ObjectItems) d l c) ts ≡ Ok final → ObjectBody d l c ts final
 object_body n d l c [] final few some h = absurd (none_left (reader (at.Between lists.ObjectItems) d l c) final refl h)
 object_body zero d l c (t ∷ ts) final few some h = absurd (omega arith)
 object_body (suc n) d l c (t ∷ []) final few some h =

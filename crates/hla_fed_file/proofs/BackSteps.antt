@@ -5,10 +5,9 @@ use Rattle.hla_fed_file.specs.Lexical as text
 use Rattle.hla_fed_file.specs.Lexical.{Lexed, tokens}
 use Rattle.hla_fed_file.specs.Tokens.{is_end}
 use Rattle.hla_fed_file.specs.Keywords.{keyword_of}
-use Rattle.hla_fed_file.specs.Tables.{Tables}
-use Rattle.hla_fed_file.specs.Reading.{reading, stepped, opened, closed, worded, quoted, named, named_at, begun, deeper, place_behind, head_in, goes_to, is_done, goes, ends, Outcome, Step}
-use Rattle.hla_fed_file.specs.Grammar.{Symbol, LeftParen, RightParen, Means, Named, AnyName, Fits, Spells, Ignored, NoMore, AName, AList}
-use Rattle.hla_fed_file.specs.Grammar.{ignored_then, IsShort, ignored_fit}
+use Rattle.hla_fed_file.specs.CatalogueValue.{CatalogueValue}
+use Rattle.hla_fed_file.specs.Reading.{reading, after_token, opened, closed, worded, after_quoted, named, named_at, begun, deeper, place_behind, head_in, goes_to, is_done, goes, ending_of, Outcome, Step}
+use Rattle.hla_fed_file.specs.Grammar.{Symbol, LeftParen, RightParen, Means, Named, AnyName, Fits, Spells, Ignored, NoMore, AName, AList, ignored_then, IsShort, ignored_fit}
 use Rattle.hla_fed_file.specs.declared.fault.FedFaultKind.TheVariants as kind
 use Rattle.hla_fed_file.specs.declared.place.Keyword.{Keyword}
 use Rattle.hla_fed_file.specs.declared.place.Keyword.TheVariants as word
@@ -26,18 +25,18 @@ use Rattle.hla_fed_file.proofs.ReadSteps.{ignored_closes, ignored_ends, ignoring
 pub ok_same : (r : Step) (x y : Reader) → r ≡ Ok x → r ≡ Ok y → x ≡ y
 ok_same r x y h g = cc
 
-pub at_next : (s s' : Reader) (ts : List Lexed) (final : Tables) → s ≡ s' → reading s ts ≡ Ok final → reading s' ts ≡ Ok final
+pub at_next : (s s' : Reader) (ts : List Lexed) (final : CatalogueValue) → s ≡ s' → reading s ts ≡ Ok final → reading s' ts ≡ Ok final
 at_next s s' ts final e h = ap (λ (r : Reader). reading r ts) (sym e) ∙ h
 
 -- one token back: reading goes on behind it
-pub record Back (s : Reader) (t : Lexed) (ts : List Lexed) (final : Tables) : Type 0 where
+pub record Back (s : Reader) (t : Lexed) (ts : List Lexed) (final : CatalogueValue) : Type 0 where
   pub more : is_end t.token ≡ false
   pub next : Reader
-  pub step : stepped s t.token ≡ Ok next
+  pub step : after_token s t.token ≡ Ok next
   pub read : reading next ts ≡ Ok final
 
-went : (s : Reader) (t : Lexed) (ts : List Lexed) (final : Tables) (b : Bool) (r : Step) → is_end t.token ≡ b → stepped s t.token ≡ r → is_done s.place ≡ false
-    → cond b (ends t.line s) (goes t.line r (λ s'. reading s' ts)) ≡ Ok final → Back s t ts final
+went : (s : Reader) (t : Lexed) (ts : List Lexed) (final : CatalogueValue) (b : Bool) (r : Step) → is_end t.token ≡ b → after_token s t.token ≡ r → is_done s.place ≡ false
+    → cond b (ending_of t.line s) (goes t.line r (λ s'. reading s' ts)) ≡ Ok final → Back s t ts final
 went s t ts final true r e h d ok = absurd (not_done (is_done s.place) d ok)
   where
     not_done : (b : Bool) → b ≡ false → cond {A = Outcome} b (Ok s.catalogue) (Err (record { line = t.line; kind = kind.UnexpectedEnd })) ≡ Ok final → ⊥
@@ -46,16 +45,16 @@ went s t ts final true r e h d ok = absurd (not_done (is_done s.place) d ok)
 went s t ts final false (Ok s') e h d ok = record { more = e; next = s'; step = h; read = ok }
 went s t ts final false (Err k) e h d ok = cc
 
-pub back : (s : Reader) (t : Lexed) (ts : List Lexed) (final : Tables) → is_done s.place ≡ false → reading s (t ∷ ts) ≡ Ok final → Back s t ts final
+pub back : (s : Reader) (t : Lexed) (ts : List Lexed) (final : CatalogueValue) → is_done s.place ≡ false → reading s (t ∷ ts) ≡ Ok final → Back s t ts final
 unfolding reading
-back s t ts final d ok = went s t ts final (is_end t.token) (stepped s t.token) refl refl d ok
+back s t ts final d ok = went s t ts final (is_end t.token) (after_token s t.token) refl refl d ok
 
-pub none_left : (s : Reader) (final : Tables) → is_done s.place ≡ false → reading s [] ≡ Ok final → ⊥
+pub none_left : (s : Reader) (final : CatalogueValue) → is_done s.place ≡ false → reading s [] ≡ Ok final → ⊥
 unfolding reading
 none_left s final d ok = cc
 
 -- What is left behind some symbols, and how the tokens before it are spelled.
-pub record Tail (before : List Symbol → List Symbol) (ts : List Lexed) (s' : Reader) (final : Tables) : Type 0 where
+pub record Tail (before : List Symbol → List Symbol) (ts : List Lexed) (s' : Reader) (final : CatalogueValue) : Type 0 where
   pub rest : List Lexed
   pub fewer : length rest ≤ length ts
   pub spelled : (ss : List Symbol) → Spells rest ss → Spells ts (before ss)
@@ -70,9 +69,9 @@ pub went_deeper : (place : Place) (s next : Reader) → deeper place s ≡ Ok ne
 went_deeper place s next ok = deepened (nat_le 64 s.depth) place s next refl ok
 
 -- where a list may begin or end
-pub between_token : (token : text.Token) (i : Lists) (d : ℕ) (l : List ℕ) (c : Tables) (next : Reader) → stepped (reader (at.Between i) d l c) token ≡ Ok next
+pub between_token : (token : text.Token) (i : Lists) (d : ℕ) (l : List ℕ) (c : CatalogueValue) (next : Reader) → after_token (reader (at.Between i) d l c) token ≡ Ok next
     → (Fits token LeftParen × (d < 64) × (next ≡ reader (at.Head (head_in i)) (d + 1) l c)) ⊎ (Fits token RightParen × (closed (reader (at.Between i) d l c) ≡ Ok next))
-unfolding opened worded quoted
+unfolding opened worded after_quoted
 between_token text.Open i d l c next ok = let p = went_deeper (at.Head (head_in i)) (reader (at.Between i) d l c) next ok in inl (tt, p.0, p.1)
 between_token text.Close i d l c next ok = inr (tt, ok)
 between_token (text.Word w) i d l c next ok = cc
@@ -112,8 +111,8 @@ head_word w (Some k) h d s next e ok =
     let g = went_to (begun h d (Some k)) (moved s (at.Head h) d) next ok in
     record { keyword = k; fits = e; place = g.0; begins = g.1; then = g.2 }
 
-pub head_token : (token : text.Token) (h : Head) (d : ℕ) (s next : Reader) → stepped (moved s (at.Head h) d) token ≡ Ok next → HeadRead token h d s next
-unfolding opened closed worded quoted
+pub head_token : (token : text.Token) (h : Head) (d : ℕ) (s next : Reader) → after_token (moved s (at.Head h) d) token ≡ Ok next → HeadRead token h d s next
+unfolding opened closed worded after_quoted
 head_token text.Open h d s next ok = cc
 head_token text.Close h d s next ok = cc
 head_token (text.Word w) h d s next ok = head_word w (keyword_of w) h d s next refl ok
@@ -128,8 +127,8 @@ pub record NameRead (token : text.Token) (what : Naming) (s next : Reader) : Typ
   pub fits : Fits token (Named name)
   pub named : named what s name ≡ Ok next
 
-pub name_token : (token : text.Token) (what : Naming) (d : ℕ) (l : List ℕ) (c : Tables) (next : Reader) → stepped (reader (at.Name what) d l c) token ≡ Ok next → NameRead token what (reader (at.Name what) d l c) next
-unfolding opened closed worded quoted
+pub name_token : (token : text.Token) (what : Naming) (d : ℕ) (l : List ℕ) (c : CatalogueValue) (next : Reader) → after_token (reader (at.Name what) d l c) token ≡ Ok next → NameRead token what (reader (at.Name what) d l c) next
+unfolding opened closed worded after_quoted
 name_token text.Open what d l c next ok = cc
 name_token text.Close what d l c next ok = cc
 name_token (text.Word w) what d l c next ok = record { name = w; fits = refl; named = ok }
@@ -158,9 +157,9 @@ kept_room false true m n x y next h ok = cc
 kept_room false false m n x y next h ok = let less : n < m = grind (arith, nat_tests) in ((λ _. less), cc)
 
 -- Ignored lists.
-ignored_token : (token : text.Token) (s : Reader) (w : Within) (base d : ℕ) (next : Reader) → stepped (ignoring s w base d) token ≡ Ok next
+ignored_token : (token : text.Token) (s : Reader) (w : Within) (base d : ℕ) (next : Reader) → after_token (ignoring s w base d) token ≡ Ok next
     → ((Fits token LeftParen × (d < 64) × (next ≡ ignoring s w base (d + 1))) ⊎ (Fits token AnyName × (next ≡ ignoring s w base d))) ⊎ (Fits token RightParen × (closed (ignoring s w base d) ≡ Ok next))
-unfolding opened worded quoted
+unfolding opened worded after_quoted
 ignored_token text.Open s w base d next ok = let p = went_deeper (at.Ignored w base) (ignoring s w base d) next ok in inl (inl (tt, p.0, p.1))
 ignored_token text.Close s w base d next ok = inr (tt, ok)
 ignored_token (text.Word n) s w base d next ok = inl (inr (tt, cc))
@@ -169,14 +168,14 @@ ignored_token text.Bad s w base d next ok = cc
 ignored_token text.Unclosed s w base d next ok = cc
 ignored_token text.End s w base d next ok = cc
 
-record IgnoredRead (s : Reader) (w : Within) (base d : ℕ) (ts : List Lexed) (final : Tables) : Type 0 where
+record IgnoredRead (s : Reader) (w : Within) (base d : ℕ) (ts : List Lexed) (final : CatalogueValue) : Type 0 where
   ignored : Ignored
   fit : ignored_fit d ignored
   after : Reader
   closing : closed (ignoring s w base d) ≡ Ok after
   tail : Tail (λ ss. ignored_then ignored (RightParen ∷ ss)) ts after final
 
-ignored_back : (n : ℕ) (s : Reader) (w : Within) (base d : ℕ) (ts : List Lexed) (final : Tables) → length ts ≤ n → base ≤ d → reading (ignoring s w base d) ts ≡ Ok final → IgnoredRead s w base d ts final
+ignored_back : (n : ℕ) (s : Reader) (w : Within) (base d : ℕ) (ts : List Lexed) (final : CatalogueValue) → length ts ≤ n → base ≤ d → reading (ignoring s w base d) ts ≡ Ok final → IgnoredRead s w base d ts final
 ignored_back n s w base d [] final few le h = absurd (none_left (ignoring s w base d) final refl h)
 ignored_back zero s w base d (t ∷ ts) final few le h = absurd (omega arith)
 ignored_back (suc n) s w base d (t ∷ ts) final few le h =
@@ -208,12 +207,12 @@ ignored_back (suc n) s w base d (t ∷ ts) final few le h =
     ]
 
 -- an ignored list behind its keyword
-pub record ListRead (s : Reader) (w : Within) (d : ℕ) (ts : List Lexed) (final : Tables) : Type 0 where
+pub record ListRead (s : Reader) (w : Within) (d : ℕ) (ts : List Lexed) (final : CatalogueValue) : Type 0 where
   pub ignored : Ignored
   pub fit : ignored_fit (d + 1) ignored
   pub tail : Tail (λ ss. ignored_then ignored (RightParen ∷ ss)) ts (moved s (place_behind w) d) final
 
-pub list_back : (s : Reader) (w : Within) (d : ℕ) (ts : List Lexed) (final : Tables) → reading (ignoring s w (d + 1) (d + 1)) ts ≡ Ok final → ListRead s w d ts final
+pub list_back : (s : Reader) (w : Within) (d : ℕ) (ts : List Lexed) (final : CatalogueValue) → reading (ignoring s w (d + 1) (d + 1)) ts ≡ Ok final → ListRead s w d ts final
 list_back s w d ts final h =
     let a = ignored_back (length ts) s w (d + 1) (d + 1) ts final (omega arith) (omega arith) h in
     let behind : a.after ≡ moved s (place_behind w) d = ok_same _ _ _ a.closing (ignored_ends s w d) in

@@ -2,10 +2,9 @@
 use Rattle.std.proofs.Common.{◌≡◌, ℕ, false, List, [], ◌∷◌, length, Ok, nat_lt, refl, ap, ◌∙◌, arith, le-ltb}
 use Rattle.hla_fed_file.specs.Lexical as text
 use Rattle.hla_fed_file.specs.Lexical.{Lexed, tokens}
-use Rattle.hla_fed_file.specs.Tables.{Tables, nothing}
+use Rattle.hla_fed_file.specs.CatalogueValue.{CatalogueValue, empty_catalogue}
 use Rattle.hla_fed_file.specs.Reading.{reading, opened, closed, worded, start, read_of}
-use Rattle.hla_fed_file.specs.Grammar.{Symbol, TheEnd, Fits, Spells, Parts, NoPart, ALabel, AnIgnored, Objects, Interactions}
-use Rattle.hla_fed_file.specs.Grammar.{parts_then, file_of, object_classes_declare, interaction_classes_declare, parts_declare, parts_fit, Describes}
+use Rattle.hla_fed_file.specs.Grammar.{Symbol, TheEnd, Fits, Spells, Parts, NoPart, ALabel, AnIgnored, Objects, Interactions, parts_then, file_of, object_classes_declare, interaction_classes_declare, parts_declare, parts_fit, Describes}
 use Rattle.hla_fed_file.specs.declared.place.Keyword.TheVariants as word
 use Rattle.hla_fed_file.specs.declared.place.Head.TheVariants as head
 use Rattle.hla_fed_file.specs.declared.place.Naming.TheVariants as name
@@ -17,7 +16,7 @@ use Rattle.hla_fed_file.proofs.ReadObjects.{begin_read, item_opens, object_class
 use Rattle.hla_fed_file.proofs.ReadInteractions.{interaction_classes_read}
 
 -- Parts and files.
-parts_read : (p : Parts) (c : Tables) (ts : List Lexed) (ss : List Symbol) → parts_fit p c → Spells ts (parts_then p ss) → Reads (reader (at.Between lists.Parts) 1 [] c) (reader (at.Between lists.Parts) 1 [] (parts_declare p c)) ts ss
+parts_read : (p : Parts) (c : CatalogueValue) (ts : List Lexed) (ss : List Symbol) → parts_fit p c → Spells ts (parts_then p ss) → Reads (reader (at.Between lists.Parts) 1 [] c) (reader (at.Between lists.Parts) 1 [] (parts_declare p c)) ts ss
 unfolding closed
 parts_read NoPart c ts ss fit sp = record { rest = ts; spelled = sp; same = refl }
 parts_read (ALabel n others) c ts ss fit sp =
@@ -45,7 +44,7 @@ parts_read (Interactions classes others) c ts ss fit sp =
     let r = parts_read others declared e.rest ss fit.1 e.spelled in
     record { rest = r.rest; spelled = r.spelled; same = a.same ∙ k.same ∙ e.same ∙ r.same }
 
-end_read : (d : ℕ) (c : Tables) (ts : List Lexed) → Spells ts (TheEnd ∷ []) → reading (reader at.Done d [] c) ts ≡ Ok c
+end_read : (d : ℕ) (c : CatalogueValue) (ts : List Lexed) → Spells ts (TheEnd ∷ []) → reading (reader at.Done d [] c) ts ≡ Ok c
 unfolding reading
 end_read d c [] sp = absurd sp
 end_read d c (t ∷ ts) sp = ends_there t.token t.line ts sp
@@ -54,19 +53,19 @@ end_read d c (t ∷ ts) sp = ends_there t.token t.line ts sp
     ends_there text.End line ts h = refl
     ends_there token line ts h = absurd h
 
-file_read : (p : Parts) (ts : List Lexed) → parts_fit p nothing → Spells ts (file_of p) → reading start ts ≡ Ok (parts_declare p nothing)
+file_read : (p : Parts) (ts : List Lexed) → parts_fit p empty_catalogue → Spells ts (file_of p) → reading start ts ≡ Ok (parts_declare p empty_catalogue)
 unfolding opened closed worded
 file_read p ts fit sp =
-    let a = left_read start (reader (at.Head head.File) 1 [] nothing) ts _ refl sp in
-    let b = keyword_read word.Fed (reader (at.Head head.File) 1 [] nothing) (reader (at.Between lists.Parts) 1 [] nothing) a.rest _ (λ w h. rw h refl) a.spelled in
-    let k = parts_read p nothing b.rest _ fit b.spelled in
-    let c = parts_declare p nothing in
+    let a = left_read start (reader (at.Head head.File) 1 [] empty_catalogue) ts _ refl sp in
+    let b = keyword_read word.Fed (reader (at.Head head.File) 1 [] empty_catalogue) (reader (at.Between lists.Parts) 1 [] empty_catalogue) a.rest _ (λ w h. rw h refl) a.spelled in
+    let k = parts_read p empty_catalogue b.rest _ fit b.spelled in
+    let c = parts_declare p empty_catalogue in
     let e = right_read (reader (at.Between lists.Parts) 1 [] c) (reader at.Done 0 [] c) k.rest _ refl k.spelled in
     a.same ∙ b.same ∙ k.same ∙ e.same ∙ end_read 0 c e.rest e.spelled
 
 -- what the grammar relates to a catalogue is read as that one
-pub described_read : (text : List ℕ) (c : Tables) → Describes text c → read_of text ≡ Ok c
+pub described_read : (text : List ℕ) (c : CatalogueValue) → Describes text c → read_of text ≡ Ok c
 unfolding read_of
 described_read text c d =
     let small : nat_lt 1048576 (length text) ≡ false = le-ltb _ _ d.short in
-    rw small (file_read d.parts (tokens text) d.fits d.is_file ∙ ap (λ (x : Tables). Ok x) d.declares)
+    rw small (file_read d.parts (tokens text) d.fits d.is_file ∙ ap (λ (x : CatalogueValue). Ok x) d.declares)

@@ -10,7 +10,7 @@ use Rattle.std.proofs.lemmas.Slice.Eq.{bytes_eq-Decides}
 use Rattle.std.proofs.lemmas.Iterator.Adapters.{position_from-zero}
 use Rattle.indexmap.specs.IndexMap.{insert_entry}
 use Rattle.hla_fed_file.specs.Lookup.{number_at, contains_number}
-use Rattle.hla_fed_file.specs.Groups.{Grouped, grouped, group_in, IsNoted, declared_as, number_of}
+use Rattle.hla_fed_file.specs.Groups.{Grouped, grouped, group_in, IsNoted, declared_as, declared_number}
 use Rattle.hla_fed_file.specs.declared.groups.Declared.{Declared}
 use Rattle.hla_fed_file.proofs.NameLemmas.{bytes_eq-comm}
 
@@ -120,11 +120,11 @@ declared_as-append class_of name_of n (y ∷ xs) x name =
     either false u v = refl
 
 abbrev firsts : List ℕ → List Declared → Option ℕ
-firsts classes ds = option_map number_of (find (λ (d : Declared). contains_number d.class classes) ds)
+firsts classes ds = option_map declared_number (find (λ (d : Declared). contains_number d.class classes) ds)
 
 -- the first declaration of a name in some classes is the first item of the list with that name in one of them
 first_declared : {X : Type 0} (class_of : X → ℕ) (name_of : X → List ℕ) (classes name : List ℕ) (n : ℕ) (xs : List X)
-    → option_map number_of (find (λ (d : Declared). contains_number d.class classes) (declared_as class_of name_of (n + 1) xs name)) ≡ number_at (position_from (λ x. contains_number (class_of x) classes && bytes_eq (name_of x) name) n xs)
+    → option_map declared_number (find (λ (d : Declared). contains_number d.class classes) (declared_as class_of name_of (n + 1) xs name)) ≡ number_at (position_from (λ x. contains_number (class_of x) classes && bytes_eq (name_of x) name) n xs)
 first_declared class_of name_of classes name n [] = refl
 first_declared class_of name_of classes name n (x ∷ xs) =
     both (bytes_eq (name_of x) name) (contains_number (class_of x) classes) refl refl (first_declared class_of name_of classes name (n + 1) xs)
@@ -139,7 +139,7 @@ first_declared class_of name_of classes name n (x ∷ xs) =
     both false false e f later = later
 
 pub first_numbered : {X : Type 0} (class_of : X → ℕ) (name_of : X → List ℕ) (classes name : List ℕ) (xs : List X)
-    → option_map number_of (find (λ (d : Declared). contains_number d.class classes) (declared_as class_of name_of 1 xs name)) ≡ number_at (position (λ x. contains_number (class_of x) classes && bytes_eq (name_of x) name) xs)
+    → option_map declared_number (find (λ (d : Declared). contains_number d.class classes) (declared_as class_of name_of 1 xs name)) ≡ number_at (position (λ x. contains_number (class_of x) classes && bytes_eq (name_of x) name) xs)
 first_numbered class_of name_of classes name xs =
     first_declared class_of name_of classes name 0 xs ∙ ap number_at (sym (position_from-zero (λ x. contains_number (class_of x) classes && bytes_eq (name_of x) name) xs))
 

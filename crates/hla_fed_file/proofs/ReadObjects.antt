@@ -2,11 +2,10 @@
 use Rattle.std.proofs.Common.{◌≡◌, ℕ, ◌+◌, ◌<◌, ◌==◌, Bool, true, false, List, [], ◌∷◌, ◌++◌, length, Option, None, Some, Ok, Err, nat_le, cond, refl, ap, ◌∙◌, arith}
 use Rattle.std.specs.Option.{option_map}
 use Rattle.hla_fed_file.specs.Lexical.{Lexed}
-use Rattle.hla_fed_file.specs.Tables.{Tables}
+use Rattle.hla_fed_file.specs.CatalogueValue.{CatalogueValue}
 use Rattle.hla_fed_file.specs.Declaring.{innermost, with_object_class, with_attribute, has_attribute_named}
-use Rattle.hla_fed_file.specs.Reading.{reading, opened, opened_at, closed, closed_at, worded, quoted, named_at, begun, deeper, shallower, attribute_declared, head_in, Step}
-use Rattle.hla_fed_file.specs.Grammar.{Symbol, LeftParen, RightParen, Means, Named, Spells, Options, Bare, Ordered, SecLevels, NoLevel, ALevel, ObjectItems, NoItem, AnAttribute, ASecLevel, AClass, ObjectClasses, NoClass, TopClass}
-use Rattle.hla_fed_file.specs.Grammar.{transport_then, space_then, options_then, levels_then, object_items_then, object_classes_then, transport_of, order_of, object_items_declare, object_classes_declare, IsShort, levels_fit, AttributeFits, object_items_fit, object_classes_fit}
+use Rattle.hla_fed_file.specs.Reading.{reading, opened, opened_at, closed, closed_at, worded, after_quoted, named_at, begun, deeper, shallower, attribute_declared, head_in, Step}
+use Rattle.hla_fed_file.specs.Grammar.{Symbol, LeftParen, RightParen, Means, Named, Spells, Options, Bare, Ordered, SecLevels, NoLevel, ALevel, ObjectItems, NoItem, AnAttribute, ASecLevel, AClass, ObjectClasses, NoClass, TopClass, transport_then, space_then, options_then, levels_then, object_items_then, object_classes_then, transport_of, order_of, object_items_declare, object_classes_declare, IsShort, levels_fit, AttributeFits, object_items_fit, object_classes_fit}
 use Rattle.hla_fed_file.specs.declared.declared.Attribute.{Attribute}
 use Rattle.hla_fed_file.specs.declared.declared.Order.{Order}
 use Rattle.hla_fed_file.specs.declared.declared.Order.TheVariants as order
@@ -52,25 +51,25 @@ abbrev pub options_place : Options → Place
 options_place (Bare t) = at.AttributeOptions (stage_of t)
 options_place (Ordered t o space) = space_place space
 
-transport_read : (t : Option Transport) (d : ℕ) (l : List ℕ) (kept : Option Attribute) (c : Tables) (ts : List Lexed) (ss : List Symbol) → Spells ts (transport_then t ss)
+transport_read : (t : Option Transport) (d : ℕ) (l : List ℕ) (kept : Option Attribute) (c : CatalogueValue) (ts : List Lexed) (ss : List Symbol) → Spells ts (transport_then t ss)
     → Reads (half (at.AttributeOptions stage.Named) d l kept c) (half (at.AttributeOptions (stage_of t)) d l (carried t kept) c) ts ss
 unfolding worded
 transport_read None d l kept c ts ss sp = record { rest = ts; spelled = sp; same = refl }
 transport_read (Some t) d l kept c ts ss sp = keyword_read (word.Carried t) _ (half (at.AttributeOptions stage.Carried) d l (carried (Some t) kept) c) ts ss (λ w h. rw h refl) sp
 
-order_read : (t : Option Transport) (o : Order) (d : ℕ) (l : List ℕ) (kept : Option Attribute) (c : Tables) (ts : List Lexed) (ss : List Symbol) → Spells ts (Means (word.Ordered o) ∷ ss)
+order_read : (t : Option Transport) (o : Order) (d : ℕ) (l : List ℕ) (kept : Option Attribute) (c : CatalogueValue) (ts : List Lexed) (ss : List Symbol) → Spells ts (Means (word.Ordered o) ∷ ss)
     → Reads (half (at.AttributeOptions (stage_of t)) d l kept c) (half (at.AttributeOptions stage.Ordered) d l (ordered o kept) c) ts ss
 unfolding worded
 order_read None o d l kept c ts ss sp = keyword_read (word.Ordered o) _ (half (at.AttributeOptions stage.Ordered) d l (ordered o kept) c) ts ss (λ w h. rw h refl) sp
 order_read (Some t) o d l kept c ts ss sp = keyword_read (word.Ordered o) _ (half (at.AttributeOptions stage.Ordered) d l (ordered o kept) c) ts ss (λ w h. rw h refl) sp
 
-space_read : (space : Bool) (d : ℕ) (l : List ℕ) (kept : Option Attribute) (c : Tables) (ts : List Lexed) (ss : List Symbol) → Spells ts (space_then space ss)
+space_read : (space : Bool) (d : ℕ) (l : List ℕ) (kept : Option Attribute) (c : CatalogueValue) (ts : List Lexed) (ss : List Symbol) → Spells ts (space_then space ss)
     → Reads (half (at.AttributeOptions stage.Ordered) d l kept c) (half (space_place space) d l kept c) ts ss
-unfolding worded quoted
+unfolding worded after_quoted
 space_read false d l kept c ts ss sp = record { rest = ts; spelled = sp; same = refl }
 space_read true d l kept c ts ss sp = any_read _ (half at.AttributeEnd d l kept c) ts ss (λ w. refl) (λ w. refl) sp
 
-options_read : (o : Options) (d : ℕ) (l : List ℕ) (kept : Option Attribute) (c : Tables) (ts : List Lexed) (ss : List Symbol) → Spells ts (options_then o ss)
+options_read : (o : Options) (d : ℕ) (l : List ℕ) (kept : Option Attribute) (c : CatalogueValue) (ts : List Lexed) (ss : List Symbol) → Spells ts (options_then o ss)
     → Reads (half (at.AttributeOptions stage.Named) d l kept c) (half (options_place o) d l (amended o kept) c) ts ss
 options_read (Bare t) d l kept c ts ss sp = transport_read t d l kept c ts ss sp
 options_read (Ordered t o space) d l kept c ts ss sp =
@@ -94,21 +93,21 @@ pub end_ends : EndsAttribute at.AttributeEnd
 end_ends = record { opens = λ s. refl; closes = λ s. refl }
 
 -- what is declared of an attribute
-abbrev pub with_kept : Option Attribute → Tables → Tables
+abbrev pub with_kept : Option Attribute → CatalogueValue → CatalogueValue
 with_kept None c = c
 with_kept (Some a) c = record c { attributes = c.attributes ++ a ∷ [] }
 
-pub attribute_ends : (p : Place) (d : ℕ) (l : List ℕ) (kept : Option Attribute) (c : Tables) → EndsAttribute p → closed (half p (d + 1) l kept c) ≡ Ok (reader (at.Between lists.ObjectItems) d l (with_kept kept c))
+pub attribute_ends : (p : Place) (d : ℕ) (l : List ℕ) (kept : Option Attribute) (c : CatalogueValue) → EndsAttribute p → closed (half p (d + 1) l kept c) ≡ Ok (reader (at.Between lists.ObjectItems) d l (with_kept kept c))
 unfolding closed
 attribute_ends p d l None c e = e.closes (half p (d + 1) l None c) ∙ ap (λ (n : ℕ). Ok (reader (at.Between lists.ObjectItems) n l c)) (down d)
 attribute_ends p d l (Some a) c e = e.closes (half p (d + 1) l (Some a) c) ∙ ap (λ (n : ℕ). Ok (reader (at.Between lists.ObjectItems) n l (with_kept (Some a) c))) (down d)
 
-pub attribute_opens : (p : Place) (d : ℕ) (l : List ℕ) (kept : Option Attribute) (c : Tables) → EndsAttribute p → d < 64 → opened (half p d l kept c) ≡ Ok (half (at.Head head.AttributeItem) (d + 1) l kept c)
+pub attribute_opens : (p : Place) (d : ℕ) (l : List ℕ) (kept : Option Attribute) (c : CatalogueValue) → EndsAttribute p → d < 64 → opened (half p d l kept c) ≡ Ok (half (at.Head head.AttributeItem) (d + 1) l kept c)
 unfolding opened
 attribute_opens p d l kept c e h = e.opens (half p d l kept c) ∙ deepens (at.Head head.AttributeItem) (half p d l kept c) h
 
 -- the security levels of an attribute, and its end
-levels_read : (v : SecLevels) (p : Place) (d : ℕ) (l : List ℕ) (kept : Option Attribute) (c : Tables) (ts : List Lexed) (ss : List Symbol) → EndsAttribute p → levels_fit (d + 1) v → Spells ts (levels_then v (RightParen ∷ ss))
+levels_read : (v : SecLevels) (p : Place) (d : ℕ) (l : List ℕ) (kept : Option Attribute) (c : CatalogueValue) (ts : List Lexed) (ss : List Symbol) → EndsAttribute p → levels_fit (d + 1) v → Spells ts (levels_then v (RightParen ∷ ss))
     → Reads (half p (d + 1) l kept c) (reader (at.Between lists.ObjectItems) d l (with_kept kept c)) ts ss
 levels_read NoLevel p d l kept c ts ss e fit sp = right_read _ _ ts ss (attribute_ends p d l kept c e) sp
 levels_read (ALevel inside others) p d l kept c ts ss e fit sp =
@@ -117,16 +116,16 @@ levels_read (ALevel inside others) p d l kept c ts ss e fit sp =
     record { rest = r.rest; spelled = r.spelled; same = a.same ∙ r.same }
 
 -- the attribute of a name, unless it is ignored
-abbrev pub kept_of : List ℕ → List ℕ → Tables → Option Attribute
+abbrev pub kept_of : List ℕ → List ℕ → CatalogueValue → Option Attribute
 kept_of l n c = cond (has_attribute_named c l n) None (Some (record { class = innermost l; name = n; transport = transport.Reliable; order = order.Receive }))
 
-attribute_kept : (b : Bool) (d : ℕ) (l n : List ℕ) (c : Tables) → (b ≡ false → length c.attributes < 4096)
+attribute_kept : (b : Bool) (d : ℕ) (l n : List ℕ) (c : CatalogueValue) → (b ≡ false → length c.attributes < 4096)
     → cond {A = Step} b (Ok (half (at.AttributeOptions stage.Named) d l None c)) (cond {A = Step} (nat_le 4096 (length c.attributes)) (Err kind.TooLarge) (Ok (half (at.AttributeOptions stage.Named) d l (Some (record { class = innermost l; name = n; transport = transport.Reliable; order = order.Receive })) c)))
     ≡ Ok (half (at.AttributeOptions stage.Named) d l (cond b None (Some (record { class = innermost l; name = n; transport = transport.Reliable; order = order.Receive }))) c)
 attribute_kept true d l n c room = refl
 attribute_kept false d l n c room = let e : nat_le 4096 (length c.attributes) ≡ false = below_limit _ _ (room refl) in rw e refl
 
-pub kept_declares : (b : Bool) (l n : List ℕ) (o : Options) (c : Tables)
+pub kept_declares : (b : Bool) (l n : List ℕ) (o : Options) (c : CatalogueValue)
     → with_kept (amended o (cond b None (Some (record { class = innermost l; name = n; transport = transport.Reliable; order = order.Receive })))) c
     ≡ cond b c (record c { attributes = c.attributes ++ record { class = innermost l; name = n; transport = transport_of o; order = order_of o } ∷ [] })
 kept_declares true l n (Bare None) c = refl
@@ -139,12 +138,12 @@ kept_declares false l n (Ordered None o space) c = refl
 kept_declares false l n (Ordered (Some t) o space) c = refl
 
 -- an item of a class begins
-pub item_opens : (d : ℕ) (l : List ℕ) (c : Tables) (i : Lists) → d < 64 → opened (reader (at.Between i) d l c) ≡ Ok (reader (at.Head (head_in i)) (d + 1) l c)
+pub item_opens : (d : ℕ) (l : List ℕ) (c : CatalogueValue) (i : Lists) → d < 64 → opened (reader (at.Between i) d l c) ≡ Ok (reader (at.Head (head_in i)) (d + 1) l c)
 unfolding opened
 item_opens d l c i h = deepens (at.Head (head_in i)) (reader (at.Between i) d l c) h
 
 -- a parenthesis and a keyword
-pub begin_read : (k : Keyword) (i : Lists) (place : Place) (d : ℕ) (l : List ℕ) (c : Tables) (ts : List Lexed) (ss : List Symbol) → d < 64 → begun (head_in i) (d + 1) (Some k) ≡ Some place
+pub begin_read : (k : Keyword) (i : Lists) (place : Place) (d : ℕ) (l : List ℕ) (c : CatalogueValue) (ts : List Lexed) (ss : List Symbol) → d < 64 → begun (head_in i) (d + 1) (Some k) ≡ Some place
     → Spells ts (LeftParen ∷ Means k ∷ ss) → Reads (reader (at.Between i) d l c) (reader place (d + 1) l c) ts ss
 unfolding worded
 begin_read k i place d l c ts ss h begins sp =
@@ -152,7 +151,7 @@ begin_read k i place d l c ts ss h begins sp =
     let b = keyword_read k (reader (at.Head (head_in i)) (d + 1) l c) (reader place (d + 1) l c) a.rest ss (λ n e. rw (e, begins) refl) a.spelled in
     record { rest = b.rest; spelled = b.spelled; same = a.same ∙ b.same }
 
-attribute_read : (n : List ℕ) (o : Options) (v : SecLevels) (d : ℕ) (l : List ℕ) (c : Tables) (ts : List Lexed) (ss : List Symbol) → d < 64 → IsShort n → AttributeFits l n c → levels_fit (d + 1) v
+attribute_read : (n : List ℕ) (o : Options) (v : SecLevels) (d : ℕ) (l : List ℕ) (c : CatalogueValue) (ts : List Lexed) (ss : List Symbol) → d < 64 → IsShort n → AttributeFits l n c → levels_fit (d + 1) v
     → Spells ts (LeftParen ∷ Means word.Attribute ∷ Named n ∷ options_then o (levels_then v (RightParen ∷ ss))) → Reads (reader (at.Between lists.ObjectItems) d l c) (reader (at.Between lists.ObjectItems) d l (with_attribute l n (transport_of o) (order_of o) c)) ts ss
 attribute_read n o v d l c ts ss h short room fit sp =
     let a = begin_read word.Attribute lists.ObjectItems (at.Name name.Attribute) d l c ts _ h refl sp in
@@ -160,19 +159,19 @@ attribute_read n o v d l c ts ss h short room fit sp =
     let e = options_read o (d + 1) l (kept_of l n c) c b.rest _ b.spelled in
     let r = levels_read v (options_place o) d l (amended o (kept_of l n c)) c e.rest ss (options_end o) fit e.spelled in
     let declares = kept_declares (has_attribute_named c l n) l n o c in
-    record { rest = r.rest; spelled = r.spelled; same = a.same ∙ b.same ∙ e.same ∙ r.same ∙ ap (λ (c' : Tables). reading (reader (at.Between lists.ObjectItems) d l c') r.rest) declares }
+    record { rest = r.rest; spelled = r.spelled; same = a.same ∙ b.same ∙ e.same ∙ r.same ∙ ap (λ (c' : CatalogueValue). reading (reader (at.Between lists.ObjectItems) d l c') r.rest) declares }
 
 -- the name of an object class
-class_named : (n : List ℕ) (d : ℕ) (l : List ℕ) (c : Tables) → length c.object_classes < 512
+class_named : (n : List ℕ) (d : ℕ) (l : List ℕ) (c : CatalogueValue) → length c.object_classes < 512
     → named_at name.ObjectClass (reader (at.Name name.ObjectClass) d l c) n ≡ Ok (reader (at.Between lists.ObjectItems) d ((length c.object_classes + 1) ∷ l) (with_object_class l n c))
 class_named n d l c h = let e : nat_le 512 (length c.object_classes) ≡ false = below_limit _ _ h in rw e refl
 
 -- behind a class in a class
-pub class_closes : (d n : ℕ) (l : List ℕ) (c : Tables) → 0 < length l → closed (reader (at.Between lists.ObjectItems) (d + 1) (n ∷ l) c) ≡ Ok (reader (at.Between lists.ObjectItems) d l c)
+pub class_closes : (d n : ℕ) (l : List ℕ) (c : CatalogueValue) → 0 < length l → closed (reader (at.Between lists.ObjectItems) (d + 1) (n ∷ l) c) ≡ Ok (reader (at.Between lists.ObjectItems) d l c)
 unfolding closed
 class_closes d n l c h = let e : (length l == 0) ≡ false = above_zero _ h in rw (e, down d) refl
 
-pub object_items_read : (i : ObjectItems) (d : ℕ) (l : List ℕ) (c : Tables) (ts : List Lexed) (ss : List Symbol) → 0 < length l → object_items_fit d l i c → Spells ts (object_items_then i ss)
+pub object_items_read : (i : ObjectItems) (d : ℕ) (l : List ℕ) (c : CatalogueValue) (ts : List Lexed) (ss : List Symbol) → 0 < length l → object_items_fit d l i c → Spells ts (object_items_then i ss)
     → Reads (reader (at.Between lists.ObjectItems) d l c) (reader (at.Between lists.ObjectItems) d l (object_items_declare l i c)) ts ss
 object_items_read NoItem d l c ts ss h fit sp = record { rest = ts; spelled = sp; same = refl }
 object_items_read (AnAttribute n options levels others) d l c ts ss h fit sp =
@@ -194,7 +193,7 @@ object_items_read (AClass n body others) d l c ts ss h fit sp =
     let r = object_items_read others d l declared e.rest ss h fit.4 e.spelled in
     record { rest = r.rest; spelled = r.spelled; same = a.same ∙ b.same ∙ i.same ∙ e.same ∙ r.same }
 
-pub object_classes_read : (k : ObjectClasses) (c : Tables) (ts : List Lexed) (ss : List Symbol) → object_classes_fit k c → Spells ts (object_classes_then k ss)
+pub object_classes_read : (k : ObjectClasses) (c : CatalogueValue) (ts : List Lexed) (ss : List Symbol) → object_classes_fit k c → Spells ts (object_classes_then k ss)
     → Reads (reader (at.Between lists.ObjectClasses) 2 [] c) (reader (at.Between lists.ObjectClasses) 2 [] (object_classes_declare k c)) ts ss
 unfolding closed
 object_classes_read NoClass c ts ss fit sp = record { rest = ts; spelled = sp; same = refl }

@@ -5,10 +5,9 @@ use Rattle.hla_fed_file.specs.Lexical as text
 use Rattle.hla_fed_file.specs.Lexical.{Lexed, tokens}
 use Rattle.hla_fed_file.specs.Tokens.{is_end}
 use Rattle.hla_fed_file.specs.Keywords.{keyword_of}
-use Rattle.hla_fed_file.specs.Tables.{Tables}
-use Rattle.hla_fed_file.specs.Reading.{reading, stepped, opened, closed, worded, quoted, named, named_at, begun, deeper, place_behind}
-use Rattle.hla_fed_file.specs.Grammar.{Symbol, LeftParen, RightParen, Means, Named, AnyName, Fits, Spells, Ignored, NoMore, AName, AList}
-use Rattle.hla_fed_file.specs.Grammar.{ignored_then, IsShort, ignored_fit}
+use Rattle.hla_fed_file.specs.CatalogueValue.{CatalogueValue}
+use Rattle.hla_fed_file.specs.Reading.{reading, after_token, opened, closed, worded, after_quoted, named, named_at, begun, deeper, place_behind}
+use Rattle.hla_fed_file.specs.Grammar.{Symbol, LeftParen, RightParen, Means, Named, AnyName, Fits, Spells, Ignored, NoMore, AName, AList, ignored_then, IsShort, ignored_fit}
 use Rattle.hla_fed_file.specs.declared.declared.Attribute.{Attribute}
 use Rattle.hla_fed_file.specs.declared.declared.InteractionClass.{InteractionClass}
 use Rattle.hla_fed_file.specs.declared.place.Keyword.{Keyword}
@@ -20,30 +19,30 @@ use Rattle.hla_fed_file.specs.declared.place.Place.TheVariants as at
 use Rattle.hla_fed_file.specs.declared.reader.Reader.{Reader}
 
 -- a reader with an attribute half read, unless it is ignored; with an interaction class half read; and with neither
-abbrev pub half : Place → ℕ → List ℕ → Option Attribute → Tables → Reader
+abbrev pub half : Place → ℕ → List ℕ → Option Attribute → CatalogueValue → Reader
 half place depth lineage kept c = record { place = place; depth = depth; lineage = lineage; attribute = kept; class = None; catalogue = c }
 
-abbrev pub pending : Place → ℕ → List ℕ → InteractionClass → Tables → Reader
+abbrev pub pending : Place → ℕ → List ℕ → InteractionClass → CatalogueValue → Reader
 pending place depth lineage k c = record { place = place; depth = depth; lineage = lineage; attribute = None; class = Some k; catalogue = c }
 
-abbrev pub reader : Place → ℕ → List ℕ → Tables → Reader
+abbrev pub reader : Place → ℕ → List ℕ → CatalogueValue → Reader
 reader place depth lineage c = half place depth lineage None c
 
 -- a reader somewhere else
 abbrev pub moved : Reader → Place → ℕ → Reader
 moved s place depth = record s { place = place; depth = depth }
 
-pub one : (s s' : Reader) (t : Lexed) (ts : List Lexed) → is_end t.token ≡ false → stepped s t.token ≡ Ok s' → reading s (t ∷ ts) ≡ reading s' ts
+pub one : (s s' : Reader) (t : Lexed) (ts : List Lexed) → is_end t.token ≡ false → after_token s t.token ≡ Ok s' → reading s (t ∷ ts) ≡ reading s' ts
 unfolding reading
 one s s' t ts h ok = rw (h, ok) refl
 
 -- two readers that step alike read alike
-pub alike : (s s' : Reader) (t : Lexed) (ts : List Lexed) → is_end t.token ≡ false → stepped s t.token ≡ stepped s' t.token → reading s (t ∷ ts) ≡ reading s' (t ∷ ts)
+pub alike : (s s' : Reader) (t : Lexed) (ts : List Lexed) → is_end t.token ≡ false → after_token s t.token ≡ after_token s' t.token → reading s (t ∷ ts) ≡ reading s' (t ∷ ts)
 unfolding reading
 alike s s' t ts h e = rw (h, e) refl
 
 -- what fits a symbol, and the step that it makes
-pub fits_left : (token : text.Token) (s : Reader) → Fits token LeftParen → (is_end token ≡ false) × (stepped s token ≡ opened s)
+pub fits_left : (token : text.Token) (s : Reader) → Fits token LeftParen → (is_end token ≡ false) × (after_token s token ≡ opened s)
 fits_left text.Open s h = (refl, refl)
 fits_left text.Close s h = absurd h
 fits_left (text.Word w) s h = absurd h
@@ -52,7 +51,7 @@ fits_left text.Bad s h = absurd h
 fits_left text.Unclosed s h = absurd h
 fits_left text.End s h = absurd h
 
-pub fits_right : (token : text.Token) (s : Reader) → Fits token RightParen → (is_end token ≡ false) × (stepped s token ≡ closed s)
+pub fits_right : (token : text.Token) (s : Reader) → Fits token RightParen → (is_end token ≡ false) × (after_token s token ≡ closed s)
 fits_right text.Open s h = absurd h
 fits_right text.Close s h = (refl, refl)
 fits_right (text.Word w) s h = absurd h
@@ -61,7 +60,7 @@ fits_right text.Bad s h = absurd h
 fits_right text.Unclosed s h = absurd h
 fits_right text.End s h = absurd h
 
-fits_keyword : (token : text.Token) (k : Keyword) (s s' : Reader) → Fits token (Means k) → ((w : List ℕ) → keyword_of w ≡ Some k → worded s w ≡ Ok s') → (is_end token ≡ false) × (stepped s token ≡ Ok s')
+fits_keyword : (token : text.Token) (k : Keyword) (s s' : Reader) → Fits token (Means k) → ((w : List ℕ) → keyword_of w ≡ Some k → worded s w ≡ Ok s') → (is_end token ≡ false) × (after_token s token ≡ Ok s')
 fits_keyword text.Open k s s' h f = absurd h
 fits_keyword text.Close k s s' h f = absurd h
 fits_keyword (text.Word w) k s s' h f = (refl, f w h)
@@ -70,7 +69,7 @@ fits_keyword text.Bad k s s' h f = absurd h
 fits_keyword text.Unclosed k s s' h f = absurd h
 fits_keyword text.End k s s' h f = absurd h
 
-fits_name : (token : text.Token) (n : List ℕ) (s s' : Reader) → Fits token (Named n) → worded s n ≡ Ok s' → quoted s n ≡ Ok s' → (is_end token ≡ false) × (stepped s token ≡ Ok s')
+fits_name : (token : text.Token) (n : List ℕ) (s s' : Reader) → Fits token (Named n) → worded s n ≡ Ok s' → after_quoted s n ≡ Ok s' → (is_end token ≡ false) × (after_token s token ≡ Ok s')
 fits_name text.Open n s s' h f g = absurd h
 fits_name text.Close n s s' h f g = absurd h
 fits_name (text.Word w) n s s' h f g = (refl, rw h f)
@@ -79,7 +78,7 @@ fits_name text.Bad n s s' h f g = absurd h
 fits_name text.Unclosed n s s' h f g = absurd h
 fits_name text.End n s s' h f g = absurd h
 
-fits_any : (token : text.Token) (s s' : Reader) → Fits token AnyName → ((w : List ℕ) → worded s w ≡ Ok s') → ((w : List ℕ) → quoted s w ≡ Ok s') → (is_end token ≡ false) × (stepped s token ≡ Ok s')
+fits_any : (token : text.Token) (s s' : Reader) → Fits token AnyName → ((w : List ℕ) → worded s w ≡ Ok s') → ((w : List ℕ) → after_quoted s w ≡ Ok s') → (is_end token ≡ false) × (after_token s token ≡ Ok s')
 fits_any text.Open s s' h f g = absurd h
 fits_any text.Close s s' h f g = absurd h
 fits_any (text.Word w) s s' h f g = (refl, f w)
@@ -107,7 +106,7 @@ pub keyword_read : (k : Keyword) (s s' : Reader) (ts : List Lexed) (ss : List Sy
 keyword_read k s s' [] ss h sp = absurd sp
 keyword_read k s s' (t ∷ ts) ss h sp = let f = fits_keyword t.token k s s' sp.0 h in record { rest = ts; spelled = sp.1; same = one _ _ t ts f.0 f.1 }
 
-pub any_read : (s s' : Reader) (ts : List Lexed) (ss : List Symbol) → ((w : List ℕ) → worded s w ≡ Ok s') → ((w : List ℕ) → quoted s w ≡ Ok s') → Spells ts (AnyName ∷ ss) → Reads s s' ts ss
+pub any_read : (s s' : Reader) (ts : List Lexed) (ss : List Symbol) → ((w : List ℕ) → worded s w ≡ Ok s') → ((w : List ℕ) → after_quoted s w ≡ Ok s') → Spells ts (AnyName ∷ ss) → Reads s s' ts ss
 any_read s s' [] ss f g sp = absurd sp
 any_read s s' (t ∷ ts) ss f g sp = let e = fits_any t.token s s' sp.0 f g in record { rest = ts; spelled = sp.1; same = one _ _ t ts e.0 e.1 }
 
@@ -134,9 +133,9 @@ short_named what s n short =
     let b : nat_lt 255 (length n) ≡ false = le-ltb _ _ short.1 in
     rw (a, b) refl
 
-pub name_read : (what : Naming) (n : List ℕ) (d : ℕ) (l : List ℕ) (c : Tables) (s' : Reader) (ts : List Lexed) (ss : List Symbol) → IsShort n → named_at what (reader (at.Name what) d l c) n ≡ Ok s'
+pub name_read : (what : Naming) (n : List ℕ) (d : ℕ) (l : List ℕ) (c : CatalogueValue) (s' : Reader) (ts : List Lexed) (ss : List Symbol) → IsShort n → named_at what (reader (at.Name what) d l c) n ≡ Ok s'
     → Spells ts (Named n ∷ ss) → Reads (reader (at.Name what) d l c) s' ts ss
-unfolding worded quoted
+unfolding worded after_quoted
 name_read what n d l c s' [] ss short h sp = absurd sp
 name_read what n d l c s' (t ∷ ts) ss short h sp =
     let ok : named what (reader (at.Name what) d l c) n ≡ Ok s' = short_named what _ n short ∙ h in
@@ -164,7 +163,7 @@ unfolding closed
 ignored_ends s w d = let e : (d + 1 == d + 1) ≡ true = same_number (d + 1) in rw (e, down d) refl
 
 ignored_read : (i : Ignored) (s : Reader) (w : Within) (base d : ℕ) (ts : List Lexed) (ss : List Symbol) → base ≤ d → ignored_fit d i → Spells ts (ignored_then i ss) → Reads (ignoring s w base d) (ignoring s w base d) ts ss
-unfolding worded quoted
+unfolding worded after_quoted
 ignored_read NoMore s w base d ts ss le fit sp = record { rest = ts; spelled = sp; same = refl }
 ignored_read (AName others) s w base d ts ss le fit sp =
     let a = any_read (ignoring s w base d) (ignoring s w base d) ts _ (λ n. refl) (λ n. refl) sp in

@@ -4,11 +4,10 @@ use Rattle.std.proofs.lemmas.Bool.Decides.{nat_tests}
 use Rattle.hla_fed_file.specs.Lexical as text
 use Rattle.hla_fed_file.specs.Lexical.{Lexed, tokens}
 use Rattle.hla_fed_file.specs.Tokens.{is_end}
-use Rattle.hla_fed_file.specs.Tables.{Tables, nothing}
+use Rattle.hla_fed_file.specs.CatalogueValue.{CatalogueValue, empty_catalogue}
 use Rattle.hla_fed_file.specs.Declaring.{with_object_class, with_interaction_class}
-use Rattle.hla_fed_file.specs.Reading.{reading, stepped, opened, closed, worded, quoted, named_at, begun, goes, Outcome, start, read_of, Step}
-use Rattle.hla_fed_file.specs.Grammar.{LeftParen, RightParen, Means, Named, TheEnd, Fits, Spells, ObjectClasses, NoClass, TopClass, InteractionClasses, NoTop, ATop, Parts, NoPart, ALabel, AnIgnored, Objects, Interactions}
-use Rattle.hla_fed_file.specs.Grammar.{object_classes_then, interaction_classes_then, parts_then, file_of, transport_of, order_of, object_items_declare, interaction_items_declare, object_classes_declare, interaction_classes_declare, parts_declare, IsShort, object_classes_fit, interaction_classes_fit, parts_fit, Describes}
+use Rattle.hla_fed_file.specs.Reading.{reading, after_token, opened, closed, worded, after_quoted, named_at, begun, goes, Outcome, start, read_of, Step}
+use Rattle.hla_fed_file.specs.Grammar.{LeftParen, RightParen, Means, Named, TheEnd, Fits, Spells, ObjectClasses, NoClass, TopClass, InteractionClasses, NoTop, ATop, Parts, NoPart, ALabel, AnIgnored, Objects, Interactions, object_classes_then, interaction_classes_then, parts_then, file_of, transport_of, order_of, object_items_declare, interaction_items_declare, object_classes_declare, interaction_classes_declare, parts_declare, IsShort, object_classes_fit, interaction_classes_fit, parts_fit, Describes}
 use Rattle.hla_fed_file.specs.declared.fault.FedFaultKind.TheVariants as kind
 use Rattle.hla_fed_file.specs.declared.place.Keyword.{Keyword}
 use Rattle.hla_fed_file.specs.declared.place.Keyword.TheVariants as word
@@ -33,20 +32,20 @@ interaction_class_begun : (k : Keyword) (d : ℕ) (place : Place) → begun head
 interaction_class_begun word.Class d place h = (refl, cc)
 interaction_class_begun k d place h = cc
 
-record ObjectClassesRead (c : Tables) (ts : List Lexed) (final : Tables) : Type 0 where
+record ObjectClassesRead (c : CatalogueValue) (ts : List Lexed) (final : CatalogueValue) : Type 0 where
   classes : ObjectClasses
   fit : object_classes_fit classes c
   tail : Tail (λ ss. object_classes_then classes (RightParen ∷ ss)) ts (reader (at.Between lists.Parts) 1 [] (object_classes_declare classes c)) final
 
-classes_close : (c : Tables) → closed (reader (at.Between lists.ObjectClasses) 2 [] c) ≡ Ok (reader (at.Between lists.Parts) 1 [] c)
+classes_close : (c : CatalogueValue) → closed (reader (at.Between lists.ObjectClasses) 2 [] c) ≡ Ok (reader (at.Between lists.Parts) 1 [] c)
 unfolding closed
 classes_close c = refl
 
-top_closes : (n : ℕ) (c : Tables) → closed (reader (at.Between lists.ObjectItems) 3 (n ∷ []) c) ≡ Ok (reader (at.Between lists.ObjectClasses) 2 [] c)
+top_closes : (n : ℕ) (c : CatalogueValue) → closed (reader (at.Between lists.ObjectItems) 3 (n ∷ []) c) ≡ Ok (reader (at.Between lists.ObjectClasses) 2 [] c)
 unfolding closed
 top_closes n c = refl
 
-object_classes_back : (n : ℕ) (c : Tables) (ts : List Lexed) (final : Tables) → length ts ≤ n → reading (reader (at.Between lists.ObjectClasses) 2 [] c) ts ≡ Ok final → ObjectClassesRead c ts final
+object_classes_back : (n : ℕ) (c : CatalogueValue) (ts : List Lexed) (final : CatalogueValue) → length ts ≤ n → reading (reader (at.Between lists.ObjectClasses) 2 [] c) ts ≡ Ok final → ObjectClassesRead c ts final
 object_classes_back n c [] final few h = absurd (none_left (reader (at.Between lists.ObjectClasses) 2 [] c) final refl h)
 object_classes_back zero c (t ∷ ts) final few h = absurd (omega arith)
 object_classes_back (suc n) c (t ∷ []) final few h =
@@ -87,20 +86,20 @@ object_classes_back (suc n) c (t ∷ k ∷ ts) final few h =
           }
     ]
 
-record InteractionClassesRead (c : Tables) (ts : List Lexed) (final : Tables) : Type 0 where
+record InteractionClassesRead (c : CatalogueValue) (ts : List Lexed) (final : CatalogueValue) : Type 0 where
   classes : InteractionClasses
   fit : interaction_classes_fit classes c
   tail : Tail (λ ss. interaction_classes_then classes (RightParen ∷ ss)) ts (reader (at.Between lists.Parts) 1 [] (interaction_classes_declare classes c)) final
 
-interactions_close : (c : Tables) → closed (reader (at.Between lists.InteractionClasses) 2 [] c) ≡ Ok (reader (at.Between lists.Parts) 1 [] c)
+interactions_close : (c : CatalogueValue) → closed (reader (at.Between lists.InteractionClasses) 2 [] c) ≡ Ok (reader (at.Between lists.Parts) 1 [] c)
 unfolding closed
 interactions_close c = refl
 
-top_interaction_closes : (n : ℕ) (c : Tables) → closed (reader (at.Between lists.InteractionItems) 3 (n ∷ []) c) ≡ Ok (reader (at.Between lists.InteractionClasses) 2 [] c)
+top_interaction_closes : (n : ℕ) (c : CatalogueValue) → closed (reader (at.Between lists.InteractionItems) 3 (n ∷ []) c) ≡ Ok (reader (at.Between lists.InteractionClasses) 2 [] c)
 unfolding closed
 top_interaction_closes n c = refl
 
-interaction_classes_back : (n : ℕ) (c : Tables) (ts : List Lexed) (final : Tables) → length ts ≤ n → reading (reader (at.Between lists.InteractionClasses) 2 [] c) ts ≡ Ok final → InteractionClassesRead c ts final
+interaction_classes_back : (n : ℕ) (c : CatalogueValue) (ts : List Lexed) (final : CatalogueValue) → length ts ≤ n → reading (reader (at.Between lists.InteractionClasses) 2 [] c) ts ≡ Ok final → InteractionClassesRead c ts final
 interaction_classes_back n c [] final few h = absurd (none_left (reader (at.Between lists.InteractionClasses) 2 [] c) final refl h)
 interaction_classes_back zero c (t ∷ ts) final few h = absurd (omega arith)
 interaction_classes_back (suc n) c (t ∷ []) final few h =
@@ -142,8 +141,8 @@ interaction_classes_back (suc n) c (t ∷ k ∷ ts) final few h =
     ]
 
 -- Parts and files.
-label_token : (token : text.Token) (c : Tables) (next : Reader) → stepped (reader at.LabelEnd 2 [] c) token ≡ Ok next → Fits token RightParen × (next ≡ reader (at.Between lists.Parts) 1 [] c)
-unfolding opened closed worded quoted
+label_token : (token : text.Token) (c : CatalogueValue) (next : Reader) → after_token (reader at.LabelEnd 2 [] c) token ≡ Ok next → Fits token RightParen × (next ≡ reader (at.Between lists.Parts) 1 [] c)
+unfolding opened closed worded after_quoted
 label_token text.Open c next ok = cc
 label_token text.Close c next ok = (tt, cc)
 label_token (text.Word w) c next ok = cc
@@ -152,15 +151,15 @@ label_token text.Bad c next ok = cc
 label_token text.Unclosed c next ok = cc
 label_token text.End c next ok = cc
 
-record LabelRead (c : Tables) (ts : List Lexed) (final : Tables) : Type 0 where
+record LabelRead (c : CatalogueValue) (ts : List Lexed) (final : CatalogueValue) : Type 0 where
   name : List ℕ
   short : IsShort name
   tail : Tail (λ ss. Named name ∷ RightParen ∷ ss) ts (reader (at.Between lists.Parts) 1 [] c) final
 
-label_named : (n : List ℕ) (c : Tables) (next : Reader) → named_at name.Label (reader (at.Name name.Label) 2 [] c) n ≡ Ok next → next ≡ reader at.LabelEnd 2 [] c
+label_named : (n : List ℕ) (c : CatalogueValue) (next : Reader) → named_at name.Label (reader (at.Name name.Label) 2 [] c) n ≡ Ok next → next ≡ reader at.LabelEnd 2 [] c
 label_named n c next ok = cc
 
-label_back : (c : Tables) (ts : List Lexed) (final : Tables) → reading (reader (at.Name name.Label) 2 [] c) ts ≡ Ok final → LabelRead c ts final
+label_back : (c : CatalogueValue) (ts : List Lexed) (final : CatalogueValue) → reading (reader (at.Name name.Label) 2 [] c) ts ≡ Ok final → LabelRead c ts final
 label_back c [] final h = absurd (none_left (reader (at.Name name.Label) 2 [] c) final refl h)
 label_back c (t ∷ []) final h =
     let b = back (reader (at.Name name.Label) 2 [] c) t [] final refl h in
@@ -188,16 +187,16 @@ part_begun word.Objects d place h = BeginsObjects refl cc
 part_begun word.Interactions d place h = BeginsInteractions refl cc
 part_begun k d place h = cc
 
-record PartsRead (c : Tables) (ts : List Lexed) (final : Tables) : Type 0 where
+record PartsRead (c : CatalogueValue) (ts : List Lexed) (final : CatalogueValue) : Type 0 where
   parts : Parts
   fit : parts_fit parts c
   tail : Tail (λ ss. parts_then parts (RightParen ∷ ss)) ts (reader at.Done 0 [] (parts_declare parts c)) final
 
-file_closes : (c : Tables) → closed (reader (at.Between lists.Parts) 1 [] c) ≡ Ok (reader at.Done 0 [] c)
+file_closes : (c : CatalogueValue) → closed (reader (at.Between lists.Parts) 1 [] c) ≡ Ok (reader at.Done 0 [] c)
 unfolding closed
 file_closes c = refl
 
-parts_back : (n : ℕ) (c : Tables) (ts : List Lexed) (final : Tables) → length ts ≤ n → reading (reader (at.Between lists.Parts) 1 [] c) ts ≡ Ok final → PartsRead c ts final
+parts_back : (n : ℕ) (c : CatalogueValue) (ts : List Lexed) (final : CatalogueValue) → length ts ≤ n → reading (reader (at.Between lists.Parts) 1 [] c) ts ≡ Ok final → PartsRead c ts final
 parts_back n c [] final few h = absurd (none_left (reader (at.Between lists.Parts) 1 [] c) final refl h)
 parts_back zero c (t ∷ ts) final few h = absurd (omega arith)
 parts_back (suc n) c (t ∷ []) final few h =
@@ -267,8 +266,8 @@ parts_back (suc n) c (t ∷ k ∷ ts) final few h =
           ]
     ]
 
-start_token : (token : text.Token) (next : Reader) → stepped start token ≡ Ok next → Fits token LeftParen × (next ≡ reader (at.Head head.File) 1 [] nothing)
-unfolding opened closed worded quoted
+start_token : (token : text.Token) (next : Reader) → after_token start token ≡ Ok next → Fits token LeftParen × (next ≡ reader (at.Head head.File) 1 [] empty_catalogue)
+unfolding opened closed worded after_quoted
 start_token text.Open next ok = (tt, cc)
 start_token text.Close next ok = cc
 start_token (text.Word w) next ok = cc
@@ -281,8 +280,8 @@ file_begun : (k : Keyword) (d : ℕ) (place : Place) → begun head.File d (Some
 file_begun word.Fed d place h = (refl, cc)
 file_begun k d place h = cc
 
-done_token : (token : text.Token) (c : Tables) (next : Reader) → stepped (reader at.Done 0 [] c) token ≡ Ok next → ⊥
-unfolding opened closed worded quoted
+done_token : (token : text.Token) (c : CatalogueValue) (next : Reader) → after_token (reader at.Done 0 [] c) token ≡ Ok next → ⊥
+unfolding opened closed worded after_quoted
 done_token text.Open c next ok = cc
 done_token text.Close c next ok = cc
 done_token (text.Word w) c next ok = cc
@@ -291,23 +290,23 @@ done_token text.Bad c next ok = cc
 done_token text.Unclosed c next ok = cc
 done_token text.End c next ok = cc
 
-done_back : (c : Tables) (ts : List Lexed) (final : Tables) → reading (reader at.Done 0 [] c) ts ≡ Ok final → Spells ts (TheEnd ∷ []) × (c ≡ final)
+done_back : (c : CatalogueValue) (ts : List Lexed) (final : CatalogueValue) → reading (reader at.Done 0 [] c) ts ≡ Ok final → Spells ts (TheEnd ∷ []) × (c ≡ final)
 unfolding reading
 done_back c [] final h = cc
-done_back c (t ∷ ts) final h = at_end t.token t.line (stepped (reader at.Done 0 [] c) t.token) refl h
+done_back c (t ∷ ts) final h = at_end t.token t.line (after_token (reader at.Done 0 [] c) t.token) refl h
   where
-    at_end : (token : text.Token) (line : ℕ) (r : Step) → stepped (reader at.Done 0 [] c) token ≡ r
+    at_end : (token : text.Token) (line : ℕ) (r : Step) → after_token (reader at.Done 0 [] c) token ≡ r
         → cond (is_end token) (Ok c) (goes line r (λ s'. reading s' ts)) ≡ Ok final → Fits token TheEnd × (c ≡ final)
     at_end text.End line r e h = (tt, cc)
     at_end token line (Ok s') e h = absurd (done_token token c s' e)
     at_end token line (Err k) e h = cc
 
-file_back : (ts : List Lexed) (final : Tables) → reading start ts ≡ Ok final → (p : Parts) × Spells ts (file_of p) × parts_fit p nothing × (parts_declare p nothing ≡ final)
+file_back : (ts : List Lexed) (final : CatalogueValue) → reading start ts ≡ Ok final → (p : Parts) × Spells ts (file_of p) × parts_fit p empty_catalogue × (parts_declare p empty_catalogue ≡ final)
 file_back [] final h = absurd (none_left start final refl h)
 file_back (t ∷ []) final h =
     let b = back start t [] final refl h in
     let p = start_token t.token b.next b.step in
-    absurd (none_left (reader (at.Head head.File) 1 [] nothing) final refl (at_next _ _ [] final p.1 b.read))
+    absurd (none_left (reader (at.Head head.File) 1 [] empty_catalogue) final refl (at_next _ _ [] final p.1 b.read))
 file_back (t ∷ k ∷ ts) final h =
     let b = back start t (k ∷ ts) final refl h in
     let p = start_token t.token b.next b.step in
@@ -315,16 +314,16 @@ file_back (t ∷ k ∷ ts) final h =
     let q = head_token k.token head.File 1 start w.next w.step in
     let z = file_begun q.keyword 1 q.place q.begins in
     let fits : Fits k.token (Means word.Fed) = rw z.0 at q.fits in
-    let a = parts_back (length ts) nothing ts final (omega arith) (at_next _ _ ts final (q.then ∙ ap (λ (place : Place). moved start place 1) z.1) w.read) in
-    let e = done_back (parts_declare a.parts nothing) a.tail.rest final a.tail.read in
+    let a = parts_back (length ts) empty_catalogue ts final (omega arith) (at_next _ _ ts final (q.then ∙ ap (λ (place : Place). moved start place 1) z.1) w.read) in
+    let e = done_back (parts_declare a.parts empty_catalogue) a.tail.rest final a.tail.read in
     (a.parts, (p.0, (fits, a.tail.spelled _ e.0)), a.fit, e.1)
 
-short_text : (bytes : List ℕ) (b : Bool) (r : Outcome) (c : Tables) → nat_lt 1048576 (length bytes) ≡ b → cond b (Err (record { line = 1; kind = kind.TooLarge })) r ≡ Ok c → (length bytes ≤ 1048576) × (r ≡ Ok c)
+short_text : (bytes : List ℕ) (b : Bool) (r : Outcome) (c : CatalogueValue) → nat_lt 1048576 (length bytes) ≡ b → cond b (Err (record { line = 1; kind = kind.TooLarge })) r ≡ Ok c → (length bytes ≤ 1048576) × (r ≡ Ok c)
 short_text bytes true r c h ok = cc
 short_text bytes false r c h ok = let few : length bytes ≤ 1048576 = grind (arith, nat_tests) in (few, ok)
 
 -- what is read is what the grammar relates to the text
-pub read_described : (text : List ℕ) (c : Tables) → read_of text ≡ Ok c → Describes text c
+pub read_described : (text : List ℕ) (c : CatalogueValue) → read_of text ≡ Ok c → Describes text c
 unfolding read_of
 read_described text c ok =
     let s = short_text text (nat_lt 1048576 (length text)) (reading start (tokens text)) c refl ok in

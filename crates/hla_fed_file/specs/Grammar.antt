@@ -1,9 +1,10 @@
 -- The grammar of FED files, and what a file declares
 use Rattle.std.specs.Prelude.{◌≡◌, ℕ, ◌+◌, ◌≤◌, ◌<◌, Bool, true, false, List, [], ◌∷◌, length, Option, None, Some}
+use Rattle.hla_base.specs.Limits.{max_fed_file, max_fed_nesting, max_name, max_classes, max_attributes, max_parameters}
 use Rattle.hla_fed_file.specs.Lexical as text
 use Rattle.hla_fed_file.specs.Lexical.{Lexed, tokens}
 use Rattle.hla_fed_file.specs.Keywords.{keyword_of}
-use Rattle.hla_fed_file.specs.Tables.{Tables, nothing}
+use Rattle.hla_fed_file.specs.CatalogueValue.{CatalogueValue, empty_catalogue}
 use Rattle.hla_fed_file.specs.Declaring.{with_object_class, with_interaction_class, with_attribute, with_parameter, has_attribute_named, has_parameter_named}
 use Rattle.hla_fed_file.specs.declared.declared.Order.{Order}
 use Rattle.hla_fed_file.specs.declared.declared.Order.TheVariants as order
@@ -170,29 +171,29 @@ abbrev pub order_of : Options → Order
 order_of (Bare t) = order.Receive
 order_of (Ordered t o space) = o
 
-abbrev pub object_items_declare : List ℕ → ObjectItems → Tables → Tables
+abbrev pub object_items_declare : List ℕ → ObjectItems → CatalogueValue → CatalogueValue
 object_items_declare lineage NoItem c = c
 object_items_declare lineage (AnAttribute name options levels others) c = object_items_declare lineage others (with_attribute lineage name (transport_of options) (order_of options) c)
 object_items_declare lineage (ASecLevel inside others) c = object_items_declare lineage others c
 object_items_declare lineage (AClass name body others) c = object_items_declare lineage others (object_items_declare ((length c.object_classes + 1) ∷ lineage) body (with_object_class lineage name c))
 
-abbrev pub interaction_items_declare : List ℕ → InteractionItems → Tables → Tables
+abbrev pub interaction_items_declare : List ℕ → InteractionItems → CatalogueValue → CatalogueValue
 interaction_items_declare lineage NoEntry c = c
 interaction_items_declare lineage (AParameter name levels others) c = interaction_items_declare lineage others (with_parameter lineage name c)
 interaction_items_declare lineage (ALevelList inside others) c = interaction_items_declare lineage others c
 interaction_items_declare lineage (ASubclass name options body others) c =
     interaction_items_declare lineage others (interaction_items_declare ((length c.interaction_classes + 1) ∷ lineage) body (with_interaction_class lineage name (transport_of options) (order_of options) c))
 
-abbrev pub object_classes_declare : ObjectClasses → Tables → Tables
+abbrev pub object_classes_declare : ObjectClasses → CatalogueValue → CatalogueValue
 object_classes_declare NoClass c = c
 object_classes_declare (TopClass name body others) c = object_classes_declare others (object_items_declare ((length c.object_classes + 1) ∷ []) body (with_object_class [] name c))
 
-abbrev pub interaction_classes_declare : InteractionClasses → Tables → Tables
+abbrev pub interaction_classes_declare : InteractionClasses → CatalogueValue → CatalogueValue
 interaction_classes_declare NoTop c = c
 interaction_classes_declare (ATop name options body others) c =
     interaction_classes_declare others (interaction_items_declare ((length c.interaction_classes + 1) ∷ []) body (with_interaction_class [] name (transport_of options) (order_of options) c))
 
-abbrev pub parts_declare : Parts → Tables → Tables
+abbrev pub parts_declare : Parts → CatalogueValue → CatalogueValue
 parts_declare NoPart c = c
 parts_declare (ALabel name others) c = parts_declare others c
 parts_declare (AnIgnored inside others) c = parts_declare others c
@@ -201,61 +202,61 @@ parts_declare (Interactions classes others) c = parts_declare others (interactio
 
 -- What fits the limits, where so many parentheses are open: names of 1 to 255 bytes, 64 parentheses, 512 classes of each kind, 4,096 attributes and 4,096 parameters. Ignored names may be empty and of any length.
 abbrev pub IsShort : List ℕ → Type 0
-IsShort name = (0 < length name) × (length name ≤ 255)
+IsShort name = (0 < length name) × (length name ≤ max_name)
 
 abbrev pub ignored_fit : ℕ → Ignored → Type 0
 ignored_fit depth NoMore = Unit {0}
 ignored_fit depth (AName others) = ignored_fit depth others
-ignored_fit depth (AList inside others) = (depth < 64) × ignored_fit (depth + 1) inside × ignored_fit depth others
+ignored_fit depth (AList inside others) = (depth < max_fed_nesting) × ignored_fit (depth + 1) inside × ignored_fit depth others
 
 abbrev pub levels_fit : ℕ → SecLevels → Type 0
 levels_fit depth NoLevel = Unit {0}
-levels_fit depth (ALevel inside others) = (depth < 64) × ignored_fit (depth + 1) inside × levels_fit depth others
+levels_fit depth (ALevel inside others) = (depth < max_fed_nesting) × ignored_fit (depth + 1) inside × levels_fit depth others
 
 -- an attribute that is not ignored has room
-abbrev pub AttributeFits : List ℕ → List ℕ → Tables → Type 0
-AttributeFits lineage name c = has_attribute_named c lineage name ≡ false → length c.attributes < 4096
+abbrev pub AttributeFits : List ℕ → List ℕ → CatalogueValue → Type 0
+AttributeFits lineage name c = has_attribute_named c lineage name ≡ false → length c.attributes < max_attributes
 
-abbrev pub ParameterFits : List ℕ → List ℕ → Tables → Type 0
-ParameterFits lineage name c = has_parameter_named c lineage name ≡ false → length c.parameters < 4096
+abbrev pub ParameterFits : List ℕ → List ℕ → CatalogueValue → Type 0
+ParameterFits lineage name c = has_parameter_named c lineage name ≡ false → length c.parameters < max_parameters
 
-abbrev pub object_items_fit : ℕ → List ℕ → ObjectItems → Tables → Type 0
+abbrev pub object_items_fit : ℕ → List ℕ → ObjectItems → CatalogueValue → Type 0
 object_items_fit depth lineage NoItem c = Unit {0}
 object_items_fit depth lineage (AnAttribute name options levels others) c =
-    (depth < 64) × IsShort name × AttributeFits lineage name c × levels_fit (depth + 1) levels × object_items_fit depth lineage others (with_attribute lineage name (transport_of options) (order_of options) c)
-object_items_fit depth lineage (ASecLevel inside others) c = (depth < 64) × ignored_fit (depth + 1) inside × object_items_fit depth lineage others c
+    (depth < max_fed_nesting) × IsShort name × AttributeFits lineage name c × levels_fit (depth + 1) levels × object_items_fit depth lineage others (with_attribute lineage name (transport_of options) (order_of options) c)
+object_items_fit depth lineage (ASecLevel inside others) c = (depth < max_fed_nesting) × ignored_fit (depth + 1) inside × object_items_fit depth lineage others c
 object_items_fit depth lineage (AClass name body others) c =
     let inner = (length c.object_classes + 1) ∷ lineage in
-    (depth < 64) × IsShort name × (length c.object_classes < 512) × object_items_fit (depth + 1) inner body (with_object_class lineage name c)
+    (depth < max_fed_nesting) × IsShort name × (length c.object_classes < max_classes) × object_items_fit (depth + 1) inner body (with_object_class lineage name c)
     × object_items_fit depth lineage others (object_items_declare inner body (with_object_class lineage name c))
 
-abbrev pub interaction_items_fit : ℕ → List ℕ → InteractionItems → Tables → Type 0
+abbrev pub interaction_items_fit : ℕ → List ℕ → InteractionItems → CatalogueValue → Type 0
 interaction_items_fit depth lineage NoEntry c = Unit {0}
 interaction_items_fit depth lineage (AParameter name levels others) c =
-    (depth < 64) × IsShort name × ParameterFits lineage name c × levels_fit (depth + 1) levels × interaction_items_fit depth lineage others (with_parameter lineage name c)
-interaction_items_fit depth lineage (ALevelList inside others) c = (depth < 64) × ignored_fit (depth + 1) inside × interaction_items_fit depth lineage others c
+    (depth < max_fed_nesting) × IsShort name × ParameterFits lineage name c × levels_fit (depth + 1) levels × interaction_items_fit depth lineage others (with_parameter lineage name c)
+interaction_items_fit depth lineage (ALevelList inside others) c = (depth < max_fed_nesting) × ignored_fit (depth + 1) inside × interaction_items_fit depth lineage others c
 interaction_items_fit depth lineage (ASubclass name options body others) c =
     let inner = (length c.interaction_classes + 1) ∷ lineage in
     let opened = with_interaction_class lineage name (transport_of options) (order_of options) c in
-    (depth < 64) × IsShort name × (length c.interaction_classes < 512) × interaction_items_fit (depth + 1) inner body opened
+    (depth < max_fed_nesting) × IsShort name × (length c.interaction_classes < max_classes) × interaction_items_fit (depth + 1) inner body opened
     × interaction_items_fit depth lineage others (interaction_items_declare inner body opened)
 
-abbrev pub object_classes_fit : ObjectClasses → Tables → Type 0
+abbrev pub object_classes_fit : ObjectClasses → CatalogueValue → Type 0
 object_classes_fit NoClass c = Unit {0}
 object_classes_fit (TopClass name body others) c =
     let inner = (length c.object_classes + 1) ∷ [] in
-    IsShort name × (length c.object_classes < 512) × object_items_fit 3 inner body (with_object_class [] name c)
+    IsShort name × (length c.object_classes < max_classes) × object_items_fit 3 inner body (with_object_class [] name c)
     × object_classes_fit others (object_items_declare inner body (with_object_class [] name c))
 
-abbrev pub interaction_classes_fit : InteractionClasses → Tables → Type 0
+abbrev pub interaction_classes_fit : InteractionClasses → CatalogueValue → Type 0
 interaction_classes_fit NoTop c = Unit {0}
 interaction_classes_fit (ATop name options body others) c =
     let inner = (length c.interaction_classes + 1) ∷ [] in
     let opened = with_interaction_class [] name (transport_of options) (order_of options) c in
-    IsShort name × (length c.interaction_classes < 512) × interaction_items_fit 3 inner body opened
+    IsShort name × (length c.interaction_classes < max_classes) × interaction_items_fit 3 inner body opened
     × interaction_classes_fit others (interaction_items_declare inner body opened)
 
-abbrev pub parts_fit : Parts → Tables → Type 0
+abbrev pub parts_fit : Parts → CatalogueValue → Type 0
 parts_fit NoPart c = Unit {0}
 parts_fit (ALabel name others) c = IsShort name × parts_fit others c
 parts_fit (AnIgnored inside others) c = ignored_fit 2 inside × parts_fit others c
@@ -263,9 +264,9 @@ parts_fit (Objects classes others) c = object_classes_fit classes c × parts_fit
 parts_fit (Interactions classes others) c = interaction_classes_fit classes c × parts_fit others (interaction_classes_declare classes c)
 
 -- the text is a file within the limits, and the catalogue is what it declares
-pub record Describes (text : List ℕ) (catalogue : Tables) : Type 0 where
+pub record Describes (text : List ℕ) (catalogue : CatalogueValue) : Type 0 where
   pub parts : Parts
   pub is_file : IsFile text parts
-  pub short : length text ≤ 1048576
-  pub fits : parts_fit parts nothing
-  pub declares : parts_declare parts nothing ≡ catalogue
+  pub short : length text ≤ max_fed_file
+  pub fits : parts_fit parts empty_catalogue
+  pub declares : parts_declare parts empty_catalogue ≡ catalogue

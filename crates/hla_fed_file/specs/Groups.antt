@@ -13,8 +13,8 @@ abbrev pub grouped : List (Vec ℕ Global × List Declared) → Grouped
 grouped [] = []
 grouped (e ∷ es) = (e.0.items, e.1) ∷ grouped es
 
-abbrev pub number_of : Declared → ℕ
-number_of d = d.number
+abbrev pub declared_number : Declared → ℕ
+declared_number d = d.number
 
 -- the declarations of a name
 abbrev pub group_in : Grouped → List ℕ → List Declared

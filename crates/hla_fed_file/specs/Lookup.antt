@@ -9,7 +9,8 @@ use Rattle.hla_fed_file.specs.declared.declared.Attribute.{Attribute}
 use Rattle.hla_fed_file.specs.declared.declared.Parameter.{Parameter}
 use Rattle.hla_fed_file.specs.declared.declared.Order.{Order}
 use Rattle.hla_fed_file.specs.declared.declared.Order.TheVariants.{Receive}
-use Rattle.hla_fed_file.specs.Tables.{Tables}
+use Rattle.hla_base.specs.Tables.{or_else}
+use Rattle.hla_fed_file.specs.CatalogueValue.{CatalogueValue}
 
 -- the item with a number; numbers count from 1
 abbrev pub numbered : {X : Type 0} → List X → ℕ → Option X
@@ -22,71 +23,67 @@ number_at place = option_map (λ k. k + 1) place
 abbrev pub contains_number : ℕ → List ℕ → Bool
 contains_number n ns = list_any (λ k. k == n) ns
 
-abbrev pub is_object_class : Tables → ℕ → Bool
+abbrev pub is_object_class : CatalogueValue → ℕ → Bool
 is_object_class c class = is_some (numbered c.object_classes class)
 
-abbrev pub is_interaction_class : Tables → ℕ → Bool
+abbrev pub is_interaction_class : CatalogueValue → ℕ → Bool
 is_interaction_class c class = is_some (numbered c.interaction_classes class)
 
 -- the class and those around it, innermost first; nothing where no class has the number
-abbrev pub object_lineage : Tables → ℕ → List ℕ
+abbrev pub object_lineage : CatalogueValue → ℕ → List ℕ
 object_lineage c class = option_map_or (λ (k : ObjectClass). k.lineage) (numbered c.object_classes class) []
 
-abbrev pub interaction_lineage : Tables → ℕ → List ℕ
+abbrev pub interaction_lineage : CatalogueValue → ℕ → List ℕ
 interaction_lineage c class = option_map_or (λ (k : InteractionClass). k.lineage) (numbered c.interaction_classes class) []
 
-abbrev pub object_path : Tables → ℕ → List ℕ
+abbrev pub object_path : CatalogueValue → ℕ → List ℕ
 object_path c class = option_map_or (λ (k : ObjectClass). k.path) (numbered c.object_classes class) []
 
-abbrev pub interaction_path : Tables → ℕ → List ℕ
+abbrev pub interaction_path : CatalogueValue → ℕ → List ℕ
 interaction_path c class = option_map_or (λ (k : InteractionClass). k.path) (numbered c.interaction_classes class) []
 
-abbrev pub attribute_name : Tables → ℕ → List ℕ
+abbrev pub attribute_name : CatalogueValue → ℕ → List ℕ
 attribute_name c attribute = option_map_or (λ (a : Attribute). a.name) (numbered c.attributes attribute) []
 
-abbrev pub parameter_name : Tables → ℕ → List ℕ
+abbrev pub parameter_name : CatalogueValue → ℕ → List ℕ
 parameter_name c parameter = option_map_or (λ (p : Parameter). p.name) (numbered c.parameters parameter) []
 
 -- whether a class declares an attribute or inherits it
-abbrev pub has_attribute : Tables → ℕ → ℕ → Bool
+abbrev pub has_attribute : CatalogueValue → ℕ → ℕ → Bool
 has_attribute c class attribute = option_map_or (λ (a : Attribute). contains_number a.class (object_lineage c class)) (numbered c.attributes attribute) false
 
-abbrev pub has_parameter : Tables → ℕ → ℕ → Bool
+abbrev pub has_parameter : CatalogueValue → ℕ → ℕ → Bool
 has_parameter c class parameter = option_map_or (λ (p : Parameter). contains_number p.class (interaction_lineage c class)) (numbered c.parameters parameter) false
 
 -- the order of an attribute's updates, or of a class's interactions
-abbrev pub attribute_order : Tables → ℕ → Order
+abbrev pub attribute_order : CatalogueValue → ℕ → Order
 attribute_order c attribute = option_map_or (λ (a : Attribute). a.order) (numbered c.attributes attribute) Receive
 
-abbrev pub interaction_order : Tables → ℕ → Order
+abbrev pub interaction_order : CatalogueValue → ℕ → Order
 interaction_order c class = option_map_or (λ (k : InteractionClass). k.order) (numbered c.interaction_classes class) Receive
 
 -- the path ends with a dot and the name
 abbrev pub ends_with_name : List ℕ → List ℕ → Bool
 ends_with_name path name = nat_lt (length name) (length path) && bytes_eq (drop (length path - length name - 1) path) (46 ∷ name)
 
-abbrev pub or_else : Option ℕ → Option ℕ → Option ℕ
-or_else None later = later
-or_else (Some n) later = Some n
-
 -- the first class whose path is the name, or else the first whose path ends with a dot and the name
-abbrev pub object_class_named : Tables → List ℕ → Option ℕ
+abbrev pub object_class_named : CatalogueValue → List ℕ → Option ℕ
 object_class_named c name = number_at
     (or_else (position (λ (k : ObjectClass). bytes_eq k.path name) c.object_classes) (position (λ (k : ObjectClass). ends_with_name k.path name) c.object_classes))
 
-abbrev pub interaction_class_named : Tables → List ℕ → Option ℕ
+abbrev pub interaction_class_named : CatalogueValue → List ℕ → Option ℕ
 interaction_class_named c name = number_at
     (or_else (position (λ (k : InteractionClass). bytes_eq k.path name) c.interaction_classes) (position (λ (k : InteractionClass). ends_with_name k.path name) c.interaction_classes))
 
 -- the lowest number of an attribute of that name which the class has
-abbrev pub attribute_named : Tables → ℕ → List ℕ → Option ℕ
+abbrev pub attribute_named : CatalogueValue → ℕ → List ℕ → Option ℕ
 attribute_named c class name = number_at
     (position (λ (a : Attribute). contains_number a.class (object_lineage c class) && bytes_eq a.name name) c.attributes)
 
-abbrev pub parameter_named : Tables → ℕ → List ℕ → Option ℕ
+abbrev pub parameter_named : CatalogueValue → ℕ → List ℕ → Option ℕ
 parameter_named c class name = number_at
     (position (λ (p : Parameter). contains_number p.class (interaction_lineage c class) && bytes_eq p.name name) c.parameters)
 
 -- the order of deletions of the objects of a class: that of the attribute that stands for the right to delete
-abbrev pub deletion_order : Tables → ℕ → Order
+abbrev pub deletion_order : CatalogueValue → ℕ → Order
 deletion_order c class = option_map_or (attribute_order c) (attribute_named c class (codes "privilegeToDelete")) Receive

@@ -8,15 +8,15 @@ abbrev pub Numbered : Type 0
 Numbered = List (List ℕ × ℕ)
 
 -- the entries of a map from bytes, with the bytes alone
-abbrev pub numbered : List (Vec ℕ Global × ℕ) → Numbered
-numbered [] = []
-numbered (e ∷ es) = (e.0.items, e.1) ∷ numbered es
+abbrev pub numbers_of_names : List (Vec ℕ Global × ℕ) → Numbered
+numbers_of_names [] = []
+numbers_of_names (e ∷ es) = (e.0.items, e.1) ∷ numbers_of_names es
 
 -- the number of the first of this name
-abbrev pub number_in : Numbered → List ℕ → Option ℕ
-number_in [] name = None
-number_in (e ∷ es) name = if bytes_eq name e.0 then Some e.1 else number_in es name
+abbrev pub number_named : Numbered → List ℕ → Option ℕ
+number_named [] name = None
+number_named (e ∷ es) name = if bytes_eq name e.0 then Some e.1 else number_named es name
 
 -- a name that has no number takes this one
 abbrev pub with_number : Numbered → List ℕ → ℕ → Numbered
-with_number names name number = if is_some (number_in names name) then names else names ++ (name, number) ∷ []
+with_number names name number = if is_some (number_named names name) then names else names ++ (name, number) ∷ []

@@ -1,11 +1,12 @@
 -- Reading a FED text token by token: the first fault, or what the text declares
 use Rattle.std.specs.Prelude.{◌≡◌, ℕ, ◌+◌, ◌-◌, Bool, true, false, ◌==◌, nat_lt, nat_le, List, [], ◌∷◌, ◌++◌, length, drop, Option, None, Some, Result, Ok, Err, if◌then◌else◌}
 use Rattle.std.specs.Option.{option_map}
+use Rattle.hla_base.specs.Limits.{max_fed_file, max_fed_nesting, max_name, max_classes, max_attributes, max_parameters}
 use Rattle.hla_fed_file.specs.Lexical as text
 use Rattle.hla_fed_file.specs.Lexical.{Lexed, tokens}
 use Rattle.hla_fed_file.specs.Tokens.{is_end}
 use Rattle.hla_fed_file.specs.Keywords.{keyword_of}
-use Rattle.hla_fed_file.specs.Tables.{Tables, nothing}
+use Rattle.hla_fed_file.specs.CatalogueValue.{CatalogueValue, empty_catalogue}
 use Rattle.hla_fed_file.specs.Declaring.{innermost, interaction_class, with_object_class, has_attribute_named, has_parameter_named, with_parameter}
 use Rattle.hla_fed_file.specs.declared.fault.FedFault.{FedFault}
 use Rattle.hla_fed_file.specs.declared.fault.FedFaultKind.{FedFaultKind}
@@ -43,9 +44,9 @@ abbrev pub Moves : Result (Unit {0}) FedFaultKind → Step → Reader → Type 0
 Moves (Ok u) step new = step ≡ Ok new
 Moves (Err k) step new = Fails k step
 
--- one more parenthesis is open, of at most 64
+-- one more parenthesis is open, of at most max_fed_nesting
 abbrev pub deeper : Place → Reader → Step
-deeper place s = if nat_le 64 s.depth then Err kind.TooLarge else Ok (record s { place = place; depth = s.depth + 1 })
+deeper place s = if nat_le max_fed_nesting s.depth then Err kind.TooLarge else Ok (record s { place = place; depth = s.depth + 1 })
 
 -- one less is open
 abbrev pub shallower : Place → Reader → Reader
@@ -136,24 +137,24 @@ closed s = closed_at s.place s
 abbrev pub named_at : Naming → Reader → List ℕ → Step
 named_at name.Label s n = Ok (record s { place = at.LabelEnd })
 named_at name.ObjectClass s n =
-    if nat_le 512 (length s.catalogue.object_classes) then Err kind.TooLarge
+    if nat_le max_classes (length s.catalogue.object_classes) then Err kind.TooLarge
     else Ok (record s { place = at.Between lists.ObjectItems; lineage = (length s.catalogue.object_classes + 1) ∷ s.lineage; catalogue = with_object_class s.lineage n s.catalogue })
 named_at name.Attribute s n =
     if has_attribute_named s.catalogue s.lineage n then Ok (record s { place = at.AttributeOptions stage.Named; attribute = None })
-    else if nat_le 4096 (length s.catalogue.attributes) then Err kind.TooLarge
+    else if nat_le max_attributes (length s.catalogue.attributes) then Err kind.TooLarge
     else Ok (record s { place = at.AttributeOptions stage.Named; attribute = Some (record { class = innermost s.lineage; name = n; transport = transport.Reliable; order = order.Receive }) })
 named_at name.InteractionClass s n =
-    if nat_le 512 (length s.catalogue.interaction_classes) then Err kind.TooLarge
+    if nat_le max_classes (length s.catalogue.interaction_classes) then Err kind.TooLarge
     else Ok (record s { place = at.ClassOptions stage.Named; class = Some (interaction_class s.catalogue s.lineage n transport.Reliable order.Receive) })
 named_at name.Parameter s n =
     if has_parameter_named s.catalogue s.lineage n then Ok (record s { place = at.ParameterEnd })
-    else if nat_le 4096 (length s.catalogue.parameters) then Err kind.TooLarge
+    else if nat_le max_parameters (length s.catalogue.parameters) then Err kind.TooLarge
     else Ok (record s { place = at.ParameterEnd; catalogue = with_parameter s.lineage n s.catalogue })
 
 unfoldable pub named : Naming → Reader → List ℕ → Step
 named what s n =
     if length n == 0 then Err kind.ExpectedName
-    else if nat_lt 255 (length n) then Err kind.TooLarge
+    else if nat_lt max_name (length n) then Err kind.TooLarge
     else named_at what s n
 
 -- Behind a bare word.
@@ -227,18 +228,18 @@ quoted_at at.ParameterEnd s n = Err kind.ExpectedClose
 quoted_at (at.Ignored w d) s n = Ok s
 quoted_at at.Done s n = Err kind.TrailingText
 
-unfoldable pub quoted : Reader → List ℕ → Step
-quoted s n = quoted_at s.place s n
+unfoldable pub after_quoted : Reader → List ℕ → Step
+after_quoted s n = quoted_at s.place s n
 
 -- behind any token; a token that is cut wrongly is a fault at every place
-abbrev pub stepped : Reader → text.Token → Step
-stepped s text.Open = opened s
-stepped s text.Close = closed s
-stepped s (text.Word w) = worded s w
-stepped s (text.Quoted n) = quoted s n
-stepped s text.Bad = Err kind.BadByte
-stepped s text.Unclosed = Err kind.UnexpectedEnd
-stepped s text.End = Err kind.UnexpectedEnd
+abbrev pub after_token : Reader → text.Token → Step
+after_token s text.Open = opened s
+after_token s text.Close = closed s
+after_token s (text.Word w) = worded s w
+after_token s (text.Quoted n) = after_quoted s n
+after_token s text.Bad = Err kind.BadByte
+after_token s text.Unclosed = Err kind.UnexpectedEnd
+after_token s text.End = Err kind.UnexpectedEnd
 
 -- the text may end here
 abbrev pub is_done : Place → Bool
@@ -247,39 +248,39 @@ is_done place = false
 
 -- what reading a text gives: its catalogue, or its first fault
 abbrev pub Outcome : Type 0
-Outcome = Result Tables FedFault
+Outcome = Result CatalogueValue FedFault
 
 -- the next token, and then what follows
 abbrev pub goes : ℕ → Step → (Reader → Outcome) → Outcome
 goes line (Ok s) later = later s
 goes line (Err k) later = Err (record { line = line; kind = k })
 
-abbrev pub ends : ℕ → Reader → Outcome
-ends line s = if is_done s.place then Ok s.catalogue else Err (record { line = line; kind = kind.UnexpectedEnd })
+abbrev pub ending_of : ℕ → Reader → Outcome
+ending_of line s = if is_done s.place then Ok s.catalogue else Err (record { line = line; kind = kind.UnexpectedEnd })
 
 -- what reading gives from here on: each token in turn, up to the first fault or the end
 unfoldable pub reading : Reader → List Lexed → Outcome
 reading s [] = Err (record { line = 0; kind = kind.UnexpectedEnd })
-reading s (t ∷ ts) = if is_end t.token then ends t.line s else goes t.line (stepped s t.token) (λ s'. reading s' ts)
+reading s (t ∷ ts) = if is_end t.token then ending_of t.line s else goes t.line (after_token s t.token) (λ s'. reading s' ts)
 
 -- before the first token
 abbrev pub start : Reader
-start = record { place = at.Start; depth = 0; lineage = []; attribute = None; class = None; catalogue = nothing }
+start = record { place = at.Start; depth = 0; lineage = []; attribute = None; class = None; catalogue = empty_catalogue }
 
 -- what reading a text of at most 1,048,576 bytes gives; a longer one is too large, before all else
 unfoldable pub read_of : List ℕ → Outcome
-read_of text = if nat_lt 1048576 (length text) then Err (record { line = 1; kind = kind.TooLarge }) else reading start (tokens text)
+read_of text = if nat_lt max_fed_file (length text) then Err (record { line = 1; kind = kind.TooLarge }) else reading start (tokens text)
 
 -- an answer is what reading gives, unless memory ran out
-abbrev pub FailsAs : ℕ → FedFaultKind → Outcome → Type 0
-FailsAs line kind.OutOfMemory read = Unit {0}
-FailsAs line k read = read ≡ Err (record { line = line; kind = k })
+abbrev pub IsFirstFault : ℕ → FedFaultKind → Outcome → Type 0
+IsFirstFault line kind.OutOfMemory read = Unit {0}
+IsFirstFault line k read = read ≡ Err (record { line = line; kind = k })
 
-abbrev pub Gives : Result Tables FedFault → Outcome → Type 0
-Gives (Ok c) read = read ≡ Ok c
-Gives (Err e) read = FailsAs e.line e.kind read
+abbrev pub ReadsAs : Result CatalogueValue FedFault → Outcome → Type 0
+ReadsAs (Ok c) read = read ≡ Ok c
+ReadsAs (Err e) read = IsFirstFault e.line e.kind read
 
 -- what is left behind all tokens, or the first fault
 abbrev pub Takes : Result ℕ FedFault → Outcome → Reader → Type 0
-Takes (Ok line) read new = read ≡ ends line new
-Takes (Err e) read new = FailsAs e.line e.kind read
+Takes (Ok line) read new = read ≡ ending_of line new
+Takes (Err e) read new = IsFirstFault e.line e.kind read

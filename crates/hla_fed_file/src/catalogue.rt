@@ -2,6 +2,15 @@
 
 ghost use Rattle.std.specs.Prelude.{◌≡◌, ◌↔◌, ◌+◌, ◌++◌, ◌∷◌, ◌<◌, ◌≤◌, ◌&&◌, [], length, position, IsTrue, IfOk, IfErr, IfSome, OnOk, OnErr};
 ghost use Rattle.std.specs.Str.{bytes_eq};
+ghost use Rattle.std.specs.Ordering.{on, eq_of_both};
+ghost use Rattle.std.specs.Cmp.{partial_equiv_from_equiv};
+ghost use Rattle.std.proofs.lemmas.Cmp.{on_equiv, and_equiv, lists_equiv};
+ghost use Rattle.std.proofs.Common.{rules};
+ghost use Rattle.hla_base.specs.Limits.{max_classes, max_attributes, max_parameters};
+ghost use Rattle.hla_fed_file.specs.contracts.declared.ObjectClassEq.TheImpl.Laws.{laws-law as object_class_laws};
+ghost use Rattle.hla_fed_file.specs.contracts.declared.InteractionClassEq.TheImpl.Laws.{laws-law as interaction_class_laws};
+ghost use Rattle.hla_fed_file.specs.contracts.declared.AttributeEq.TheImpl.Laws.{laws-law as attribute_laws};
+ghost use Rattle.hla_fed_file.specs.contracts.declared.ParameterEq.TheImpl.Laws.{laws-law as parameter_laws};
 ghost use Rattle.hla_fed_file.specs.Lookup.{number_at, contains_number};
 ghost use Rattle.hla_fed_file.specs.declared.declared.ObjectClass.{ObjectClass};
 ghost use Rattle.hla_fed_file.specs.declared.declared.InteractionClass.{InteractionClass};
@@ -12,7 +21,7 @@ use crate::declared::{Attribute, InteractionClass, ObjectClass, Order, Parameter
 use crate::groups::{Declared, Groups, first_number};
 use crate::names::FirstNumbers;
 use hla_base::{AttributeNo, ClassNo, Fault, List, ParameterNo, Plain};
-use std::alloc::Global;
+use std::alloc::{AllocError, Global};
 use std::marker::Model;
 
 /// What a FED file declares. Contracts see its four lists, in the order of the numbers.
@@ -30,9 +39,9 @@ pub struct Catalogue {
 }
 
 impl Model for Catalogue {
-    ghost use Rattle.hla_fed_file.specs.Tables.{Tables};
+    ghost use Rattle.hla_fed_file.specs.CatalogueValue.{CatalogueValue};
 
-    ghost Value = { Tables };
+    ghost Value = { CatalogueValue };
 
     ghost view = { λ c. record { object_classes = c.object_classes; interaction_classes = c.interaction_classes; attributes = c.attributes; parameters = c.parameters } };
 
@@ -58,11 +67,11 @@ impl Drop for Catalogue {
 }
 
 impl Catalogue {
-    ghost use Rattle.hla_fed_file.specs.Tables.{nothing};
+    ghost use Rattle.hla_fed_file.specs.CatalogueValue.{empty_catalogue};
 
     /// A catalogue of nothing; it takes no memory.
     pub(crate) fn new(alloc: Global) -> Catalogue
-        ensures { result ≡ nothing }
+        ensures { result ≡ empty_catalogue }
     {
         Catalogue {
             object_classes: List::new(alloc),
@@ -139,7 +148,7 @@ impl Catalogue {
 
     /// Adds an object class; `OutOfMemory`, and the catalogue as it was, where a growth was refused.
     pub(crate) fn add_object_class(&mut self, class: ObjectClass) -> Result<(), Fault>
-        requires { length self.old.object_classes < 512 }
+        requires { length self.old.object_classes < max_classes }
         ensures ok { OnOk result (self.new ≡ record self.old { object_classes = self.old.object_classes ++ class ∷ [] }) }
         ensures err { IfErr result (λ e. e ≡ Fault.OutOfMemory) }
         ensures unchanged { OnErr result (self.new ≡ self.old) }
@@ -160,7 +169,7 @@ impl Catalogue {
 
     /// Adds an interaction class; `OutOfMemory`, and the catalogue as it was, where a growth was refused.
     pub(crate) fn add_interaction_class(&mut self, class: InteractionClass) -> Result<(), Fault>
-        requires { length self.old.interaction_classes < 512 }
+        requires { length self.old.interaction_classes < max_classes }
         ensures ok { OnOk result (self.new ≡ record self.old { interaction_classes = self.old.interaction_classes ++ class ∷ [] }) }
         ensures err { IfErr result (λ e. e ≡ Fault.OutOfMemory) }
         ensures unchanged { OnErr result (self.new ≡ self.old) }
@@ -181,7 +190,7 @@ impl Catalogue {
 
     /// Adds an attribute; `OutOfMemory`, and the catalogue as it was, where a growth was refused.
     pub(crate) fn add_attribute(&mut self, attribute: Attribute) -> Result<(), Fault>
-        requires { length self.old.attributes < 4096 }
+        requires { length self.old.attributes < max_attributes }
         ensures ok { OnOk result (self.new ≡ record self.old { attributes = self.old.attributes ++ attribute ∷ [] }) }
         ensures err { IfErr result (λ e. e ≡ Fault.OutOfMemory) }
         ensures unchanged { OnErr result (self.new ≡ self.old) }
@@ -203,7 +212,7 @@ impl Catalogue {
 
     /// Adds a parameter; `OutOfMemory`, and the catalogue as it was, where a growth was refused.
     pub(crate) fn add_parameter(&mut self, parameter: Parameter) -> Result<(), Fault>
-        requires { length self.old.parameters < 4096 }
+        requires { length self.old.parameters < max_parameters }
         ensures ok { OnOk result (self.new ≡ record self.old { parameters = self.old.parameters ++ parameter ∷ [] }) }
         ensures err { IfErr result (λ e. e ≡ Fault.OutOfMemory) }
         ensures unchanged { OnErr result (self.new ≡ self.old) }
@@ -225,7 +234,7 @@ impl Catalogue {
 
     /// Adds copies of object classes.
     fn add_object_classes(&mut self, object_classes: &[ObjectClass]) -> Result<(), Fault>
-        requires { length self.old.object_classes + length object_classes.now ≤ 512 }
+        requires { length self.old.object_classes + length object_classes.now ≤ max_classes }
         ensures ok { OnOk result (self.new ≡ record self.old { object_classes = self.old.object_classes ++ object_classes.now }) }
         ensures err { IfErr result (λ e. e ≡ Fault.OutOfMemory) }
     {
@@ -240,7 +249,7 @@ impl Catalogue {
         &mut self,
         interaction_classes: &[InteractionClass],
     ) -> Result<(), Fault>
-        requires { length self.old.interaction_classes + length interaction_classes.now ≤ 512 }
+        requires { length self.old.interaction_classes + length interaction_classes.now ≤ max_classes }
         ensures ok { OnOk result (self.new ≡ record self.old { interaction_classes = self.old.interaction_classes ++ interaction_classes.now }) }
         ensures err { IfErr result (λ e. e ≡ Fault.OutOfMemory) }
     {
@@ -252,7 +261,7 @@ impl Catalogue {
 
     /// Adds copies of attributes.
     fn add_attributes(&mut self, attributes: &[Attribute]) -> Result<(), Fault>
-        requires { length self.old.attributes + length attributes.now ≤ 4096 }
+        requires { length self.old.attributes + length attributes.now ≤ max_attributes }
         ensures ok { OnOk result (self.new ≡ record self.old { attributes = self.old.attributes ++ attributes.now }) }
         ensures err { IfErr result (λ e. e ≡ Fault.OutOfMemory) }
     {
@@ -264,7 +273,7 @@ impl Catalogue {
 
     /// Adds copies of parameters.
     fn add_parameters(&mut self, parameters: &[Parameter]) -> Result<(), Fault>
-        requires { length self.old.parameters + length parameters.now ≤ 4096 }
+        requires { length self.old.parameters + length parameters.now ≤ max_parameters }
         ensures ok { OnOk result (self.new ≡ record self.old { parameters = self.old.parameters ++ parameters.now }) }
         ensures err { IfErr result (λ e. e ≡ Fault.OutOfMemory) }
     {
@@ -273,17 +282,12 @@ impl Catalogue {
         }
         Ok(())
     }
-}
 
-impl Plain for Catalogue {
-    fn is_same(&self, other: &Catalogue) -> bool {
-        self.object_classes.is_same(&other.object_classes)
-            && self.interaction_classes.is_same(&other.interaction_classes)
-            && self.attributes.is_same(&other.attributes)
-            && self.parameters.is_same(&other.parameters)
-    }
-
-    fn copy(&self) -> Result<Catalogue, Fault> {
+    /// An equal catalogue, or `OutOfMemory` where a growth was refused.
+    fn copied(&self) -> Result<Catalogue, Fault>
+        ensures ok { IfOk result (λ c. c ≡ self.now) }
+        ensures err { IfErr result (λ e. e ≡ Fault.OutOfMemory) }
+    {
         let mut copy = Catalogue::new(self.alloc);
         copy.add_object_classes(self.object_classes())?;
         copy.add_interaction_classes(self.interaction_classes())?;
@@ -291,4 +295,43 @@ impl Plain for Catalogue {
         copy.add_parameters(self.parameters())?;
         Ok(copy)
     }
+}
+
+impl PartialEq for Catalogue {
+    ghost eq = { eq_of_both (on (λ t. t.object_classes) ⟦<List<ObjectClass> as PartialEq>⟧.eq) (eq_of_both (on (λ t. t.interaction_classes) ⟦<List<InteractionClass> as PartialEq>⟧.eq) (eq_of_both (on (λ t. t.attributes) ⟦<List<Attribute> as PartialEq>⟧.eq) (on (λ t. t.parameters) ⟦<List<Parameter> as PartialEq>⟧.eq))) };
+
+    ghost laws = { partial_equiv_from_equiv (and_equiv (on_equiv (λ t. t.object_classes) (lists_equiv object_class_laws)) (and_equiv (on_equiv (λ t. t.interaction_classes) (lists_equiv interaction_class_laws)) (and_equiv (on_equiv (λ t. t.attributes) (lists_equiv attribute_laws)) (on_equiv (λ t. t.parameters) (lists_equiv parameter_laws))))) };
+
+    fn eq(&self, other: &Catalogue) -> bool {
+        self.object_classes == other.object_classes
+            && self.interaction_classes == other.interaction_classes
+            && self.attributes == other.attributes
+            && self.parameters == other.parameters
+    }
+}
+
+impl Eq for Catalogue {
+    ghost laws = { and_equiv (on_equiv (λ t. t.object_classes) (lists_equiv object_class_laws)) (and_equiv (on_equiv (λ t. t.interaction_classes) (lists_equiv interaction_class_laws)) (and_equiv (on_equiv (λ t. t.attributes) (lists_equiv attribute_laws)) (on_equiv (λ t. t.parameters) (lists_equiv parameter_laws)))) };
+}
+
+impl Clone for Catalogue {
+    ghost is_clone = { λ c d. d ≡ c };
+
+    fn clone(&self) -> Result<Catalogue, AllocError> {
+        match self.copied() {
+            Ok(copy) => Ok(copy),
+            Err(_) => Err(AllocError),
+        }
+    }
+}
+
+impl Plain for Catalogue {
+    ghost use Rattle.hla_fed_file.specs.contracts.declared.ObjectClassPlain.TheImpl.Laws.{lists-law as same_object_classes};
+    ghost use Rattle.hla_fed_file.specs.contracts.declared.InteractionClassPlain.TheImpl.Laws.{lists-law as same_interaction_classes};
+    ghost use Rattle.hla_fed_file.specs.contracts.declared.AttributePlain.TheImpl.Laws.{lists-law as same_attributes};
+    ghost use Rattle.hla_fed_file.specs.contracts.declared.ParameterPlain.TheImpl.Laws.{lists-law as same_parameters};
+
+    ghost exact = { Prim.search (rules, same_object_classes, same_interaction_classes, same_attributes, same_parameters) };
+
+    ghost cloned = { Prim.search rules };
 }

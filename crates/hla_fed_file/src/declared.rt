@@ -1,8 +1,8 @@
 //! What a FED file declares.
 
-ghost use Rattle.std.specs.Prelude.{◌≡◌};
+ghost use Rattle.std.proofs.Common.{rules};
 
-use hla_base::{ClassNo, Fault, List, Plain};
+use hla_base::{ClassNo, List, Plain};
 
 /// In which order messages of an attribute or an interaction class are given to their receivers.
 #[derive(Clone, Copy, Debug, PartialEq, Eq)]
@@ -19,7 +19,7 @@ pub enum Transport {
 }
 
 /// An object class. Its number is its place in the catalogue, counted from 1.
-#[derive(Debug, Drop)]
+#[derive(Clone, PartialEq, Eq, Debug, Drop)]
 pub struct ObjectClass {
     /// The names from its top class on, joined by dots.
     pub path: List<u8>,
@@ -28,7 +28,7 @@ pub struct ObjectClass {
 }
 
 /// An interaction class. Its number is its place in the catalogue, counted from 1.
-#[derive(Debug, Drop)]
+#[derive(Clone, PartialEq, Eq, Debug, Drop)]
 pub struct InteractionClass {
     /// The names from its top class on, joined by dots.
     pub path: List<u8>,
@@ -39,7 +39,7 @@ pub struct InteractionClass {
 }
 
 /// An attribute. Its number is its place in the catalogue, counted from 1.
-#[derive(Debug, Drop)]
+#[derive(Clone, PartialEq, Eq, Debug, Drop)]
 pub struct Attribute {
     /// The object class that declares it.
     pub class: ClassNo,
@@ -49,7 +49,7 @@ pub struct Attribute {
 }
 
 /// A parameter. Its number is its place in the catalogue, counted from 1.
-#[derive(Debug, Drop)]
+#[derive(Clone, PartialEq, Eq, Debug, Drop)]
 pub struct Parameter {
     /// The interaction class that declares it.
     pub class: ClassNo,
@@ -57,63 +57,25 @@ pub struct Parameter {
 }
 
 impl Plain for ObjectClass {
-    fn is_same(&self, other: &ObjectClass) -> bool {
-        self.path.is_same(&other.path) && self.lineage.is_same(&other.lineage)
-    }
+    ghost exact = { Prim.search rules };
 
-    fn copy(&self) -> Result<ObjectClass, Fault> {
-        Ok(ObjectClass {
-            path: self.path.copy()?,
-            lineage: self.lineage.copy()?,
-        })
-    }
+    ghost cloned = { Prim.search rules };
 }
 
 impl Plain for InteractionClass {
-    fn is_same(&self, other: &InteractionClass) -> bool {
-        self.path.is_same(&other.path)
-            && self.lineage.is_same(&other.lineage)
-            && self.transport == other.transport
-            && self.order == other.order
-    }
+    ghost exact = { Prim.search rules };
 
-    fn copy(&self) -> Result<InteractionClass, Fault> {
-        Ok(InteractionClass {
-            path: self.path.copy()?,
-            lineage: self.lineage.copy()?,
-            transport: self.transport,
-            order: self.order,
-        })
-    }
+    ghost cloned = { Prim.search rules };
 }
 
 impl Plain for Attribute {
-    fn is_same(&self, other: &Attribute) -> bool {
-        self.class == other.class
-            && self.name.is_same(&other.name)
-            && self.transport == other.transport
-            && self.order == other.order
-    }
+    ghost exact = { Prim.search rules };
 
-    fn copy(&self) -> Result<Attribute, Fault> {
-        Ok(Attribute {
-            class: self.class,
-            name: self.name.copy()?,
-            transport: self.transport,
-            order: self.order,
-        })
-    }
+    ghost cloned = { Prim.search rules };
 }
 
 impl Plain for Parameter {
-    fn is_same(&self, other: &Parameter) -> bool {
-        self.class == other.class && self.name.is_same(&other.name)
-    }
+    ghost exact = { Prim.search rules };
 
-    fn copy(&self) -> Result<Parameter, Fault> {
-        Ok(Parameter {
-            class: self.class,
-            name: self.name.copy()?,
-        })
-    }
+    ghost cloned = { Prim.search rules };
 }

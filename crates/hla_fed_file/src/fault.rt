@@ -1,7 +1,7 @@
 //! Faults of FED files.
 
 ghost use Rattle.std.specs.Prelude.{◌≡◌};
-ghost use Rattle.hla_fed_file.specs.Fault.{name_of};
+ghost use Rattle.hla_fed_file.specs.Fault.{kind_name_of};
 
 use thiserror::Error;
 
@@ -40,7 +40,7 @@ pub enum FedFaultKind {
 impl FedFaultKind {
     /// The name, as it is printed.
     pub fn name(self) -> &'static str
-        ensures { result.now ≡ name_of self }
+        ensures { result.now ≡ kind_name_of self }
     {
         match self {
             FedFaultKind::UnexpectedEnd => "UnexpectedEnd",

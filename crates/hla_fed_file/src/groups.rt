@@ -4,7 +4,7 @@ ghost use Rattle.std.specs.Prelude.{◌≡◌, OnOk, OnErr, IfErr, IfOk, ℕ, Li
 ghost use Rattle.std.specs.Option.{option_map};
 ghost use Rattle.std.specs.Str.{bytes_eq};
 ghost use Rattle.hla_fed_file.specs.Lookup.{contains_number};
-ghost use Rattle.hla_fed_file.specs.Groups.{number_of};
+ghost use Rattle.hla_fed_file.specs.Groups.{declared_number};
 
 use hla_base::{ClassNo, Fault, List};
 use indexmap::IndexMap;
@@ -27,7 +27,7 @@ fn first_among(group: &[Declared], classes: &[ClassNo]) -> Option<Declared>
 
 /// The number of the first of the declarations in some classes.
 pub(crate) fn first_number(group: &[Declared], classes: &[ClassNo]) -> Option<u32>
-    ensures { result ≡ option_map number_of (find (λ (d : Declared). contains_number d.class classes.now) group.now) }
+    ensures { result ≡ option_map declared_number (find (λ (d : Declared). contains_number d.class classes.now) group.now) }
 {
     match first_among(group, classes) {
         Some(declared) => Some(declared.number),

@@ -26,15 +26,15 @@ pub(crate) struct FirstNumbers {
 }
 
 impl Model for FirstNumbers {
-    ghost use Rattle.hla_fed_file.specs.Names.{Numbered, numbered};
+    ghost use Rattle.hla_fed_file.specs.Names.{Numbered, numbers_of_names};
 
     ghost Value = { Numbered };
 
-    ghost view = { λ n. numbered n.numbers.entries };
+    ghost view = { λ n. numbers_of_names n.numbers.entries };
 }
 
 impl FirstNumbers {
-    ghost use Rattle.hla_fed_file.specs.Names.{number_in, with_number};
+    ghost use Rattle.hla_fed_file.specs.Names.{number_named, with_number};
 
     pub(crate) fn new(alloc: Global) -> FirstNumbers
         ensures { result ≡ [] }
@@ -46,7 +46,7 @@ impl FirstNumbers {
 
     /// The first number of a name.
     pub(crate) fn get(&self, name: &[u8]) -> Option<u32>
-        ensures { result ≡ number_in self.now name.now }
+        ensures { result ≡ number_named self.now name.now }
     {
         self.numbers.get(name).copied()
     }
@@ -65,7 +65,7 @@ impl FirstNumbers {
 
     /// Adds a name that has no number.
     fn add(&mut self, name: Vec<u8>, number: u32) -> Result<(), Fault>
-        requires { number_in self.old name.items ≡ None }
+        requires { number_named self.old name.items ≡ None }
         ensures ok { OnOk result (self.new ≡ self.old ++ (name.items, number) ∷ []) }
         ensures err { IfErr result (λ e. e ≡ Fault.OutOfMemory) }
         ensures unchanged { OnErr result (self.new ≡ self.old) }

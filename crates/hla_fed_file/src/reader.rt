@@ -1,7 +1,7 @@
 //! One step of reading for each token.
 
 ghost use Rattle.std.specs.Prelude.{◌≡◌, ◌∷◌, ◌+◌, Ok, Err, IfOk, IfErr, drop, length};
-ghost use Rattle.hla_fed_file.specs.Reading.{Moves, deeper, shallower, attribute_declared, class_declared, head_in, opened, class_left, list_closed, place_behind, closed, named_at, named, begun, goes_to, attribute_option, class_option, worded, quoted, stepped, start, ends};
+ghost use Rattle.hla_fed_file.specs.Reading.{Moves, deeper, shallower, attribute_declared, class_declared, head_in, opened, class_left, list_closed, place_behind, closed, named_at, named, begun, goes_to, attribute_option, class_option, worded, after_quoted, after_token, start, ending_of};
 ghost use Rattle.hla_fed_file.specs.Declaring.{innermost, joined};
 ghost use Rattle.hla_fed_file.specs.Keywords.{keyword_of};
 ghost use Rattle.hla_fed_file.specs.Tokens.{view};
@@ -11,7 +11,10 @@ use crate::declared::{Attribute, InteractionClass, ObjectClass, Order, Parameter
 use crate::fault::{FedFault, FedFaultKind};
 use crate::lexer::Token;
 use crate::place::{Head, Keyword, Lists, Naming, Place, Stage, Within, meaning};
-use hla_base::{ClassNo, Fault, List, Plain};
+use hla_base::{
+    ClassNo, Fault, List, MAX_ATTRIBUTES, MAX_CLASSES, MAX_FED_NESTING, MAX_NAME, MAX_PARAMETERS,
+    Plain,
+};
 use std::alloc::Global;
 
 /// What was read so far.
@@ -162,7 +165,7 @@ impl Reader {
     fn deepen(&mut self, place: Place) -> Result<(), FedFaultKind>
         ensures { Moves result (deeper place self.old) self.new }
     {
-        if self.depth >= 64 {
+        if self.depth >= MAX_FED_NESTING {
             return Err(FedFaultKind::TooLarge);
         }
         self.place = place;
@@ -184,7 +187,7 @@ impl Reader {
     {
         if let Some(attribute) = self.attribute.take() {
             // Its name was refused where there was no room.
-            let full = self.catalogue.attributes().len() >= 4096;
+            let full = self.catalogue.attributes().len() >= MAX_ATTRIBUTES;
             if full || self.catalogue.add_attribute(attribute).is_err() {
                 return Err(FedFaultKind::OutOfMemory);
             }
@@ -201,7 +204,7 @@ impl Reader {
                 return Err(FedFaultKind::OutOfMemory);
             };
             // Its name was refused where there was no room.
-            let full = self.catalogue.interaction_classes().len() >= 512;
+            let full = self.catalogue.interaction_classes().len() >= MAX_CLASSES;
             if full || self.catalogue.add_interaction_class(class).is_err() {
                 return Err(FedFaultKind::OutOfMemory);
             }
@@ -296,7 +299,7 @@ impl Reader {
         ensures { Moves result (named_at Naming.ObjectClass self.old name.now) self.new }
     {
         let count = self.catalogue.object_classes().len();
-        if count >= 512 {
+        if count >= MAX_CLASSES {
             return Err(FedFaultKind::TooLarge);
         }
         let outer = innermost(self.lineage.as_slice());
@@ -322,7 +325,7 @@ impl Reader {
         ensures { Moves result (named_at Naming.InteractionClass self.old name.now) self.new }
     {
         let count = self.catalogue.interaction_classes().len();
-        if count >= 512 {
+        if count >= MAX_CLASSES {
             return Err(FedFaultKind::TooLarge);
         }
         let outer = innermost(self.lineage.as_slice());
@@ -349,7 +352,7 @@ impl Reader {
         {
             self.attribute = None;
         } else {
-            if self.catalogue.attributes().len() >= 4096 {
+            if self.catalogue.attributes().len() >= MAX_ATTRIBUTES {
                 return Err(FedFaultKind::TooLarge);
             }
             let class = innermost(self.lineage.as_slice());
@@ -376,7 +379,7 @@ impl Reader {
             .parameter_among(self.lineage.as_slice(), name)
             .is_none()
         {
-            if self.catalogue.parameters().len() >= 4096 {
+            if self.catalogue.parameters().len() >= MAX_PARAMETERS {
                 return Err(FedFaultKind::TooLarge);
             }
             let class = innermost(self.lineage.as_slice());
@@ -404,7 +407,7 @@ impl Reader {
         if name.is_empty() {
             return Err(FedFaultKind::ExpectedName);
         }
-        if name.len() > 255 {
+        if name.len() > MAX_NAME {
             return Err(FedFaultKind::TooLarge);
         }
         match naming {
@@ -505,9 +508,9 @@ impl Reader {
     }
 
     /// Takes a quoted name.
-    #[tactic(auto, unfolding(crate::specs::Reading::quoted))]
+    #[tactic(auto, unfolding(crate::specs::Reading::after_quoted))]
     fn quoted(&mut self, alloc: Global, name: &[u8]) -> Result<(), FedFaultKind>
-        ensures { Moves result (quoted self.old name.now) self.new }
+        ensures { Moves result (after_quoted self.old name.now) self.new }
     {
         match self.place {
             Place::Ignored(_, _) => Ok(()),
@@ -531,7 +534,7 @@ impl Reader {
 
     /// Takes the next token.
     pub fn take(&mut self, alloc: Global, token: Token<'_>) -> Result<(), FedFaultKind>
-        ensures { Moves result (stepped self.old (view token.entry)) self.new }
+        ensures { Moves result (after_token self.old (view token.entry)) self.new }
     {
         match token {
             Token::Open => self.open(),
@@ -545,7 +548,7 @@ impl Reader {
 
     /// Ends where the text ends, on a line.
     pub fn finish(self, line: usize) -> Result<Catalogue, FedFault>
-        ensures { result ≡ ends line self }
+        ensures { result ≡ ending_of line self }
     {
         if matches!(self.place, Place::Done) {
             Ok(self.catalogue)

@@ -1,21 +1,23 @@
 //! Reading a FED file.
 
 ghost use Rattle.std.specs.Prelude.{◌≤◌, length, Ok, IfOk};
-ghost use Rattle.hla_fed_file.specs.Reading.{reading, read_of, Gives, Takes};
+ghost use Rattle.hla_base.specs.Limits.{max_fed_file};
+ghost use Rattle.hla_fed_file.specs.Reading.{reading, read_of, ReadsAs, Takes};
 ghost use Rattle.hla_fed_file.specs.Lexical.{tokens};
 ghost use Rattle.hla_fed_file.specs.Grammar.{Describes};
-ghost use Rattle.hla_fed_file.specs.Tables.{Tables};
+ghost use Rattle.hla_fed_file.specs.CatalogueValue.{CatalogueValue};
 
 use crate::catalogue::Catalogue;
 use crate::fault::{FedFault, FedFaultKind};
 use crate::lexer::next;
 use crate::reader::Reader;
+use hla_base::MAX_FED_FILE;
 use std::alloc::Global;
 
 /// Takes all tokens of a text, and gives the line of its end.
 #[tactic(auto, using(crate::proofs::ReadingLemmas::steps))]
 fn take_all(reader: &mut Reader, alloc: Global, text: &[u8]) -> Result<usize, FedFault>
-    requires { length text.now ≤ 1048576 }
+    requires { length text.now ≤ max_fed_file }
     ensures { Takes result (reading reader.old (tokens text.now)) reader.new }
 {
     let mut rest = text;
@@ -35,9 +37,9 @@ fn take_all(reader: &mut Reader, alloc: Global, text: &[u8]) -> Result<usize, Fe
 
 /// Reads a text token by token.
 fn read_tokens(alloc: Global, text: &[u8]) -> Result<Catalogue, FedFault>
-    ensures { Gives result (read_of text.now) }
+    ensures { ReadsAs result (read_of text.now) }
 {
-    if text.len() > 1_048_576 {
+    if text.len() > MAX_FED_FILE {
         return Err(FedFault {
             line: 1,
             kind: FedFaultKind::TooLarge,
@@ -57,13 +59,13 @@ fn read_tokens(alloc: Global, text: &[u8]) -> Result<Catalogue, FedFault>
 #[tactic(auto, using(crate::proofs::Sound::sound))]
 pub fn read(alloc: Global, text: &[u8]) -> Result<Catalogue, FedFault>
     // The catalogue, or the first fault: tokens are tested in their order.
-    ensures exact { Gives result (read_of text.now) }
+    ensures exact { ReadsAs result (read_of text.now) }
 
     // What is read is a file of the grammar within the limits, and declares the catalogue.
     ensures found { IfOk result (Describes text.now) }
 
     // What the grammar relates to a catalogue is read as that one, unless memory runs out.
-    ensures only { (c : Tables) → Describes text.now c → Gives result (Ok c) }
+    ensures only { (c : CatalogueValue) → Describes text.now c → ReadsAs result (Ok c) }
 {
     read_tokens(alloc, text)
 }

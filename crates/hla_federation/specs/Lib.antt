@@ -1,21 +1,4 @@
-pub mod Messages
-pub mod Federation
-pub mod Next
-pub mod CentralOf
-pub mod Invariant
-pub mod Headline
-pub mod Items
-pub mod Wiring
-pub mod MemberValue
-pub mod Lanes
-pub mod Members
-pub mod Picking
-pub mod FederationValue
-pub mod State
-pub mod Soundness
-pub mod Sending
-pub mod Discovering
-pub mod Examples
-pub mod ExamplesOfObjects
-pub mod ExamplesOfTime
-pub mod ExamplesOfRoles
+-- What contracts see of the parts, and the tables that they stand for
+pub mod Tables
+-- How a step may end, and what it puts on wires
+pub mod Steps

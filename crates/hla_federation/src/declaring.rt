@@ -1,9 +1,9 @@
 //! Declaration management, but for subscribing an object class, which may make objects known.
 
-ghost use Rattle.std.specs.Prelude.{◌≡◌, OnErr};
 ghost use Rattle.hla_machine.specs.declared.service.Service.TheVariants as service;
 ghost use Rattle.hla_machine.specs.declared.step.Step.TheVariants as step;
-ghost use Rattle.hla_federation.specs.State.{IsWhole, Does, Refuses};
+ghost use Rattle.hla_federation.specs.Steps.Soundness.{MayCall};
+ghost use Rattle.hla_federation.specs.Steps.State.{IsWhole, Ends};
 
 use crate::parts::Parts;
 use hla_base::{AttributeNo, ClassNo, Fault, FederateNo, List, Plain};
@@ -17,13 +17,12 @@ impl Parts {
         class: ClassNo,
         attributes: &List<AttributeNo>,
     ) -> Result<Answer, Fault>
-        requires { IsWhole self.old }
+        requires { MayCall self.old federate }
         ensures whole { IsWhole self.new }
-        ensures done { Does self.old (step.Call federate (service.PublishObjectClass class attributes.now)) result self.new }
-        ensures refused { Refuses self.old (step.Call federate (service.PublishObjectClass class attributes.now)) result }
-        ensures unchanged { OnErr result (self.new ≡ self.old) }
+        ensures done { Ends self.old (step.Call federate (service.PublishObjectClass class attributes.now))
+            result self.new }
     {
-        if let Some(fault) = self.attributes_fault(federate, class, attributes.as_slice()) {
+        if let Some(fault) = self.attributes_fault(class, attributes.as_slice()) {
             return Err(fault);
         }
         let attributes = attributes.copy()?;
@@ -38,11 +37,10 @@ impl Parts {
         federate: FederateNo,
         class: ClassNo,
     ) -> Result<Answer, Fault>
-        requires { IsWhole self.old }
+        requires { MayCall self.old federate }
         ensures whole { IsWhole self.new }
-        ensures done { Does self.old (step.Call federate (service.UnpublishObjectClass class)) result self.new }
-        ensures refused { Refuses self.old (step.Call federate (service.UnpublishObjectClass class)) result }
-        ensures unchanged { OnErr result (self.new ≡ self.old) }
+        ensures done { Ends self.old (step.Call federate (service.UnpublishObjectClass class))
+            result self.new }
     {
         if let Some(fault) = self.unpublish_object_fault(federate, class) {
             return Err(fault);
@@ -57,11 +55,10 @@ impl Parts {
         federate: FederateNo,
         class: ClassNo,
     ) -> Result<Answer, Fault>
-        requires { IsWhole self.old }
+        requires { MayCall self.old federate }
         ensures whole { IsWhole self.new }
-        ensures done { Does self.old (step.Call federate (service.UnsubscribeObjectClass class)) result self.new }
-        ensures refused { Refuses self.old (step.Call federate (service.UnsubscribeObjectClass class)) result }
-        ensures unchanged { OnErr result (self.new ≡ self.old) }
+        ensures done { Ends self.old (step.Call federate (service.UnsubscribeObjectClass class))
+            result self.new }
     {
         if let Some(fault) = self.unsubscribe_object_fault(federate, class) {
             return Err(fault);
@@ -76,13 +73,12 @@ impl Parts {
         federate: FederateNo,
         class: ClassNo,
     ) -> Result<Answer, Fault>
-        requires { IsWhole self.old }
+        requires { MayCall self.old federate }
         ensures whole { IsWhole self.new }
-        ensures done { Does self.old (step.Call federate (service.PublishInteractionClass class)) result self.new }
-        ensures refused { Refuses self.old (step.Call federate (service.PublishInteractionClass class)) result }
-        ensures unchanged { OnErr result (self.new ≡ self.old) }
+        ensures done { Ends self.old (step.Call federate (service.PublishInteractionClass class))
+            result self.new }
     {
-        if let Some(fault) = self.interaction_fault(federate, class) {
+        if let Some(fault) = self.interaction_class_fault(class) {
             return Err(fault);
         }
         self.declarations.publish_interaction_class(federate, class);
@@ -95,11 +91,10 @@ impl Parts {
         federate: FederateNo,
         class: ClassNo,
     ) -> Result<Answer, Fault>
-        requires { IsWhole self.old }
+        requires { MayCall self.old federate }
         ensures whole { IsWhole self.new }
-        ensures done { Does self.old (step.Call federate (service.UnpublishInteractionClass class)) result self.new }
-        ensures refused { Refuses self.old (step.Call federate (service.UnpublishInteractionClass class)) result }
-        ensures unchanged { OnErr result (self.new ≡ self.old) }
+        ensures done { Ends self.old (step.Call federate (service.UnpublishInteractionClass class))
+            result self.new }
     {
         if let Some(fault) = self.unpublish_interaction_fault(federate, class) {
             return Err(fault);
@@ -115,13 +110,12 @@ impl Parts {
         federate: FederateNo,
         class: ClassNo,
     ) -> Result<Answer, Fault>
-        requires { IsWhole self.old }
+        requires { MayCall self.old federate }
         ensures whole { IsWhole self.new }
-        ensures done { Does self.old (step.Call federate (service.SubscribeInteractionClass class)) result self.new }
-        ensures refused { Refuses self.old (step.Call federate (service.SubscribeInteractionClass class)) result }
-        ensures unchanged { OnErr result (self.new ≡ self.old) }
+        ensures done { Ends self.old (step.Call federate (service.SubscribeInteractionClass class))
+            result self.new }
     {
-        if let Some(fault) = self.interaction_fault(federate, class) {
+        if let Some(fault) = self.interaction_class_fault(class) {
             return Err(fault);
         }
         self.declarations
@@ -135,11 +129,10 @@ impl Parts {
         federate: FederateNo,
         class: ClassNo,
     ) -> Result<Answer, Fault>
-        requires { IsWhole self.old }
+        requires { MayCall self.old federate }
         ensures whole { IsWhole self.new }
-        ensures done { Does self.old (step.Call federate (service.UnsubscribeInteractionClass class)) result self.new }
-        ensures refused { Refuses self.old (step.Call federate (service.UnsubscribeInteractionClass class)) result }
-        ensures unchanged { OnErr result (self.new ≡ self.old) }
+        ensures done { Ends self.old (step.Call federate (service.UnsubscribeInteractionClass class))
+            result self.new }
     {
         if let Some(fault) = self.unsubscribe_interaction_fault(federate, class) {
             return Err(fault);

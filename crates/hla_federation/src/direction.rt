@@ -1,7 +1,7 @@
 //! Which wires messages go along.
 
 ghost use Rattle.std.specs.Prelude.{◌≡◌};
-ghost use Rattle.hla_federation.specs.Wiring.{source, target};
+ghost use Rattle.hla_federation.specs.Tables.Wiring.{source, target};
 
 use hla_base::FederateNo;
 

@@ -1,23 +1,33 @@
 //! Each step, by its kind and service.
 
-ghost use Rattle.std.specs.Prelude.{◌≡◌, OnErr};
 ghost use Rattle.hla_machine.specs.declared.step.Step.TheVariants as step;
-ghost use Rattle.hla_federation.specs.Soundness.{IsSound};
-ghost use Rattle.hla_federation.specs.State.{IsWhole, IsBuilt, IsBuiltService, IsLookUp, Does, Refuses};
+ghost use Rattle.hla_federation.specs.Steps.Soundness.{IsSound, MayCall};
+ghost use Rattle.hla_federation.specs.Steps.State.{IsWhole, IsBuilt, IsBuiltService, IsLookUp, Ends, Answers};
 
 use crate::parts::Parts;
 use hla_base::{Fault, FederateNo};
 use hla_machine::{Answer, Service, Step};
 
 impl Parts {
-    /// A service that a federate calls.
+    /// A service that a federate calls, if it is joined.
     fn call(&mut self, federate: FederateNo, service: &Service) -> Result<Answer, Fault>
         requires sound { IsSound self.old }
         requires built { IsBuiltService service.now }
         ensures whole { IsWhole self.new }
-        ensures done { Does self.old (step.Call federate service.now) result self.new }
-        ensures refused { Refuses self.old (step.Call federate service.now) result }
-        ensures unchanged { OnErr result (self.new ≡ self.old) }
+        ensures done { Ends self.old (step.Call federate service.now) result self.new }
+    {
+        if let Some(fault) = self.caller_fault(federate) {
+            return Err(fault);
+        }
+        self.serve(federate, service)
+    }
+
+    /// A service for a federate that is joined.
+    fn serve(&mut self, federate: FederateNo, service: &Service) -> Result<Answer, Fault>
+        requires may { MayCall self.old federate }
+        requires built { IsBuiltService service.now }
+        ensures whole { IsWhole self.new }
+        ensures done { Ends self.old (step.Call federate service.now) result self.new }
     {
         match service {
             Service::Resign { action } => self.resign(federate, *action),
@@ -68,9 +78,9 @@ impl Parts {
 
     /// A support service that a federate calls.
     fn look_up(&self, federate: FederateNo, service: &Service) -> Result<Answer, Fault>
-        requires { IsLookUp service.now }
-        ensures done { Does self.now (step.Call federate service.now) result self.now }
-        ensures refused { Refuses self.now (step.Call federate service.now) result }
+        requires may { MayCall self.now federate }
+        requires look_up { IsLookUp service.now }
+        ensures { Answers self.now (step.Call federate service.now) result }
     {
         match service {
             Service::GetObjectClassHandle { name } => {
@@ -96,13 +106,11 @@ impl Parts {
     }
 
     /// Any step.
-    pub fn advance(&mut self, step: &Step) -> Result<Answer, Fault>
+    pub fn step(&mut self, step: &Step) -> Result<Answer, Fault>
         requires sound { IsSound self.old }
         requires built { IsBuilt step.now }
         ensures whole { IsWhole self.new }
-        ensures done { Does self.old step.now result self.new }
-        ensures refused { Refuses self.old step.now result }
-        ensures unchanged { OnErr result (self.new ≡ self.old) }
+        ensures done { Ends self.old step.now result self.new }
     {
         match step {
             Step::Join { name } => self.join(name.as_slice()),

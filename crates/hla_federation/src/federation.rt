@@ -16,8 +16,8 @@ pub struct Federation {
 }
 
 impl Model for Federation {
-    ghost use Rattle.hla_federation.specs.FederationValue.{FederationValue};
-    ghost use Rattle.hla_federation.specs.Soundness.{IsSound};
+    ghost use Rattle.hla_federation.specs.Tables.FederationValue.{FederationValue};
+    ghost use Rattle.hla_federation.specs.Steps.Soundness.{IsSound};
 
     ghost Value = { FederationValue };
 
@@ -28,17 +28,20 @@ impl Model for Federation {
 
 impl Federation {
     ghost use Rattle.std.specs.Prelude.{◌≡◌, OnErr, OnOk, IfOk, IfErr};
+    ghost use Rattle.hla_machine.specs.declared.step.Outcome.TheVariants as outcome;
     ghost use Rattle.hla_base.specs.declared.fault.Fault.TheVariants.{OutOfMemory};
     ghost use Rattle.hla_machine.specs.Runs.{IsMachineStep, IsRun, is_joined_by_any};
-    ghost use Rattle.hla_federation.specs.Federation.{new_federation};
-    ghost use Rattle.hla_federation.specs.Next.{next, answers};
-    ghost use Rattle.hla_federation.specs.CentralOf.{central};
-    ghost use Rattle.hla_federation.specs.State.{state_of, IsBuilt, AreBuilt};
-    ghost use Rattle.hla_federation.specs.Soundness.{done_as, IsRefusedWith, AreSteps, happened};
+    ghost use Rattle.hla_components.specs.Components.{new_components};
+    ghost use Rattle.hla_components.specs.Next.{next};
+    ghost use Rattle.hla_components.specs.CentralOf.{central};
+    ghost use Rattle.hla_federation.specs.Steps.State.{state_of, IsBuilt, AreBuilt};
+    ghost use Rattle.hla_federation.specs.Steps.Memory.{IsRefusedWith};
+    ghost use Rattle.hla_components.specs.Headline.{happening, happenings};
+    ghost use Rattle.hla_federation.specs.Steps.Soundness.{AreSteps, remembered};
 
     /// An execution that no federate has joined yet; it takes no memory.
     pub fn new(alloc: Global, catalogue: Catalogue) -> Federation
-        ensures { state_of result ≡ new_federation catalogue }
+        ensures { state_of result ≡ new_components catalogue }
     {
         Federation {
             parts: Parts::new(alloc, catalogue),
@@ -52,17 +55,18 @@ impl Federation {
         self.parts.members.is_any_joined()
     }
 
-    /// One step. It is what the components' next-state function says, and a step of the central machine. Refused, it
-    /// changes nothing: with the fault that the definitions give, or with `OutOfMemory` where they give none and a growth
-    /// was refused.
+    /// One step. Its answer and the state after it are those of the components' next-state function, and it is a step of the
+    /// central machine. Refused, it changes nothing: with the fault that the definitions give, or with `OutOfMemory` where
+    /// they give none, the step is one that takes memory, and a growth was refused.
     pub fn step(&mut self, step: &Step) -> Result<Answer, Fault>
         requires { IsBuilt step.now }
-        ensures next { IfOk result (λ a. next (state_of self.old) step.now ≡ answers a (state_of self.new)) }
-        ensures machine { IfOk result (λ a. IsMachineStep (central (state_of self.old)) (done_as step.now a) (central (state_of self.new))) }
+        ensures outcome { IfOk result (λ a. (next (state_of self.old) step.now).outcome ≡ outcome.Done a) }
+        ensures state { OnOk result (state_of self.new ≡ (next (state_of self.old) step.now).state) }
+        ensures machine { OnOk result (IsMachineStep (central (state_of self.old)) (happening step.now (next (state_of self.old) step.now)) (central (state_of self.new))) }
         ensures refused { IfErr result (IsRefusedWith (state_of self.old) step.now) }
         ensures unchanged { OnErr result (self.new ≡ self.old) }
     {
-        self.parts.advance(step)
+        self.parts.step(step)
     }
 
     /// One step after another, with what each answers. The answers are those of the components' next-state function, and
@@ -71,7 +75,7 @@ impl Federation {
     pub fn run(&mut self, steps: &[Step]) -> Result<Vec<Result<Answer, Fault>>, Fault>
         requires { AreBuilt steps.now }
         ensures steps { IfOk result (λ answers. AreSteps (state_of self.old) steps.now answers.items (state_of self.new)) }
-        ensures machine { IfOk result (λ answers. IsRun (central (state_of self.old)) (happened steps.now answers.items) (central (state_of self.new))) }
+        ensures machine { IfOk result (λ answers. IsRun (central (state_of self.old)) (happenings (state_of self.old) (remembered steps.now answers.items)) (central (state_of self.new))) }
         ensures err { IfErr result (λ e. e ≡ Fault.OutOfMemory) }
         ensures unchanged { OnErr result (self.new ≡ self.old) }
     {

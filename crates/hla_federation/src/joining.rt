@@ -1,13 +1,13 @@
 //! Joining and resigning.
 
-ghost use Rattle.std.specs.Prelude.{◌≡◌, ◌+◌, ◌≤◌, length, OnErr, OnOk, IfErr};
+ghost use Rattle.std.specs.Prelude.{◌≡◌, ◌+◌, ◌≤◌, length, OnOk, IfErr};
 ghost use Rattle.hla_base.specs.declared.fault.Fault.TheVariants.{OutOfMemory};
 ghost use Rattle.hla_machine.specs.Directory.{deletions_sent};
 ghost use Rattle.hla_machine.specs.declared.service.Service.TheVariants as service;
 ghost use Rattle.hla_machine.specs.declared.step.Step.TheVariants as step;
-ghost use Rattle.hla_federation.specs.Sending.{HasAdded, messages_to};
-ghost use Rattle.hla_federation.specs.Soundness.{IsSound};
-ghost use Rattle.hla_federation.specs.State.{state_of, IsWhole, Does, Refuses};
+ghost use Rattle.hla_federation.specs.Steps.Sending.{HasAdded, messages_to};
+ghost use Rattle.hla_federation.specs.Steps.Soundness.{IsSound, MayCall};
+ghost use Rattle.hla_federation.specs.Steps.State.{state_of, IsWhole, Ends};
 
 use crate::member::Member;
 use crate::naming::{copied, default_name};
@@ -21,9 +21,7 @@ impl Parts {
     pub fn join(&mut self, name: &[u8]) -> Result<Answer, Fault>
         requires { IsSound self.old }
         ensures whole { IsWhole self.new }
-        ensures done { Does self.old (step.Join name.now) result self.new }
-        ensures refused { Refuses self.old (step.Join name.now) result }
-        ensures unchanged { OnErr result (self.new ≡ self.old) }
+        ensures done { Ends self.old (step.Join name.now) result self.new }
     {
         if let Some(fault) = self.join_fault(name) {
             return Err(fault);
@@ -61,11 +59,9 @@ impl Parts {
 
     /// Resign Federation Execution.
     pub fn resign(&mut self, federate: FederateNo, action: ResignAction) -> Result<Answer, Fault>
-        requires { IsSound self.old }
+        requires { MayCall self.old federate }
         ensures whole { IsWhole self.new }
-        ensures done { Does self.old (step.Call federate (service.Resign action)) result self.new }
-        ensures refused { Refuses self.old (step.Call federate (service.Resign action)) result }
-        ensures unchanged { OnErr result (self.new ≡ self.old) }
+        ensures done { Ends self.old (step.Call federate (service.Resign action)) result self.new }
     {
         if let Some(fault) = self.resign_fault(federate, action) {
             return Err(fault);

@@ -1,14 +1,11 @@
 //! A federation of local components that know of each other only by what comes over wires.
 #![tactic(auto)]
 
-mod control;
 mod declaring;
 mod delivering;
 mod direction;
 mod dispatch;
-pub mod examples;
 mod federation;
-pub mod headline;
 mod incoming;
 mod joining;
 mod lookups;

@@ -2,7 +2,8 @@
 
 ghost use Rattle.hla_machine.specs.declared.service.Service.TheVariants as service;
 ghost use Rattle.hla_machine.specs.declared.step.Step.TheVariants as step;
-ghost use Rattle.hla_federation.specs.State.{Does, Refuses};
+ghost use Rattle.hla_federation.specs.Steps.Soundness.{MayCall};
+ghost use Rattle.hla_federation.specs.Steps.State.{Answers};
 
 use crate::naming::copied;
 use crate::parts::Parts;
@@ -16,12 +17,9 @@ impl Parts {
         federate: FederateNo,
         name: &[u8],
     ) -> Result<Answer, Fault>
-        ensures done { Does self.now (step.Call federate (service.GetObjectClassHandle name.now)) result self.now }
-        ensures refused { Refuses self.now (step.Call federate (service.GetObjectClassHandle name.now)) result }
+        requires { MayCall self.now federate }
+        ensures { Answers self.now (step.Call federate (service.GetObjectClassHandle name.now)) result }
     {
-        if !self.members.is_joined(federate) {
-            return Err(Fault::FederateNotExecutionMember);
-        }
         match self.catalogue.object_class(name) {
             Some(number) => Ok(Answer::Handle(number)),
             None => Err(Fault::NameNotFound),
@@ -34,12 +32,9 @@ impl Parts {
         federate: FederateNo,
         name: &[u8],
     ) -> Result<Answer, Fault>
-        ensures done { Does self.now (step.Call federate (service.GetInteractionClassHandle name.now)) result self.now }
-        ensures refused { Refuses self.now (step.Call federate (service.GetInteractionClassHandle name.now)) result }
+        requires { MayCall self.now federate }
+        ensures { Answers self.now (step.Call federate (service.GetInteractionClassHandle name.now)) result }
     {
-        if !self.members.is_joined(federate) {
-            return Err(Fault::FederateNotExecutionMember);
-        }
         match self.catalogue.interaction_class(name) {
             Some(number) => Ok(Answer::Handle(number)),
             None => Err(Fault::NameNotFound),
@@ -53,14 +48,11 @@ impl Parts {
         name: &[u8],
         class: ClassNo,
     ) -> Result<Answer, Fault>
-        ensures done { Does self.now (step.Call federate (service.GetAttributeHandle name.now class)) result self.now }
-        ensures refused { Refuses self.now (step.Call federate (service.GetAttributeHandle name.now class)) result }
+        requires { MayCall self.now federate }
+        ensures { Answers self.now (step.Call federate (service.GetAttributeHandle name.now class)) result }
     {
-        if !self.members.is_joined(federate) {
-            return Err(Fault::FederateNotExecutionMember);
-        }
-        if !self.catalogue.is_object_class(class) {
-            return Err(Fault::ObjectClassNotDefined);
+        if let Some(fault) = self.object_class_fault(class) {
+            return Err(fault);
         }
         match self.catalogue.attribute(class, name) {
             Some(number) => Ok(Answer::Handle(number)),
@@ -75,14 +67,11 @@ impl Parts {
         name: &[u8],
         class: ClassNo,
     ) -> Result<Answer, Fault>
-        ensures done { Does self.now (step.Call federate (service.GetParameterHandle name.now class)) result self.now }
-        ensures refused { Refuses self.now (step.Call federate (service.GetParameterHandle name.now class)) result }
+        requires { MayCall self.now federate }
+        ensures { Answers self.now (step.Call federate (service.GetParameterHandle name.now class)) result }
     {
-        if !self.members.is_joined(federate) {
-            return Err(Fault::FederateNotExecutionMember);
-        }
-        if !self.catalogue.is_interaction_class(class) {
-            return Err(Fault::InteractionClassNotDefined);
+        if let Some(fault) = self.interaction_class_fault(class) {
+            return Err(fault);
         }
         match self.catalogue.parameter(class, name) {
             Some(number) => Ok(Answer::Handle(number)),
@@ -96,12 +85,9 @@ impl Parts {
         federate: FederateNo,
         name: &[u8],
     ) -> Result<Answer, Fault>
-        ensures done { Does self.now (step.Call federate (service.GetObjectInstanceHandle name.now)) result self.now }
-        ensures refused { Refuses self.now (step.Call federate (service.GetObjectInstanceHandle name.now)) result }
+        requires { MayCall self.now federate }
+        ensures { Answers self.now (step.Call federate (service.GetObjectInstanceHandle name.now)) result }
     {
-        if !self.members.is_joined(federate) {
-            return Err(Fault::FederateNotExecutionMember);
-        }
         match self.registry.named(federate, name) {
             Some(number) => Ok(Answer::Handle(number)),
             None => Err(Fault::ObjectNotKnown),
@@ -114,14 +100,11 @@ impl Parts {
         federate: FederateNo,
         object: ObjectNo,
     ) -> Result<Answer, Fault>
-        ensures done { Does self.now (step.Call federate (service.GetObjectInstanceName object)) result self.now }
-        ensures refused { Refuses self.now (step.Call federate (service.GetObjectInstanceName object)) result }
+        requires { MayCall self.now federate }
+        ensures { Answers self.now (step.Call federate (service.GetObjectInstanceName object)) result }
     {
-        if !self.members.is_joined(federate) {
-            return Err(Fault::FederateNotExecutionMember);
-        }
-        if !self.registry.is_known(object, federate) {
-            return Err(Fault::ObjectNotKnown);
+        if let Some(fault) = self.object_name_fault(federate, object) {
+            return Err(fault);
         }
         Ok(Answer::Name(copied(self.alloc, self.registry.name_of(object))?))
     }

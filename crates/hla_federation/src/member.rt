@@ -1,20 +1,23 @@
 //! One federate of an execution.
 
-ghost use Rattle.std.specs.Prelude.{◌≡◌, ◌≢◌, ◌<◌, ◌≤◌, ◌+◌, [], ℕ, length, false, true, None, Some, IfOk, IfErr, OnOk, OnErr, ◌++◌, drop};
+ghost use Rattle.std.specs.Prelude.{◌≡◌, ◌≢◌, ◌<◌, ◌≤◌, ◌+◌, ◌-◌, [], ℕ, length, false, true, None, Some, IfOk, IfErr, OnOk, OnErr, ◌++◌, drop, slice_get};
+ghost use Rattle.std.specs.Option.{option_copied};
+ghost use Rattle.std.specs.VecDeque.{deque_capacity, deque_len};
+ghost use Rattle.hla_base.specs.Limits.{max_joins};
 ghost use Rattle.hla_base.specs.declared.fault.Fault.TheVariants.{OutOfMemory};
 ghost use Rattle.hla_base.specs.Tables.{upd};
-ghost use Rattle.hla_federation.specs.Items.{item};
-ghost use Rattle.hla_federation.specs.Members.{carried_of, received_by, new_member, resigned, AreQuiet, IsUnretracting, IsSmall};
-ghost use Rattle.hla_federation.specs.Picking.{picked_at, left_at};
+ghost use Rattle.hla_federation.specs.Tables.MemberValue.{item};
+ghost use Rattle.hla_federation.specs.Tables.Members.{carried_of, member_receiving, new_member, resigned_member, AreQuiet, HasRoomFor, IsUnretracting, IsSmall};
+ghost use Rattle.hla_federation.specs.Steps.Memory.{arrival_takes_memory};
+ghost use Rattle.hla_federation.specs.Steps.Picking.{picked_at, left_at};
 
-use crate::control::Control;
 use crate::incoming::Incoming;
 use crate::messages::{carried_event, given};
 use hla_base::{Fault, FederateNo, List, Serial};
 use hla_callbacks::Callback;
 use hla_machine::Carried;
 use hla_null_message::Message;
-use hla_order_queues::RoQueue;
+use hla_order_queues::{Control, RoQueue};
 use std::alloc::Global;
 use std::collections::VecDeque;
 use std::marker::Model;
@@ -32,11 +35,33 @@ pub struct Member {
 }
 
 impl Model for Member {
-    ghost use Rattle.hla_federation.specs.MemberValue.{RoomyMember};
+    ghost use Rattle.hla_federation.specs.Tables.MemberValue.{RoomyMember};
 
     ghost Value = { RoomyMember };
 
     ghost view = { λ m. record { shown = record { name = m.name; joined = m.joined; next_serial = m.next_serial; received = m.received.events; controls = m.controls.items; incoming = m.incoming.wires }; rooms = m.incoming.rooms } };
+}
+
+/// Makes room for what a message leaves with its receiver, if it leaves anything; `OutOfMemory` where that was refused.
+fn reserve_for(
+    message: Option<&Message>,
+    received: &mut RoQueue,
+    controls: &mut VecDeque<Control>,
+) -> Result<(), Fault>
+    ensures received { received.new.events ≡ received.old.events }
+    ensures controls { controls.new.items ≡ controls.old.items }
+    ensures ok { OnOk result (HasRoomFor (option_copied message.entry) received.new.room (deque_capacity controls.new - deque_len controls.new)) }
+    ensures err { IfErr result (λ e. e ≡ Fault.OutOfMemory) }
+    ensures memory { OnErr result (arrival_takes_memory (option_copied message.entry) ≡ true) }
+{
+    match message {
+        Some(Message::Event(_)) => received.reserve_one(),
+        Some(Message::Discovery(_)) => match controls.reserve(1) {
+            Ok(()) => Ok(()),
+            Err(_) => Err(Fault::OutOfMemory),
+        },
+        _ => Ok(()),
+    }
 }
 
 impl Member {
@@ -88,7 +113,7 @@ impl Member {
     /// Makes room for this many more messages on the wire from a federate; `OutOfMemory` where that was refused.
     pub fn reserve(&mut self, from: FederateNo, count: usize) -> Result<(), Fault>
         requires some { 0 < from }
-        requires within { from ≤ 16 }
+        requires within { from ≤ max_joins }
         ensures same { self.new.shown ≡ self.old.shown }
         ensures ok { OnOk result (count ≤ item 0 self.new.rooms from) }
         ensures more { (g : ℕ) → item 0 self.old.rooms g ≤ item 0 self.new.rooms g }
@@ -100,7 +125,7 @@ impl Member {
     /// Puts messages on the wire from a federate. It takes no memory.
     pub fn append(&mut self, from: FederateNo, messages: Vec<Message>)
         requires some { 0 < from }
-        requires within { from ≤ 16 }
+        requires within { from ≤ max_joins }
         requires room { length messages.items ≤ item 0 self.old.rooms from }
         ensures same { self.new.shown ≡ record self.old.shown { incoming = self.new.shown.incoming } }
         ensures wires { item [] self.new.shown.incoming ≡ upd (item [] self.old.shown.incoming) from (item [] self.old.shown.incoming from ++ messages.items) }
@@ -113,22 +138,24 @@ impl Member {
     /// refused.
     pub fn arrive(&mut self, from: FederateNo) -> Result<Carried, Fault>
         requires some { 0 < from }
-        requires within { from ≤ 16 }
+        requires within { from ≤ max_joins }
         requires unretracting { IsUnretracting (item [] self.old.shown.incoming from) }
         ensures answer { IfOk result (λ x. x ≡ carried_of from (item [] self.old.shown.incoming from)) }
         ensures small { IfOk result (λ x. IsSmall x) }
-        ensures state { OnOk result (self.new.shown ≡ record (received_by from self.old.shown (item [] self.old.shown.incoming from)) { incoming = self.new.shown.incoming }) }
+        ensures state { OnOk result (self.new.shown ≡ record (member_receiving from self.old.shown (item [] self.old.shown.incoming from)) { incoming = self.new.shown.incoming }) }
         ensures wires { OnOk result (item [] self.new.shown.incoming ≡ upd (item [] self.old.shown.incoming) from (drop 1 (item [] self.old.shown.incoming from))) }
         ensures err { IfErr result (λ e. e ≡ Fault.OutOfMemory) }
+        ensures memory { OnErr result (arrival_takes_memory (slice_get (item [] self.old.shown.incoming from) 0) ≡ true) }
         ensures unchanged { OnErr result (self.new.shown ≡ self.old.shown) }
     {
         if self.incoming.is_empty(from) {
             return Ok(Carried::Nothing);
         }
-        self.received.reserve_one()?;
-        if self.controls.reserve(1).is_err() {
-            return Err(Fault::OutOfMemory);
-        }
+        reserve_for(
+            self.incoming.first(from),
+            &mut self.received,
+            &mut self.controls,
+        )?;
         match self.incoming.take_first(from) {
             Some(Message::Event(event)) => {
                 let carried = carried_event(&event);
@@ -168,7 +195,7 @@ impl Member {
 
     /// It resigns: what waits for it and what is under way to it is dropped.
     pub fn resign(&mut self)
-        ensures same { self.new.shown ≡ resigned self.old.shown self.new.shown.incoming }
+        ensures same { self.new.shown ≡ resigned_member self.old.shown self.new.shown.incoming }
         ensures quiet { AreQuiet self.new.shown.incoming }
     {
         self.joined = false;

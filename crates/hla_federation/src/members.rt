@@ -1,18 +1,18 @@
 //! The federates of an execution.
 
-ghost use Rattle.std.specs.Prelude.{◌≡◌, ◌≢◌, ◌<◌, ◌≤◌, ◌+◌, ◌++◌, [], ℕ, length, false, true, ◌&&◌, ◌⊎◌, IfOk, IfErr, OnOk, OnErr};
+ghost use Rattle.std.specs.Prelude.{◌≡◌, ◌≢◌, ◌<◌, ◌≤◌, ◌+◌, ◌++◌, [], ℕ, length, false, true, ◌&&◌, ◌⊎◌, IfOk, IfErr, OnOk, OnErr, slice_get};
 ghost use Rattle.std.specs.List.{list_any};
 ghost use Rattle.std.specs.Str.{bytes_eq};
+ghost use Rattle.hla_base.specs.Limits.{max_joins};
 ghost use Rattle.hla_base.specs.declared.fault.Fault.TheVariants.{OutOfMemory};
 ghost use Rattle.hla_base.specs.Tables.{upd, upd2, numbers_below};
-ghost use Rattle.hla_federation.specs.Members.{tables_of, room_in, IsEnd, AreQuiet, new_member, admitted, withdrawn, left_of, HasRoom, posted_below, IsUnretracting, IsSmall, carried_of, arrived};
+ghost use Rattle.hla_federation.specs.Tables.Members.{members_of, room_in, IsEnd, AreQuiet, new_member, with_member_admitted, with_member_withdrawn, with_first_picked, HasRoom, posted_below, IsUnretracting, IsSmall, carried_of, with_arrival};
 ghost use Rattle.hla_federation.specs.declared.direction.Direction.TheVariants.{From};
-ghost use Rattle.hla_federation.specs.Items.{item};
-ghost use Rattle.hla_federation.specs.MemberValue.{RoomyMember};
-ghost use Rattle.hla_federation.specs.Picking.{picked_at};
+ghost use Rattle.hla_federation.specs.Tables.MemberValue.{item, RoomyMember};
+ghost use Rattle.hla_federation.specs.Steps.Memory.{arrival_takes_memory};
+ghost use Rattle.hla_federation.specs.Steps.Picking.{picked_at};
 
 use crate::direction::Direction;
-use crate::incoming::MAX_FEDERATES;
 use crate::member::Member;
 use crate::outbox::Outbox;
 use hla_base::{Fault, FederateNo, Serial};
@@ -30,15 +30,16 @@ pub struct Members {
 }
 
 impl Model for Members {
+    ghost use Rattle.hla_base.specs.Limits.{max_joins};
     ghost use Rattle.std.specs.Prelude.{length, ◌≤◌, ◌-◌, vec_len, vec_capacity};
-    ghost use Rattle.hla_federation.specs.MemberValue.{RoomyMembers};
-    ghost use Rattle.hla_federation.specs.Members.{roomy};
+    ghost use Rattle.hla_federation.specs.Tables.MemberValue.{RoomyMembers};
+    ghost use Rattle.hla_federation.specs.Tables.Members.{roomy};
 
     ghost Value = { RoomyMembers };
 
     ghost view = { λ m. roomy m.members.items (vec_capacity m.members - vec_len m.members) };
 
-    ghost invariant = { λ m. length m.members.items ≤ 16 };
+    ghost invariant = { λ m. length m.members.items ≤ max_joins };
 }
 
 /// Whether one of these is joined.
@@ -67,15 +68,15 @@ impl Members {
 
     /// The number of the federate that joins next.
     pub fn next_federate(&self) -> FederateNo
-        ensures number { result ≡ (tables_of self.now.shown).next_federate }
-        ensures few { result ≤ 17 }
+        ensures number { result ≡ (members_of self.now.shown).next_federate }
+        ensures few { result ≤ max_joins + 1 }
     {
         self.members.len() as FederateNo + 1
     }
 
     /// Whether a federate is joined.
     pub fn is_joined(&self, federate: FederateNo) -> bool
-        ensures { result ≡ (tables_of self.now.shown).joined federate }
+        ensures { result ≡ (members_of self.now.shown).joined federate }
     {
         if federate == 0 || federate as usize > self.members.len() {
             return false;
@@ -85,14 +86,14 @@ impl Members {
 
     /// Whether a joined federate has this name.
     pub fn is_name_joined(&self, name: &[u8]) -> bool
-        ensures { result ≡ list_any (λ f. (tables_of self.now.shown).joined f && bytes_eq ((tables_of self.now.shown).name f) name.now) (numbers_below (tables_of self.now.shown).next_federate) }
+        ensures { result ≡ list_any (λ f. (members_of self.now.shown).joined f && bytes_eq ((members_of self.now.shown).name f) name.now) (numbers_below (members_of self.now.shown).next_federate) }
     {
         any_joined_as(&self.members, name)
     }
 
     /// Whether any federate is joined.
     pub fn is_any_joined(&self) -> bool
-        ensures { result ≡ list_any (tables_of self.now.shown).joined (numbers_below (tables_of self.now.shown).next_federate) }
+        ensures { result ≡ list_any (members_of self.now.shown).joined (numbers_below (members_of self.now.shown).next_federate) }
     {
         any_joined(&self.members)
     }
@@ -100,8 +101,8 @@ impl Members {
     /// The serial of a federate's next message.
     pub fn next_serial(&self, federate: FederateNo) -> Serial
         requires some { 0 < federate }
-        requires within { federate < (tables_of self.now.shown).next_federate }
-        ensures { result ≡ (tables_of self.now.shown).serial federate }
+        requires within { federate < (members_of self.now.shown).next_federate }
+        ensures { result ≡ (members_of self.now.shown).serial federate }
     {
         self.members[federate as usize - 1].next_serial()
     }
@@ -109,9 +110,9 @@ impl Members {
     /// So many more messages were sent by a federate.
     pub fn count_messages(&mut self, federate: FederateNo, count: u64)
         requires some { 0 < federate }
-        requires within { federate < (tables_of self.old.shown).next_federate }
-        requires serials { (tables_of self.old.shown).serial federate + count ≤ 18446744073709551615 }
-        ensures { tables_of self.new.shown ≡ record (tables_of self.old.shown) { serial = upd (tables_of self.old.shown).serial federate ((tables_of self.old.shown).serial federate + count) } }
+        requires within { federate < (members_of self.old.shown).next_federate }
+        requires serials { (members_of self.old.shown).serial federate + count ≤ 18446744073709551615 }
+        ensures { members_of self.new.shown ≡ record (members_of self.old.shown) { serial = upd (members_of self.old.shown).serial federate ((members_of self.old.shown).serial federate + count) } }
     {
         self.members[federate as usize - 1].count_messages(count);
     }
@@ -131,10 +132,10 @@ impl Members {
     /// A federate joins. It takes no memory.
     pub fn admit(&mut self, member: Member)
         requires room { 0 < self.old.spare }
-        requires few { (tables_of self.old.shown).next_federate ≤ 16 }
+        requires few { (members_of self.old.shown).next_federate ≤ max_joins }
         requires new { member.shown ≡ new_member member.shown.name member.shown.incoming }
         requires quiet { AreQuiet member.shown.incoming }
-        ensures { tables_of self.new.shown ≡ admitted (tables_of self.old.shown) member.shown.name }
+        ensures { members_of self.new.shown ≡ with_member_admitted (members_of self.old.shown) member.shown.name }
     {
         self.members.push_reserved(member);
     }
@@ -142,8 +143,8 @@ impl Members {
     /// A federate resigns; what waits for it and what is under way to it is dropped.
     pub fn resign(&mut self, federate: FederateNo)
         requires some { 0 < federate }
-        requires within { federate < (tables_of self.old.shown).next_federate }
-        ensures { tables_of self.new.shown ≡ withdrawn (tables_of self.old.shown) federate }
+        requires within { federate < (members_of self.old.shown).next_federate }
+        ensures { members_of self.new.shown ≡ with_member_withdrawn (members_of self.old.shown) federate }
     {
         self.members[federate as usize - 1].resign();
     }
@@ -151,9 +152,9 @@ impl Members {
     /// Makes room for this many more messages on a wire; `OutOfMemory` where that was refused.
     fn reserve(&mut self, from: FederateNo, to: FederateNo, count: usize) -> Result<(), Fault>
         requires some_from { 0 < from }
-        requires within_from { from ≤ 16 }
+        requires within_from { from ≤ max_joins }
         requires some { 0 < to }
-        requires within { to < (tables_of self.old.shown).next_federate }
+        requires within { to < (members_of self.old.shown).next_federate }
         ensures same { self.new.shown ≡ self.old.shown }
         ensures ok { OnOk result (count ≤ room_in self.new.rooms from to) }
         ensures more { (g h : ℕ) → room_in self.old.rooms g h ≤ room_in self.new.rooms g h }
@@ -165,11 +166,11 @@ impl Members {
     /// Puts messages on a wire. It takes no memory.
     fn append(&mut self, from: FederateNo, to: FederateNo, messages: Vec<Message>)
         requires some_from { 0 < from }
-        requires within_from { from ≤ 16 }
+        requires within_from { from ≤ max_joins }
         requires some { 0 < to }
-        requires within { to < (tables_of self.old.shown).next_federate }
+        requires within { to < (members_of self.old.shown).next_federate }
         requires room { length messages.items ≤ room_in self.old.rooms from to }
-        ensures wires { tables_of self.new.shown ≡ record (tables_of self.old.shown) { wire = upd2 (tables_of self.old.shown).wire from to ((tables_of self.old.shown).wire from to ++ messages.items) } }
+        ensures wires { members_of self.new.shown ≡ record (members_of self.old.shown) { wire = upd2 (members_of self.old.shown).wire from to ((members_of self.old.shown).wire from to ++ messages.items) } }
         ensures room { (g h : ℕ) → (from ≢ g) ⊎ (to ≢ h) → room_in self.new.rooms g h ≡ room_in self.old.rooms g h }
     {
         self.members[to as usize - 1].append(from, messages);
@@ -177,9 +178,9 @@ impl Members {
 
     /// Makes room for all messages of an outbox on their wires; `OutOfMemory` where that was refused.
     pub fn reserve_all(&mut self, along: Direction, outbox: &Outbox) -> Result<(), Fault>
-        requires { IsEnd along (tables_of self.old.shown).next_federate }
+        requires { IsEnd along (members_of self.old.shown).next_federate }
         ensures same { self.new.shown ≡ self.old.shown }
-        ensures ok { OnOk result (HasRoom along (item [] outbox.now) 1 (tables_of self.old.shown).next_federate self.new.rooms) }
+        ensures ok { OnOk result (HasRoom along (item [] outbox.now) 1 (members_of self.old.shown).next_federate self.new.rooms) }
         ensures err { IfErr result (λ e. e ≡ Fault.OutOfMemory) }
     {
         let end = self.next_federate();
@@ -191,9 +192,9 @@ impl Members {
 
     /// Puts all messages of an outbox on their wires. It takes no memory.
     pub fn post_all(&mut self, along: Direction, outbox: Outbox)
-        requires end { IsEnd along (tables_of self.old.shown).next_federate }
-        requires room { HasRoom along (item [] outbox) 1 (tables_of self.old.shown).next_federate self.old.rooms }
-        ensures { tables_of self.new.shown ≡ record (tables_of self.old.shown) { wire = posted_below along (item [] outbox) (tables_of self.old.shown).next_federate (tables_of self.old.shown).wire } }
+        requires end { IsEnd along (members_of self.old.shown).next_federate }
+        requires room { HasRoom along (item [] outbox) 1 (members_of self.old.shown).next_federate self.old.rooms }
+        ensures { members_of self.new.shown ≡ record (members_of self.old.shown) { wire = posted_below along (item [] outbox) (members_of self.old.shown).next_federate (members_of self.old.shown).wire } }
     {
         let mut outbox = outbox;
         let end = self.next_federate();
@@ -212,9 +213,9 @@ impl Members {
         count: u64,
     ) -> Result<(), Fault>
         requires some { 0 < federate }
-        requires within { federate < (tables_of self.old.shown).next_federate }
-        requires serials { (tables_of self.old.shown).serial federate + count ≤ 18446744073709551615 }
-        ensures ok { OnOk result (tables_of self.new.shown ≡ record (tables_of self.old.shown) { serial = upd (tables_of self.old.shown).serial federate ((tables_of self.old.shown).serial federate + count); wire = posted_below (From federate) (item [] outbox) (tables_of self.old.shown).next_federate (tables_of self.old.shown).wire }) }
+        requires within { federate < (members_of self.old.shown).next_federate }
+        requires serials { (members_of self.old.shown).serial federate + count ≤ 18446744073709551615 }
+        ensures ok { OnOk result (members_of self.new.shown ≡ record (members_of self.old.shown) { serial = upd (members_of self.old.shown).serial federate ((members_of self.old.shown).serial federate + count); wire = posted_below (From federate) (item [] outbox) (members_of self.old.shown).next_federate (members_of self.old.shown).wire }) }
         ensures err { IfErr result (λ e. e ≡ Fault.OutOfMemory) }
         ensures unchanged { OnErr result (self.new.shown ≡ self.old.shown) }
     {
@@ -228,14 +229,15 @@ impl Members {
     /// The first message on a wire comes to its receiver; `OutOfMemory`, and all as it was, where a growth was refused.
     pub fn arrive(&mut self, from: FederateNo, to: FederateNo) -> Result<Carried, Fault>
         requires some_from { 0 < from }
-        requires within_from { from ≤ 16 }
+        requires within_from { from ≤ max_joins }
         requires some { 0 < to }
-        requires within { to < (tables_of self.old.shown).next_federate }
-        requires unretracting { IsUnretracting ((tables_of self.old.shown).wire from to) }
-        ensures answer { IfOk result (λ x. x ≡ carried_of from ((tables_of self.old.shown).wire from to)) }
+        requires within { to < (members_of self.old.shown).next_federate }
+        requires unretracting { IsUnretracting ((members_of self.old.shown).wire from to) }
+        ensures answer { IfOk result (λ x. x ≡ carried_of from ((members_of self.old.shown).wire from to)) }
         ensures small { IfOk result (λ x. IsSmall x) }
-        ensures state { OnOk result (tables_of self.new.shown ≡ arrived from to (tables_of self.old.shown)) }
+        ensures state { OnOk result (members_of self.new.shown ≡ with_arrival from to (members_of self.old.shown)) }
         ensures err { IfErr result (λ e. e ≡ Fault.OutOfMemory) }
+        ensures memory { OnErr result (arrival_takes_memory (slice_get ((members_of self.old.shown).wire from to) 0) ≡ true) }
         ensures unchanged { OnErr result (self.new.shown ≡ self.old.shown) }
     {
         self.members[to as usize - 1].arrive(from)
@@ -244,9 +246,9 @@ impl Members {
     /// A federate picks up the first of its controls, or else the message that has waited longest, if there is any.
     pub fn pick_up(&mut self, federate: FederateNo) -> Option<Callback>
         requires some { 0 < federate }
-        requires within { federate < (tables_of self.old.shown).next_federate }
-        ensures callback { result ≡ picked_at ((tables_of self.old.shown).controls federate) ((tables_of self.old.shown).ro federate) }
-        ensures state { tables_of self.new.shown ≡ left_of (tables_of self.old.shown) federate ((tables_of self.old.shown).controls federate) }
+        requires within { federate < (members_of self.old.shown).next_federate }
+        ensures callback { result ≡ picked_at ((members_of self.old.shown).controls federate) ((members_of self.old.shown).ro federate) }
+        ensures state { members_of self.new.shown ≡ with_first_picked (members_of self.old.shown) federate ((members_of self.old.shown).controls federate) }
     {
         self.members[federate as usize - 1].pick_up()
     }

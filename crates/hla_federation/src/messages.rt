@@ -1,7 +1,7 @@
 //! What events say when they are carried and given.
 
 ghost use Rattle.std.specs.Prelude.{◌≡◌};
-ghost use Rattle.hla_federation.specs.Next.{carried_event, given, delivery_of};
+ghost use Rattle.hla_components.specs.Next.{carried_event, event_callback, delivery_of};
 
 use hla_base::{Content, Event, EventHandle};
 use hla_callbacks::{Callback, Delivery};
@@ -23,7 +23,7 @@ pub fn carried_event(event: &Event) -> Carried
 
 /// The callback of an event that is given in receive order.
 pub fn given(event: Event) -> Callback
-    ensures { result ≡ given (delivery_of event) event }
+    ensures { result ≡ event_callback (delivery_of event) event }
 {
     let delivery = if event.ordered {
         Delivery::Demoted { stamp: event.stamp }

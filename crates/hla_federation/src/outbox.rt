@@ -1,13 +1,13 @@
 //! Messages that are made and not yet on their wires.
 
 ghost use Rattle.std.specs.Prelude.{◌≡◌, ◌<◌, ◌≤◌, ◌++◌, ◌∷◌, [], length, IfOk, IfErr, OnOk};
+ghost use Rattle.hla_base.specs.Limits.{max_joins};
 ghost use Rattle.hla_base.specs.declared.fault.Fault.TheVariants.{OutOfMemory};
 ghost use Rattle.hla_base.specs.Tables.{upd};
-ghost use Rattle.hla_federation.specs.Items.{item};
-ghost use Rattle.hla_federation.specs.Members.{AreQuiet};
+ghost use Rattle.hla_federation.specs.Tables.MemberValue.{item};
+ghost use Rattle.hla_federation.specs.Tables.Members.{AreQuiet};
 
-use crate::incoming::MAX_FEDERATES;
-use hla_base::{Fault, FederateNo, List};
+use hla_base::{Fault, FederateNo, List, MAX_JOINS};
 use hla_null_message::Message;
 use std::alloc::Global;
 use std::marker::Model;
@@ -21,6 +21,7 @@ pub struct Outbox {
 }
 
 impl Model for Outbox {
+    ghost use Rattle.hla_base.specs.Limits.{max_joins};
     ghost use Rattle.std.specs.Prelude.{◌≡◌, List, length};
     ghost use Rattle.hla_null_message.specs.declared.message.Message.{Message};
 
@@ -28,7 +29,7 @@ impl Model for Outbox {
 
     ghost view = { λ o. o.messages.items };
 
-    ghost invariant = { λ o. length o.messages.items ≡ 16 };
+    ghost invariant = { λ o. length o.messages.items ≡ max_joins };
 }
 
 impl Outbox {
@@ -38,7 +39,7 @@ impl Outbox {
         ensures err { IfErr result (λ e. e ≡ Fault.OutOfMemory) }
     {
         let mut messages = Vec::new(alloc);
-        for _made in 0..MAX_FEDERATES {
+        for _made in 0..MAX_JOINS {
             if messages.push(List::new(alloc)).is_err() {
                 return Err(Fault::OutOfMemory);
             }
@@ -49,7 +50,7 @@ impl Outbox {
     /// Adds a message for a federate, behind the others; `OutOfMemory` where a growth was refused.
     pub fn put(&mut self, peer: FederateNo, message: Message) -> Result<(), Fault>
         requires some { 0 < peer }
-        requires within { peer ≤ 16 }
+        requires within { peer ≤ max_joins }
         ensures ok { OnOk result (item [] self.new ≡ upd (item [] self.old) peer (item [] self.old peer ++ message ∷ [])) }
         ensures err { IfErr result (λ e. e ≡ Fault.OutOfMemory) }
     {
@@ -60,7 +61,7 @@ impl Outbox {
     /// How many messages there are for a federate.
     pub fn count(&self, peer: FederateNo) -> usize
         requires some { 0 < peer }
-        requires within { peer ≤ 16 }
+        requires within { peer ≤ max_joins }
         ensures { result ≡ length (item [] self.now peer) }
     {
         self.messages[peer as usize - 1].len()
@@ -69,7 +70,7 @@ impl Outbox {
     /// Takes the messages for a federate.
     pub fn take(&mut self, peer: FederateNo) -> Vec<Message>
         requires some { 0 < peer }
-        requires within { peer ≤ 16 }
+        requires within { peer ≤ max_joins }
         ensures messages { result.items ≡ item [] self.old peer }
         ensures others { item [] self.new ≡ upd (item [] self.old) peer [] }
     {

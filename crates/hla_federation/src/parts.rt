@@ -3,7 +3,7 @@
 ghost use Rattle.std.specs.Prelude.{◌≡◌, length, []};
 ghost use Rattle.hla_declaration.specs.Declarations as declared;
 ghost use Rattle.hla_object_registry.specs.Registered.{registry_of, new_registry};
-ghost use Rattle.hla_federation.specs.State.{nothing_declared};
+ghost use Rattle.hla_federation.specs.Steps.State.{nothing_declared};
 
 use crate::members::Members;
 use hla_base::List;
@@ -27,7 +27,7 @@ pub struct Parts {
 }
 
 impl Model for Parts {
-    ghost use Rattle.hla_federation.specs.FederationValue.{FederationValue};
+    ghost use Rattle.hla_federation.specs.Tables.FederationValue.{FederationValue};
 
     ghost Value = { FederationValue };
 
@@ -39,7 +39,7 @@ impl Parts {
     pub fn new(alloc: Global, catalogue: Catalogue) -> Parts
         ensures catalogue { result.catalogue ≡ catalogue }
         ensures members { result.members ≡ [] }
-        ensures declarations { declared.tables_of result.declarations ≡ nothing_declared (length catalogue.object_classes) (length catalogue.interaction_classes) }
+        ensures declarations { declared.declarations_of result.declarations ≡ nothing_declared (length catalogue.object_classes) (length catalogue.interaction_classes) }
         ensures objects { registry_of result.objects ≡ new_registry }
     {
         let object_classes = catalogue.object_classes().len();

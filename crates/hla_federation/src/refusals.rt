@@ -5,22 +5,27 @@ ghost use Rattle.std.specs.List.{list_any};
 ghost use Rattle.hla_base.specs.declared.content.HandleValuePair.{HandleValuePair};
 ghost use Rattle.hla_fed_file.specs.Lookup.{attribute_order, has_attribute, has_parameter};
 ghost use Rattle.hla_machine.specs.Directory.{is_of_order, update_sent};
-ghost use Rattle.hla_machine.specs.Refusals.{refusal, first_fault, not_joined, no_object_class, no_interaction_class, no_attribute, is_owned, is_published};
+ghost use Rattle.hla_machine.specs.Refusals.{refusal, first_fault, joined_test, no_object_class, no_interaction_class, no_attribute, is_length_in, is_owned, is_published};
 ghost use Rattle.hla_machine.specs.declared.service.Service.TheVariants as service;
 ghost use Rattle.hla_machine.specs.declared.step.Step.TheVariants as step;
-ghost use Rattle.hla_federation.specs.Next.{seen};
-ghost use Rattle.hla_federation.specs.State.{state_of, IsNamed};
+ghost use Rattle.hla_components.specs.Next.{components_seen};
+ghost use Rattle.hla_federation.specs.Steps.Soundness.{MayCall};
+ghost use Rattle.hla_federation.specs.Steps.State.{state_of};
 
-use crate::incoming::MAX_FEDERATES;
 use crate::parts::Parts;
 use hla_base::{
-    AttributeNo, ClassNo, Fault, FederateNo, HandleValuePair, List, MAX_TIME, ObjectNo,
+    AttributeNo, ClassNo, Fault, FederateNo, HandleValuePair, List, MAX_FEDERATE_NAME, MAX_JOINS,
+    MAX_NAME, MAX_OBJECTS, MAX_SERIAL, ObjectNo,
 };
 use hla_fed_file::Order;
 use hla_machine::ResignAction;
 
-/// How many objects may ever be registered in an execution.
-const MAX_OBJECTS: ObjectNo = 4096;
+/// Whether a name has at least one byte, and at most so many.
+fn fits_name(name: &[u8], most: usize) -> bool
+    ensures { result ≡ is_length_in 1 most name.now }
+{
+    !name.is_empty() && name.len() <= most
+}
 
 impl Parts {
     /// Whether a class lacks one of these attributes.
@@ -76,18 +81,74 @@ impl Parts {
             .publishes_attribute(federate, class, v.handle))
     }
 
-    /// Why an object class may not be published or subscribed with these attributes, if it may not.
-    pub fn attributes_fault(
-        &self,
-        federate: FederateNo,
-        class: ClassNo,
-        attributes: &[AttributeNo],
-    ) -> Option<Fault>
-        ensures { let d = (state_of self.now).directory in result ≡ first_fault (not_joined d federate ∷ no_object_class d class ∷ no_attribute d class attributes.now ∷ []) }
+    /// Why a federate may not call or tick, if it may not.
+    pub fn caller_fault(&self, federate: FederateNo) -> Option<Fault>
+        ensures { result ≡ first_fault (joined_test (state_of self.now).directory federate ∷ []) }
     {
-        if !self.members.is_joined(federate) {
+        if self.members.is_joined(federate) {
+            None
+        } else {
             Some(Fault::FederateNotExecutionMember)
-        } else if !self.catalogue.is_object_class(class) {
+        }
+    }
+
+    /// Why nothing may be carried from a federate to another, if it may not: a wire leads to one that is joined, from one
+    /// that ever was.
+    pub fn carry_fault(&self, from: FederateNo, to: FederateNo) -> Option<Fault>
+        ensures { result ≡ refusal (components_seen (state_of self.now)) (step.Carry from to) }
+    {
+        if !self.members.is_joined(to)
+            || from == to
+            || from == 0
+            || from >= self.members.next_federate()
+        {
+            Some(Fault::FederateNotExecutionMember)
+        } else {
+            None
+        }
+    }
+
+    /// Why a number is of no object class, if it is of none.
+    pub fn object_class_fault(&self, class: ClassNo) -> Option<Fault>
+        ensures { result ≡ first_fault (no_object_class (state_of self.now).directory class ∷ []) }
+    {
+        if self.catalogue.is_object_class(class) {
+            None
+        } else {
+            Some(Fault::ObjectClassNotDefined)
+        }
+    }
+
+    /// Why a number is of no interaction class, if it is of none.
+    pub fn interaction_class_fault(&self, class: ClassNo) -> Option<Fault>
+        ensures { result ≡ first_fault (no_interaction_class (state_of self.now).directory class ∷ []) }
+    {
+        if self.catalogue.is_interaction_class(class) {
+            None
+        } else {
+            Some(Fault::InteractionClassNotDefined)
+        }
+    }
+
+    /// Why the name of an object may not be looked up, if it may not.
+    pub fn object_name_fault(&self, federate: FederateNo, object: ObjectNo) -> Option<Fault>
+        requires { MayCall self.now federate }
+        ensures { result ≡ refusal (components_seen (state_of self.now))
+            (step.Call federate (service.GetObjectInstanceName object)) }
+    {
+        if self.registry.is_known(object, federate) {
+            None
+        } else {
+            Some(Fault::ObjectNotKnown)
+        }
+    }
+
+    /// Why an object class may not be published or subscribed with these attributes, if it may not.
+    pub fn attributes_fault(&self, class: ClassNo, attributes: &[AttributeNo]) -> Option<Fault>
+        ensures { let d = (state_of self.now).directory in
+            result ≡ first_fault (no_object_class d class ∷ no_attribute d class attributes.now ∷ []) }
+    {
+        if !self.catalogue.is_object_class(class) {
             Some(Fault::ObjectClassNotDefined)
         } else if self.lacks_attribute(class, attributes) {
             Some(Fault::AttributeNotDefined)
@@ -98,11 +159,11 @@ impl Parts {
 
     /// Why an object class may not be unpublished, if it may not.
     pub fn unpublish_object_fault(&self, federate: FederateNo, class: ClassNo) -> Option<Fault>
-        ensures { result ≡ refusal (seen (state_of self.now)) (step.Call federate (service.UnpublishObjectClass class)) }
+        requires { MayCall self.now federate }
+        ensures { result ≡ refusal (components_seen (state_of self.now))
+            (step.Call federate (service.UnpublishObjectClass class)) }
     {
-        if !self.members.is_joined(federate) {
-            Some(Fault::FederateNotExecutionMember)
-        } else if !self.catalogue.is_object_class(class) {
+        if !self.catalogue.is_object_class(class) {
             Some(Fault::ObjectClassNotDefined)
         } else if !self.declarations.publishes_object_class(federate, class) {
             Some(Fault::ObjectClassNotPublished)
@@ -113,11 +174,11 @@ impl Parts {
 
     /// Why an object class may not be unsubscribed, if it may not.
     pub fn unsubscribe_object_fault(&self, federate: FederateNo, class: ClassNo) -> Option<Fault>
-        ensures { result ≡ refusal (seen (state_of self.now)) (step.Call federate (service.UnsubscribeObjectClass class)) }
+        requires { MayCall self.now federate }
+        ensures { result ≡ refusal (components_seen (state_of self.now))
+            (step.Call federate (service.UnsubscribeObjectClass class)) }
     {
-        if !self.members.is_joined(federate) {
-            Some(Fault::FederateNotExecutionMember)
-        } else if !self.catalogue.is_object_class(class) {
+        if !self.catalogue.is_object_class(class) {
             Some(Fault::ObjectClassNotDefined)
         } else if !self.declarations.subscribes_object_class(federate, class) {
             Some(Fault::ObjectClassNotSubscribed)
@@ -126,26 +187,13 @@ impl Parts {
         }
     }
 
-    /// Why an interaction class may not be published or subscribed, if it may not.
-    pub fn interaction_fault(&self, federate: FederateNo, class: ClassNo) -> Option<Fault>
-        ensures { let d = (state_of self.now).directory in result ≡ first_fault (not_joined d federate ∷ no_interaction_class d class ∷ []) }
-    {
-        if !self.members.is_joined(federate) {
-            Some(Fault::FederateNotExecutionMember)
-        } else if !self.catalogue.is_interaction_class(class) {
-            Some(Fault::InteractionClassNotDefined)
-        } else {
-            None
-        }
-    }
-
     /// Why an interaction class may not be unpublished, if it may not.
     pub fn unpublish_interaction_fault(&self, federate: FederateNo, class: ClassNo) -> Option<Fault>
-        ensures { result ≡ refusal (seen (state_of self.now)) (step.Call federate (service.UnpublishInteractionClass class)) }
+        requires { MayCall self.now federate }
+        ensures { result ≡ refusal (components_seen (state_of self.now))
+            (step.Call federate (service.UnpublishInteractionClass class)) }
     {
-        if !self.members.is_joined(federate) {
-            Some(Fault::FederateNotExecutionMember)
-        } else if !self.catalogue.is_interaction_class(class) {
+        if !self.catalogue.is_interaction_class(class) {
             Some(Fault::InteractionClassNotDefined)
         } else if !self
             .declarations
@@ -163,11 +211,11 @@ impl Parts {
         federate: FederateNo,
         class: ClassNo,
     ) -> Option<Fault>
-        ensures { result ≡ refusal (seen (state_of self.now)) (step.Call federate (service.UnsubscribeInteractionClass class)) }
+        requires { MayCall self.now federate }
+        ensures { result ≡ refusal (components_seen (state_of self.now))
+            (step.Call federate (service.UnsubscribeInteractionClass class)) }
     {
-        if !self.members.is_joined(federate) {
-            Some(Fault::FederateNotExecutionMember)
-        } else if !self.catalogue.is_interaction_class(class) {
+        if !self.catalogue.is_interaction_class(class) {
             Some(Fault::InteractionClassNotDefined)
         } else if !self
             .declarations
@@ -186,11 +234,11 @@ impl Parts {
         class: ClassNo,
         values: &[HandleValuePair],
     ) -> Option<Fault>
-        ensures { result ≡ refusal (seen (state_of self.now)) (step.Call federate (service.SendInteraction class values.now None)) }
+        requires { MayCall self.now federate }
+        ensures { result ≡ refusal (components_seen (state_of self.now))
+            (step.Call federate (service.SendInteraction class values.now None)) }
     {
-        if !self.members.is_joined(federate) {
-            Some(Fault::FederateNotExecutionMember)
-        } else if !self.catalogue.is_interaction_class(class) {
+        if !self.catalogue.is_interaction_class(class) {
             Some(Fault::InteractionClassNotDefined)
         } else if self.lacks_parameter(class, values) {
             Some(Fault::InteractionParameterNotDefined)
@@ -199,7 +247,7 @@ impl Parts {
             .publishes_interaction_class(federate, class)
         {
             Some(Fault::InteractionClassNotPublished)
-        } else if self.members.next_serial(federate) > MAX_TIME {
+        } else if self.members.next_serial(federate) > MAX_SERIAL {
             Some(Fault::LimitReached)
         } else {
             None
@@ -208,13 +256,12 @@ impl Parts {
 
     /// Why a federate may not join under a name, if it may not.
     pub fn join_fault(&self, name: &[u8]) -> Option<Fault>
-        ensures { result ≡ refusal (seen (state_of self.now)) (step.Join name.now) }
+        ensures { result ≡ refusal (components_seen (state_of self.now)) (step.Join name.now) }
     {
         if self.members.is_name_joined(name) {
             Some(Fault::FederateAlreadyExecutionMember)
-        } else if self.members.next_federate() as usize > MAX_FEDERATES
-            || name.is_empty()
-            || name.len() > 64
+        } else if self.members.next_federate() as usize > MAX_JOINS
+            || !fits_name(name, MAX_FEDERATE_NAME)
         {
             Some(Fault::LimitReached)
         } else {
@@ -248,12 +295,12 @@ impl Parts {
         object: ObjectNo,
         values: &[HandleValuePair],
     ) -> Option<Fault>
-        ensures { result ≡ refusal (seen (state_of self.now)) (step.Call federate (service.UpdateAttributeValues object values.now None)) }
+        requires { MayCall self.now federate }
+        ensures { result ≡ refusal (components_seen (state_of self.now))
+            (step.Call federate (service.UpdateAttributeValues object values.now None)) }
     {
         let class = self.registry.class_of(object);
-        if !self.members.is_joined(federate) {
-            Some(Fault::FederateNotExecutionMember)
-        } else if !self.registry.is_known(object, federate) {
+        if !self.registry.is_known(object, federate) {
             Some(Fault::ObjectNotKnown)
         } else if self.lacks_value(class, values) {
             Some(Fault::AttributeNotDefined)
@@ -261,7 +308,7 @@ impl Parts {
             Some(Fault::AttributeNotOwned)
         } else if self.lacks_publication(federate, class, values) {
             Some(Fault::AttributeNotPublished)
-        } else if self.members.next_serial(federate) > MAX_TIME + 1 - self.count_parts(values) {
+        } else if self.members.next_serial(federate) > MAX_SERIAL + 1 - self.count_parts(values) {
             Some(Fault::LimitReached)
         } else {
             None
@@ -270,15 +317,15 @@ impl Parts {
 
     /// Why an object may not be deleted without a stamp, if it may not.
     pub fn delete_fault(&self, federate: FederateNo, object: ObjectNo) -> Option<Fault>
-        ensures { result ≡ refusal (seen (state_of self.now)) (step.Call federate (service.DeleteObjectInstance object None)) }
+        requires { MayCall self.now federate }
+        ensures { result ≡ refusal (components_seen (state_of self.now))
+            (step.Call federate (service.DeleteObjectInstance object None)) }
     {
-        if !self.members.is_joined(federate) {
-            Some(Fault::FederateNotExecutionMember)
-        } else if !self.registry.is_known(object, federate) {
+        if !self.registry.is_known(object, federate) {
             Some(Fault::ObjectNotKnown)
         } else if self.registry.owner(object) != federate {
             Some(Fault::DeletePrivilegeNotHeld)
-        } else if self.members.next_serial(federate) > MAX_TIME {
+        } else if self.members.next_serial(federate) > MAX_SERIAL {
             Some(Fault::LimitReached)
         } else {
             None
@@ -292,25 +339,21 @@ impl Parts {
         class: ClassNo,
         name: &Option<List<u8>>,
     ) -> Option<Fault>
-        requires { IsNamed self.now }
-        ensures { result ≡ refusal (seen (state_of self.now)) (step.Call federate (service.RegisterObjectInstance class name.now)) }
+        requires { MayCall self.now federate }
+        ensures { result ≡ refusal (components_seen (state_of self.now))
+            (step.Call federate (service.RegisterObjectInstance class name.now)) }
     {
         let given = match name {
             Some(name) => name.as_slice(),
             None => self.next_name.as_slice(),
         };
-        if !self.members.is_joined(federate) {
-            Some(Fault::FederateNotExecutionMember)
-        } else if !self.catalogue.is_object_class(class) {
+        if !self.catalogue.is_object_class(class) {
             Some(Fault::ObjectClassNotDefined)
         } else if !self.declarations.publishes_object_class(federate, class) {
             Some(Fault::ObjectClassNotPublished)
         } else if self.registry.is_name_used(given) {
             Some(Fault::ObjectAlreadyRegistered)
-        } else if self.registry.next_object() > MAX_OBJECTS
-            || given.is_empty()
-            || given.len() > 255
-        {
+        } else if self.registry.next_object() > MAX_OBJECTS || !fits_name(given, MAX_NAME) {
             Some(Fault::LimitReached)
         } else {
             None
@@ -319,11 +362,10 @@ impl Parts {
 
     /// Why a federate may not resign, if it may not.
     pub fn resign_fault(&self, federate: FederateNo, action: ResignAction) -> Option<Fault>
-        ensures { result ≡ refusal (seen (state_of self.now)) (step.Call federate (service.Resign action)) }
+        requires { MayCall self.now federate }
+        ensures { result ≡ refusal (components_seen (state_of self.now))
+            (step.Call federate (service.Resign action)) }
     {
-        if !self.members.is_joined(federate) {
-            return Some(Fault::FederateNotExecutionMember);
-        }
         let owned = self.registry.count_owned_by(federate) as u64;
         match action {
             ResignAction::NoAction => {
@@ -334,7 +376,7 @@ impl Parts {
                 }
             }
             ResignAction::DeleteObjects => {
-                if self.members.next_serial(federate).saturating_add(owned) > MAX_TIME + 1 {
+                if self.members.next_serial(federate).saturating_add(owned) > MAX_SERIAL + 1 {
                     Some(Fault::LimitReached)
                 } else {
                     None

@@ -1,8 +1,9 @@
 //! Registering objects and subscribing their classes: what makes objects known.
 
-ghost use Rattle.std.specs.Prelude.{◌≡◌, ◌<◌, ◌≤◌, ◌||◌, eqb, find, is_some, Some, ℕ, List, [], option_map, map, OnErr, OnOk, IfErr, IfOk};
+ghost use Rattle.std.specs.Prelude.{◌≡◌, ◌<◌, ◌≤◌, ◌||◌, eqb, find, is_some, Some, ℕ, List, [], option_map, map, OnOk, IfErr, IfOk};
 ghost use Rattle.std.specs.Option.{option_map_or};
 ghost use Rattle.hla_base.specs.declared.content.Discovery.{Discovery};
+ghost use Rattle.hla_base.specs.Limits.{max_joins};
 ghost use Rattle.hla_base.specs.declared.fault.Fault.TheVariants.{OutOfMemory};
 ghost use Rattle.hla_fed_file.specs.Lookup.{object_lineage};
 ghost use Rattle.hla_null_message.specs.declared.message.Message.TheVariants as message;
@@ -10,10 +11,10 @@ ghost use Rattle.hla_machine.specs.Directory.{discovery_of, discoveries_of, disc
 ghost use Rattle.hla_machine.specs.declared.service.Service.TheVariants as service;
 ghost use Rattle.hla_machine.specs.declared.step.Step.TheVariants as step;
 ghost use Rattle.hla_object_registry.specs.Registered.{registry_of};
-ghost use Rattle.hla_federation.specs.Discovering.{AreFederates, discovery_to, known_among};
-ghost use Rattle.hla_federation.specs.Sending.{HasAdded, messages_among};
-ghost use Rattle.hla_federation.specs.Soundness.{IsSound};
-ghost use Rattle.hla_federation.specs.State.{state_of, IsWhole, Does, Refuses};
+ghost use Rattle.hla_federation.specs.Steps.Discovering.{AreFederates, discovery_to, known_among};
+ghost use Rattle.hla_federation.specs.Steps.Sending.{HasAdded, messages_among};
+ghost use Rattle.hla_federation.specs.Steps.Soundness.{IsSound, MayCall};
+ghost use Rattle.hla_federation.specs.Steps.State.{state_of, IsWhole, Ends};
 
 use crate::direction::Direction;
 use crate::naming::{copied, default_name};
@@ -84,11 +85,10 @@ impl Parts {
         class: ClassNo,
         name: &Option<List<u8>>,
     ) -> Result<Answer, Fault>
-        requires { IsSound self.old }
+        requires { MayCall self.old federate }
         ensures whole { IsWhole self.new }
-        ensures done { Does self.old (step.Call federate (service.RegisterObjectInstance class name.now)) result self.new }
-        ensures refused { Refuses self.old (step.Call federate (service.RegisterObjectInstance class name.now)) result }
-        ensures unchanged { OnErr result (self.new ≡ self.old) }
+        ensures done { Ends self.old (step.Call federate (service.RegisterObjectInstance class name.now))
+            result self.new }
     {
         if let Some(fault) = self.register_fault(federate, class, name) {
             return Err(fault);
@@ -179,7 +179,7 @@ impl Parts {
     /// Makes each object known to a federate that it is to discover once it subscribes a class too.
     fn make_found_known(&mut self, federate: FederateNo, class: ClassNo)
         requires some { 0 < federate }
-        requires within { federate ≤ 16 }
+        requires within { federate ≤ max_joins }
         ensures same { self.new ≡ record self.old { objects = self.new.objects } }
         ensures known { (attributes : List ℕ) → registry_of self.new.objects ≡ record (registry_of self.old.objects) { known = (discovered_by (with_subscribed (state_of self.old).directory federate class (Some attributes)) federate).known } }
     {
@@ -199,13 +199,12 @@ impl Parts {
         class: ClassNo,
         attributes: &List<AttributeNo>,
     ) -> Result<Answer, Fault>
-        requires { IsSound self.old }
+        requires { MayCall self.old federate }
         ensures whole { IsWhole self.new }
-        ensures done { Does self.old (step.Call federate (service.SubscribeObjectClassAttributes class attributes.now)) result self.new }
-        ensures refused { Refuses self.old (step.Call federate (service.SubscribeObjectClassAttributes class attributes.now)) result }
-        ensures unchanged { OnErr result (self.new ≡ self.old) }
+        ensures done { Ends self.old (step.Call federate (service.SubscribeObjectClassAttributes class attributes.now))
+            result self.new }
     {
-        if let Some(fault) = self.attributes_fault(federate, class, attributes.as_slice()) {
+        if let Some(fault) = self.attributes_fault(class, attributes.as_slice()) {
             return Err(fault);
         }
         let attributes = attributes.copy()?;

@@ -1,4 +1,4 @@
-ghost use Rattle.hla_federation.specs.State.{IsBuiltService};
+ghost use Rattle.hla_federation.specs.Steps.State.{IsBuiltService};
 
 use super::*;
 use hla_base::{Fault, List};

@@ -1,6 +1,6 @@
 //! Sending messages without a stamp.
 
-ghost use Rattle.std.specs.Prelude.{◌≡◌, ◌≤◌, ◌<◌, ◌+◌, ◌&&◌, [], ◌∷◌, ℕ, None, false, true, length, filter, IfOk, IfErr, OnOk, OnErr};
+ghost use Rattle.std.specs.Prelude.{◌≡◌, ◌≤◌, ◌<◌, ◌+◌, ◌&&◌, [], ◌∷◌, ℕ, None, false, true, length, filter, IfOk, IfErr, OnOk};
 ghost use Rattle.hla_base.specs.declared.content.HandleValuePair.{HandleValuePair};
 ghost use Rattle.hla_base.specs.declared.fault.Fault.TheVariants.{OutOfMemory};
 ghost use Rattle.hla_base.specs.Tables.{is_other};
@@ -9,9 +9,9 @@ ghost use Rattle.hla_fed_file.specs.declared.declared.Order.TheVariants.{Receive
 ghost use Rattle.hla_machine.specs.Directory.{AnInteraction, AnUpdate, ADeletion, subscribed_values, values_of_order, part_sent};
 ghost use Rattle.hla_machine.specs.declared.service.Service.TheVariants as service;
 ghost use Rattle.hla_machine.specs.declared.step.Step.TheVariants as step;
-ghost use Rattle.hla_federation.specs.Sending.{HasAdded, message_to, messages_to, plain_event};
-ghost use Rattle.hla_federation.specs.Soundness.{IsSound};
-ghost use Rattle.hla_federation.specs.State.{state_of, IsWhole, Does, Refuses};
+ghost use Rattle.hla_federation.specs.Steps.Sending.{HasAdded, message_to, messages_to, plain_event};
+ghost use Rattle.hla_federation.specs.Steps.Soundness.{MayCall};
+ghost use Rattle.hla_federation.specs.Steps.State.{state_of, IsWhole, Ends};
 
 use crate::outbox::Outbox;
 use crate::pairs::by_handle;
@@ -208,11 +208,10 @@ impl Parts {
         class: ClassNo,
         values: &[HandleValuePair],
     ) -> Result<Answer, Fault>
-        requires { IsSound self.old }
+        requires { MayCall self.old federate }
         ensures whole { IsWhole self.new }
-        ensures done { Does self.old (step.Call federate (service.SendInteraction class values.now None)) result self.new }
-        ensures refused { Refuses self.old (step.Call federate (service.SendInteraction class values.now None)) result }
-        ensures unchanged { OnErr result (self.new ≡ self.old) }
+        ensures done { Ends self.old (step.Call federate (service.SendInteraction class values.now None))
+            result self.new }
     {
         if let Some(fault) = self.send_fault(federate, class, values) {
             return Err(fault);
@@ -233,11 +232,10 @@ impl Parts {
         object: ObjectNo,
         values: &[HandleValuePair],
     ) -> Result<Answer, Fault>
-        requires { IsSound self.old }
+        requires { MayCall self.old federate }
         ensures whole { IsWhole self.new }
-        ensures done { Does self.old (step.Call federate (service.UpdateAttributeValues object values.now None)) result self.new }
-        ensures refused { Refuses self.old (step.Call federate (service.UpdateAttributeValues object values.now None)) result }
-        ensures unchanged { OnErr result (self.new ≡ self.old) }
+        ensures done { Ends self.old (step.Call federate (service.UpdateAttributeValues object values.now None))
+            result self.new }
     {
         if let Some(fault) = self.update_fault(federate, object, values) {
             return Err(fault);
@@ -265,11 +263,10 @@ impl Parts {
         federate: FederateNo,
         object: ObjectNo,
     ) -> Result<Answer, Fault>
-        requires { IsSound self.old }
+        requires { MayCall self.old federate }
         ensures whole { IsWhole self.new }
-        ensures done { Does self.old (step.Call federate (service.DeleteObjectInstance object None)) result self.new }
-        ensures refused { Refuses self.old (step.Call federate (service.DeleteObjectInstance object None)) result }
-        ensures unchanged { OnErr result (self.new ≡ self.old) }
+        ensures done { Ends self.old (step.Call federate (service.DeleteObjectInstance object None))
+            result self.new }
     {
         if let Some(fault) = self.delete_fault(federate, object) {
             return Err(fault);

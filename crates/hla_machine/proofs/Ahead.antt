@@ -20,9 +20,9 @@ use Rattle.hla_machine.specs.declared.step.Outcome.TheVariants as outcome
 use Rattle.hla_machine.specs.declared.step.Choice.{Choice}
 use Rattle.hla_machine.specs.Central.{Central, new_central, Tso}
 use Rattle.hla_machine.specs.Callbacks.{IsCopy, MayPickIn, MayDeliver, MayPickUp, MayGrant, after_delivery, after_pick}
-use Rattle.hla_machine.specs.Machine.{seen, Allowed, after}
+use Rattle.hla_machine.specs.Machine.{central_seen, MayEnd, after}
 use Rattle.hla_machine.specs.Runs.{Happening, IsRun}
-use Rattle.hla_machine.specs.History.{Gives, Brings, Picks, Happens, next_state}
+use Rattle.hla_machine.specs.History.{GivesCallback, Brings, Picks, Happens, next_state}
 use Rattle.hla_machine.specs.Laws.{IsAhead}
 use Rattle.hla_machine.proofs.Tests.{ticker_joined}
 use Rattle.hla_machine.proofs.Keeps.{IsKept}
@@ -35,16 +35,16 @@ pub record Given (c : Central) (h : Happening) (f : ℕ) (k : Callback) : Type 0
   pub may : MayPickUp c f k h.choice
   pub follows : next_state c h ≡ after_pick c f k h.choice
 
-given_parts : (c : Central) (step : Step) (out : Outcome) (o : Choice) (f : ℕ) (k : Callback) → Allowed c step out o → Gives step out f k → (c.directory.joined f ≡ true) × MayPickUp c f k o × (after c step out o ≡ after_pick c f k o)
+given_parts : (c : Central) (step : Step) (out : Outcome) (o : Choice) (f : ℕ) (k : Callback) → MayEnd c step out o → GivesCallback step out f k → (c.directory.joined f ≡ true) × MayPickUp c f k o × (after c step out o ≡ after_pick c f k o)
 given_parts c (Tick g) (outcome.Done (answer.Ticked (Some x))) o f k may gives =
     subst (λ f. (c.directory.joined f ≡ true) × MayPickUp c f k o × (after_pick c g x o ≡ after_pick c f k o)) gives.0
-    (subst (λ k. (c.directory.joined g ≡ true) × MayPickUp c g k o × (after_pick c g x o ≡ after_pick c g k o)) gives.1 (ticker_joined (seen c) g may.0, may.1, refl))
+    (subst (λ k. (c.directory.joined g ≡ true) × MayPickUp c g k o × (after_pick c g x o ≡ after_pick c g k o)) gives.1 (ticker_joined (central_seen c) g may.0, may.1, refl))
 given_parts c (Tick g) (outcome.Failed x) o f k may gives =
     subst (λ f. (c.directory.joined f ≡ true) × MayPickUp c f k o × (after_pick c g x o ≡ after_pick c f k o)) gives.0
-    (subst (λ k. (c.directory.joined g ≡ true) × MayPickUp c g k o × (after_pick c g x o ≡ after_pick c g k o)) gives.1 (ticker_joined (seen c) g may.0, may.1, refl))
+    (subst (λ k. (c.directory.joined g ≡ true) × MayPickUp c g k o × (after_pick c g x o ≡ after_pick c g k o)) gives.1 (ticker_joined (central_seen c) g may.0, may.1, refl))
 given_parts c step out o f k may gives = absurd gives
 
-pub given : (c : Central) (h : Happening) (f : ℕ) (k : Callback) → Allowed c h.step h.outcome h.choice → Gives h.step h.outcome f k → Given c h f k
+pub given : (c : Central) (h : Happening) (f : ℕ) (k : Callback) → MayEnd c h.step h.outcome h.choice → GivesCallback h.step h.outcome f k → Given c h f k
 given c h f k may gives = let p = given_parts c h.step h.outcome h.choice f k may gives in record { member = p.0; may = p.1; follows = p.2 }
 
 -- a pick in time-stamp order
@@ -70,7 +70,7 @@ taken_pick c f (callback.ReceiveInteraction class values event d) e s o may is =
 taken_pick c f (callback.RemoveObjectInstance object event d) e s o may is = taken_delivery c f (content.Removal object) event e d s may is.0 is.1
 taken_pick c f k e s o may is = absurd is
 
-pub taken : (c : Central) (h : Happening) (f : ℕ) (e : EventHandle) (s : ℕ) → Allowed c h.step h.outcome h.choice → Picks h f e s → Taken c (next_state c h) f e s
+pub taken : (c : Central) (h : Happening) (f : ℕ) (e : EventHandle) (s : ℕ) → MayEnd c h.step h.outcome h.choice → Picks h f e s → Taken c (next_state c h) f e s
 taken c h f e s may p = let g = given c h f p.given may p.gives in subst (λ d. Taken c d f e s) (sym g.follows) (taken_pick c f p.given e s h.choice g.may p.brings)
 
 pub pick_ahead : (c d : Central) (f : ℕ) (e : EventHandle) (s : ℕ) → IsKept c → Taken c d f e s → (c.row f).time ≤ s
@@ -170,7 +170,7 @@ pub record Reachable (c : Central) : Type 0 where
   pub kept : IsKept c
   pub timely : (f : ℕ) → Timely (c.row f)
 
-pub reachable_step : (c : Central) (h : Happening) → Allowed c h.step h.outcome h.choice → Reachable c → Reachable (next_state c h)
+pub reachable_step : (c : Central) (h : Happening) → MayEnd c h.step h.outcome h.choice → Reachable c → Reachable (next_state c h)
 reachable_step c h may r = record {
   kept = step_keeps c h.step h.outcome h.choice may r.kept;
   timely = λ f. next_timely c r.kept f (r.timely f) _ _ (step_turn c h.step h.outcome h.choice may r.kept f);
@@ -178,7 +178,7 @@ reachable_step c h may r = record {
 
 pub reachable_run : (c : Central) (hs : List Happening) (d : Central) → IsRun c hs d → Reachable c → Reachable d
 reachable_run c [] d run r = subst Reachable run r
-reachable_run c (h ∷ hs) d run r = reachable_run (next_state c h) hs d run.1 (reachable_step c h run.0 r)
+reachable_run c (h ∷ hs) d run r = reachable_run (next_state c h) hs d run.1 (reachable_step c h run.0.0 r)
 
 pub reachable : (c : Central) (h : Happening) → Happens c h → Reachable c
 reachable c h is = reachable_run (new_central is.catalogue) is.before c is.run (record { kept = start_keeps is.catalogue; timely = λ _. timely_new })
@@ -187,7 +187,7 @@ pub run_ahead : (c : Central) (h : Happening) (f : ℕ) → Happens c h → IsAh
 run_ahead c h f is =
     let r = reachable c h is in
     record {
-      picks = λ e s p. pick_ahead c (next_state c h) f e s r.kept (taken c h f e s is.allowed p);
-      grants = λ v g. let w = (given c h f (callback.TimeAdvanceGrant v) is.allowed g).may in granted_ahead c r.kept f (r.timely f) w.0 v w.1 w.2;
-      time = λ was now. time_grows c r.kept f (r.timely f) _ _ (step_turn c h.step h.outcome h.choice is.allowed r.kept f) was now;
+      picks = λ e s p. pick_ahead c (next_state c h) f e s r.kept (taken c h f e s is.allowed.0 p);
+      grants = λ v g. let w = (given c h f (callback.TimeAdvanceGrant v) is.allowed.0 g).may in granted_ahead c r.kept f (r.timely f) w.0 v w.1 w.2;
+      time = λ was now. time_grows c r.kept f (r.timely f) _ _ (step_turn c h.step h.outcome h.choice is.allowed.0 r.kept f) was now;
     }

@@ -26,11 +26,11 @@ use Rattle.hla_machine.specs.declared.step.Choice.TheVariants as choice
 use Rattle.hla_machine.specs.Directory.{Outgoing, deletion_sent, deletions_sent, objects_of, update_sent, interaction_sent}
 use Rattle.hla_machine.specs.Central.{Central, Copy, Ro, Tso, Demoted, SentEvent, at_key, is_key, with_copies, demoted}
 use Rattle.hla_machine.specs.Callbacks.{IsCopy, MayDeliver, MayPickUp, is_among, with_demoted, after_delivery, after_constraint, after_pick}
-use Rattle.hla_machine.specs.Sends.{sent_one, sent_all, copy_for}
+use Rattle.hla_machine.specs.Sends.{after_message, after_messages, copy_for}
 use Rattle.hla_machine.specs.Refusals.{refusal}
-use Rattle.hla_machine.specs.Machine.{seen, MayCarry, MayDo, Allowed, left_by, after_enter, after_cease, after_call, arrived, after_carry, after_done, after}
-use Rattle.hla_machine.specs.History.{Gives, Brings}
-use Rattle.hla_machine.proofs.Tables.{by_number, upd_same, upd_other}
+use Rattle.hla_machine.specs.Machine.{central_seen, MayCarry, MayDo, MayEnd, after_leaving, after_enter, after_cease, after_call, after_arrival, after_carry, after_done, after}
+use Rattle.hla_machine.specs.History.{GivesCallback, Brings}
+use Rattle.hla_base.proofs.Tables.{by_number, upd_same, upd_other}
 use Rattle.hla_machine.proofs.Tests.{caller_joined}
 use Rattle.hla_machine.proofs.Keeps.{IsKept}
 
@@ -63,9 +63,9 @@ handle_is : (e : EventHandle) (g m : ℕ) → e.sender ≡ g → e.serial ≡ m 
 handle_is e g m e1 e2 = subst (λ m. e ≡ record { sender = g; serial = m }) e2 (subst (λ g. e ≡ record { sender = g; serial = e.serial }) e1 refl)
 
 module _ (g m f : ℕ) (k : Copy) (tso : k.order ≡ Tso) where
-  sends_stay : (c : Central) (a : ℕ) (stamp : Option ℕ) (outs : List Outgoing) → m < c.serial g → c.bag g m f ≡ Some k → (sent_all c a stamp outs).bag g m f ≡ Some k
+  sends_stay : (c : Central) (a : ℕ) (stamp : Option ℕ) (outs : List Outgoing) → m < c.serial g → c.bag g m f ≡ Some k → (after_messages c a stamp outs).bag g m f ≡ Some k
   sends_stay c a stamp [] low is = is
-  sends_stay c a stamp (out ∷ outs) low is = sends_stay (sent_one c a stamp out) a stamp outs
+  sends_stay c a stamp (out ∷ outs) low is = sends_stay (after_message c a stamp out) a stamp outs
       (le_trans low (by_number a (λ g. c.serial g ≤ upd c.serial a (c.serial a + 1) g) (rw upd_same (omega arith)) (λ g ne. rw upd_other (omega arith)) g))
       (copies_stay c.directory.joined c.bag a (c.serial a) (copy_for c.directory (c.row a) stamp out) g m f (λ e e2. let l : m < c.serial a = subst (λ g. m < c.serial g) (sym e) low in omega arith) ∙ is)
 
@@ -81,7 +81,7 @@ module _ (g m f : ℕ) (k : Copy) (tso : k.order ≡ Tso) where
     low : m < c.serial g
     low = kept.unused g m f k is tso
 
-    left_fate : (b : Central) (a : ℕ) → c.directory.joined a ≡ true → b.bag g m f ≡ Some k → Fate (left_by b a)
+    left_fate : (b : Central) (a : ℕ) → c.directory.joined a ≡ true → b.bag g m f ≡ Some k → Fate (after_leaving b a)
     left_fate b a member was = ⊎_elim
         (λ (e : a ≡ f). Out (subst (λ a. c.directory.joined a ≡ true) e member) (subst (λ a. upd b.directory.joined a false f ≡ false) (sym e) (upd_same b.directory.joined f false)))
         (λ (ne : a ≢ f). Stays (upd_other (b.bag g m) a None f ne ∙ was))
@@ -102,7 +102,7 @@ module _ (g m f : ℕ) (k : Copy) (tso : k.order ≡ Tso) where
     cease_fate a o = Stays is
 
     call_fate : (a : ℕ) (s : Service) (o : Choice) → c.directory.joined a ≡ true → Fate (after_call c a s o)
-    call_fate a (service.Resign DeleteObjects) o member = let outs = deletions_sent (objects_of c.directory a) in left_fate (sent_all c a None outs) a member (sends_stay c a None outs low is)
+    call_fate a (service.Resign DeleteObjects) o member = let outs = deletions_sent (objects_of c.directory a) in left_fate (after_messages c a None outs) a member (sends_stay c a None outs low is)
     call_fate a (service.Resign NoAction) o member = left_fate c a member is
     call_fate a (service.UpdateAttributeValues object values stamp) o member = Stays (sends_stay c a stamp (update_sent c.directory object values) low is)
     call_fate a (service.SendInteraction class values stamp) o member = Stays (sends_stay c a stamp (interaction_sent c.directory class values) low is)
@@ -111,7 +111,7 @@ module _ (g m f : ℕ) (k : Copy) (tso : k.order ≡ Tso) where
     call_fate a service.DisableTimeConstrained o member = cease_fate a o
     call_fate a s o member = Stays is
 
-    arrived_fate : (a b n : ℕ) → Fate (arrived c a b n)
+    arrived_fate : (a b n : ℕ) → Fate (after_arrival c a b n)
     arrived_fate a b n = ⊎_elim (λ s. Stays s) (λ s. Moves s)
         (cond_both (is_disabled (c.row b).constrained) (at_key c.bag a n b (option_map demoted (c.bag a n b))) c.bag (λ (to : ℕ → ℕ → ℕ → Option Copy). (to g m f ≡ Some k) ⊎ (to g m f ≡ Some (demoted k)))
         (λ _. ⊎_elim
@@ -171,13 +171,13 @@ module _ (g m f : ℕ) (k : Copy) (tso : k.order ≡ Tso) where
       pick_fate x o may gives = Stays is
 
   module _ (c : Central) (kept : IsKept c) (owing : Owing c.sent c.owed) (is : c.bag g m f ≡ Some k) where
-    done_fate : (step : Step) (a : Answer) (o : Choice) → refusal (seen c) step ≡ None → MayDo c step a o → Fate c kept owing is (Gives step (outcome.Done a) f) (after_done c step a o)
-    done_fate (Call b s) a o none may = call_fate c kept owing is (Gives (Call b s) (outcome.Done a) f) b s o (caller_joined (seen c) b s none)
-    done_fate (Carry from to) (answer.Carried x) o none may = carry_fate c kept owing is (Gives (Carry from to) (outcome.Done (answer.Carried x)) f) from to x may
-    done_fate (Tick b) (answer.Ticked (Some x)) o none may = pick_fate c kept owing is (Gives (Tick b) (outcome.Done (answer.Ticked (Some x))) f) b x o may (λ e. (e, refl))
+    done_fate : (step : Step) (a : Answer) (o : Choice) → refusal (central_seen c) step ≡ None → MayDo c step a o → Fate c kept owing is (GivesCallback step (outcome.Done a) f) (after_done c step a o)
+    done_fate (Call b s) a o none may = call_fate c kept owing is (GivesCallback (Call b s) (outcome.Done a) f) b s o (caller_joined (central_seen c) b s none)
+    done_fate (Carry from to) (answer.Carried x) o none may = carry_fate c kept owing is (GivesCallback (Carry from to) (outcome.Done (answer.Carried x)) f) from to x may
+    done_fate (Tick b) (answer.Ticked (Some x)) o none may = pick_fate c kept owing is (GivesCallback (Tick b) (outcome.Done (answer.Ticked (Some x))) f) b x o may (λ e. (e, refl))
     done_fate step a o none may = Stays is
 
-    pub step_fate : (step : Step) (out : Outcome) (o : Choice) → Allowed c step out o → Fate c kept owing is (Gives step out f) (after c step out o)
+    pub step_fate : (step : Step) (out : Outcome) (o : Choice) → MayEnd c step out o → Fate c kept owing is (GivesCallback step out f) (after c step out o)
     step_fate step (outcome.Done a) o may = done_fate step a o may.0 may.1
-    step_fate (Tick b) (outcome.Failed x) o may = pick_fate c kept owing is (Gives (Tick b) (outcome.Failed x) f) b x o may.1 (λ e. (e, refl))
+    step_fate (Tick b) (outcome.Failed x) o may = pick_fate c kept owing is (GivesCallback (Tick b) (outcome.Failed x) f) b x o may.1 (λ e. (e, refl))
     step_fate step out o may = Stays is

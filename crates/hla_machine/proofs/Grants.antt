@@ -7,9 +7,9 @@ use Rattle.hla_base.specs.Rows.{is_constrained, is_flush}
 use Rattle.hla_callbacks.specs.declared.callback.Callback.TheVariants as callback
 use Rattle.hla_machine.specs.Central.{Central, new_central, Copy, Tso, reach}
 use Rattle.hla_machine.specs.Callbacks.{IsCopy, MayGrant}
-use Rattle.hla_machine.specs.Machine.{Allowed}
+use Rattle.hla_machine.specs.Machine.{MayEnd}
 use Rattle.hla_machine.specs.Runs.{Happening, IsRun}
-use Rattle.hla_machine.specs.History.{Gives, IsGranted, IsPickedOrMoved, WaitsInOrder, HappensLater, next_state}
+use Rattle.hla_machine.specs.History.{GivesCallback, IsGranted, IsPickedOrMoved, WaitsInOrder, HappensLater, next_state}
 use Rattle.hla_machine.proofs.Rows.{flush_not_strict}
 use Rattle.hla_machine.proofs.Keeps.{IsKept}
 use Rattle.hla_machine.proofs.Runs.{step_keeps, start_keeps}
@@ -22,16 +22,16 @@ pub record Whole (c : Central) : Type 0 where
   pub kept : IsKept c
   pub sound : IsSound c
 
-whole_step : (c : Central) (h : Happening) → Allowed c h.step h.outcome h.choice → Whole c → Whole (next_state c h)
+whole_step : (c : Central) (h : Happening) → MayEnd c h.step h.outcome h.choice → Whole c → Whole (next_state c h)
 whole_step c h may w = record { kept = step_keeps c h.step h.outcome h.choice may w.kept; sound = (step_onward c h.step h.outcome h.choice may w.sound).kept }
 
 whole_run : (c : Central) (hs : List Happening) (d : Central) → IsRun c hs d → Whole c → Whole d
 whole_run c [] d run w = subst Whole run w
-whole_run c (h ∷ hs) d run w = whole_run (next_state c h) hs d run.1 (whole_step c h run.0 w)
+whole_run c (h ∷ hs) d run w = whole_run (next_state c h) hs d run.1 (whole_step c h run.0.0 w)
 
 retracted_run : (c : Central) (hs : List Happening) (d : Central) → IsRun c hs d → Whole c → (g m : ℕ) → (c.sent g m).retracted ≡ true → (d.sent g m).retracted ≡ true
 retracted_run c [] d run w g m e = subst (λ (c : Central). (c.sent g m).retracted ≡ true) run e
-retracted_run c (h ∷ hs) d run w g m e = retracted_run (next_state c h) hs d run.1 (whole_step c h run.0 w) g m ((step_onward c h.step h.outcome h.choice run.0 w.sound).stays g m e)
+retracted_run c (h ∷ hs) d run w g m e = retracted_run (next_state c h) hs d run.1 (whole_step c h run.0.0 w) g m ((step_onward c h.step h.outcome h.choice run.0.0 w.sound).stays g m e)
 
 not_true : (b : Bool) → ((b ≡ true) → ⊥) → b ≡ false
 not_true true h = absurd (h refl)
@@ -40,8 +40,8 @@ not_true false h = refl
 out_run : (c : Central) (hs : List Happening) (d : Central) → IsRun c hs d → Whole c → (f : ℕ) → f < c.directory.next_federate → c.directory.joined f ≡ false → d.directory.joined f ≡ false
 out_run c [] d run w f low out = subst (λ (c : Central). c.directory.joined f ≡ false) run out
 out_run c (h ∷ hs) d run w f low out =
-    let ch = step_change c h.step h.outcome h.choice run.0 w.kept in
-    out_run (next_state c h) hs d run.1 (whole_step c h run.0 w) f (le_trans low ch.joins.up) (not_true ((next_state c h).directory.joined f) (λ j. let e = ch.joins.old f low j in cc))
+    let ch = step_change c h.step h.outcome h.choice run.0.0 w.kept in
+    out_run (next_state c h) hs d run.1 (whole_step c h run.0.0 w) f (le_trans low ch.joins.up) (not_true ((next_state c h).directory.joined f) (λ j. let e = ch.joins.old f low j in cc))
 
 -- the copy waits still, or has gone
 abbrev Gone : Central → List Happening → Central → ℕ → EventHandle → Copy → Type 0
@@ -56,13 +56,13 @@ gone_later c h hs d f e k (inr (inr (inr p))) = inr (inr (inr (inr (inr p))))
 gone_run : (c : Central) (hs : List Happening) (d : Central) (f : ℕ) (e : EventHandle) (k : Copy) → IsRun c hs d → Whole c → IsCopy c f e k → k.order ≡ Tso → Gone c hs d f e k
 gone_run c [] d f e k run w is tso = inl (subst (λ (c : Central). IsCopy c f e k) run is)
 gone_run c (h ∷ hs) d f e k run w is tso =
-    by_fate (λ stays. gone_run (next_state c h) hs d f e k run.1 (whole_step c h run.0 w) stays tso) (step_fate e.sender e.serial f k tso c w.kept w.sound.owes is h.step h.outcome h.choice run.0)
+    by_fate (λ stays. gone_run (next_state c h) hs d f e k run.1 (whole_step c h run.0.0 w) stays tso) (step_fate e.sender e.serial f k tso c w.kept w.sound.owes is h.step h.outcome h.choice run.0.0)
   where
-    by_fate : (IsCopy (next_state c h) f e k → Gone (next_state c h) hs d f e k) → Fate e.sender e.serial f k tso c w.kept w.sound.owes is (Gives h.step h.outcome f) (next_state c h) → Gone c (h ∷ hs) d f e k
+    by_fate : (IsCopy (next_state c h) f e k → Gone (next_state c h) hs d f e k) → Fate e.sender e.serial f k tso c w.kept w.sound.owes is (GivesCallback h.step h.outcome f) (next_state c h) → Gone c (h ∷ hs) d f e k
     by_fate later (Stays stays) = gone_later c h hs d f e k (later stays)
     by_fate later (Moves moves) = inr (inr (inr (inr (inl (k, is, tso, refl, moves)))))
     by_fate later (Back r) = inr (inl (retracted_run c (h ∷ hs) d run w e.sender e.serial r))
-    by_fate later (Out was out) = inr (inr (inl (out_run (next_state c h) hs d run.1 (whole_step c h run.0 w) f (le_trans (w.kept.members f was) (step_change c h.step h.outcome h.choice run.0 w.kept).joins.up) out)))
+    by_fate later (Out was out) = inr (inr (inl (out_run (next_state c h) hs d run.1 (whole_step c h run.0.0 w) f (le_trans (w.kept.members f was) (step_change c h.step h.outcome h.choice run.0.0 w.kept).joins.up) out)))
     by_fate later (Taken x gives brings) = inr (inr (inr (inl (record { given = x; gives = gives; brings = brings }))))
 
 -- what waits at a grant is not before it
@@ -79,7 +79,7 @@ grant_after_all c between d h f t q e s later grants con asks waits low =
     let start : Whole (new_central later.catalogue) = record { kept = start_keeps later.catalogue; sound = sound_start later.catalogue } in
     let w = whole_run (new_central later.catalogue) later.before c later.start start in
     let k = waits.0 in
-    let g = given d h f (callback.TimeAdvanceGrant t) later.allowed grants in
+    let g = given d h f (callback.TimeAdvanceGrant t) later.allowed.0 grants in
     let may = g.may in
     let same : may.0 ≡ q = (let both : Some may.0 ≡ Some q = sym may.1 ∙ asks in cc) in
     let grant : MayGrant d f t q = subst (λ (q : AdvanceRequest). MayGrant d f t q) same may.2 in

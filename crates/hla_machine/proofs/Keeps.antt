@@ -1,18 +1,19 @@
 -- What the machine's state keeps, by the kinds of change
 use Rattle.std.proofs.Common.{◌≡◌, ◌≢◌, ◌⊎◌, ℕ, ◌+◌, ◌≤◌, ◌<◌, max, cond, eqb, not, ◌&&◌, Bool, true, false, refl, sym, le_trans, subst, inl, inr, ⊎_elim, arith, eqb-true, eq-eqb, List, Option, Some, None, option_map, unwrap_or}
 use Rattle.std.proofs.lemmas.Bool.{cases_eq, cases_lt, and_parts, cases_Bool}
+use Rattle.hla_base.specs.Limits.{forever}
 use Rattle.hla_base.specs.declared.content.Content.{Content}
 use Rattle.hla_base.specs.declared.number.EventHandle.{EventHandle}
 use Rattle.hla_base.specs.declared.row.TimeRow.{TimeRow}
-use Rattle.hla_base.specs.Tables.{forever, upd, is_other, or_else, when}
+use Rattle.hla_base.specs.Tables.{upd, is_other, or_else, when}
 use Rattle.hla_base.specs.Rows.{is_regulator, is_constrained, is_enabled, is_disabled, least_stamp}
 use Rattle.hla_base.specs.declared.row.Role.{Role}
 use Rattle.hla_base.specs.declared.row.Role.TheVariants.{Disabled, Pending, Enabled}
 use Rattle.hla_machine.specs.Directory.{Outgoing, content_for}
 use Rattle.hla_machine.specs.Central.{Central, Copy, CopyOrder, Ro, Tso, Demoted, SentEvent, BelowTso, BelowOut, with_copies, is_key, at_key, demoted_order, demoted}
 use Rattle.hla_machine.specs.Callbacks.{with_demoted, is_among}
-use Rattle.hla_machine.specs.Sends.{is_ordered, kept_stamp, copy_for, sent_one}
-use Rattle.hla_machine.proofs.Tables.{by_number, upd_same, upd_other, upd_each, upd2_other}
+use Rattle.hla_machine.specs.Sends.{is_ordered, kept_stamp, copy_for, after_message}
+use Rattle.hla_base.proofs.Tables.{by_number, upd_same, upd_other, upd_each, upd2_other}
 use Rattle.hla_machine.proofs.Rows.{RowLaw, out_least, bar_least, out_low, out_idle}
 
 abbrev pub Bag : Type 0
@@ -188,7 +189,7 @@ copy_high c f stamp out g k high is tso = by_content (content_for c.directory ou
 
 module _ (c : Central) (f : ℕ) (stamp : Option ℕ) (out : Outgoing) (k : IsKept c) (high : is_ordered (c.row f) stamp out ≡ true → least_stamp (c.row f) ≤ unwrap_or stamp 0) where
   abbrev d : Central
-  d = sent_one c f stamp out
+  d = after_message c f stamp out
 
   -- where a copy has come, it is at or above the bar of each constrained federate; another one is as before
   pub new_or_old : (g h m : ℕ) (x : Copy) → d.bag h m g ≡ Some x → (d.sent h m).retracted ≡ false → x.order ≡ Tso

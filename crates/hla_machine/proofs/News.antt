@@ -23,10 +23,10 @@ use Rattle.hla_machine.specs.declared.step.Choice.TheVariants as choice
 use Rattle.hla_machine.specs.Directory.{Outgoing, deletion_sent, deletions_sent, objects_of, update_sent, interaction_sent}
 use Rattle.hla_machine.specs.Central.{Central, Copy, Tso, SentEvent, at_key, demoted}
 use Rattle.hla_machine.specs.Callbacks.{with_demoted, after_delivery, after_constraint, after_pick}
-use Rattle.hla_machine.specs.Sends.{sent_one, sent_all}
+use Rattle.hla_machine.specs.Sends.{after_message, after_messages}
 use Rattle.hla_machine.specs.Refusals.{refusal}
-use Rattle.hla_machine.specs.Machine.{seen, MayAnswer, MayDo, Allowed, left_by, joined_by, after_retract, after_enter, after_cease, after_call, after_carry, after_done, after}
-use Rattle.hla_machine.proofs.Tables.{upd_each, upd2_each}
+use Rattle.hla_machine.specs.Machine.{central_seen, MayAnswer, MayDo, MayEnd, after_leaving, joined_by, after_retract, after_enter, after_cease, after_call, after_carry, after_done, after}
+use Rattle.hla_base.proofs.Tables.{upd_each, upd2_each}
 use Rattle.hla_machine.proofs.Tests.{clear_call}
 use Rattle.hla_machine.proofs.Keeps.{IsKept, NoMore, fewer_removed, fewer_demoted, fewer_moved, keeps_sent, new_or_old}
 use Rattle.hla_machine.proofs.Services.{EachHigh, unordered, high_stamps, left_fewer, same_bag}
@@ -60,28 +60,28 @@ calm c d n e = record { news = n; joins = same_joins c d e }
 fewer_change : (c : Central) (to : ℕ → ℕ → ℕ → Option Copy) → NoMore to c.bag → News c (record c { bag = to })
 fewer_change c to fewer f g m k is live tso = inr (fewer g m f k is tso, live)
 
-sends_news : (c : Central) (f : ℕ) (stamp : Option ℕ) (outs : List Outgoing) → EachHigh (c.row f) stamp outs → IsKept c → News c (sent_all c f stamp outs)
+sends_news : (c : Central) (f : ℕ) (stamp : Option ℕ) (outs : List Outgoing) → EachHigh (c.row f) stamp outs → IsKept c → News c (after_messages c f stamp outs)
 sends_news c f stamp [] high k = no_news c
 sends_news c f stamp (out ∷ outs) high k = λ l g m x is live tso. ⊎_elim
     (λ (new : is_constrained (c.row l) ≡ true → (c.row l).bar ≤ x.stamp). inl new)
-    (λ (old : ((sent_one c f stamp out).bag g m l ≡ Some x) × (((sent_one c f stamp out).sent g m).retracted ≡ false)). ⊎_elim
+    (λ (old : ((after_message c f stamp out).bag g m l ≡ Some x) × (((after_message c f stamp out).sent g m).retracted ≡ false)). ⊎_elim
     (λ (above : (l : ℕ) → is_constrained (c.row l) ≡ true → (c.row l).bar ≤ x.stamp). inl (above l))
     (λ (was : (c.bag g m l ≡ Some x) × ((c.sent g m).retracted ≡ false)). inr was)
     (new_or_old c f stamp out k high.0 l g m x old.0 old.1 tso))
-    (sends_news (sent_one c f stamp out) f stamp outs high.1 (keeps_sent c f stamp out k high.0) l g m x is live tso)
+    (sends_news (after_message c f stamp out) f stamp outs high.1 (keeps_sent c f stamp out k high.0) l g m x is live tso)
 
-sent_next : (c : Central) (f : ℕ) (stamp : Option ℕ) (outs : List Outgoing) → (sent_all c f stamp outs).directory.next_federate ≡ c.directory.next_federate
+sent_next : (c : Central) (f : ℕ) (stamp : Option ℕ) (outs : List Outgoing) → (after_messages c f stamp outs).directory.next_federate ≡ c.directory.next_federate
 sent_next c f stamp [] = refl
-sent_next c f stamp (out ∷ outs) = sent_next (sent_one c f stamp out) f stamp outs
+sent_next c f stamp (out ∷ outs) = sent_next (after_message c f stamp out) f stamp outs
 
-sent_joined : (c : Central) (f : ℕ) (stamp : Option ℕ) (outs : List Outgoing) → (sent_all c f stamp outs).directory.joined ≡ c.directory.joined
+sent_joined : (c : Central) (f : ℕ) (stamp : Option ℕ) (outs : List Outgoing) → (after_messages c f stamp outs).directory.joined ≡ c.directory.joined
 sent_joined c f stamp [] = refl
-sent_joined c f stamp (out ∷ outs) = sent_joined (sent_one c f stamp out) f stamp outs
+sent_joined c f stamp (out ∷ outs) = sent_joined (after_message c f stamp out) f stamp outs
 
-sends_change : (c : Central) (f : ℕ) (stamp : Option ℕ) (outs : List Outgoing) → EachHigh (c.row f) stamp outs → IsKept c → Change c (sent_all c f stamp outs)
-sends_change c f stamp outs high k = calm c (sent_all c f stamp outs) (sends_news c f stamp outs high k) (sent_next c f stamp outs, sent_joined c f stamp outs)
+sends_change : (c : Central) (f : ℕ) (stamp : Option ℕ) (outs : List Outgoing) → EachHigh (c.row f) stamp outs → IsKept c → Change c (after_messages c f stamp outs)
+sends_change c f stamp outs high k = calm c (after_messages c f stamp outs) (sends_news c f stamp outs high k) (sent_next c f stamp outs, sent_joined c f stamp outs)
 
-left_change : (c b : Central) (f : ℕ) → Change c b → Change c (left_by b f)
+left_change : (c b : Central) (f : ℕ) → Change c b → Change c (after_leaving b f)
 left_change c b f ch = record {
   news = λ l g m k is live tso. ch.news l g m k (left_fewer b f g m l k is tso) live tso;
   joins = record { up = ch.joins.up; old = λ l low j. ch.joins.old l low (upd_each b.directory.joined f false (λ l x. x ≡ true → b.directory.joined l ≡ true) (λ e. absurd (cc)) (λ l ne e. e) l j) };
@@ -104,14 +104,14 @@ cease_change : (c : Central) (f : ℕ) (o : Choice) → Change c (after_cease c 
 cease_change c f (choice.Moved events) = calm c _ (fewer_change c (with_demoted c.bag f events) (fewer_moved c.bag f events)) (refl, refl)
 cease_change c f o = calm c _ (no_news c) (refl, refl)
 
-call_change : (c : Central) (f : ℕ) (s : Service) (a : Answer) (o : Choice) → refusal (seen c) (Call f s) ≡ None → MayAnswer c f s a o → IsKept c → Change c (after_call c f s o)
-call_change c f (service.Resign DeleteObjects) a o none may k = let outs = deletions_sent (objects_of c.directory f) in left_change c (sent_all c f None outs) f (sends_change c f None outs (unordered (c.row f) outs) k)
+call_change : (c : Central) (f : ℕ) (s : Service) (a : Answer) (o : Choice) → refusal (central_seen c) (Call f s) ≡ None → MayAnswer c f s a o → IsKept c → Change c (after_call c f s o)
+call_change c f (service.Resign DeleteObjects) a o none may k = let outs = deletions_sent (objects_of c.directory f) in left_change c (after_messages c f None outs) f (sends_change c f None outs (unordered (c.row f) outs) k)
 call_change c f (service.Resign NoAction) a o none may k = left_change c c f (calm c c (no_news c) (refl, refl))
-call_change c f (service.UpdateAttributeValues object values stamp) a o none may k = let x = clear_call (seen c) f (service.UpdateAttributeValues object values stamp) none in let outs = update_sent c.directory object values in
+call_change c f (service.UpdateAttributeValues object values stamp) a o none may k = let x = clear_call (central_seen c) f (service.UpdateAttributeValues object values stamp) none in let outs = update_sent c.directory object values in
     let x1 = x.1 in let x2 = x1.1 in let x3 = x2.1 in let x4 = x3.1 in sends_change c f stamp outs (high_stamps (c.row f) stamp outs x4.0) k
-call_change c f (service.SendInteraction class values stamp) a o none may k = let x = clear_call (seen c) f (service.SendInteraction class values stamp) none in let outs = interaction_sent c.directory class values in
+call_change c f (service.SendInteraction class values stamp) a o none may k = let x = clear_call (central_seen c) f (service.SendInteraction class values stamp) none in let outs = interaction_sent c.directory class values in
     let x1 = x.1 in let x2 = x1.1 in let x3 = x2.1 in sends_change c f stamp outs (high_stamps (c.row f) stamp outs x3.0) k
-call_change c f (service.DeleteObjectInstance object stamp) a o none may k = let x = clear_call (seen c) f (service.DeleteObjectInstance object stamp) none in let outs = deletion_sent c.directory object in
+call_change c f (service.DeleteObjectInstance object stamp) a o none may k = let x = clear_call (central_seen c) f (service.DeleteObjectInstance object stamp) none in let outs = deletion_sent c.directory object in
     let x1 = x.1 in let x2 = x1.1 in let ch = sends_change c f stamp outs (high_stamps (c.row f) stamp outs x2.0) k in record { news = ch.news; joins = record { up = ch.joins.up; old = ch.joins.old } }
 call_change c f (service.Retract event) a o none may k = calm c _ (retract_news c f event.serial) (refl, refl)
 call_change c f (service.EnableTimeRegulation time lookahead) a o none may k = enter_change c f lookahead o
@@ -143,14 +143,14 @@ pick_change c f (callback.RemoveObjectInstance object event d) o = deliver_chang
 pick_change c f (callback.TimeConstrainedEnabled time) o = constrain_change c f o
 pick_change c f x o = calm c _ (no_news c) (refl, refl)
 
-done_change : (c : Central) (step : Step) (a : Answer) (o : Choice) → refusal (seen c) step ≡ None → MayDo c step a o → IsKept c → Change c (after_done c step a o)
+done_change : (c : Central) (step : Step) (a : Answer) (o : Choice) → refusal (central_seen c) step ≡ None → MayDo c step a o → IsKept c → Change c (after_done c step a o)
 done_change c (Join name) a o none may k = join_change c name
 done_change c (Call f s) a o none may k = call_change c f s a o none may k
 done_change c (Carry from to) (answer.Carried x) o none may k = carry_change c from to x
 done_change c (Tick f) (answer.Ticked (Some x)) o none may k = pick_change c f x o
 done_change c step a o none may k = calm c c (no_news c) (refl, refl)
 
-pub step_change : (c : Central) (step : Step) (out : Outcome) (o : Choice) → Allowed c step out o → IsKept c → Change c (after c step out o)
+pub step_change : (c : Central) (step : Step) (out : Outcome) (o : Choice) → MayEnd c step out o → IsKept c → Change c (after c step out o)
 step_change c step (outcome.Done a) o may k = done_change c step a o may.0 may.1 k
 step_change c (Tick f) (outcome.Failed x) o may k = pick_change c f x o
 step_change c step out o may k = calm c c (no_news c) (refl, refl)

@@ -9,10 +9,10 @@ use Rattle.hla_base.specs.Tables.{or_else}
 use Rattle.hla_base.specs.Rows.{is_strict, is_next, is_flush, is_constrained, is_advancing, is_none_of, picked, bar_after, first_or}
 use Rattle.hla_machine.specs.Central.{Central, Copy, Tso, reach, at_key, KeyLe}
 use Rattle.hla_machine.specs.Callbacks.{MayPick, row_after}
-use Rattle.hla_machine.specs.Machine.{Allowed}
+use Rattle.hla_machine.specs.Machine.{MayEnd}
 use Rattle.hla_machine.specs.Runs.{Happening, IsRun}
 use Rattle.hla_machine.specs.History.{Picks, HappenAfter, IsInNoFlush, IsInStrict, IsInOneAdvance, IsBefore, next_state}
-use Rattle.hla_machine.proofs.Tables.{upd_same}
+use Rattle.hla_base.proofs.Tables.{upd_same}
 use Rattle.hla_machine.proofs.Rows.{le_reach}
 use Rattle.hla_machine.proofs.Keeps.{IsKept, fewer_removed}
 use Rattle.hla_machine.proofs.Runs.{row_after_is}
@@ -108,7 +108,7 @@ module _ (f s v : ℕ) (P : ℕ → ℕ → ℕ → Type 0) (from : (g m x : ℕ
           and_first true b h = refl
           and_first false b h = absurd (cc)
 
-  pub within_step : (c : Central) (h : Happening) → Allowed c h.step h.outcome h.choice → IsKept c → Within c → Later (next_state c h)
+  pub within_step : (c : Central) (h : Happening) → MayEnd c h.step h.outcome h.choice → IsKept c → Within c → Later (next_state c h)
   within_step c h may k w = within_turn c (next_state c h) k (step_change c h.step h.outcome h.choice may k) w (k.constrained f w.constrained) (step_turn c h.step h.outcome h.choice may k f)
 
   phase_later : (c : Central) → Later c → Phase c
@@ -123,7 +123,7 @@ module _ (f s v : ℕ) (P : ℕ → ℕ → ℕ → Type 0) (from : (g m x : ℕ
   gone_step : (c d : Central) → Change c d → c.directory.joined f ≡ false → f < c.directory.next_federate → Phase d
   gone_step c d ch out low = Gone (not_both (d.directory.joined f) (λ j. let e = ch.joins.old f low j in cc)) (le_trans low ch.joins.up)
 
-  phase_step : (c : Central) (h : Happening) → Allowed c h.step h.outcome h.choice → Reachable c → Phase c → f < c.directory.next_federate → Phase (next_state c h)
+  phase_step : (c : Central) (h : Happening) → MayEnd c h.step h.outcome h.choice → Reachable c → Phase c → f < c.directory.next_federate → Phase (next_state c h)
   phase_step c h may r (Gone out low) _ = gone_step c (next_state c h) (step_change c h.step h.outcome h.choice may r.kept) out low
   phase_step c h may r (Past l) low = ⊎_elim
       (λ (was : c.directory.joined f ≡ true). ⊎_elim
@@ -137,11 +137,11 @@ module _ (f s v : ℕ) (P : ℕ → ℕ → ℕ → Type 0) (from : (g m x : ℕ
   pub phase_run : (c : Central) (hs : List Happening) (d : Central) → IsRun c hs d → Reachable c → f < c.directory.next_federate → Phase c → Phase d
   phase_run c [] d run r low p = subst Phase run p
   phase_run c (h ∷ hs) d run r low p =
-      phase_run (next_state c h) hs d run.1 (reachable_step c h run.0 r) (le_trans low (step_change c h.step h.outcome h.choice run.0 r.kept).joins.up) (phase_step c h run.0 r p low)
+      phase_run (next_state c h) hs d run.1 (reachable_step c h run.0.0 r) (le_trans low (step_change c h.step h.outcome h.choice run.0.0 r.kept).joins.up) (phase_step c h run.0.0 r p low)
 
   pub later_run : (c : Central) (hs : List Happening) (d : Central) → IsRun c hs d → Reachable c → IsInOneAdvance c hs f → Within c → (Within d) ⊎ (d.directory.joined f ≡ false)
   later_run c [] d run r one w = inl (subst Within run w)
-  later_run c (h ∷ hs) d run r one w = after_one (later_run (next_state c h) hs d run.1 (reachable_step c h run.0 r) one.1) (within_step c h run.0 r.kept w)
+  later_run c (h ∷ hs) d run r one w = after_one (later_run (next_state c h) hs d run.1 (reachable_step c h run.0.0 r) one.1) (within_step c h run.0.0 r.kept w)
     where
       not_idle : (o : Option AdvanceRequest) → not (is_none_of o) ≡ true → o ≡ None → ⊥
       not_idle None e i = absurd (cc)
@@ -154,11 +154,11 @@ module _ (f s v : ℕ) (P : ℕ → ℕ → ℕ → Type 0) (from : (g m x : ℕ
       idle_out : (c : Central) (hs : List Happening) (d : Central) → IsRun c hs d → Reachable c → c.directory.joined f ≡ false → f < c.directory.next_federate → d.directory.joined f ≡ false
       idle_out c [] d run r out low = subst (λ (c : Central). c.directory.joined f ≡ false) run out
       idle_out c (h ∷ hs) d run r out low =
-          let ch = step_change c h.step h.outcome h.choice run.0 r.kept in
-          idle_out (next_state c h) hs d run.1 (reachable_step c h run.0 r) (not_both ((next_state c h).directory.joined f) (λ j. let e = ch.joins.old f low j in cc)) (le_trans low ch.joins.up)
+          let ch = step_change c h.step h.outcome h.choice run.0.0 r.kept in
+          idle_out (next_state c h) hs d run.1 (reachable_step c h run.0.0 r) (not_both ((next_state c h).directory.joined f) (λ j. let e = ch.joins.old f low j in cc)) (le_trans low ch.joins.up)
 
       after_one : (Within (next_state c h) → (Within d) ⊎ (d.directory.joined f ≡ false)) → Later (next_state c h) → (Within d) ⊎ (d.directory.joined f ≡ false)
-      after_one later (Left out low) = inr (idle_out (next_state c h) hs d run.1 (reachable_step c h run.0 r) out low)
+      after_one later (Left out low) = inr (idle_out (next_state c h) hs d run.1 (reachable_step c h run.0.0 r) out low)
       after_one later (Done l idle) = absurd (not_idle ((next_state c h).row f).advance (advancing_now (next_state c h) hs one.1) idle)
       after_one later (Stays w) = later w
 
@@ -196,13 +196,13 @@ module _ (f s v : ℕ) (P : ℕ → ℕ → ℕ → Type 0) (from : (g m x : ℕ
       or_first (Some p) h = (p, refl, omega (arith, h))
 
 -- ---- stamps
-next_low : (c : Central) (h : Happening) (f : ℕ) → Allowed c h.step h.outcome h.choice → IsKept c → is_constrained (c.row f) ≡ true → f < (next_state c h).directory.next_federate
+next_low : (c : Central) (h : Happening) (f : ℕ) → MayEnd c h.step h.outcome h.choice → IsKept c → is_constrained (c.row f) ≡ true → f < (next_state c h).directory.next_federate
 next_low c h f may k con = le_trans (k.members f (k.constrained f con)) (step_change c h.step h.outcome h.choice may k).joins.up
 
 pub stamps_never_fall : (c : Central) (h : Happening) (between : List Happening) (d : Central) (i : Happening) (f : ℕ) (e x : EventHandle) (s t : ℕ)
     → HappenAfter c h between d i → IsInNoFlush (c.row f) → Picks h f e s → Picks i f x t → s ≤ t
 stamps_never_fall c h between d i f e x s t after calm first second =
-    let may = after.first.allowed in
+    let may = after.first.allowed.0 in
     let r = reachable c h after.first in
     let y = taken c h f e s may first in
     let un = calm y.request y.asks in
@@ -211,7 +211,7 @@ stamps_never_fall c h between d i f e x s t after calm first second =
     (λ g n k is live tso. m.first g n k (fewer_removed c.bag e.sender e.serial f g n f k is tso) live tso) in
     let r2 = reachable_step c h may r in
     let p = phase_run f s s (λ g m x. s ≤ x) (λ g m x l. l) (λ g m x l. l) (next_state c h) between d after.run r2 (next_low c h f may r.kept y.constrained) (Still w) in
-    phase_pick f s s (λ g m x. s ≤ x) (λ g m x l. l) (λ g m x l. l) d (next_state d i) x t (reachable_run (next_state c h) between d after.run r2).kept p (taken d i f x t after.allowed second)
+    phase_pick f s s (λ g m x. s ≤ x) (λ g m x l. l) (λ g m x l. l) d (next_state d i) x t (reachable_run (next_state c h) between d after.run r2).kept p (taken d i f x t after.allowed.0 second)
 
 -- ---- keys
 strict_not_flush : (k : AdvanceKind) → is_strict k ≡ true → is_flush k ≡ false
@@ -244,7 +244,7 @@ key_after bag e f g m k is (inr w) = ⊎_elim
 pub keys_rise : (c : Central) (h : Happening) (between : List Happening) (d : Central) (i : Happening) (f : ℕ) (e x : EventHandle) (s t : ℕ)
     → HappenAfter c h between d i → IsInStrict (c.row f) → IsInOneAdvance (next_state c h) between f → Picks h f e s → Picks i f x t → IsBefore e s x t
 keys_rise c h between d i f e x s t after strict one first second =
-    let may = after.first.allowed in
+    let may = after.first.allowed.0 in
     let r = reachable c h after.first in
     let y = taken c h f e s may first in
     let is_so = strict y.request y.asks in
@@ -254,7 +254,7 @@ keys_rise c h between d i f e x s t after strict one first second =
     (λ g n k is live tso. waits m is_so g n k is (fewer_removed c.bag e.sender e.serial f g n f k is tso) live tso) in
     let r2 = reachable_step c h may r in
     let p = later_run f s (s + 1) (After e s) (λ g m x l. inl (omega arith)) (after_least e s) (next_state c h) between d after.run r2 one w in
-    later_pick f s (s + 1) (After e s) (λ g m x l. inl (omega arith)) (after_least e s) d (next_state d i) x t (reachable_run (next_state c h) between d after.run r2).kept p (taken d i f x t after.allowed second)
+    later_pick f s (s + 1) (After e s) (λ g m x l. inl (omega arith)) (after_least e s) d (next_state d i) x t (reachable_run (next_state c h) between d after.run r2).kept p (taken d i f x t after.allowed.0 second)
   where
     waits : {q : AdvanceRequest} → MayPick c f q e s → is_strict q.kind ≡ true → (g n : ℕ) (k : Copy) → at_key c.bag e.sender e.serial f None g n f ≡ Some k → c.bag g n f ≡ Some k → (c.sent g n).retracted ≡ false → k.order ≡ Tso → After e s g n k.stamp
     waits m is_so g n k is was live tso = ⊎_elim

@@ -9,7 +9,7 @@ use Rattle.hla_callbacks.specs.declared.callback.Callback.{Callback}
 use Rattle.hla_callbacks.specs.declared.callback.Callback.TheVariants as callback
 use Rattle.hla_callbacks.specs.declared.callback.Delivery.{Delivery}
 use Rattle.hla_callbacks.specs.declared.callback.Delivery.TheVariants as delivery
-use Rattle.hla_fed_file.specs.Tables.{Tables}
+use Rattle.hla_fed_file.specs.CatalogueValue.{CatalogueValue}
 use Rattle.hla_machine.specs.declared.service.Service.{Service}
 use Rattle.hla_machine.specs.declared.service.Service.TheVariants as service
 use Rattle.hla_machine.specs.declared.service.ResignAction.TheVariants.{DeleteObjects, NoAction}
@@ -26,10 +26,10 @@ use Rattle.hla_machine.specs.declared.step.Choice.TheVariants as choice
 use Rattle.hla_machine.specs.Directory.{Outgoing, deletion_sent, deletions_sent, objects_of, update_sent, interaction_sent}
 use Rattle.hla_machine.specs.Central.{Central, new_central, SentEvent, at3, is_key, no_event}
 use Rattle.hla_machine.specs.Callbacks.{after_delivery, after_constraint, after_pick}
-use Rattle.hla_machine.specs.Sends.{sent_one, sent_all, sent_event, is_retractable, may_retract, is_told, owed_to_receivers}
+use Rattle.hla_machine.specs.Sends.{after_message, after_messages, sent_event, is_retractable, may_retract, is_told, owed_to_receivers}
 use Rattle.hla_machine.specs.Refusals.{refusal}
-use Rattle.hla_machine.specs.Machine.{seen, Allowed, left_by, after_retract, after_enter, after_cease, after_call, after_carry, after_done, after}
-use Rattle.hla_machine.proofs.Tables.{by_number, upd_same, upd_other, upd2_same, upd2_other, upd2_each}
+use Rattle.hla_machine.specs.Machine.{central_seen, MayEnd, after_leaving, after_retract, after_enter, after_cease, after_call, after_carry, after_done, after}
+use Rattle.hla_base.proofs.Tables.{by_number, upd_same, upd_other, upd2_same, upd2_other, upd2_each}
 use Rattle.hla_machine.proofs.Tests.{clear_call, not-is-false}
 
 -- what is retracted or may be was sent, and what is owed is retracted
@@ -73,7 +73,7 @@ older c a g m event low = upd2_other c.sent a (c.serial a) event g m (⊎_elim
 abbrev new_event : Central → ℕ → Option ℕ → Outgoing → SentEvent
 new_event c a stamp out = sent_event c.directory (c.row a) a stamp out
 
-one_onward : (c : Central) (a : ℕ) (stamp : Option ℕ) (out : Outgoing) → IsSound c → Onward c (sent_one c a stamp out)
+one_onward : (c : Central) (a : ℕ) (stamp : Option ℕ) (out : Outgoing) → IsSound c → Onward c (after_message c a stamp out)
 one_onward c a stamp out k = record {
   kept = record {
     used = upd2_each c.sent a (c.serial a) (new_event c a stamp out) (λ g m e. e.retracted ≡ true → m < upd c.serial a (c.serial a + 1) g)
@@ -87,14 +87,14 @@ one_onward c a stamp out k = record {
   stays = λ g m e. rw (older c a g m (new_event c a stamp out) (k.used g m e)) e;
 }
 
-sends_onward : (c : Central) (a : ℕ) (stamp : Option ℕ) (outs : List Outgoing) → IsSound c → Onward c (sent_all c a stamp outs)
+sends_onward : (c : Central) (a : ℕ) (stamp : Option ℕ) (outs : List Outgoing) → IsSound c → Onward c (after_messages c a stamp outs)
 sends_onward c a stamp [] k = unmoved c k
 sends_onward c a stamp (out ∷ outs) k =
     let one = one_onward c a stamp out k in
-    let rest = sends_onward (sent_one c a stamp out) a stamp outs one.kept in
+    let rest = sends_onward (after_message c a stamp out) a stamp outs one.kept in
     record { kept = rest.kept; stays = λ g m e. rest.stays g m (one.stays g m e) }
 
-left_onward : (c b : Central) (a : ℕ) → Onward c b → Onward c (left_by b a)
+left_onward : (c b : Central) (a : ℕ) → Onward c b → Onward c (after_leaving b a)
 left_onward c b a on = let k = on.kept in record {
   kept = record { used = k.used; able = k.able; owes = λ g m f l. k.owes g m f (cleared (b.owed g m) f l) };
   stays = on.stays;
@@ -150,13 +150,13 @@ cease_onward c a o k = unmoved c k
 is_able : (r : TimeRow) (e : SentEvent) → may_retract r e ≡ true → e.retractable ≡ true
 is_able r e h = let p = and_parts (is_enabled r.regulating && e.retractable && not e.retracted) _ h in let q = and_parts (is_enabled r.regulating && e.retractable) _ p.0 in (and_parts (is_enabled r.regulating) e.retractable q.0).1
 
-call_onward : (c : Central) (a : ℕ) (s : Service) (o : Choice) → refusal (seen c) (Call a s) ≡ None → IsSound c → Onward c (after_call c a s o)
-call_onward c a (service.Resign DeleteObjects) o none k = let outs = deletions_sent (objects_of c.directory a) in left_onward c (sent_all c a None outs) a (sends_onward c a None outs k)
+call_onward : (c : Central) (a : ℕ) (s : Service) (o : Choice) → refusal (central_seen c) (Call a s) ≡ None → IsSound c → Onward c (after_call c a s o)
+call_onward c a (service.Resign DeleteObjects) o none k = let outs = deletions_sent (objects_of c.directory a) in left_onward c (after_messages c a None outs) a (sends_onward c a None outs k)
 call_onward c a (service.Resign NoAction) o none k = left_onward c c a (unmoved c k)
 call_onward c a (service.UpdateAttributeValues object values stamp) o none k = sends_onward c a stamp (update_sent c.directory object values) k
 call_onward c a (service.SendInteraction class values stamp) o none k = sends_onward c a stamp (interaction_sent c.directory class values) k
 call_onward c a (service.DeleteObjectInstance object stamp) o none k = let on = sends_onward c a stamp (deletion_sent c.directory object) k in record { kept = on.kept; stays = on.stays }
-call_onward c a (service.Retract event) o none k = let x = clear_call (seen c) a (service.Retract event) none in
+call_onward c a (service.Retract event) o none k = let x = clear_call (central_seen c) a (service.Retract event) none in
     retract_onward c a event.serial k (is_able (c.row a) (c.sent a event.serial) (and_parts (eqb event.sender a) _ (not-is-false _ x.0)).1)
 call_onward c a (service.EnableTimeRegulation time lookahead) o none k = enter_onward c a lookahead o k
 call_onward c a service.DisableTimeConstrained o none k = cease_onward c a o k
@@ -187,17 +187,17 @@ pick_onward c a (callback.RemoveObjectInstance object event d) o k = deliver_onw
 pick_onward c a (callback.TimeConstrainedEnabled time) o k = constrain_onward c a o k
 pick_onward c a x o k = level c _ k refl refl refl
 
-done_onward : (c : Central) (step : Step) (a : Answer) (o : Choice) → refusal (seen c) step ≡ None → IsSound c → Onward c (after_done c step a o)
+done_onward : (c : Central) (step : Step) (a : Answer) (o : Choice) → refusal (central_seen c) step ≡ None → IsSound c → Onward c (after_done c step a o)
 done_onward c (Join name) a o none k = level c _ k refl refl refl
 done_onward c (Call f s) a o none k = call_onward c f s o none k
 done_onward c (Carry from to) (answer.Carried x) o none k = carry_onward c from to x k
 done_onward c (Tick f) (answer.Ticked (Some x)) o none k = pick_onward c f x o k
 done_onward c step a o none k = unmoved c k
 
-pub step_onward : (c : Central) (step : Step) (out : Outcome) (o : Choice) → Allowed c step out o → IsSound c → Onward c (after c step out o)
+pub step_onward : (c : Central) (step : Step) (out : Outcome) (o : Choice) → MayEnd c step out o → IsSound c → Onward c (after c step out o)
 step_onward c step (outcome.Done a) o may k = done_onward c step a o may.0 k
 step_onward c (Tick f) (outcome.Failed x) o may k = pick_onward c f x o k
 step_onward c step out o may k = unmoved c k
 
-pub sound_start : (catalogue : Tables) → IsSound (new_central catalogue)
+pub sound_start : (catalogue : CatalogueValue) → IsSound (new_central catalogue)
 sound_start catalogue = record { used = λ g m e. absurd (cc); able = λ g m e. absurd (cc); owes = λ g m f l. absurd (omega arith) }

@@ -1,6 +1,7 @@
 -- Each step of the machine keeps its law, and so does each run
 use Rattle.std.proofs.Common.{◌≡◌, ℕ, ◌+◌, ◌≤◌, ◌<◌, cond, not, ◌&&◌, true, false, refl, sym, subst, ⊎_elim, arith, List, [], ◌∷◌, Option, Some, None, option_map, IfSome}
 use Rattle.std.proofs.lemmas.Bool.{cases_lt, cond_both, cases_Bool}
+use Rattle.hla_base.specs.Limits.{max_time}
 use Rattle.hla_base.specs.declared.number.EventHandle.{EventHandle}
 use Rattle.hla_base.specs.declared.content.Content.{Content}
 use Rattle.hla_base.specs.declared.content.Content.TheVariants as content
@@ -9,9 +10,9 @@ use Rattle.hla_base.specs.declared.row.AdvanceRequest.{AdvanceRequest}
 use Rattle.hla_base.specs.declared.row.Role.{Role}
 use Rattle.hla_base.specs.declared.row.Role.TheVariants.{Disabled, Pending, Enabled}
 use Rattle.hla_base.specs.declared.row.TimeRow.{TimeRow}
-use Rattle.hla_base.specs.Tables.{max_time, upd}
+use Rattle.hla_base.specs.Tables.{upd}
 use Rattle.hla_base.specs.Rows.{is_next, is_flush, is_constrained, is_disabled, is_pending, regulates, constrains, picked, granted, bar_after, first_or}
-use Rattle.hla_fed_file.specs.Tables.{Tables}
+use Rattle.hla_fed_file.specs.CatalogueValue.{CatalogueValue}
 use Rattle.hla_callbacks.specs.declared.callback.Callback.{Callback}
 use Rattle.hla_callbacks.specs.declared.callback.Callback.TheVariants as callback
 use Rattle.hla_callbacks.specs.declared.callback.Delivery.{Delivery}
@@ -30,9 +31,9 @@ use Rattle.hla_machine.specs.declared.step.Choice.{Choice}
 use Rattle.hla_machine.specs.declared.step.Choice.TheVariants as choice
 use Rattle.hla_machine.specs.Directory.{deletion_sent, update_sent, interaction_sent}
 use Rattle.hla_machine.specs.Central.{Central, new_central, Copy, Tso, BelowBound, reach, demoted, at_key}
-use Rattle.hla_machine.specs.Callbacks.{IsCopy, MayPickIn, is_among, MayDeliver, MayPickUp, MayGrant, MayConstrain, with_demoted, row_after, set_row, after_delivery, after_constraint, after_pick}
+use Rattle.hla_machine.specs.Callbacks.{IsCopy, MayPickIn, is_among, MayDeliver, MayPickUp, MayGrant, MayConstrain, with_demoted, row_after, with_central_row, after_delivery, after_constraint, after_pick}
 use Rattle.hla_machine.specs.Refusals.{refusal}
-use Rattle.hla_machine.specs.Machine.{seen, MayAnswer, MayDo, Allowed, after_call, arrived, after_carry, after_done, after}
+use Rattle.hla_machine.specs.Machine.{central_seen, MayAnswer, MayDo, MayEnd, after_call, after_arrival, after_carry, after_done, after}
 use Rattle.hla_machine.specs.Runs.{Happening, IsRun}
 use Rattle.hla_machine.specs.Laws.{IsSafe}
 use Rattle.hla_machine.proofs.Tests.{clear_call, caller_joined, ticker_joined}
@@ -44,37 +45,37 @@ pub row_after_is : (r : TimeRow) (o : Option AdvanceRequest) (q : AdvanceRequest
 row_after_is r o q step e = rw e refl
 
 -- ---- services
-call_keeps : (c : Central) (f : ℕ) (s : Service) (a : Answer) (o : Choice) → refusal (seen c) (Call f s) ≡ None → MayAnswer c f s a o → IsKept c → IsKept (after_call c f s o)
+call_keeps : (c : Central) (f : ℕ) (s : Service) (a : Answer) (o : Choice) → refusal (central_seen c) (Call f s) ≡ None → MayAnswer c f s a o → IsKept c → IsKept (after_call c f s o)
 call_keeps c f (service.Resign way) a o none may k = resign_keeps c f way k
-call_keeps c f (service.UpdateAttributeValues object values stamp) a o none may k = let x = clear_call (seen c) f (service.UpdateAttributeValues object values stamp) none in let outs = update_sent c.directory object values in
+call_keeps c f (service.UpdateAttributeValues object values stamp) a o none may k = let x = clear_call (central_seen c) f (service.UpdateAttributeValues object values stamp) none in let outs = update_sent c.directory object values in
     let x1 = x.1 in let x2 = x1.1 in let x3 = x2.1 in let x4 = x3.1 in sends_keep c f stamp outs (high_stamps (c.row f) stamp outs x4.0) k
-call_keeps c f (service.SendInteraction class values stamp) a o none may k = let x = clear_call (seen c) f (service.SendInteraction class values stamp) none in let outs = interaction_sent c.directory class values in
+call_keeps c f (service.SendInteraction class values stamp) a o none may k = let x = clear_call (central_seen c) f (service.SendInteraction class values stamp) none in let outs = interaction_sent c.directory class values in
     let x1 = x.1 in let x2 = x1.1 in let x3 = x2.1 in sends_keep c f stamp outs (high_stamps (c.row f) stamp outs x3.0) k
-call_keeps c f (service.DeleteObjectInstance object stamp) a o none may k = let x = clear_call (seen c) f (service.DeleteObjectInstance object stamp) none in let outs = deletion_sent c.directory object in
+call_keeps c f (service.DeleteObjectInstance object stamp) a o none may k = let x = clear_call (central_seen c) f (service.DeleteObjectInstance object stamp) none in let outs = deletion_sent c.directory object in
     let x1 = x.1 in let x2 = x1.1 in sends_keep c f stamp outs (high_stamps (c.row f) stamp outs x2.0) k
 call_keeps c f (service.Retract event) a o none may k = retract_keeps c f event.serial k
 call_keeps c f (service.EnableTimeRegulation time lookahead) a o none may k =
-    let member = caller_joined (seen c) f (service.EnableTimeRegulation time lookahead) none in
-    let x = clear_call (seen c) f (service.EnableTimeRegulation time lookahead) none in let x1 = x.1 in let x2 = x1.1 in let x3 = x2.1 in
+    let member = caller_joined (central_seen c) f (service.EnableTimeRegulation time lookahead) none in
+    let x = clear_call (central_seen c) f (service.EnableTimeRegulation time lookahead) none in let x1 = x.1 in let x2 = x1.1 in let x3 = x2.1 in
     let late = not_early (c.row f) (is_constrained (c.row f)) time max_time x3.0 in
     enter_after c f lookahead (time + lookahead) o k member (none_from (c.row f).advance x.0) (omega (arith, late)) (entry_may c f time lookahead a o may)
-call_keeps c f service.DisableTimeRegulation a o none may k = stop_keeps c f k (caller_joined (seen c) f service.DisableTimeRegulation none)
+call_keeps c f service.DisableTimeRegulation a o none may k = stop_keeps c f k (caller_joined (central_seen c) f service.DisableTimeRegulation none)
 call_keeps c f service.EnableTimeConstrained a o none may k =
-    let idle = none_from (c.row f).advance (clear_call (seen c) f service.EnableTimeConstrained none).0 in
-    rest c f k (caller_joined (seen c) f service.EnableTimeConstrained none) _ (law_constrained (c.row f) (k.rows f) idle) idle (omega arith) (λ e. e) (λ e. absurd (cc))
+    let idle = none_from (c.row f).advance (clear_call (central_seen c) f service.EnableTimeConstrained none).0 in
+    rest c f k (caller_joined (central_seen c) f service.EnableTimeConstrained none) _ (law_constrained (c.row f) (k.rows f) idle) idle (omega arith) (λ e. e) (λ e. absurd (cc))
 call_keeps c f service.DisableTimeConstrained a o none may k =
-    cease_after c f o k (caller_joined (seen c) f service.DisableTimeConstrained none) (none_from (c.row f).advance (clear_call (seen c) f service.DisableTimeConstrained none).0)
-call_keeps c f (service.TimeAdvanceRequest time) a o none may k = ask_keeps c f k (caller_joined (seen c) f (service.TimeAdvanceRequest time) none) kind.TimeAdvance time (clear_call (seen c) f (service.TimeAdvanceRequest time) none)
-call_keeps c f (service.TimeAdvanceRequestAvailable time) a o none may k = ask_keeps c f k (caller_joined (seen c) f (service.TimeAdvanceRequestAvailable time) none) kind.TimeAdvanceAvailable time (clear_call (seen c) f (service.TimeAdvanceRequestAvailable time) none)
-call_keeps c f (service.NextEventRequest time) a o none may k = ask_keeps c f k (caller_joined (seen c) f (service.NextEventRequest time) none) kind.NextEvent time (clear_call (seen c) f (service.NextEventRequest time) none)
-call_keeps c f (service.NextEventRequestAvailable time) a o none may k = ask_keeps c f k (caller_joined (seen c) f (service.NextEventRequestAvailable time) none) kind.NextEventAvailable time (clear_call (seen c) f (service.NextEventRequestAvailable time) none)
-call_keeps c f (service.FlushQueueRequest time) a o none may k = ask_keeps c f k (caller_joined (seen c) f (service.FlushQueueRequest time) none) kind.FlushQueue time (clear_call (seen c) f (service.FlushQueueRequest time) none)
+    cease_after c f o k (caller_joined (central_seen c) f service.DisableTimeConstrained none) (none_from (c.row f).advance (clear_call (central_seen c) f service.DisableTimeConstrained none).0)
+call_keeps c f (service.TimeAdvanceRequest time) a o none may k = ask_keeps c f k (caller_joined (central_seen c) f (service.TimeAdvanceRequest time) none) kind.TimeAdvance time (clear_call (central_seen c) f (service.TimeAdvanceRequest time) none)
+call_keeps c f (service.TimeAdvanceRequestAvailable time) a o none may k = ask_keeps c f k (caller_joined (central_seen c) f (service.TimeAdvanceRequestAvailable time) none) kind.TimeAdvanceAvailable time (clear_call (central_seen c) f (service.TimeAdvanceRequestAvailable time) none)
+call_keeps c f (service.NextEventRequest time) a o none may k = ask_keeps c f k (caller_joined (central_seen c) f (service.NextEventRequest time) none) kind.NextEvent time (clear_call (central_seen c) f (service.NextEventRequest time) none)
+call_keeps c f (service.NextEventRequestAvailable time) a o none may k = ask_keeps c f k (caller_joined (central_seen c) f (service.NextEventRequestAvailable time) none) kind.NextEventAvailable time (clear_call (central_seen c) f (service.NextEventRequestAvailable time) none)
+call_keeps c f (service.FlushQueueRequest time) a o none may k = ask_keeps c f k (caller_joined (central_seen c) f (service.FlushQueueRequest time) none) kind.FlushQueue time (clear_call (central_seen c) f (service.FlushQueueRequest time) none)
 call_keeps c f (service.ModifyLookahead lookahead) a o none may k =
-    let x = clear_call (seen c) f (service.ModifyLookahead lookahead) none in let x1 = x.1 in
+    let x = clear_call (central_seen c) f (service.ModifyLookahead lookahead) none in let x1 = x.1 in
     let idle = none_from (c.row f).advance x1.0 in
-    rest c f k (caller_joined (seen c) f (service.ModifyLookahead lookahead) none) _ (law_lookahead (c.row f) lookahead (k.rows f) idle) idle (omega arith) (λ e. e) (λ e. (e, refl, refl))
-call_keeps c f service.EnableAsynchronousDelivery a o none may k = asynchronous_keeps c f k (caller_joined (seen c) f service.EnableAsynchronousDelivery none) true
-call_keeps c f service.DisableAsynchronousDelivery a o none may k = asynchronous_keeps c f k (caller_joined (seen c) f service.DisableAsynchronousDelivery none) false
+    rest c f k (caller_joined (central_seen c) f (service.ModifyLookahead lookahead) none) _ (law_lookahead (c.row f) lookahead (k.rows f) idle) idle (omega arith) (λ e. e) (λ e. (e, refl, refl))
+call_keeps c f service.EnableAsynchronousDelivery a o none may k = asynchronous_keeps c f k (caller_joined (central_seen c) f service.EnableAsynchronousDelivery none) true
+call_keeps c f service.DisableAsynchronousDelivery a o none may k = asynchronous_keeps c f k (caller_joined (central_seen c) f service.DisableAsynchronousDelivery none) false
 call_keeps c f s a o none may k = k
 
 -- ---- what arrives
@@ -82,7 +83,7 @@ module _ (c : Central) (k : IsKept c) where
   fewer_keeps : (to : ℕ → ℕ → ℕ → Option Copy) → NoMore to c.bag → IsKept (record c { bag = to })
   fewer_keeps to fewer = keeps_low c.directory.next_federate c.directory.joined c.row c.serial c.bag to c.sent c.sent fewer (low_fewer to c.bag c.sent fewer) k
 
-  arrived_keeps : (g f m : ℕ) → IsKept (arrived c g f m)
+  arrived_keeps : (g f m : ℕ) → IsKept (after_arrival c g f m)
   arrived_keeps g f m = fewer_keeps _ (cond_both (is_disabled (c.row f).constrained) (at_key c.bag g m f (option_map demoted (c.bag g m f))) c.bag (λ b. NoMore b c.bag) (λ _. fewer_demoted c.bag g m f) (λ _. same_bag c.bag))
 
   carry_keeps : (g f : ℕ) (x : Carried) → IsKept (after_carry c g f x)
@@ -123,7 +124,7 @@ module _ (c : Central) (k : IsKept c) where
         let w = may.3 in
         subst (λ (r : TimeRow). IsKept (record c { row = upd c.row f r; bag = at_key c.bag e.sender e.serial f None })) (sym (row_after_is (c.row f) (c.row f).advance w.0 (λ q. picked (c.row f) q s) w.1)) (tso_keeps w.0 e s x w.1 may.0 may.2 w.2)
 
-    regulate_keeps : is_pending (c.row f).regulating ≡ true → IsKept (set_row c f (regulates (c.row f)))
+    regulate_keeps : is_pending (c.row f).regulating ≡ true → IsKept (with_central_row c f (regulates (c.row f)))
     regulate_keeps was =
         let reg = pending_regulator (c.row f).regulating was in
         keeps_row c.directory.next_federate c.directory.joined c.row c.serial c.bag c.bag c.sent f (regulates (c.row f)) k (record {
@@ -161,7 +162,7 @@ module _ (c : Central) (k : IsKept c) where
         })
     constrain_keeps t o may = absurd may
 
-    grant_keeps : (q : AdvanceRequest) (t : ℕ) → (c.row f).advance ≡ Some q → MayGrant c f t q → IsKept (set_row c f (granted (c.row f) q t))
+    grant_keeps : (q : AdvanceRequest) (t : ℕ) → (c.row f).advance ≡ Some q → MayGrant c f t q → IsKept (with_central_row c f (granted (c.row f) q t))
     grant_keeps q t asks may =
         keeps_row c.directory.next_federate c.directory.joined c.row c.serial c.bag c.bag c.sent f (granted (c.row f) q t) k (record {
           fewer = same_bag c.bag;
@@ -190,27 +191,27 @@ module _ (c : Central) (k : IsKept c) where
     pick_keeps (callback.RemoveObjectInstance object event d) o may = deliver_keeps (content.Removal object) event d may
     pick_keeps (callback.TimeRegulationEnabled time) o may = regulate_keeps may.0
     pick_keeps (callback.TimeConstrainedEnabled time) o may = constrain_keeps time o may
-    pick_keeps (callback.TimeAdvanceGrant time) o may = subst (λ (r : TimeRow). IsKept (set_row c f r)) (sym (row_after_is (c.row f) (c.row f).advance may.0 (λ q. granted (c.row f) q time) may.1)) (grant_keeps may.0 time may.1 may.2)
+    pick_keeps (callback.TimeAdvanceGrant time) o may = subst (λ (r : TimeRow). IsKept (with_central_row c f r)) (sym (row_after_is (c.row f) (c.row f).advance may.0 (λ q. granted (c.row f) q time) may.1)) (grant_keeps may.0 time may.1 may.2)
     pick_keeps (callback.RequestRetraction event) o may = k
 
 -- ---- any step
-done_keeps : (c : Central) (step : Step) (a : Answer) (o : Choice) → refusal (seen c) step ≡ None → MayDo c step a o → IsKept c → IsKept (after_done c step a o)
+done_keeps : (c : Central) (step : Step) (a : Answer) (o : Choice) → refusal (central_seen c) step ≡ None → MayDo c step a o → IsKept c → IsKept (after_done c step a o)
 done_keeps c (Join name) a o none may k = join_keeps c name k
 done_keeps c (Call f s) a o none may k = call_keeps c f s a o none may k
 done_keeps c (Carry from to) (answer.Carried x) o none may k = carry_keeps c k from to x
-done_keeps c (Tick f) (answer.Ticked (Some x)) o none may k = pick_keeps c k f (ticker_joined (seen c) f none) x o may
+done_keeps c (Tick f) (answer.Ticked (Some x)) o none may k = pick_keeps c k f (ticker_joined (central_seen c) f none) x o may
 done_keeps c step a o none may k = k
 
-pub step_keeps : (c : Central) (step : Step) (out : Outcome) (o : Choice) → Allowed c step out o → IsKept c → IsKept (after c step out o)
+pub step_keeps : (c : Central) (step : Step) (out : Outcome) (o : Choice) → MayEnd c step out o → IsKept c → IsKept (after c step out o)
 step_keeps c step (outcome.Done a) o may k = done_keeps c step a o may.0 may.1 k
-step_keeps c (Tick f) (outcome.Failed x) o may k = pick_keeps c k f (ticker_joined (seen c) f may.0) x o may.1
+step_keeps c (Tick f) (outcome.Failed x) o may k = pick_keeps c k f (ticker_joined (central_seen c) f may.0) x o may.1
 step_keeps c step out o may k = k
 
 run_keeps : (c : Central) (hs : List Happening) (d : Central) → IsRun c hs d → IsKept c → IsKept d
 run_keeps c [] d run k = subst IsKept run k
-run_keeps c (h ∷ hs) d run k = run_keeps (after c h.step h.outcome h.choice) hs d run.1 (step_keeps c h.step h.outcome h.choice run.0 k)
+run_keeps c (h ∷ hs) d run k = run_keeps (after c h.step h.outcome h.choice) hs d run.1 (step_keeps c h.step h.outcome h.choice run.0.0 k)
 
-pub start_keeps : (catalogue : Tables) → IsKept (new_central catalogue)
+pub start_keeps : (catalogue : CatalogueValue) → IsKept (new_central catalogue)
 start_keeps catalogue = record {
   members = λ f e. absurd (cc);
   regulators = λ g e. absurd (cc);
@@ -221,7 +222,7 @@ start_keeps catalogue = record {
   unused = λ g m f k e. absurd (cc);
 }
 
-pub run_safe : (catalogue : Tables) (hs : List Happening) (c : Central) → IsRun (new_central catalogue) hs c → IsSafe c
+pub run_safe : (catalogue : CatalogueValue) (hs : List Happening) (c : Central) → IsRun (new_central catalogue) hs c → IsSafe c
 run_safe catalogue hs c run =
     let k = run_keeps (new_central catalogue) hs c run (start_keeps catalogue) in
     record { barred = λ f. (k.rows f).barred; bounded = k.bounded; ahead = k.ahead }

@@ -17,11 +17,11 @@ use Rattle.hla_machine.specs.declared.step.Choice.{Choice}
 use Rattle.hla_machine.specs.declared.step.Choice.TheVariants as choice
 use Rattle.hla_machine.specs.Directory.{Outgoing, is_of_order, objects_of, deletions_sent}
 use Rattle.hla_machine.specs.Central.{Central, Copy, SentEvent, bar_of, low_entry}
-use Rattle.hla_machine.specs.Callbacks.{with_demoted, set_row}
-use Rattle.hla_machine.specs.Sends.{is_ordered, is_some_ordered, sent_one, sent_all}
+use Rattle.hla_machine.specs.Callbacks.{with_demoted, with_central_row}
+use Rattle.hla_machine.specs.Sends.{is_ordered, is_some_ordered, after_message, after_messages}
 use Rattle.hla_machine.specs.Refusals.{request_tests, is_bad_stamp}
-use Rattle.hla_machine.specs.Machine.{MayEnter, MayAnswer, left_by, after_resign, after_retract, after_enter, after_cease, joined_by}
-use Rattle.hla_machine.proofs.Tables.{by_number, upd_same, upd_other, upd_each, upd2_each, le_greatest, greatest_ge}
+use Rattle.hla_machine.specs.Machine.{MayEnter, MayAnswer, after_leaving, after_resign, after_retract, after_enter, after_cease, joined_by}
+use Rattle.hla_base.proofs.Tables.{by_number, upd_same, upd_other, upd_each, upd2_each, le_greatest, greatest_ge}
 use Rattle.hla_machine.proofs.Tests.{AllClear, not-is-false}
 use Rattle.hla_machine.proofs.Rows.{RowLaw, law_new, law_requested, law_free, law_stopped, law_asynchronous, law_entered, out_low}
 use Rattle.hla_machine.proofs.Keeps.{IsKept, NoMore, low_fewer, fewer_moved, keeps_low, keeps_row, keeps_rest, old_out, keeps_sent}
@@ -54,7 +54,7 @@ join_keeps c name k =
 pub left_fewer : (c : Central) (f : ℕ) → NoMore (λ g m. upd (c.bag g m) f None) c.bag
 left_fewer c f g m = by_number f _ (λ k is tso. absurd (let e : None ≡ Some k = rw upd_same at is in cc)) (λ l ne k is tso. rw upd_other at is)
 
-pub left_keeps : (c : Central) (f : ℕ) → IsKept c → IsKept (left_by c f)
+pub left_keeps : (c : Central) (f : ℕ) → IsKept c → IsKept (after_leaving c f)
 left_keeps c f k = record {
   members = upd_each c.directory.joined f false (λ g x. x ≡ true → g < c.directory.next_federate) (λ e. absurd (cc)) (λ g _. k.members g);
   regulators = by_number f _ (rw upd_same (λ e. absurd (cc))) (λ g ne. rw (upd_other, upd_other) (k.regulators g));
@@ -92,12 +92,12 @@ pub unordered : (r : TimeRow) (outs : List Outgoing) → EachHigh r None outs
 unordered r [] = tt
 unordered r (out ∷ outs) = ((λ o. let p : false ≡ true = (and_parts (is_of_order Timestamp out.order) false (and_parts _ _ o).0).1 in absurd (cc)), unordered r outs)
 
-pub sends_keep : (c : Central) (f : ℕ) (stamp : Option ℕ) (outs : List Outgoing) → EachHigh (c.row f) stamp outs → IsKept c → IsKept (sent_all c f stamp outs)
+pub sends_keep : (c : Central) (f : ℕ) (stamp : Option ℕ) (outs : List Outgoing) → EachHigh (c.row f) stamp outs → IsKept c → IsKept (after_messages c f stamp outs)
 sends_keep c f stamp [] high k = k
-sends_keep c f stamp (out ∷ outs) high k = sends_keep (sent_one c f stamp out) f stamp outs high.1 (keeps_sent c f stamp out k high.0)
+sends_keep c f stamp (out ∷ outs) high k = sends_keep (after_message c f stamp out) f stamp outs high.1 (keeps_sent c f stamp out k high.0)
 
 pub resign_keeps : (c : Central) (f : ℕ) (way : ResignAction) → IsKept c → IsKept (after_resign c f way)
-resign_keeps c f DeleteObjects k = let outs = deletions_sent (objects_of c.directory f) in left_keeps (sent_all c f None outs) f (sends_keep c f None outs (unordered (c.row f) outs) k)
+resign_keeps c f DeleteObjects k = let outs = deletions_sent (objects_of c.directory f) in left_keeps (after_messages c f None outs) f (sends_keep c f None outs (unordered (c.row f) outs) k)
 resign_keeps c f NoAction k = left_keeps c f k
 resign_keeps c f ReleaseAttributes k = k
 resign_keeps c f DeleteObjectsAndReleaseAttributes k = k
@@ -105,16 +105,16 @@ resign_keeps c f DeleteObjectsAndReleaseAttributes k = k
 -- ---- rows of federates at rest
 module _ (c : Central) (f : ℕ) (k : IsKept c) (member : c.directory.joined f ≡ true) where
   pub rest : (r : TimeRow) → RowLaw r → (c.row f).advance ≡ None → (c.row f).floor ≤ r.floor → (is_regulator r ≡ true → is_regulator (c.row f) ≡ true)
-      → (is_constrained r ≡ true → (is_constrained (c.row f) ≡ true) × (r.bar ≡ (c.row f).bar) × (r.time ≡ (c.row f).time)) → IsKept (set_row c f r)
+      → (is_constrained r ≡ true → (is_constrained (c.row f) ≡ true) × (r.bar ≡ (c.row f).bar) × (r.time ≡ (c.row f).time)) → IsKept (with_central_row c f r)
   rest r law idle up role con = keeps_rest c.directory.next_federate c.directory.joined c.row c.serial c.bag c.bag c.sent f r k (same_bag c.bag) member law idle up role con
 
-  pub ask_keeps : (x : AdvanceKind) (a : ℕ) → AllClear (request_tests (c.row f) a) → IsKept (set_row c f (requested (c.row f) x a))
+  pub ask_keeps : (x : AdvanceKind) (a : ℕ) → AllClear (request_tests (c.row f) a) → IsKept (with_central_row c f (requested (c.row f) x a))
   ask_keeps x a clear =
       let idle = none_from (c.row f).advance clear.0 in let c1 = clear.1 in let c2 = c1.1 in
       rest (requested (c.row f) x a) (law_requested (c.row f) x a (k.rows f) idle c1.0 c2.0) idle
       (cond_both ((is_next x || is_flush x) && is_constrained (c.row f)) (c.row f).floor _ (λ y. (c.row f).floor ≤ y) (λ _. omega arith) (λ _. omega arith)) (λ e. e) (λ e. (e, refl, refl))
 
-  pub stop_keeps : IsKept (set_row c f (record (c.row f) { regulating = Disabled }))
+  pub stop_keeps : IsKept (with_central_row c f (record (c.row f) { regulating = Disabled }))
   stop_keeps = keeps_row c.directory.next_federate c.directory.joined c.row c.serial c.bag c.bag c.sent f _ k (record {
     fewer = same_bag c.bag;
     member = member;
@@ -124,7 +124,7 @@ module _ (c : Central) (f : ℕ) (k : IsKept c) (member : c.directory.joined f �
     ahead = k.ahead f;
   })
 
-  pub asynchronous_keeps : (b : Bool) → IsKept (set_row c f (record (c.row f) { asynchronous = b }))
+  pub asynchronous_keeps : (b : Bool) → IsKept (with_central_row c f (record (c.row f) { asynchronous = b }))
   asynchronous_keeps b = keeps_row c.directory.next_federate c.directory.joined c.row c.serial c.bag c.bag c.sent f _ k (record {
     fewer = same_bag c.bag;
     member = member;
@@ -135,7 +135,7 @@ module _ (c : Central) (f : ℕ) (k : IsKept c) (member : c.directory.joined f �
   })
 
   -- all that others count on lies below the entry
-  pub enter_keeps : (lookahead e earliest : ℕ) → (c.row f).advance ≡ None → (c.row f).time ≤ earliest → low_entry c.directory c.row earliest ≤ e → IsKept (set_row c f (regulating_from (c.row f) lookahead e))
+  pub enter_keeps : (lookahead e earliest : ℕ) → (c.row f).advance ≡ None → (c.row f).time ≤ earliest → low_entry c.directory c.row earliest ≤ e → IsKept (with_central_row c f (regulating_from (c.row f) lookahead e))
   unfolding low_entry
   enter_keeps lookahead e earliest idle late low =
       let base : earliest ≤ e = le_trans (greatest_ge c.directory.next_federate earliest (λ g. bar_of (c.row g))) low in

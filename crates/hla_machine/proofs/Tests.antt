@@ -3,7 +3,7 @@ use Rattle.std.proofs.Common.{◌≡◌, ℕ, not, Bool, true, false, refl, List
 use Rattle.std.proofs.lemmas.Bool.{cond_both}
 use Rattle.hla_machine.specs.declared.service.Service.{Service}
 use Rattle.hla_machine.specs.declared.step.Step.TheVariants.{Call, Announce, Tick}
-use Rattle.hla_machine.specs.Refusals.{Test, Seen, first_fault, refusal, not_joined, call_tests}
+use Rattle.hla_machine.specs.Refusals.{Test, Seen, first_fault, refusal, joined_test, call_tests}
 
 abbrev pub AllClear : List Test → Type 0
 AllClear [] = Unit {0}
@@ -19,13 +19,13 @@ not-is-false false h = absurd (cc)
 
 module _ (s : Seen) (f : ℕ) where
   pub clear_call : (service : Service) → refusal s (Call f service) ≡ None → AllClear (call_tests s f service)
-  clear_call service none = (all_clear (not_joined s.directory f ∷ call_tests s f service) none).1
+  clear_call service none = (all_clear (joined_test s.directory f ∷ call_tests s f service) none).1
 
   pub caller_joined : (service : Service) → refusal s (Call f service) ≡ None → s.directory.joined f ≡ true
-  caller_joined service none = not-is-false (s.directory.joined f) (all_clear (not_joined s.directory f ∷ call_tests s f service) none).0
+  caller_joined service none = not-is-false (s.directory.joined f) (all_clear (joined_test s.directory f ∷ call_tests s f service) none).0
 
   pub ticker_joined : refusal s (Tick f) ≡ None → s.directory.joined f ≡ true
-  ticker_joined none = not-is-false (s.directory.joined f) (all_clear (not_joined s.directory f ∷ []) none).0
+  ticker_joined none = not-is-false (s.directory.joined f) (all_clear (joined_test s.directory f ∷ []) none).0
 
   pub announcer_joined : refusal s (Announce f) ≡ None → s.directory.joined f ≡ true
-  announcer_joined none = not-is-false (s.directory.joined f) (all_clear (not_joined s.directory f ∷ []) none).0
+  announcer_joined none = not-is-false (s.directory.joined f) (all_clear (joined_test s.directory f ∷ []) none).0

@@ -1,6 +1,7 @@
 -- What a step of the machine does to each row
 use Rattle.std.proofs.Common.{◌≡◌, ℕ, ◌+◌, ◌≤◌, Bool, true, false, refl, sym, le_trans, subst, arith, List, [], ◌∷◌, Option, Some, None}
 use Rattle.std.proofs.lemmas.Bool.{ltb-false}
+use Rattle.hla_base.specs.Limits.{max_time}
 use Rattle.hla_base.specs.declared.number.EventHandle.{EventHandle}
 use Rattle.hla_base.specs.declared.content.Content.{Content}
 use Rattle.hla_base.specs.declared.content.Content.TheVariants as content
@@ -8,7 +9,7 @@ use Rattle.hla_base.specs.declared.row.AdvanceKind.{AdvanceKind}
 use Rattle.hla_base.specs.declared.row.AdvanceKind.TheVariants as kind
 use Rattle.hla_base.specs.declared.row.AdvanceRequest.{AdvanceRequest}
 use Rattle.hla_base.specs.declared.row.TimeRow.{TimeRow}
-use Rattle.hla_base.specs.Tables.{max_time, upd}
+use Rattle.hla_base.specs.Tables.{upd}
 use Rattle.hla_base.specs.Rows.{is_constrained, is_pending, new_row, requested, regulating_from, regulates, picked, granted}
 use Rattle.hla_callbacks.specs.declared.callback.Callback.{Callback}
 use Rattle.hla_callbacks.specs.declared.callback.Callback.TheVariants as callback
@@ -30,10 +31,10 @@ use Rattle.hla_machine.specs.declared.step.Choice.TheVariants as choice
 use Rattle.hla_machine.specs.Directory.{Outgoing, deletion_sent, deletions_sent, objects_of, update_sent, interaction_sent}
 use Rattle.hla_machine.specs.Central.{Central, Tso, low_entry}
 use Rattle.hla_machine.specs.Callbacks.{IsCopy, MayPickIn, MayDeliver, MayPickUp, MayGrant, MayConstrain, row_after, after_delivery, after_constraint, after_pick}
-use Rattle.hla_machine.specs.Sends.{sent_one, sent_all}
+use Rattle.hla_machine.specs.Sends.{after_message, after_messages}
 use Rattle.hla_machine.specs.Refusals.{refusal, request_tests}
-use Rattle.hla_machine.specs.Machine.{seen, MayEnter, MayAnswer, MayDo, Allowed, joined_by, after_enter, after_cease, after_call, after_carry, after_done, after}
-use Rattle.hla_machine.proofs.Tables.{by_number, upd_same, upd_other, upd_each, greatest_ge}
+use Rattle.hla_machine.specs.Machine.{central_seen, MayEnter, MayAnswer, MayDo, MayEnd, joined_by, after_enter, after_cease, after_call, after_carry, after_done, after}
+use Rattle.hla_base.proofs.Tables.{by_number, upd_same, upd_other, upd_each, greatest_ge}
 use Rattle.hla_machine.proofs.Tests.{AllClear, clear_call}
 use Rattle.hla_machine.proofs.Keeps.{IsKept}
 use Rattle.hla_machine.proofs.Runs.{row_after_is}
@@ -68,9 +69,9 @@ row_turn c g r here = upd_each c.row g r (λ i y. Turn c i y (c.directory.joined
 still : (c : Central) (row : ℕ → TimeRow) → row ≡ c.row → (f : ℕ) (m : Bool) → Turn c f (row f) m
 still c row e f m = Calm (subst (λ (row : ℕ → TimeRow). Same (c.row f) (row f)) (sym e) (same (c.row f)))
 
-pub sent_rows : (c : Central) (f : ℕ) (stamp : Option ℕ) (outs : List Outgoing) → (sent_all c f stamp outs).row ≡ c.row
+pub sent_rows : (c : Central) (f : ℕ) (stamp : Option ℕ) (outs : List Outgoing) → (after_messages c f stamp outs).row ≡ c.row
 sent_rows c f stamp [] = refl
-sent_rows c f stamp (out ∷ outs) = sent_rows (sent_one c f stamp out) f stamp outs
+sent_rows c f stamp (out ∷ outs) = sent_rows (after_message c f stamp out) f stamp outs
 
 left_turn : (c b : Central) → b.row ≡ c.row → (g f : ℕ) → Turn c f (upd b.row g new_row f) (upd b.directory.joined g false f)
 left_turn c b e g = by_number g _
@@ -97,14 +98,14 @@ cease_turn c f o idle = λ i. Calm (same (c.row i))
 ask_turn : (c : Central) (f : ℕ) (x : AdvanceKind) (a : ℕ) → AllClear (request_tests (c.row f) a) → (i : ℕ) → Turn c i (upd c.row f (requested (c.row f) x a) i) (c.directory.joined i)
 ask_turn c f x a clear = let c1 = clear.1 in let c2 = c1.1 in let c3 = c2.1 in let c4 = c3.1 in row_turn c f _ (Asked x a (none_from (c.row f).advance clear.0) c1.0 (ltb-false a (c.row f).time c4.0) refl)
 
-call_turn : (c : Central) (f : ℕ) (s : Service) (a : Answer) (o : Choice) → refusal (seen c) (Call f s) ≡ None → MayAnswer c f s a o → (i : ℕ) → Turn c i ((after_call c f s o).row i) ((after_call c f s o).directory.joined i)
-call_turn c f (service.Resign DeleteObjects) a o none may = left_turn c (sent_all c f None (deletions_sent (objects_of c.directory f))) (sent_rows c f None (deletions_sent (objects_of c.directory f))) f
+call_turn : (c : Central) (f : ℕ) (s : Service) (a : Answer) (o : Choice) → refusal (central_seen c) (Call f s) ≡ None → MayAnswer c f s a o → (i : ℕ) → Turn c i ((after_call c f s o).row i) ((after_call c f s o).directory.joined i)
+call_turn c f (service.Resign DeleteObjects) a o none may = left_turn c (after_messages c f None (deletions_sent (objects_of c.directory f))) (sent_rows c f None (deletions_sent (objects_of c.directory f))) f
 call_turn c f (service.Resign NoAction) a o none may = left_turn c c refl f
 call_turn c f (service.UpdateAttributeValues object values stamp) a o none may = λ i. still c _ (sent_rows c f stamp (update_sent c.directory object values)) i _
 call_turn c f (service.SendInteraction class values stamp) a o none may = λ i. still c _ (sent_rows c f stamp (interaction_sent c.directory class values)) i _
 call_turn c f (service.DeleteObjectInstance object stamp) a o none may = λ i. still c _ (sent_rows c f stamp (deletion_sent c.directory object)) i _
 call_turn c f (service.EnableTimeRegulation time lookahead) a o none may =
-    let x = clear_call (seen c) f (service.EnableTimeRegulation time lookahead) none in let x1 = x.1 in let x2 = x1.1 in let x3 = x2.1 in
+    let x = clear_call (central_seen c) f (service.EnableTimeRegulation time lookahead) none in let x1 = x.1 in let x2 = x1.1 in let x3 = x2.1 in
     let late = not_early (c.row f) (is_constrained (c.row f)) time max_time x3.0 in
     enter_all (none_from (c.row f).advance x.0) late o (entry_may c f time lookahead a o may)
   where
@@ -113,13 +114,13 @@ call_turn c f (service.EnableTimeRegulation time lookahead) a o none may =
     enter_all idle late o may = absurd may
 call_turn c f service.DisableTimeRegulation a o none may =
     row_turn c f _ (Calm (record { time = refl; advance = refl; first = refl; bar = refl; constrained = refl; late = λ p. absurd (cc) }))
-call_turn c f service.EnableTimeConstrained a o none may = let idle = none_from (c.row f).advance (clear_call (seen c) f service.EnableTimeConstrained none).0 in row_turn c f _ (Rested idle idle refl refl refl)
-call_turn c f service.DisableTimeConstrained a (choice.Moved events) none may = let idle = none_from (c.row f).advance (clear_call (seen c) f service.DisableTimeConstrained none).0 in cease_turn c f (choice.Moved events) idle
-call_turn c f (service.TimeAdvanceRequest time) a o none may = ask_turn c f kind.TimeAdvance time (clear_call (seen c) f (service.TimeAdvanceRequest time) none)
-call_turn c f (service.TimeAdvanceRequestAvailable time) a o none may = ask_turn c f kind.TimeAdvanceAvailable time (clear_call (seen c) f (service.TimeAdvanceRequestAvailable time) none)
-call_turn c f (service.NextEventRequest time) a o none may = ask_turn c f kind.NextEvent time (clear_call (seen c) f (service.NextEventRequest time) none)
-call_turn c f (service.NextEventRequestAvailable time) a o none may = ask_turn c f kind.NextEventAvailable time (clear_call (seen c) f (service.NextEventRequestAvailable time) none)
-call_turn c f (service.FlushQueueRequest time) a o none may = ask_turn c f kind.FlushQueue time (clear_call (seen c) f (service.FlushQueueRequest time) none)
+call_turn c f service.EnableTimeConstrained a o none may = let idle = none_from (c.row f).advance (clear_call (central_seen c) f service.EnableTimeConstrained none).0 in row_turn c f _ (Rested idle idle refl refl refl)
+call_turn c f service.DisableTimeConstrained a (choice.Moved events) none may = let idle = none_from (c.row f).advance (clear_call (central_seen c) f service.DisableTimeConstrained none).0 in cease_turn c f (choice.Moved events) idle
+call_turn c f (service.TimeAdvanceRequest time) a o none may = ask_turn c f kind.TimeAdvance time (clear_call (central_seen c) f (service.TimeAdvanceRequest time) none)
+call_turn c f (service.TimeAdvanceRequestAvailable time) a o none may = ask_turn c f kind.TimeAdvanceAvailable time (clear_call (central_seen c) f (service.TimeAdvanceRequestAvailable time) none)
+call_turn c f (service.NextEventRequest time) a o none may = ask_turn c f kind.NextEvent time (clear_call (central_seen c) f (service.NextEventRequest time) none)
+call_turn c f (service.NextEventRequestAvailable time) a o none may = ask_turn c f kind.NextEventAvailable time (clear_call (central_seen c) f (service.NextEventRequestAvailable time) none)
+call_turn c f (service.FlushQueueRequest time) a o none may = ask_turn c f kind.FlushQueue time (clear_call (central_seen c) f (service.FlushQueueRequest time) none)
 call_turn c f (service.ModifyLookahead lookahead) a o none may = row_turn c f _ (Calm (record { time = refl; advance = refl; first = refl; bar = refl; constrained = refl; late = λ p. (p, refl) }))
 call_turn c f service.EnableAsynchronousDelivery a o none may = row_turn c f _ (Calm (record { time = refl; advance = refl; first = refl; bar = refl; constrained = refl; late = λ p. (p, refl) }))
 call_turn c f service.DisableAsynchronousDelivery a o none may = row_turn c f _ (Calm (record { time = refl; advance = refl; first = refl; bar = refl; constrained = refl; late = λ p. (p, refl) }))
@@ -154,14 +155,14 @@ module _ (c : Central) (k : IsKept c) (f : ℕ) where
   pick_turn (callback.TimeAdvanceGrant time) o may = row_turn c f _ (Granted may.0 time may.1 may.2 (row_after_is (c.row f) (c.row f).advance may.0 (λ q. granted (c.row f) q time) may.1))
   pick_turn (callback.RequestRetraction event) o may = λ i. Calm (same (c.row i))
 
-done_turn : (c : Central) (step : Step) (a : Answer) (o : Choice) → refusal (seen c) step ≡ None → MayDo c step a o → IsKept c → (i : ℕ) → Turn c i ((after_done c step a o).row i) ((after_done c step a o).directory.joined i)
+done_turn : (c : Central) (step : Step) (a : Answer) (o : Choice) → refusal (central_seen c) step ≡ None → MayDo c step a o → IsKept c → (i : ℕ) → Turn c i ((after_done c step a o).row i) ((after_done c step a o).directory.joined i)
 done_turn c (Join name) a o none may k = join_turn c name k
 done_turn c (Call f s) a o none may k = call_turn c f s a o none may
 done_turn c (Carry from to) (answer.Carried x) o none may k = carry_turn c from to x
 done_turn c (Tick f) (answer.Ticked (Some x)) o none may k = pick_turn c k f x o may
 done_turn c step a o none may k = λ i. Calm (same (c.row i))
 
-pub step_turn : (c : Central) (step : Step) (out : Outcome) (o : Choice) → Allowed c step out o → IsKept c → (i : ℕ) → Turn c i ((after c step out o).row i) ((after c step out o).directory.joined i)
+pub step_turn : (c : Central) (step : Step) (out : Outcome) (o : Choice) → MayEnd c step out o → IsKept c → (i : ℕ) → Turn c i ((after c step out o).row i) ((after c step out o).directory.joined i)
 step_turn c step (outcome.Done a) o may k = done_turn c step a o may.0 may.1 k
 step_turn c (Tick f) (outcome.Failed x) o may k = pick_turn c k f x o may.1
 step_turn c step out o may k = λ i. Calm (same (c.row i))

@@ -125,8 +125,8 @@ MayPickUp c f (callback.TimeAdvanceGrant time) o = WhileAdvancing (c.row f) (May
 MayPickUp c f (callback.RequestRetraction event) o = 1 ≤ c.due event.sender event.serial f
 
 -- ---- the state after it
-abbrev pub set_row : Central → ℕ → TimeRow → Central
-set_row c f r = record c { row = upd c.row f r }
+abbrev pub with_central_row : Central → ℕ → TimeRow → Central
+with_central_row c f r = record c { row = upd c.row f r }
 
 abbrev pub row_after : TimeRow → Option AdvanceRequest → (AdvanceRequest → TimeRow) → TimeRow
 row_after r None step = r
@@ -151,7 +151,7 @@ after_pick c f (callback.DiscoverObjectInstance object class name) o = let g = (
 after_pick c f (callback.ReflectAttributeValues object values event d) o = after_delivery c f event d
 after_pick c f (callback.ReceiveInteraction class values event d) o = after_delivery c f event d
 after_pick c f (callback.RemoveObjectInstance object event d) o = after_delivery c f event d
-after_pick c f (callback.TimeRegulationEnabled time) o = set_row c f (regulates (c.row f))
+after_pick c f (callback.TimeRegulationEnabled time) o = with_central_row c f (regulates (c.row f))
 after_pick c f (callback.TimeConstrainedEnabled time) o = after_constraint c f o
-after_pick c f (callback.TimeAdvanceGrant time) o = set_row c f (row_after (c.row f) (c.row f).advance (λ q. granted (c.row f) q time))
+after_pick c f (callback.TimeAdvanceGrant time) o = with_central_row c f (row_after (c.row f) (c.row f).advance (λ q. granted (c.row f) q time))
 after_pick c f (callback.RequestRetraction event) o = record c { due = at3 c.due event.sender event.serial f (c.due event.sender event.serial f - 1) }

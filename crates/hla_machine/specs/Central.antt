@@ -1,14 +1,15 @@
 -- The central machine's state: one table of rows, one bag of copies, and what bounds follow from them
 use Rattle.std.specs.Prelude.{ℕ, ◌+◌, ◌-◌, ◌≡◌, ◌≢◌, ◌≤◌, ◌<◌, ◌⊎◌, cond, eqb, not, ◌&&◌, Bool, true, false, Option, Some, None, is_some, option_map, List, [], ◌∷◌}
+use Rattle.hla_base.specs.Limits.{forever}
 use Rattle.hla_base.specs.declared.content.Content.{Content}
 use Rattle.hla_base.specs.declared.content.Discovery.{Discovery}
 use Rattle.hla_base.specs.declared.row.AdvanceKind.{AdvanceKind}
 use Rattle.hla_base.specs.declared.row.AdvanceRequest.{AdvanceRequest}
 use Rattle.hla_base.specs.declared.row.TimeRow.{TimeRow}
 use Rattle.hla_base.specs.declared.number.EventHandle.{EventHandle}
-use Rattle.hla_base.specs.Tables.{forever, upd, upd2, is_other, greatest, or_else, when}
+use Rattle.hla_base.specs.Tables.{upd, upd2, is_other, greatest, or_else, when}
 use Rattle.hla_base.specs.Rows.{is_strict, is_enabled, is_regulator, is_constrained, next_request, width, new_row}
-use Rattle.hla_fed_file.specs.Tables.{Tables}
+use Rattle.hla_fed_file.specs.CatalogueValue.{CatalogueValue}
 use Rattle.hla_machine.specs.Directory.{Directory, new_directory}
 
 -- how a copy goes to its receiver; a demoted one was sent in time-stamp order and is given in receive order
@@ -44,7 +45,7 @@ abbrev pub no_event : SentEvent
 no_event = record { stamp = 0; retractable = false; retracted = false; receivers = λ _. false }
 
 -- an execution that was just created
-abbrev pub new_central : Tables → Central
+abbrev pub new_central : CatalogueValue → Central
 new_central catalogue = record {
   directory = new_directory catalogue;
   row = λ _. new_row;

@@ -10,7 +10,7 @@ use Rattle.hla_base.specs.declared.content.Content.{Content}
 use Rattle.hla_base.specs.declared.content.Content.TheVariants as content
 use Rattle.hla_base.specs.declared.content.Discovery.{Discovery}
 use Rattle.hla_base.specs.Tables.{upd, upd2, is_other, numbers_below, when}
-use Rattle.hla_fed_file.specs.Tables.{Tables}
+use Rattle.hla_fed_file.specs.CatalogueValue.{CatalogueValue}
 use Rattle.hla_fed_file.specs.declared.declared.Order.{Order}
 use Rattle.hla_fed_file.specs.declared.declared.Order.TheVariants.{Receive, Timestamp}
 use Rattle.hla_fed_file.specs.Lookup.{contains_number, object_lineage, interaction_lineage, has_parameter, attribute_order, interaction_order, deletion_order}
@@ -24,7 +24,7 @@ pub record Object : Type 0 where
   pub exists : Bool
 
 pub record Directory : Type 0 where
-  pub catalogue : Tables
+  pub catalogue : CatalogueValue
   pub next_federate : ℕ  -- the number of the federate that joins next; numbers begin with 1
   pub joined : ℕ → Bool
   pub name : ℕ → List ℕ
@@ -40,7 +40,7 @@ abbrev pub no_object : Object
 no_object = record { class = 0; name = []; owner = 0; attributes = []; exists = false }
 
 -- an execution that was just created
-abbrev pub new_directory : Tables → Directory
+abbrev pub new_directory : CatalogueValue → Directory
 new_directory catalogue = record {
   catalogue = catalogue;
   next_federate = 1;

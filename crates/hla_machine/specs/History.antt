@@ -4,7 +4,7 @@ use Rattle.hla_base.specs.declared.number.EventHandle.{EventHandle}
 use Rattle.hla_base.specs.declared.row.AdvanceRequest.{AdvanceRequest}
 use Rattle.hla_base.specs.declared.row.TimeRow.{TimeRow}
 use Rattle.hla_base.specs.Rows.{is_flush, is_strict, is_advancing}
-use Rattle.hla_fed_file.specs.Tables.{Tables}
+use Rattle.hla_fed_file.specs.CatalogueValue.{CatalogueValue}
 use Rattle.hla_callbacks.specs.declared.callback.Callback.{Callback}
 use Rattle.hla_callbacks.specs.declared.callback.Callback.TheVariants as callback
 use Rattle.hla_callbacks.specs.declared.callback.Delivery.TheVariants as delivery
@@ -19,10 +19,10 @@ use Rattle.hla_machine.specs.Machine.{Allowed, after}
 use Rattle.hla_machine.specs.Runs.{Happening, IsRun}
 
 -- the step gives f the callback k
-abbrev pub Gives : Step → Outcome → ℕ → Callback → Type 0
-Gives (Tick g) (outcome.Done (answer.Ticked (Some x))) f k = (g ≡ f) × (x ≡ k)
-Gives (Tick g) (outcome.Failed x) f k = (g ≡ f) × (x ≡ k)
-Gives step out f k = ⊥
+abbrev pub GivesCallback : Step → Outcome → ℕ → Callback → Type 0
+GivesCallback (Tick g) (outcome.Done (answer.Ticked (Some x))) f k = (g ≡ f) × (x ≡ k)
+GivesCallback (Tick g) (outcome.Failed x) f k = (g ≡ f) × (x ≡ k)
+GivesCallback step out f k = ⊥
 
 -- the callback brings event e in time-stamp order, with stamp s
 abbrev pub Brings : Callback → EventHandle → ℕ → Type 0
@@ -34,12 +34,44 @@ Brings k e s = ⊥
 -- f picks up event e in time-stamp order, with stamp s
 pub record Picks (h : Happening) (f : ℕ) (e : EventHandle) (s : ℕ) : Type 0 where
   pub given : Callback
-  pub gives : Gives h.step h.outcome f given
+  pub gives : GivesCallback h.step h.outcome f given
   pub brings : Brings given e s
+
+-- the callback gives the message that e names, in whatever order
+abbrev pub Names : Callback → EventHandle → Type 0
+Names (callback.ReflectAttributeValues object values event d) e = event ≡ e
+Names (callback.ReceiveInteraction class values event d) e = event ≡ e
+Names (callback.RemoveObjectInstance object event d) e = event ≡ e
+Names k e = ⊥
+
+-- the same of a message that was sent in receive order
+abbrev pub NamesPlain : Callback → EventHandle → Type 0
+NamesPlain (callback.ReflectAttributeValues object values event d) e = (event ≡ e) × (d ≡ delivery.Receive)
+NamesPlain (callback.ReceiveInteraction class values event d) e = (event ≡ e) × (d ≡ delivery.Receive)
+NamesPlain (callback.RemoveObjectInstance object event d) e = (event ≡ e) × (d ≡ delivery.Receive)
+NamesPlain k e = ⊥
+
+-- the callback says something of an object that its receiver is to know
+abbrev pub SpeaksOf : Callback → ℕ → Type 0
+SpeaksOf (callback.ReflectAttributeValues object values event d) h = object ≡ h
+SpeaksOf (callback.RemoveObjectInstance object event d) h = object ≡ h
+SpeaksOf k h = ⊥
+
+-- f is given the message that e names
+pub record Hears (h : Happening) (f : ℕ) (e : EventHandle) : Type 0 where
+  pub given : Callback
+  pub gives : GivesCallback h.step h.outcome f given
+  pub names : Names given e
+
+-- f is given the message that e names, which was sent in receive order
+pub record HearsPlain (h : Happening) (f : ℕ) (e : EventHandle) : Type 0 where
+  pub given : Callback
+  pub gives : GivesCallback h.step h.outcome f given
+  pub names : NamesPlain given e
 
 -- f is granted t
 abbrev pub IsGranted : Happening → ℕ → ℕ → Type 0
-IsGranted h f t = Gives h.step h.outcome f (callback.TimeAdvanceGrant t)
+IsGranted h f t = GivesCallback h.step h.outcome f (callback.TimeAdvanceGrant t)
 
 -- the state after a happening
 abbrev pub next_state : Central → Happening → Central
@@ -47,7 +79,7 @@ next_state c h = after c h.step h.outcome h.choice
 
 -- a run leads to c, where the machine allows h
 pub record Happens (c : Central) (h : Happening) : Type 0 where
-  pub catalogue : Tables
+  pub catalogue : CatalogueValue
   pub before : List Happening
   pub run : IsRun (new_central catalogue) before c
   pub allowed : Allowed c h.step h.outcome h.choice
@@ -90,7 +122,7 @@ IsPickedOrMoved c (h ∷ hs) f e s = Picks h f e s ⊎ (IsMoved c (next_state c 
 
 -- a run leads to c, another from c to d, where the machine allows h
 pub record HappensLater (c : Central) (between : List Happening) (d : Central) (h : Happening) : Type 0 where
-  pub catalogue : Tables
+  pub catalogue : CatalogueValue
   pub before : List Happening
   pub start : IsRun (new_central catalogue) before c
   pub run : IsRun c between d

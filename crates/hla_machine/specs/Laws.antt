@@ -1,12 +1,21 @@
 -- What every run of the machine keeps, whatever the components are
-use Rattle.std.specs.Prelude.{ℕ, ◌≡◌, ◌≤◌, ◌<◌, ◌⊎◌, true, Some, List}
+use Rattle.std.specs.Prelude.{ℕ, ◌≡◌, ◌≢◌, ◌≤◌, ◌<◌, ◌⊎◌, true, Some, List}
+use Rattle.std.specs.List.{All}
+use Rattle.hla_base.specs.declared.content.Discovery.{Discovery}
 use Rattle.hla_base.specs.declared.number.EventHandle.{EventHandle}
 use Rattle.hla_base.specs.declared.row.AdvanceRequest.{AdvanceRequest}
 use Rattle.hla_base.specs.Rows.{is_constrained}
-use Rattle.hla_fed_file.specs.Tables.{Tables}
+use Rattle.hla_fed_file.specs.CatalogueValue.{CatalogueValue}
 use Rattle.hla_machine.specs.Central.{Central, new_central, BelowAllTso, BelowBound, reach}
+use Rattle.hla_callbacks.specs.declared.callback.Callback.{Callback}
+use Rattle.hla_machine.specs.declared.service.Service.{Service}
+use Rattle.hla_machine.specs.declared.step.Step.TheVariants.{Call}
+use Rattle.hla_machine.specs.declared.step.Answer.TheVariants as answer
+use Rattle.hla_machine.specs.declared.step.Outcome.TheVariants as outcome
+use Rattle.hla_machine.specs.declared.step.Choice.{Choice}
+use Rattle.hla_machine.specs.Machine.{Allowed, after}
 use Rattle.hla_machine.specs.Runs.{Happening, IsRun}
-use Rattle.hla_machine.specs.History.{Picks, IsGranted, Happens, HappenAfter, IsInNoFlush, IsInStrict, IsInOneAdvance, IsBefore, next_state, HappensLater, WaitsInOrder, IsPickedOrMoved}
+use Rattle.hla_machine.specs.History.{GivesCallback, SpeaksOf, Hears, HearsPlain, Picks, IsGranted, Happens, HappenAfter, IsInNoFlush, IsInStrict, IsInOneAdvance, IsBefore, next_state, HappensLater, WaitsInOrder, IsPickedOrMoved}
 
 -- a constrained federate is safe: its time is at most its bar, the bar is at most its bound, and nothing that is
 -- to be given in time-stamp order lies in its past
@@ -16,7 +25,7 @@ pub record IsSafe (c : Central) : Type 0 where
   pub ahead : (f : ℕ) → is_constrained (c.row f) ≡ true → BelowAllTso c f (c.row f).time
 
 abbrev pub EachRunIsSafe : Type 0
-EachRunIsSafe = (catalogue : Tables) (happenings : List Happening) (c : Central) → IsRun (new_central catalogue) happenings c → IsSafe c
+EachRunIsSafe = (catalogue : CatalogueValue) (happenings : List Happening) (c : Central) → IsRun (new_central catalogue) happenings c → IsSafe c
 
 -- nothing is given to a federate in its past: no pick and no grant is below its time, and its time never falls
 pub record IsAhead (c : Central) (h : Happening) (f : ℕ) : Type 0 where
@@ -43,3 +52,38 @@ abbrev pub GrantedAfterAllBefore : Type 0
 GrantedAfterAllBefore = (c : Central) (between : List Happening) (d : Central) (h : Happening) (f t : ℕ) (q : AdvanceRequest) (e : EventHandle) (s : ℕ) →
     HappensLater c between d h → IsGranted h f t → is_constrained (d.row f) ≡ true → (d.row f).advance ≡ Some q →
     WaitsInOrder c f e s → s < reach q.kind t → ((d.sent e.sender e.serial).retracted ≡ true) ⊎ IsPickedOrMoved c between f e s
+
+-- after a call that answers an event handle, each receiver of that event waits for it in time-stamp order, with its stamp
+abbrev pub ReceiversWait : Type 0
+ReceiversWait = (c : Central) (f : ℕ) (service : Service) (e : EventHandle) (o : Choice) (g : ℕ) →
+    let out = outcome.Done (answer.Sent (Some e)) in
+    let d = after c (Call f service) out o in
+    Allowed c (Call f service) out o → (d.sent e.sender e.serial).receivers g ≡ true → WaitsInOrder d g e (d.sent e.sender e.serial).stamp
+
+-- a federate is given a message of another's alone
+abbrev pub NobodyHearsItself : Type 0
+NobodyHearsItself = (c : Central) (h : Happening) (f : ℕ) (e : EventHandle) → Happens c h → Hears h f e → e.sender ≢ f
+
+-- a federate is given a message at most once
+abbrev pub EachMessageOnce : Type 0
+EachMessageOnce = (c : Central) (h : Happening) (between : List Happening) (d : Central) (i : Happening) (f : ℕ) (e : EventHandle) →
+    HappenAfter c h between d i → Hears h f e → Hears i f e → ⊥
+
+-- a federate that is given anything is joined
+abbrev pub GivenToTheJoined : Type 0
+GivenToTheJoined = (c : Central) (h : Happening) (f : ℕ) (k : Callback) → Happens c h → GivesCallback h.step h.outcome f k → c.directory.joined f ≡ true
+
+-- what one federate sent in receive order is given in the order in which it was sent
+abbrev pub SendersOrder : Type 0
+SendersOrder = (c : Central) (h : Happening) (between : List Happening) (d : Central) (i : Happening) (f : ℕ) (e x : EventHandle) →
+    HappenAfter c h between d i → HearsPlain h f e → HearsPlain i f x → e.sender ≡ x.sender → e.serial < x.serial
+
+-- two registrations give different numbers and different names
+abbrev pub RegistrationsDiffer : Type 0
+RegistrationsDiffer = (c : Central) (h : Happening) (between : List Happening) (d : Central) (i : Happening) (a b : ℕ) (n p : List ℕ) →
+    HappenAfter c h between d i → h.outcome ≡ outcome.Done (answer.Registered a n) → i.outcome ≡ outcome.Done (answer.Registered b p) → (a ≢ b) × (n ≢ p)
+
+-- when a federate is given an update or the removal of an object, no discovery of that object waits for it any more
+abbrev pub DiscoveredBefore : Type 0
+DiscoveredBefore = (c : Central) (h : Happening) (f : ℕ) (k : Callback) (object : ℕ) → Happens c h → GivesCallback h.step h.outcome f k → SpeaksOf k object →
+    (g : ℕ) → All (λ (d : Discovery). d.object ≢ object) (c.discoveries g f)

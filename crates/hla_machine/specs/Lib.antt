@@ -1,9 +1,26 @@
+-- Who joined, declarations, objects, receivers
 pub mod Directory
+-- The state, and the bounds
 pub mod Central
+-- What a send does
 pub mod Sends
+-- With which fault each step is refused
 pub mod Refusals
+-- What a tick may give
 pub mod Callbacks
+-- What a step may answer, and the state after it
 pub mod Machine
+-- Runs, of one execution and of all executions by name
 pub mod Runs
+-- What is said of several moments of a run
 pub mod History
+-- What the state keeps by itself
+pub mod CentralInvariant
+-- What every run keeps, in a federate's words
 pub mod Laws
+-- `==` of services tells them apart: a service at a time, since the search over all pairs of services is too long
+pub mod Services
+-- `==` of steps, outcomes, acts and records tells them apart, part by part
+pub mod Steps
+-- What records of all executions say of one of them
+pub mod Projection

@@ -9,10 +9,11 @@ use Rattle.hla_base.specs.declared.row.Role.TheVariants.{Disabled, Pending, Enab
 use Rattle.hla_base.specs.declared.row.AdvanceKind.{AdvanceKind}
 use Rattle.hla_base.specs.declared.row.AdvanceKind.TheVariants as kind
 use Rattle.hla_base.specs.declared.row.TimeRow.{TimeRow}
-use Rattle.hla_base.specs.Tables.{upd, upd2, upd_row}
+use Rattle.hla_base.specs.Tables.{upd, upd2, upd_row, one_if}
 use Rattle.hla_base.specs.Rows.{is_constrained, is_disabled, is_none_of, is_regulator, new_row, requested, regulating_from}
 use Rattle.hla_fed_file.specs.Lookup.{object_class_named, interaction_class_named, attribute_named, parameter_named}
 use Rattle.hla_callbacks.specs.declared.callback.Callback.{Callback}
+use Rattle.hla_callbacks.specs.declared.callback.Callback.TheVariants as callback
 use Rattle.hla_machine.specs.declared.service.Service.{Service}
 use Rattle.hla_machine.specs.declared.service.Service.TheVariants as service
 use Rattle.hla_machine.specs.declared.service.ResignAction.{ResignAction}
@@ -29,13 +30,13 @@ use Rattle.hla_machine.specs.declared.step.Choice.{Choice}
 use Rattle.hla_machine.specs.declared.step.Choice.TheVariants as choice
 use Rattle.hla_machine.specs.Directory.{Directory, Outgoing, name_or_default, objects_of, interaction_sent, update_sent, deletion_sent, deletions_sent, discoveries_of, discovered_by, discovered_by_all, with_member, without_member, with_published, with_subscribed, with_published_interaction, with_subscribed_interaction, with_object, without_object}
 use Rattle.hla_machine.specs.Central.{Central, Copy, Tso, Demoted, BelowAllTso, BelowOut, BelowBound, BelowSomeWake, low_entry, at_key, at3, demoted}
-use Rattle.hla_machine.specs.Sends.{sent_all, sent_handle, is_told, owed_to_receivers, one_if}
+use Rattle.hla_machine.specs.Sends.{after_messages, sent_handle, is_told, owed_to_receivers}
 use Rattle.hla_machine.specs.Refusals.{Seen, refusal, is_known}
-use Rattle.hla_machine.specs.Callbacks.{MayPickUp, after_pick, IsCopy, AreTso, set_row, with_demoted}
+use Rattle.hla_machine.specs.Callbacks.{MayPickUp, after_pick, IsCopy, AreTso, is_among, with_central_row, with_demoted}
 use Rattle.std.specs.Str.{bytes_eq}
 
-abbrev pub seen : Central → Seen
-seen c = record { directory = c.directory; row = c.row; serial = c.serial; sent = c.sent }
+abbrev pub central_seen : Central → Seen
+central_seen c = record { directory = c.directory; row = c.row; serial = c.serial; sent = c.sent }
 
 -- ---- what a service may answer
 -- a newcomer's entry: at least its own time and lookahead and every bar, and above them at most some other's wake
@@ -66,14 +67,14 @@ IsHandle found number = found ≡ Some number
 abbrev pub IsObjectNamed : Directory → ℕ → List ℕ → ℕ → Type 0
 IsObjectNamed d f name h = (is_known d f h ≡ true) × (bytes_eq (d.object h).name name ≡ true)
 
-abbrev pub sends : Central → ℕ → Option ℕ → List Outgoing → Option EventHandle
-sends c f stamp outs = sent_handle f (c.row f) stamp (c.serial f) outs
+abbrev pub send_answer : Central → ℕ → Option ℕ → List Outgoing → Option EventHandle
+send_answer c f stamp outs = sent_handle f (c.row f) stamp (c.serial f) outs
 
 abbrev pub MayAnswer : Central → ℕ → Service → Answer → Choice → Type 0
 MayAnswer c f (service.RegisterObjectInstance class name) (answer.Registered object given) o =
     (object ≡ c.directory.next_object) × (given ≡ name_or_default c.directory.next_object name)
-MayAnswer c f (service.UpdateAttributeValues object values stamp) (answer.Sent event) o = event ≡ sends c f stamp (update_sent c.directory object values)
-MayAnswer c f (service.SendInteraction class values stamp) (answer.Sent event) o = event ≡ sends c f stamp (interaction_sent c.directory class values)
+MayAnswer c f (service.UpdateAttributeValues object values stamp) (answer.Sent event) o = event ≡ send_answer c f stamp (update_sent c.directory object values)
+MayAnswer c f (service.SendInteraction class values stamp) (answer.Sent event) o = event ≡ send_answer c f stamp (interaction_sent c.directory class values)
 MayAnswer c f (service.EnableTimeRegulation time lookahead) answer.Done o = MayEnter c f (time + lookahead) o
 MayAnswer c f service.DisableTimeConstrained answer.Done o = MayCease c f o
 MayAnswer c f service.QueryLbts (answer.Time v) o = MayBound c f v
@@ -143,24 +144,58 @@ MayDo c (Announce f) (answer.Announced v) o = MayAnnounce c f v
 MayDo c (Tick f) (answer.Ticked k) o = MayTick c f k o
 MayDo c step a o = ⊥
 
--- a step is allowed if it is refused with the fault that applies, or none applies and the machine may answer so
-abbrev pub Allowed : Central → Step → Outcome → Choice → Type 0
-Allowed c step (outcome.Done a) o = (refusal (seen c) step ≡ None) × MayDo c step a o
-Allowed c step (outcome.Refused e) o = refusal (seen c) step ≡ Some e
+-- a step may end so if it is refused with the fault that applies, or none applies and the machine may answer so
+abbrev pub MayEnd : Central → Step → Outcome → Choice → Type 0
+MayEnd c step (outcome.Done a) o = (refusal (central_seen c) step ≡ None) × MayDo c step a o
+MayEnd c step (outcome.Refused e) o = refusal (central_seen c) step ≡ Some e
 -- an ambassador that fails in a callback has picked it up all the same
-Allowed c (Tick f) (outcome.Failed k) o = (refusal (seen c) (Tick f) ≡ None) × MayPickUp c f k o
-Allowed c step (outcome.Failed k) o = ⊥
+MayEnd c (Tick f) (outcome.Failed k) o = (refusal (central_seen c) (Tick f) ≡ None) × MayPickUp c f k o
+MayEnd c step (outcome.Failed k) o = ⊥
+
+-- ---- where something is chosen, and of which form
+abbrev pub IsEntry : Choice → Type 0
+IsEntry (choice.Entry e) = Unit {0}
+IsEntry o = ⊥
+
+-- no event is there twice
+abbrev pub AreDistinct : List EventHandle → Type 0
+AreDistinct [] = Unit {0}
+AreDistinct (e ∷ es) = (is_among es e.sender e.serial ≡ false) × AreDistinct es
+
+abbrev pub AreMoved : Choice → Type 0
+AreMoved (choice.Moved events) = AreDistinct events
+AreMoved o = ⊥
+
+abbrev pub IsServiceChoice : Service → Choice → Type 0
+IsServiceChoice (service.EnableTimeRegulation time lookahead) o = IsEntry o
+IsServiceChoice service.DisableTimeConstrained o = AreMoved o
+IsServiceChoice service o = o ≡ choice.None
+
+abbrev pub IsCallbackChoice : Option Callback → Choice → Type 0
+IsCallbackChoice (Some (callback.TimeConstrainedEnabled time)) o = AreMoved o
+IsCallbackChoice k o = o ≡ choice.None
+
+-- an entry where regulation is enabled, the events that are moved where a federate becomes constrained or ceases to be, else nothing
+abbrev pub IsChoice : Step → Outcome → Choice → Type 0
+IsChoice (Call f service) (outcome.Done a) o = IsServiceChoice service o
+IsChoice (Tick f) (outcome.Done (answer.Ticked k)) o = IsCallbackChoice k o
+IsChoice (Tick f) (outcome.Failed k) o = IsCallbackChoice (Some k) o
+IsChoice step out o = o ≡ choice.None
+
+-- a step is allowed if it may end so, and chooses just what is to be chosen
+abbrev pub Allowed : Central → Step → Outcome → Choice → Type 0
+Allowed c step out o = MayEnd c step out o × IsChoice step out o
 
 -- ---- the state after a service
-abbrev pub set_directory : Central → Directory → Central
-set_directory c d = record c { directory = d }
+abbrev pub with_central_directory : Central → Directory → Central
+with_central_directory c d = record c { directory = d }
 
 abbrev pub ask : Central → ℕ → AdvanceKind → ℕ → Central
-ask c f k a = set_row c f (requested (c.row f) k a)
+ask c f k a = with_central_row c f (requested (c.row f) k a)
 
 -- a federate leaves: what is for it goes, and what it sent stays
-abbrev pub left_by : Central → ℕ → Central
-left_by c f = record c {
+abbrev pub after_leaving : Central → ℕ → Central
+after_leaving c f = record c {
   directory = without_member c.directory f;
   row = upd c.row f new_row;
   bag = λ g m. upd (c.bag g m) f None;
@@ -171,8 +206,8 @@ left_by c f = record c {
 
 -- its objects are deleted without a stamp, by rising number
 abbrev pub after_resign : Central → ℕ → ResignAction → Central
-after_resign c f DeleteObjects = left_by (sent_all c f None (deletions_sent (objects_of c.directory f))) f
-after_resign c f NoAction = left_by c f
+after_resign c f DeleteObjects = after_leaving (after_messages c f None (deletions_sent (objects_of c.directory f))) f
+after_resign c f NoAction = after_leaving c f
 after_resign c f ReleaseAttributes = c
 after_resign c f DeleteObjectsAndReleaseAttributes = c
 
@@ -190,7 +225,7 @@ after_register c f class name = let d = with_object c.directory f class name in 
 }
 
 abbrev pub after_delete : Central → ℕ → ℕ → Option ℕ → Central
-after_delete c f object stamp = let sent = sent_all c f stamp (deletion_sent c.directory object) in set_directory sent (without_object sent.directory object)
+after_delete c f object stamp = let sent = after_messages c f stamp (deletion_sent c.directory object) in with_central_directory sent (without_object sent.directory object)
 
 abbrev pub after_retract : Central → ℕ → ℕ → Central
 after_retract c f m = record c {
@@ -199,7 +234,7 @@ after_retract c f m = record c {
 }
 
 abbrev pub after_enter : Central → ℕ → ℕ → Choice → Central
-after_enter c f lookahead (choice.Entry e) = set_row c f (regulating_from (c.row f) lookahead e)
+after_enter c f lookahead (choice.Entry e) = with_central_row c f (regulating_from (c.row f) lookahead e)
 after_enter c f lookahead o = c
 
 abbrev pub after_cease : Central → ℕ → Choice → Central
@@ -208,50 +243,50 @@ after_cease c f o = c
 
 abbrev pub after_call : Central → ℕ → Service → Choice → Central
 after_call c f (service.Resign way) o = after_resign c f way
-after_call c f (service.PublishObjectClass class attributes) o = set_directory c (with_published c.directory f class (Some attributes))
-after_call c f (service.UnpublishObjectClass class) o = set_directory c (with_published c.directory f class None)
+after_call c f (service.PublishObjectClass class attributes) o = with_central_directory c (with_published c.directory f class (Some attributes))
+after_call c f (service.UnpublishObjectClass class) o = with_central_directory c (with_published c.directory f class None)
 after_call c f (service.SubscribeObjectClassAttributes class attributes) o = after_subscribe c f class (Some attributes)
-after_call c f (service.UnsubscribeObjectClass class) o = set_directory c (with_subscribed c.directory f class None)
-after_call c f (service.PublishInteractionClass class) o = set_directory c (with_published_interaction c.directory f class true)
-after_call c f (service.UnpublishInteractionClass class) o = set_directory c (with_published_interaction c.directory f class false)
-after_call c f (service.SubscribeInteractionClass class) o = set_directory c (with_subscribed_interaction c.directory f class true)
-after_call c f (service.UnsubscribeInteractionClass class) o = set_directory c (with_subscribed_interaction c.directory f class false)
+after_call c f (service.UnsubscribeObjectClass class) o = with_central_directory c (with_subscribed c.directory f class None)
+after_call c f (service.PublishInteractionClass class) o = with_central_directory c (with_published_interaction c.directory f class true)
+after_call c f (service.UnpublishInteractionClass class) o = with_central_directory c (with_published_interaction c.directory f class false)
+after_call c f (service.SubscribeInteractionClass class) o = with_central_directory c (with_subscribed_interaction c.directory f class true)
+after_call c f (service.UnsubscribeInteractionClass class) o = with_central_directory c (with_subscribed_interaction c.directory f class false)
 after_call c f (service.RegisterObjectInstance class name) o = after_register c f class (name_or_default c.directory.next_object name)
-after_call c f (service.UpdateAttributeValues object values stamp) o = sent_all c f stamp (update_sent c.directory object values)
-after_call c f (service.SendInteraction class values stamp) o = sent_all c f stamp (interaction_sent c.directory class values)
+after_call c f (service.UpdateAttributeValues object values stamp) o = after_messages c f stamp (update_sent c.directory object values)
+after_call c f (service.SendInteraction class values stamp) o = after_messages c f stamp (interaction_sent c.directory class values)
 after_call c f (service.DeleteObjectInstance object stamp) o = after_delete c f object stamp
 after_call c f (service.Retract event) o = after_retract c f event.serial
 after_call c f (service.EnableTimeRegulation time lookahead) o = after_enter c f lookahead o
-after_call c f service.DisableTimeRegulation o = set_row c f (record (c.row f) { regulating = Disabled })
-after_call c f service.EnableTimeConstrained o = set_row c f (record (c.row f) { constrained = Pending })
+after_call c f service.DisableTimeRegulation o = with_central_row c f (record (c.row f) { regulating = Disabled })
+after_call c f service.EnableTimeConstrained o = with_central_row c f (record (c.row f) { constrained = Pending })
 after_call c f service.DisableTimeConstrained o = after_cease c f o
 after_call c f (service.TimeAdvanceRequest time) o = ask c f kind.TimeAdvance time
 after_call c f (service.TimeAdvanceRequestAvailable time) o = ask c f kind.TimeAdvanceAvailable time
 after_call c f (service.NextEventRequest time) o = ask c f kind.NextEvent time
 after_call c f (service.NextEventRequestAvailable time) o = ask c f kind.NextEventAvailable time
 after_call c f (service.FlushQueueRequest time) o = ask c f kind.FlushQueue time
-after_call c f (service.ModifyLookahead lookahead) o = set_row c f (record (c.row f) { lookahead = lookahead })
-after_call c f service.EnableAsynchronousDelivery o = set_row c f (record (c.row f) { asynchronous = true })
-after_call c f service.DisableAsynchronousDelivery o = set_row c f (record (c.row f) { asynchronous = false })
+after_call c f (service.ModifyLookahead lookahead) o = with_central_row c f (record (c.row f) { lookahead = lookahead })
+after_call c f service.EnableAsynchronousDelivery o = with_central_row c f (record (c.row f) { asynchronous = true })
+after_call c f service.DisableAsynchronousDelivery o = with_central_row c f (record (c.row f) { asynchronous = false })
 after_call c f service o = c
 
 -- ---- the state after another step
 -- what arrives while the receiver is not constrained will be given in receive order
-abbrev pub arrived : Central → ℕ → ℕ → ℕ → Central
-arrived c g f m = record c { bag = cond (is_disabled (c.row f).constrained) (at_key c.bag g m f (option_map demoted (c.bag g m f))) c.bag }
+abbrev pub after_arrival : Central → ℕ → ℕ → ℕ → Central
+after_arrival c g f m = record c { bag = cond (is_disabled (c.row f).constrained) (at_key c.bag g m f (option_map demoted (c.bag g m f))) c.bag }
 
 -- a retraction takes back the copy, or asks the federate that has picked it up
-abbrev pub retraction_arrived : Central → ℕ → ℕ → ℕ → Central
-retraction_arrived c g f m = record c {
+abbrev pub after_retraction_arrival : Central → ℕ → ℕ → ℕ → Central
+after_retraction_arrival c g f m = record c {
   owed = at3 c.owed g m f (c.owed g m f - 1);
   bag = at_key c.bag g m f None;
   due = at3 c.due g m f (c.due g m f + one_if (is_none_of (c.bag g m f)));
 }
 
 abbrev pub after_carry : Central → ℕ → ℕ → Carried → Central
-after_carry c g f (carried.Event e) = arrived c g f e.serial
-after_carry c g f (carried.Removal e) = arrived c g f e.serial
-after_carry c g f (carried.Retraction e) = retraction_arrived c g f e.serial
+after_carry c g f (carried.Event e) = after_arrival c g f e.serial
+after_carry c g f (carried.Removal e) = after_arrival c g f e.serial
+after_carry c g f (carried.Retraction e) = after_retraction_arrival c g f e.serial
 after_carry c g f x = c
 
 abbrev pub joined_by : Central → List ℕ → Central

@@ -3,11 +3,12 @@ use Rattle.std.specs.Prelude.{ℕ, ◌+◌, ◌≡◌, cond, eqb, ltb, not, ◌&
 use Rattle.std.specs.List.{list_any}
 use Rattle.std.specs.Option.{option_map_or}
 use Rattle.std.specs.Str.{bytes_eq}
+use Rattle.hla_base.specs.Limits.{max_enablings, max_federate_name, max_joins, max_name, max_objects, max_serial, max_time}
 use Rattle.hla_base.specs.declared.fault.Fault.{Fault}
 use Rattle.hla_base.specs.declared.fault.Fault.TheVariants as fault
 use Rattle.hla_base.specs.declared.content.HandleValuePair.{HandleValuePair}
 use Rattle.hla_base.specs.declared.row.TimeRow.{TimeRow}
-use Rattle.hla_base.specs.Tables.{max_time, numbers_below}
+use Rattle.hla_base.specs.Tables.{numbers_below}
 use Rattle.hla_base.specs.Rows.{is_enabled, is_pending, is_disabled, is_constrained, is_advancing, least_stamp}
 use Rattle.hla_fed_file.specs.Lookup.{is_object_class, is_interaction_class, has_attribute, has_parameter, contains_number, object_class_named, interaction_class_named, attribute_named, parameter_named}
 use Rattle.hla_machine.specs.declared.service.Service.{Service}
@@ -25,8 +26,8 @@ pub record Test : Type 0 where
   pub applies : Bool
   pub fault : Fault
 
-abbrev pub gives : Fault → Bool → Test
-gives e b = record { applies = b; fault = e }
+abbrev pub test_for : Fault → Bool → Test
+test_for e b = record { applies = b; fault = e }
 
 abbrev pub first_fault : List Test → Option Fault
 first_fault [] = None
@@ -67,111 +68,111 @@ is_bad_stamp r stamp outs = ltb max_time (unwrap_or stamp 0) || (is_some_ordered
 
 -- the messages would need a serial above the largest
 abbrev pub is_out_of_serials : ℕ → List Outgoing → Bool
-is_out_of_serials serial outs = ltb (max_time + 1) (serial + length outs)
+is_out_of_serials serial outs = ltb (max_serial + 1) (serial + length outs)
 
 -- ---- the tests of each service, in their order
 abbrev pub request_tests : TimeRow → ℕ → List Test
 request_tests r a =
-    gives fault.TimeAdvanceAlreadyInProgress (is_advancing r)
-    ∷ gives fault.EnableTimeRegulationPending (is_pending r.regulating)
-    ∷ gives fault.EnableTimeConstrainedPending (is_pending r.constrained)
-    ∷ gives fault.InvalidFederationTime (ltb max_time a)
-    ∷ gives fault.FederationTimeAlreadyPassed (ltb a r.time)
+    test_for fault.TimeAdvanceAlreadyInProgress (is_advancing r)
+    ∷ test_for fault.EnableTimeRegulationPending (is_pending r.regulating)
+    ∷ test_for fault.EnableTimeConstrainedPending (is_pending r.constrained)
+    ∷ test_for fault.InvalidFederationTime (ltb max_time a)
+    ∷ test_for fault.FederationTimeAlreadyPassed (ltb a r.time)
     ∷ []
 
 abbrev pub regulation_tests : TimeRow → ℕ → ℕ → ℕ → List Test
 regulation_tests r low t lookahead =
-    gives fault.TimeAdvanceAlreadyInProgress (is_advancing r)
-    ∷ gives fault.TimeRegulationAlreadyEnabled (is_enabled r.regulating)
-    ∷ gives fault.EnableTimeRegulationPending (is_pending r.regulating)
-    ∷ gives fault.InvalidFederationTime (ltb max_time t || cond (is_constrained r) (not (eqb t r.time)) (ltb t r.time))
-    ∷ gives fault.InvalidLookahead (ltb max_time lookahead)
-    ∷ gives fault.InvalidFederationTime (not (is_constrained r) && eqb lookahead 0 && eqb low (max_time + 1))
-    ∷ gives fault.LimitReached (not (ltb r.enablings max_time))
+    test_for fault.TimeAdvanceAlreadyInProgress (is_advancing r)
+    ∷ test_for fault.TimeRegulationAlreadyEnabled (is_enabled r.regulating)
+    ∷ test_for fault.EnableTimeRegulationPending (is_pending r.regulating)
+    ∷ test_for fault.InvalidFederationTime (ltb max_time t || cond (is_constrained r) (not (eqb t r.time)) (ltb t r.time))
+    ∷ test_for fault.InvalidLookahead (ltb max_time lookahead)
+    ∷ test_for fault.InvalidFederationTime (not (is_constrained r) && eqb lookahead 0 && eqb low (max_time + 1))
+    ∷ test_for fault.LimitReached (not (ltb r.enablings max_enablings))
     ∷ []
 
 abbrev pub resign_tests : Seen → ℕ → ResignAction → List Test
-resign_tests s f DeleteObjects = gives fault.LimitReached (is_out_of_serials (s.serial f) (deletions_sent (objects_of s.directory f))) ∷ []
-resign_tests s f NoAction = gives fault.FederateOwnsAttributes (ltb 0 (length (objects_of s.directory f))) ∷ []
-resign_tests s f ReleaseAttributes = gives fault.InvalidResignAction true ∷ []
-resign_tests s f DeleteObjectsAndReleaseAttributes = gives fault.InvalidResignAction true ∷ []
+resign_tests s f DeleteObjects = test_for fault.LimitReached (is_out_of_serials (s.serial f) (deletions_sent (objects_of s.directory f))) ∷ []
+resign_tests s f NoAction = test_for fault.FederateOwnsAttributes (ltb 0 (length (objects_of s.directory f))) ∷ []
+resign_tests s f ReleaseAttributes = test_for fault.InvalidResignAction true ∷ []
+resign_tests s f DeleteObjectsAndReleaseAttributes = test_for fault.InvalidResignAction true ∷ []
 
 abbrev pub update_tests : Directory → TimeRow → ℕ → ℕ → ℕ → List HandleValuePair → Option ℕ → List Test
 update_tests d r serial f h values stamp =
-    gives fault.ObjectNotKnown (not (is_known d f h))
-    ∷ gives fault.AttributeNotDefined (list_any (λ (v : HandleValuePair). not (has_attribute d.catalogue (d.object h).class v.handle)) values)
-    ∷ gives fault.AttributeNotOwned (list_any (λ (v : HandleValuePair). not (is_owned d f h v.handle)) values)
-    ∷ gives fault.AttributeNotPublished (list_any (λ (v : HandleValuePair). not (is_published d f (d.object h).class v.handle)) values)
-    ∷ gives fault.InvalidFederationTime (is_bad_stamp r stamp (update_sent d h values))
-    ∷ gives fault.LimitReached (is_out_of_serials serial (update_sent d h values))
+    test_for fault.ObjectNotKnown (not (is_known d f h))
+    ∷ test_for fault.AttributeNotDefined (list_any (λ (v : HandleValuePair). not (has_attribute d.catalogue (d.object h).class v.handle)) values)
+    ∷ test_for fault.AttributeNotOwned (list_any (λ (v : HandleValuePair). not (is_owned d f h v.handle)) values)
+    ∷ test_for fault.AttributeNotPublished (list_any (λ (v : HandleValuePair). not (is_published d f (d.object h).class v.handle)) values)
+    ∷ test_for fault.InvalidFederationTime (is_bad_stamp r stamp (update_sent d h values))
+    ∷ test_for fault.LimitReached (is_out_of_serials serial (update_sent d h values))
     ∷ []
 
 abbrev pub interaction_tests : Directory → TimeRow → ℕ → ℕ → ℕ → List HandleValuePair → Option ℕ → List Test
 interaction_tests d r serial f class values stamp =
-    gives fault.InteractionClassNotDefined (not (is_interaction_class d.catalogue class))
-    ∷ gives fault.InteractionParameterNotDefined (list_any (λ (v : HandleValuePair). not (has_parameter d.catalogue class v.handle)) values)
-    ∷ gives fault.InteractionClassNotPublished (not (d.published_interaction f class))
-    ∷ gives fault.InvalidFederationTime (is_bad_stamp r stamp (interaction_sent d class values))
-    ∷ gives fault.LimitReached (is_out_of_serials serial (interaction_sent d class values))
+    test_for fault.InteractionClassNotDefined (not (is_interaction_class d.catalogue class))
+    ∷ test_for fault.InteractionParameterNotDefined (list_any (λ (v : HandleValuePair). not (has_parameter d.catalogue class v.handle)) values)
+    ∷ test_for fault.InteractionClassNotPublished (not (d.published_interaction f class))
+    ∷ test_for fault.InvalidFederationTime (is_bad_stamp r stamp (interaction_sent d class values))
+    ∷ test_for fault.LimitReached (is_out_of_serials serial (interaction_sent d class values))
     ∷ []
 
 abbrev pub deletion_tests : Directory → TimeRow → ℕ → ℕ → ℕ → Option ℕ → List Test
 deletion_tests d r serial f h stamp =
-    gives fault.ObjectNotKnown (not (is_known d f h))
-    ∷ gives fault.DeletePrivilegeNotHeld (not (eqb (d.object h).owner f))
-    ∷ gives fault.InvalidFederationTime (is_bad_stamp r stamp (deletion_sent d h))
-    ∷ gives fault.LimitReached (is_out_of_serials serial (deletion_sent d h))
+    test_for fault.ObjectNotKnown (not (is_known d f h))
+    ∷ test_for fault.DeletePrivilegeNotHeld (not (eqb (d.object h).owner f))
+    ∷ test_for fault.InvalidFederationTime (is_bad_stamp r stamp (deletion_sent d h))
+    ∷ test_for fault.LimitReached (is_out_of_serials serial (deletion_sent d h))
     ∷ []
 
 abbrev pub register_tests : Directory → ℕ → ℕ → Option (List ℕ) → List Test
 register_tests d f class name =
-    gives fault.ObjectClassNotDefined (not (is_object_class d.catalogue class))
-    ∷ gives fault.ObjectClassNotPublished (not (is_some (d.published f class)))
-    ∷ gives fault.ObjectAlreadyRegistered (is_name_used d (name_or_default d.next_object name))
-    ∷ gives fault.LimitReached (ltb 4096 d.next_object || not (is_length_in 1 255 (name_or_default d.next_object name)))
+    test_for fault.ObjectClassNotDefined (not (is_object_class d.catalogue class))
+    ∷ test_for fault.ObjectClassNotPublished (not (is_some (d.published f class)))
+    ∷ test_for fault.ObjectAlreadyRegistered (is_name_used d (name_or_default d.next_object name))
+    ∷ test_for fault.LimitReached (ltb max_objects d.next_object || not (is_length_in 1 max_name (name_or_default d.next_object name)))
     ∷ []
 
 abbrev pub no_object_class : Directory → ℕ → Test
-no_object_class d class = gives fault.ObjectClassNotDefined (not (is_object_class d.catalogue class))
+no_object_class d class = test_for fault.ObjectClassNotDefined (not (is_object_class d.catalogue class))
 
 abbrev pub no_interaction_class : Directory → ℕ → Test
-no_interaction_class d class = gives fault.InteractionClassNotDefined (not (is_interaction_class d.catalogue class))
+no_interaction_class d class = test_for fault.InteractionClassNotDefined (not (is_interaction_class d.catalogue class))
 
 abbrev pub no_attribute : Directory → ℕ → List ℕ → Test
-no_attribute d class attributes = gives fault.AttributeNotDefined (list_any (λ a. not (has_attribute d.catalogue class a)) attributes)
+no_attribute d class attributes = test_for fault.AttributeNotDefined (list_any (λ a. not (has_attribute d.catalogue class a)) attributes)
 
 abbrev pub not_found : Option ℕ → Test
-not_found number = gives fault.NameNotFound (not (is_some number))
+not_found number = test_for fault.NameNotFound (not (is_some number))
 
 -- does a joined federate know an existing object of that name
-abbrev pub object_named : Directory → ℕ → List ℕ → Bool
-object_named d f name = list_any (λ h. is_known d f h && bytes_eq (d.object h).name name) (numbers_below d.next_object)
+abbrev pub is_object_named : Directory → ℕ → List ℕ → Bool
+is_object_named d f name = list_any (λ h. is_known d f h && bytes_eq (d.object h).name name) (numbers_below d.next_object)
 
 abbrev pub call_tests : Seen → ℕ → Service → List Test
 call_tests s f (service.Resign way) = resign_tests s f way
 call_tests s f (service.PublishObjectClass class attributes) = no_object_class s.directory class ∷ no_attribute s.directory class attributes ∷ []
-call_tests s f (service.UnpublishObjectClass class) = no_object_class s.directory class ∷ gives fault.ObjectClassNotPublished (not (is_some (s.directory.published f class))) ∷ []
+call_tests s f (service.UnpublishObjectClass class) = no_object_class s.directory class ∷ test_for fault.ObjectClassNotPublished (not (is_some (s.directory.published f class))) ∷ []
 call_tests s f (service.SubscribeObjectClassAttributes class attributes) = no_object_class s.directory class ∷ no_attribute s.directory class attributes ∷ []
-call_tests s f (service.UnsubscribeObjectClass class) = no_object_class s.directory class ∷ gives fault.ObjectClassNotSubscribed (not (is_some (s.directory.subscribed f class))) ∷ []
+call_tests s f (service.UnsubscribeObjectClass class) = no_object_class s.directory class ∷ test_for fault.ObjectClassNotSubscribed (not (is_some (s.directory.subscribed f class))) ∷ []
 call_tests s f (service.PublishInteractionClass class) = no_interaction_class s.directory class ∷ []
-call_tests s f (service.UnpublishInteractionClass class) = no_interaction_class s.directory class ∷ gives fault.InteractionClassNotPublished (not (s.directory.published_interaction f class)) ∷ []
+call_tests s f (service.UnpublishInteractionClass class) = no_interaction_class s.directory class ∷ test_for fault.InteractionClassNotPublished (not (s.directory.published_interaction f class)) ∷ []
 call_tests s f (service.SubscribeInteractionClass class) = no_interaction_class s.directory class ∷ []
-call_tests s f (service.UnsubscribeInteractionClass class) = no_interaction_class s.directory class ∷ gives fault.InteractionClassNotSubscribed (not (s.directory.subscribed_interaction f class)) ∷ []
+call_tests s f (service.UnsubscribeInteractionClass class) = no_interaction_class s.directory class ∷ test_for fault.InteractionClassNotSubscribed (not (s.directory.subscribed_interaction f class)) ∷ []
 call_tests s f (service.RegisterObjectInstance class name) = register_tests s.directory f class name
 call_tests s f (service.UpdateAttributeValues object values stamp) = update_tests s.directory (s.row f) (s.serial f) f object values stamp
 call_tests s f (service.SendInteraction class values stamp) = interaction_tests s.directory (s.row f) (s.serial f) f class values stamp
 call_tests s f (service.DeleteObjectInstance object stamp) = deletion_tests s.directory (s.row f) (s.serial f) f object stamp
-call_tests s f (service.Retract event) = gives fault.InvalidRetractionHandle (not (eqb event.sender f && may_retract (s.row f) (s.sent f event.serial))) ∷ []
+call_tests s f (service.Retract event) = test_for fault.InvalidRetractionHandle (not (eqb event.sender f && may_retract (s.row f) (s.sent f event.serial))) ∷ []
 call_tests s f (service.EnableTimeRegulation time lookahead) = regulation_tests (s.row f) (low_entry s.directory s.row (time + lookahead)) time lookahead
-call_tests s f service.DisableTimeRegulation = gives fault.TimeRegulationWasNotEnabled (not (is_enabled (s.row f).regulating)) ∷ []
+call_tests s f service.DisableTimeRegulation = test_for fault.TimeRegulationWasNotEnabled (not (is_enabled (s.row f).regulating)) ∷ []
 call_tests s f service.EnableTimeConstrained =
-    gives fault.TimeAdvanceAlreadyInProgress (is_advancing (s.row f))
-    ∷ gives fault.TimeConstrainedAlreadyEnabled (is_enabled (s.row f).constrained)
-    ∷ gives fault.EnableTimeConstrainedPending (is_pending (s.row f).constrained)
+    test_for fault.TimeAdvanceAlreadyInProgress (is_advancing (s.row f))
+    ∷ test_for fault.TimeConstrainedAlreadyEnabled (is_enabled (s.row f).constrained)
+    ∷ test_for fault.EnableTimeConstrainedPending (is_pending (s.row f).constrained)
     ∷ []
 call_tests s f service.DisableTimeConstrained =
-    gives fault.TimeAdvanceAlreadyInProgress (is_advancing (s.row f))
-    ∷ gives fault.TimeConstrainedWasNotEnabled (not (is_enabled (s.row f).constrained))
+    test_for fault.TimeAdvanceAlreadyInProgress (is_advancing (s.row f))
+    ∷ test_for fault.TimeConstrainedWasNotEnabled (not (is_enabled (s.row f).constrained))
     ∷ []
 call_tests s f (service.TimeAdvanceRequest time) = request_tests (s.row f) time
 call_tests s f (service.TimeAdvanceRequestAvailable time) = request_tests (s.row f) time
@@ -179,12 +180,12 @@ call_tests s f (service.NextEventRequest time) = request_tests (s.row f) time
 call_tests s f (service.NextEventRequestAvailable time) = request_tests (s.row f) time
 call_tests s f (service.FlushQueueRequest time) = request_tests (s.row f) time
 call_tests s f (service.ModifyLookahead lookahead) =
-    gives fault.TimeRegulationWasNotEnabled (not (is_enabled (s.row f).regulating))
-    ∷ gives fault.TimeAdvanceAlreadyInProgress (is_advancing (s.row f))
-    ∷ gives fault.InvalidLookahead (ltb max_time lookahead)
+    test_for fault.TimeRegulationWasNotEnabled (not (is_enabled (s.row f).regulating))
+    ∷ test_for fault.TimeAdvanceAlreadyInProgress (is_advancing (s.row f))
+    ∷ test_for fault.InvalidLookahead (ltb max_time lookahead)
     ∷ []
-call_tests s f service.EnableAsynchronousDelivery = gives fault.AsynchronousDeliveryAlreadyEnabled (s.row f).asynchronous ∷ []
-call_tests s f service.DisableAsynchronousDelivery = gives fault.AsynchronousDeliveryAlreadyDisabled (not (s.row f).asynchronous) ∷ []
+call_tests s f service.EnableAsynchronousDelivery = test_for fault.AsynchronousDeliveryAlreadyEnabled (s.row f).asynchronous ∷ []
+call_tests s f service.DisableAsynchronousDelivery = test_for fault.AsynchronousDeliveryAlreadyDisabled (not (s.row f).asynchronous) ∷ []
 call_tests s f service.QueryLbts = []
 call_tests s f service.QueryFederateTime = []
 call_tests s f service.QueryMinNextEventTime = []
@@ -193,23 +194,23 @@ call_tests s f (service.GetObjectClassHandle name) = not_found (object_class_nam
 call_tests s f (service.GetInteractionClassHandle name) = not_found (interaction_class_named s.directory.catalogue name) ∷ []
 call_tests s f (service.GetAttributeHandle name class) = no_object_class s.directory class ∷ not_found (attribute_named s.directory.catalogue class name) ∷ []
 call_tests s f (service.GetParameterHandle name class) = no_interaction_class s.directory class ∷ not_found (parameter_named s.directory.catalogue class name) ∷ []
-call_tests s f (service.GetObjectInstanceHandle name) = gives fault.ObjectNotKnown (not (object_named s.directory f name)) ∷ []
-call_tests s f (service.GetObjectInstanceName object) = gives fault.ObjectNotKnown (not (is_known s.directory f object)) ∷ []
+call_tests s f (service.GetObjectInstanceHandle name) = test_for fault.ObjectNotKnown (not (is_object_named s.directory f name)) ∷ []
+call_tests s f (service.GetObjectInstanceName object) = test_for fault.ObjectNotKnown (not (is_known s.directory f object)) ∷ []
 
-abbrev pub not_joined : Directory → ℕ → Test
-not_joined d f = gives fault.FederateNotExecutionMember (not (d.joined f))
+abbrev pub joined_test : Directory → ℕ → Test
+joined_test d f = test_for fault.FederateNotExecutionMember (not (d.joined f))
 
 abbrev pub tests : Seen → Step → List Test
 tests s (Join name) =
-    gives fault.FederateAlreadyExecutionMember (is_name_joined s.directory name)
-    ∷ gives fault.LimitReached (ltb 16 s.directory.next_federate || not (is_length_in 1 64 name))
+    test_for fault.FederateAlreadyExecutionMember (is_name_joined s.directory name)
+    ∷ test_for fault.LimitReached (ltb max_joins s.directory.next_federate || not (is_length_in 1 max_federate_name name))
     ∷ []
-tests s (Call f service) = not_joined s.directory f ∷ call_tests s f service
+tests s (Call f service) = joined_test s.directory f ∷ call_tests s f service
 -- a wire leads to a joined federate from one that has ever joined
 tests s (Carry from to) =
-    gives fault.FederateNotExecutionMember (not (s.directory.joined to) || eqb from to || eqb from 0 || not (ltb from s.directory.next_federate)) ∷ []
-tests s (Announce f) = not_joined s.directory f ∷ []
-tests s (Tick f) = not_joined s.directory f ∷ []
+    test_for fault.FederateNotExecutionMember (not (s.directory.joined to) || eqb from to || eqb from 0 || not (ltb from s.directory.next_federate)) ∷ []
+tests s (Announce f) = joined_test s.directory f ∷ []
+tests s (Tick f) = joined_test s.directory f ∷ []
 
 -- the fault with which a step is refused, if it is
 abbrev pub refusal : Seen → Step → Option Fault

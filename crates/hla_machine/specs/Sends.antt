@@ -2,7 +2,7 @@
 use Rattle.std.specs.Prelude.{ℕ, ◌+◌, ◌≡◌, cond, eqb, ltb, not, ◌&&◌, Bool, true, false, Option, Some, None, is_some, option_map, unwrap_or, List, [], ◌∷◌, length}
 use Rattle.hla_base.specs.declared.number.EventHandle.{EventHandle}
 use Rattle.hla_base.specs.declared.row.TimeRow.{TimeRow}
-use Rattle.hla_base.specs.Tables.{upd, upd2, is_other, or_else, when}
+use Rattle.hla_base.specs.Tables.{upd, upd2, is_other, or_else, when, one_if}
 use Rattle.hla_base.specs.Rows.{is_enabled, least_stamp}
 use Rattle.hla_fed_file.specs.declared.declared.Order.{Order}
 use Rattle.hla_fed_file.specs.declared.declared.Order.TheVariants.{Receive, Timestamp}
@@ -35,16 +35,16 @@ sent_event d r g stamp out = cond (is_retractable r stamp out)
     (record { stamp = kept_stamp r stamp out; retractable = true; retracted = false; receivers = receives d g out.body }) no_event
 
 -- one message takes its sender's next serial, with or without receivers
-abbrev pub sent_one : Central → ℕ → Option ℕ → Outgoing → Central
-sent_one c f stamp out = record c {
+abbrev pub after_message : Central → ℕ → Option ℕ → Outgoing → Central
+after_message c f stamp out = record c {
   serial = upd c.serial f (c.serial f + 1);
   bag = with_copies c.directory.joined c.bag f (c.serial f) (copy_for c.directory (c.row f) stamp out);
   sent = upd2 c.sent f (c.serial f) (sent_event c.directory (c.row f) f stamp out);
 }
 
-abbrev pub sent_all : Central → ℕ → Option ℕ → List Outgoing → Central
-sent_all c f stamp [] = c
-sent_all c f stamp (out ∷ outs) = sent_all (sent_one c f stamp out) f stamp outs
+abbrev pub after_messages : Central → ℕ → Option ℕ → List Outgoing → Central
+after_messages c f stamp [] = c
+after_messages c f stamp (out ∷ outs) = after_messages (after_message c f stamp out) f stamp outs
 
 -- the handle of the message in time-stamp order, if there is one; m is the serial of the first message
 abbrev pub sent_handle : ℕ → TimeRow → Option ℕ → ℕ → List Outgoing → Option EventHandle
@@ -64,9 +64,6 @@ may_retract r e = is_enabled r.regulating && e.retractable && not e.retracted &&
 -- to whom a retraction goes
 abbrev pub is_told : Directory → ℕ → SentEvent → ℕ → Bool
 is_told d g e f = is_other d.joined g f && e.receivers f
-
-abbrev pub one_if : Bool → ℕ
-one_if b = cond b 1 0
 
 -- one more retraction is owed to each receiver that is still joined
 unfoldable pub owed_to_receivers : (ℕ → ℕ → ℕ → ℕ) → ℕ → ℕ → (ℕ → Bool) → ℕ → ℕ → ℕ → ℕ

@@ -1,6 +1,7 @@
 //! What the machine guarantees, over definitions alone.
 
-ghost use Rattle.hla_machine.specs.Laws.{EachRunIsSafe, NothingIsInThePast, StampsNeverFall, KeysRise, GrantedAfterAllBefore};
+ghost use Rattle.hla_machine.specs.Projection.{EachExecutionIsARun};
+ghost use Rattle.hla_machine.specs.Laws.{EachRunIsSafe, NothingIsInThePast, StampsNeverFall, KeysRise, ReceiversWait, NobodyHearsItself, EachMessageOnce, GivenToTheJoined, SendersOrder, RegistrationsDiffer, DiscoveredBefore, GrantedAfterAllBefore};
 
 /// In each run of the machine each constrained federate is safe: its time is at most its bar, its bar at most its
 /// bound, and nothing that is to be given in time-stamp order lies in its past.
@@ -25,9 +26,52 @@ pub fn keys_rise()
     ensures { KeysRise }
 {}
 
+/// After a call that answers an event handle (Update Attribute Values, Send Interaction), each receiver of that event waits for it
+/// in time-stamp order, with its stamp. So what is said of waiting is said of what was sent.
+pub fn receivers_wait()
+    ensures { ReceiversWait }
+{}
+
 /// When a constrained federate is granted t, it has everything before: each event that was ever sent to it in
 /// time-stamp order, with a stamp below t (for a strict request at most t), is retracted, or the federate has picked it up,
 /// or it was moved to receive order.
 pub fn granted_after_all_before()
     ensures { GrantedAfterAllBefore }
+{}
+
+/// Nobody hears itself: a federate is given messages of others alone, in whatever order.
+pub fn nobody_hears_itself()
+    ensures { NobodyHearsItself }
+{}
+
+/// A federate is given a message at most once.
+pub fn each_message_once()
+    ensures { EachMessageOnce }
+{}
+
+/// Nothing is given to a federate that is not joined, or has resigned.
+pub fn given_to_the_joined()
+    ensures { GivenToTheJoined }
+{}
+
+/// What one federate sent in receive order is given to each federate in the order in which it was sent.
+pub fn senders_order()
+    ensures { SendersOrder }
+{}
+
+/// The number and the name of an object are never given twice in an execution, deleted or not.
+pub fn registrations_differ()
+    ensures { RegistrationsDiffer }
+{}
+
+/// Records that are a run of all executions, cut to one of them from its creation on, are a run of that execution from a new
+/// one: so the other laws hold of it.
+pub fn each_execution_is_a_run()
+    ensures { EachExecutionIsARun }
+{}
+
+/// Nothing is said of an object before its discovery: when a federate is given an update or the removal of an object, no
+/// discovery of that object waits for it any more.
+pub fn discovered_before()
+    ensures { DiscoveredBefore }
 {}

@@ -1,6 +1,7 @@
 //! Steps, their answers, and the records of them.
 
 ghost use Rattle.std.specs.Prelude.{◌≡◌};
+ghost use Rattle.std.proofs.Common.{rules};
 
 use crate::service::Service;
 use hla_base::{EventHandle, ExecutionName, Fault, FederateNo, List, ObjectNo, Plain, Ticks};
@@ -8,7 +9,7 @@ use hla_callbacks::Callback;
 use hla_fed_file::Catalogue;
 
 /// One step of a federation execution.
-#[derive(Debug, Drop)]
+#[derive(Clone, PartialEq, Eq, Debug, Drop)]
 pub enum Step {
     /// Join Federation Execution, under a name of 1 to 64 bytes.
     Join {
@@ -52,7 +53,7 @@ pub enum Carried {
 }
 
 /// What a step answers that was done.
-#[derive(Debug, Drop)]
+#[derive(Clone, PartialEq, Eq, Debug, Drop)]
 pub enum Answer {
     /// The call has no answer.
     Done,
@@ -77,7 +78,7 @@ pub enum Answer {
 }
 
 /// How a step ended.
-#[derive(Debug, Drop)]
+#[derive(Clone, PartialEq, Eq, Debug, Drop)]
 pub enum Outcome {
     /// It was done.
     Done(Answer),
@@ -88,7 +89,7 @@ pub enum Outcome {
 }
 
 /// What a caller asked for.
-#[derive(Drop)]
+#[derive(Clone, PartialEq, Eq, Drop)]
 pub enum Act {
     /// Create Federation Execution, with what the FED file was read as; none where it was refused.
     Create { catalogue: Option<Catalogue> },
@@ -99,7 +100,7 @@ pub enum Act {
 }
 
 /// What the definitions leave open and the step has fixed, so that a record determines the state after it.
-#[derive(Debug, Drop)]
+#[derive(Clone, PartialEq, Eq, Debug, Drop)]
 pub enum Choice {
     /// Nothing was left open.
     None,
@@ -110,7 +111,7 @@ pub enum Choice {
 }
 
 /// One act of the history.
-#[derive(Drop)]
+#[derive(Clone, PartialEq, Eq, Drop)]
 pub struct Record {
     /// The caller's number.
     pub actor: u32,
@@ -121,232 +122,64 @@ pub struct Record {
 }
 
 impl Plain for Step {
-    fn is_same(&self, other: &Step) -> bool {
-        match self {
-            Step::Join { name } => match other {
-                Step::Join { name: other_name } => name.is_same(other_name),
-                _ => false,
-            },
-            Step::Call { federate, service } => match other {
-                Step::Call {
-                    federate: other_federate,
-                    service: other_service,
-                } => *federate == *other_federate && service.is_same(other_service),
-                _ => false,
-            },
-            Step::Carry { from, to } => match other {
-                Step::Carry {
-                    from: other_from,
-                    to: other_to,
-                } => *from == *other_from && *to == *other_to,
-                _ => false,
-            },
-            Step::Announce { federate } => match other {
-                Step::Announce {
-                    federate: other_federate,
-                } => *federate == *other_federate,
-                _ => false,
-            },
-            Step::Tick { federate } => match other {
-                Step::Tick {
-                    federate: other_federate,
-                } => *federate == *other_federate,
-                _ => false,
-            },
-        }
-    }
+    ghost use Rattle.hla_machine.specs.Steps.{same_step};
 
-    fn copy(&self) -> Result<Step, Fault> {
-        match self {
-            Step::Join { name } => Ok(Step::Join { name: name.copy()? }),
-            Step::Call { federate, service } => Ok(Step::Call {
-                federate: *federate,
-                service: service.copy()?,
-            }),
-            Step::Carry { from, to } => Ok(Step::Carry {
-                from: *from,
-                to: *to,
-            }),
-            Step::Announce { federate } => Ok(Step::Announce {
-                federate: *federate,
-            }),
-            Step::Tick { federate } => Ok(Step::Tick {
-                federate: *federate,
-            }),
-        }
-    }
+    ghost exact = { same_step };
+
+    ghost cloned = { Prim.search rules };
 }
 
 impl Plain for Carried {
-    fn is_same(&self, other: &Carried) -> bool {
-        *self == *other
-    }
+    ghost exact = { Prim.search rules };
 
-    fn copy(&self) -> Result<Carried, Fault> {
-        Ok(*self)
-    }
+    ghost cloned = { Prim.search rules };
 }
 
 impl Plain for Answer {
-    fn is_same(&self, other: &Answer) -> bool {
-        match self {
-            Answer::Done => matches!(other, Answer::Done),
-            Answer::Federate(x) => match other {
-                Answer::Federate(y) => *x == *y,
-                _ => false,
-            },
-            Answer::Registered { object, name } => match other {
-                Answer::Registered {
-                    object: other_object,
-                    name: other_name,
-                } => *object == *other_object && name.is_same(other_name),
-                _ => false,
-            },
-            Answer::Handle(x) => match other {
-                Answer::Handle(y) => *x == *y,
-                _ => false,
-            },
-            Answer::Name(x) => match other {
-                Answer::Name(y) => x.is_same(y),
-                _ => false,
-            },
-            Answer::Sent(x) => match other {
-                Answer::Sent(y) => *x == *y,
-                _ => false,
-            },
-            Answer::Time(x) => match other {
-                Answer::Time(y) => *x == *y,
-                _ => false,
-            },
-            Answer::Ticked(x) => match other {
-                Answer::Ticked(y) => x.is_same(y),
-                _ => false,
-            },
-            Answer::Carried(x) => match other {
-                Answer::Carried(y) => *x == *y,
-                _ => false,
-            },
-            Answer::Announced(x) => match other {
-                Answer::Announced(y) => *x == *y,
-                _ => false,
-            },
-        }
-    }
+    ghost use Rattle.hla_callbacks.specs.contracts.callback.CallbackPlain.TheImpl.Laws.{options-law as same_callbacks};
 
-    fn copy(&self) -> Result<Answer, Fault> {
-        match self {
-            Answer::Done => Ok(Answer::Done),
-            Answer::Federate(x) => Ok(Answer::Federate(*x)),
-            Answer::Registered { object, name } => Ok(Answer::Registered {
-                object: *object,
-                name: name.copy()?,
-            }),
-            Answer::Handle(x) => Ok(Answer::Handle(*x)),
-            Answer::Name(x) => Ok(Answer::Name(x.copy()?)),
-            Answer::Sent(x) => Ok(Answer::Sent(*x)),
-            Answer::Time(x) => Ok(Answer::Time(*x)),
-            Answer::Ticked(x) => Ok(Answer::Ticked(x.copy()?)),
-            Answer::Carried(x) => Ok(Answer::Carried(*x)),
-            Answer::Announced(x) => Ok(Answer::Announced(*x)),
-        }
-    }
+    ghost exact = { Prim.search (rules, same_callbacks) };
+
+    ghost cloned = { Prim.search rules };
 }
 
 impl Plain for Outcome {
-    fn is_same(&self, other: &Outcome) -> bool {
-        match self {
-            Outcome::Done(x) => match other {
-                Outcome::Done(y) => x.is_same(y),
-                _ => false,
-            },
-            Outcome::Refused(x) => match other {
-                Outcome::Refused(y) => *x == *y,
-                _ => false,
-            },
-            Outcome::Failed(x) => match other {
-                Outcome::Failed(y) => x.is_same(y),
-                _ => false,
-            },
-        }
-    }
+    ghost use Rattle.hla_machine.specs.Steps.{same_outcome};
 
-    fn copy(&self) -> Result<Outcome, Fault> {
-        match self {
-            Outcome::Done(x) => Ok(Outcome::Done(x.copy()?)),
-            Outcome::Refused(x) => Ok(Outcome::Refused(*x)),
-            Outcome::Failed(x) => Ok(Outcome::Failed(x.copy()?)),
-        }
-    }
+    ghost exact = { same_outcome };
+
+    ghost cloned = { Prim.search rules };
 }
 
 impl Plain for Act {
-    fn is_same(&self, other: &Act) -> bool {
-        match self {
-            Act::Create { catalogue } => match other {
-                Act::Create {
-                    catalogue: other_catalogue,
-                } => catalogue.is_same(other_catalogue),
-                _ => false,
-            },
-            Act::Destroy => matches!(other, Act::Destroy),
-            Act::Step(x) => match other {
-                Act::Step(y) => x.is_same(y),
-                _ => false,
-            },
-        }
-    }
+    ghost use Rattle.hla_machine.specs.Steps.{same_act};
 
-    fn copy(&self) -> Result<Act, Fault> {
-        match self {
-            Act::Create { catalogue } => Ok(Act::Create {
-                catalogue: catalogue.copy()?,
-            }),
-            Act::Destroy => Ok(Act::Destroy),
-            Act::Step(x) => Ok(Act::Step(x.copy()?)),
-        }
-    }
+    ghost exact = { same_act };
+
+    ghost cloned = { Prim.search rules };
 }
 
 impl Plain for Choice {
-    fn is_same(&self, other: &Choice) -> bool {
-        match self {
-            Choice::None => matches!(other, Choice::None),
-            Choice::Entry(x) => match other {
-                Choice::Entry(y) => *x == *y,
-                _ => false,
-            },
-            Choice::Moved(x) => match other {
-                Choice::Moved(y) => x.is_same(y),
-                _ => false,
-            },
-        }
-    }
+    ghost use Rattle.hla_base.specs.contracts.number.EventHandlePlain.TheImpl.Laws.{lists-law as same_events};
 
-    fn copy(&self) -> Result<Choice, Fault> {
-        match self {
-            Choice::None => Ok(Choice::None),
-            Choice::Entry(x) => Ok(Choice::Entry(*x)),
-            Choice::Moved(x) => Ok(Choice::Moved(x.copy()?)),
-        }
-    }
+    ghost exact = { Prim.search (rules, same_events) };
+
+    ghost cloned = { Prim.search rules };
 }
 
 impl Plain for Record {
-    fn is_same(&self, other: &Record) -> bool {
-        self.actor == other.actor
-            && self.execution.is_same(&other.execution)
-            && self.act.is_same(&other.act)
-            && self.outcome.is_same(&other.outcome)
-            && self.choice.is_same(&other.choice)
-    }
+    ghost use Rattle.hla_machine.specs.Steps.{same_record};
+    ghost use Rattle.hla_machine.specs.contracts.step.ActPlain.TheImpl.Laws.{cloned-law as cloned_act};
+    ghost use Rattle.hla_machine.specs.contracts.step.OutcomePlain.TheImpl.Laws.{cloned-law as cloned_outcome};
+    ghost use Rattle.hla_machine.specs.contracts.step.ChoicePlain.TheImpl.Laws.{cloned-law as cloned_choice};
 
-    fn copy(&self) -> Result<Record, Fault> {
-        Ok(Record {
-            actor: self.actor,
-            execution: self.execution,
-            act: self.act.copy()?,
-            outcome: self.outcome.copy()?,
-            choice: self.choice.copy()?,
-        })
-    }
+    ghost exact = { same_record };
+
+    ghost cloned = { λ x y h.
+        let actor : y.actor ≡ x.actor = Prim.search rules in
+        let execution : y.execution ≡ x.execution = Prim.search rules in
+        let act : y.act ≡ x.act = Prim.search (cloned_act) in
+        let outcome : y.outcome ≡ x.outcome = Prim.search (cloned_outcome) in
+        let choice : y.choice ≡ x.choice = Prim.search (cloned_choice) in
+        λ i. record { actor = actor i; execution = execution i; act = act i; outcome = outcome i; choice = choice i } };
 }

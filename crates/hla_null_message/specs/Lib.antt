@@ -1,1 +1,2 @@
-pub mod WireValue
+-- What lies on a wire, kind by kind
+pub mod Wires

@@ -20,7 +20,7 @@ pub struct Wire {
 impl Model for Wire {
     ghost use Rattle.std.specs.Prelude.{◌-◌};
     ghost use Rattle.std.specs.VecDeque.{deque_capacity, deque_len};
-    ghost use Rattle.hla_null_message.specs.WireValue.{WireValue};
+    ghost use Rattle.hla_null_message.specs.Wires.{WireValue};
 
     ghost Value = { WireValue };
 

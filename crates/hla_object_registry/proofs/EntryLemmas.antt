@@ -3,7 +3,7 @@ use Rattle.std.proofs.Common.{◌≡◌, ℕ, zero, suc, ◌+◌, ◌-◌, ◌<�
 use Rattle.std.proofs.lemmas.List.{length-append}
 use Rattle.std.specs.Map.{values_of}
 use Rattle.hla_base.specs.Tables.{upd, upd2}
-use Rattle.hla_object_registry.specs.Registered.{Registered, unregistered, item, is_in, registry_of}
+use Rattle.hla_object_registry.specs.Registered.{Registered, unregistered, item_at, is_in, registry_of}
 use Rattle.hla_object_registry.proofs.Items.{numbered_within}
 use Rattle.hla_object_registry.proofs.Changes.{one_more, one_known, one_changed, IsWithdrawn, withdrawn, one_withdrawn}
 use Rattle.std.specs.Option.{option_map}
@@ -11,7 +11,7 @@ use Rattle.std.specs.declared.vec.Vec.{Vec}
 use Rattle.std.specs.declared.alloc.Global.{Global}
 use Rattle.indexmap.specs.IndexMap.{set_value_at}
 use Rattle.hla_object_registry.specs.declared.entry.Entry.{Entry}
-use Rattle.hla_object_registry.specs.Queries.{with_object}
+use Rattle.hla_object_registry.specs.Queries.{with_registered}
 use Rattle.hla_object_registry.specs.Entries.{registered, registered_as}
 
 abbrev pub Entries : Type 0
@@ -62,7 +62,7 @@ module _ (es : Entries) (h : ℕ) (v : Entry) (some : 0 < h) (within : h - 1 < l
   unfolding key
   is_there = (key_at es (h - 1) v at).1
 
-  item_there : item unregistered (registered es) h ≡ registered_as (key, v)
+  item_there : item_at unregistered (registered es) h ≡ registered_as (key, v)
   item_there = ap (λ o. unwrap_or o unregistered) (numbered_within (registered es) h (λ z. absurd (omega arith)) ∙ sym (slice_get-registered es (h - 1)) ∙ ap (option_map registered_as) is_there)
 
   short : h ≤ length (registered es)
@@ -78,7 +78,7 @@ module _ (es : Entries) (h : ℕ) (v : Entry) (some : 0 < h) (within : h - 1 < l
       ≡ record (registry_of (registered es)) { object = upd (registry_of (registered es)).object h (record ((registry_of (registered es)).object h) { exists = false }) }
   entry_deleted =
       ap registry_of (registered-set es (h - 1) key v (record v { exists = false }) is_there ∙ ap (λ (r : Registered). set (registered es) (h - 1) (record r { object = record r.object { exists = false } })) (sym item_there))
-      ∙ one_changed (registered es) h some short (record (item unregistered (registered es) h).object { exists = false })
+      ∙ one_changed (registered es) h some short (record (item_at unregistered (registered es) h).object { exists = false })
 
 -- one more entry
 pub one_longer : (es new : Entries) (rs : List Registered) (k : Vec ℕ Global) (v : Entry) → registered es ≡ rs → length rs + 1 ≤ 4096 → new ≡ es ++ (k, v) ∷ [] → length new ≤ 4096
@@ -86,7 +86,7 @@ one_longer es new rs k v view room added = omega (arith, room, ap length view, l
 
 pub entry_added : (es new : Entries) (rs : List Registered) (k : Vec ℕ Global) (name : List ℕ) (class owner : ℕ) (attributes : List ℕ) (flags : List Bool) → registered es ≡ rs → k.items ≡ name
     → new ≡ es ++ (k, record { class = class; owner = owner; attributes = attributes; exists = true; known = flags }) ∷ [] → is_in flags ≡ upd (λ _. false) owner true
-    → registry_of (registered new) ≡ with_object (registry_of rs) class name owner attributes
+    → registry_of (registered new) ≡ with_registered (registry_of rs) class name owner attributes
 entry_added es new rs k name class owner attributes flags view same added known =
     let x : List ℕ → Registered = λ n. record { object = record { class = class; name = n; owner = owner; attributes = attributes; exists = true }; known = flags } in
     ap (λ l. registry_of (registered l)) added
@@ -100,6 +100,6 @@ entry_withdrawn f n old new v at within before =
     let back : n ≡ suc n - 1 = omega arith in
     let there : slice_get (values_of new) (suc n - 1) ≡ Some v = subst (λ m. slice_get (values_of new) m ≡ Some v) back at in
     let k = key_at new n v at in
-    let x : item unregistered (registered new) (suc n) ≡ registered_as (k.0, v) = ap (λ o. unwrap_or o unregistered) (numbered_within (registered new) (suc n) (λ z. absurd (omega arith)) ∙ ap (slice_get (registered new)) (sym back) ∙ sym (slice_get-registered new n) ∙ ap (option_map registered_as) k.1) in
+    let x : item_at unregistered (registered new) (suc n) ≡ registered_as (k.0, v) = ap (λ o. unwrap_or o unregistered) (numbered_within (registered new) (suc n) (λ z. absurd (omega arith)) ∙ ap (slice_get (registered new)) (sym back) ∙ sym (slice_get-registered new n) ∙ ap (option_map registered_as) k.1) in
     subst (IsWithdrawn f (n + 1) (registered old)) (ap (λ (r : Registered). set (registered new) n (withdrawn f r)) x ∙ sym (registered-set new n k.0 v _ k.1))
     (one_withdrawn f n (registered old) (registered new) before (omega (arith, within, length-registered new)))

@@ -10,7 +10,7 @@ use Rattle.std.proofs.lemmas.Option.{unwrap_or-slice_get}
 use Rattle.std.proofs.Math.Path.{fun_ext}
 use Rattle.hla_base.specs.Tables.{upd, upd2}
 use Rattle.hla_fed_file.specs.Lookup.{numbered}
-use Rattle.hla_object_registry.specs.Registered.{item, is_in}
+use Rattle.hla_object_registry.specs.Registered.{item_at, is_in}
 
 pub upd_same : {X : Type 0} (t : ℕ → X) (i : ℕ) (x : X) → upd t i x i ≡ x
 unfolding upd
@@ -38,34 +38,34 @@ by_number f P here there g = ⊎_elim
 pub numbered_within : {X : Type 0} (xs : List X) (n : ℕ) → n ≢ 0 → numbered xs n ≡ slice_get xs (n - 1)
 numbered_within xs n ne = let e : eqb n 0 ≡ false = ne_eqb n 0 ne in rw e refl
 
-pub item-suc : {X : Type 0} (d : X) (xs : List X) (k : ℕ) → item d xs (suc k) ≡ get_or xs k d
+pub item-suc : {X : Type 0} (d : X) (xs : List X) (k : ℕ) → item_at d xs (suc k) ≡ get_or xs k d
 item-suc d xs k = let e : eqb (suc k) 0 ≡ false = eqb-suc-zero k in let m : suc k - 1 ≡ k = omega arith in rw (e, m) (unwrap_or-slice_get xs k d)
 
 -- nothing has a number above the length
-pub item-none : {X : Type 0} (d : X) (xs : List X) (n : ℕ) → length xs < n → item d xs n ≡ d
+pub item-none : {X : Type 0} (d : X) (xs : List X) (n : ℕ) → length xs < n → item_at d xs n ≡ d
 item-none d xs zero above = refl
 item-none d xs (suc k) above = item-suc d xs k ∙ get_or-eq_default xs d (omega arith)
 
 -- a list with another item is a table with another entry
-pub item-set : {X : Type 0} (d : X) (xs : List X) (f : ℕ) (x : X) → 0 < f → f ≤ length xs → (g : ℕ) → item d (set xs (f - 1) x) g ≡ upd (item d xs) f x g
+pub item-set : {X : Type 0} (d : X) (xs : List X) (f : ℕ) (x : X) → 0 < f → f ≤ length xs → (g : ℕ) → item_at d (set xs (f - 1) x) g ≡ upd (item_at d xs) f x g
 item-set d xs zero x some within g = absurd (omega arith)
-item-set d xs (suc k) x some within zero = let ne : suc k ≢ zero = λ e. absurd (omega arith) in sym (upd_other (item d xs) (suc k) x zero ne)
+item-set d xs (suc k) x some within zero = let ne : suc k ≢ zero = λ e. absurd (omega arith) in sym (upd_other (item_at d xs) (suc k) x zero ne)
 item-set d xs (suc k) x some within (suc j) =
     let e : suc k - 1 ≡ k = omega arith in
-    rw e (by_number k (λ j. item d (set xs k x) (suc j) ≡ upd (item d xs) (suc k) x (suc j))
-    (item-suc d (set xs k x) k ∙ get_or-set_same xs k x d (omega arith) ∙ sym (upd_same (item d xs) (suc k) x))
+    rw e (by_number k (λ j. item_at d (set xs k x) (suc j) ≡ upd (item_at d xs) (suc k) x (suc j))
+    (item-suc d (set xs k x) k ∙ get_or-set_same xs k x d (omega arith) ∙ sym (upd_same (item_at d xs) (suc k) x))
     (λ j ne. let other : suc k ≢ suc j = λ e. ne (omega arith) in let back : j ≢ k = λ e. ne (sym e) in
-    item-suc d (set xs k x) j ∙ get_or-set_other xs k j x d back ∙ sym (item-suc d xs j) ∙ sym (upd_other (item d xs) (suc k) x (suc j) other))
+    item-suc d (set xs k x) j ∙ get_or-set_other xs k j x d back ∙ sym (item-suc d xs j) ∙ sym (upd_other (item_at d xs) (suc k) x (suc j) other))
     j)
 
 -- a list with one more item is a table with one more entry
-pub item-append : {X : Type 0} (d : X) (xs : List X) (x : X) (g : ℕ) → item d (xs ++ x ∷ []) g ≡ upd (item d xs) (length xs + 1) x g
-item-append d xs x = by_number (length xs + 1) (λ g. item d (xs ++ x ∷ []) g ≡ upd (item d xs) (length xs + 1) x g)
+pub item-append : {X : Type 0} (d : X) (xs : List X) (x : X) (g : ℕ) → item_at d (xs ++ x ∷ []) g ≡ upd (item_at d xs) (length xs + 1) x g
+item-append d xs x = by_number (length xs + 1) (λ g. item_at d (xs ++ x ∷ []) g ≡ upd (item_at d xs) (length xs + 1) x g)
     (let e : length xs + 1 ≡ suc (length xs) = omega arith in
-    subst (λ n. item d (xs ++ x ∷ []) n ≡ upd (item d xs) n x n) (sym e) (item-suc d (xs ++ x ∷ []) (length xs) ∙ get_or-append_seam xs x [] d ∙ sym (upd_same (item d xs) (suc (length xs)) x)))
-    (λ g ne. others g ne ∙ sym (upd_other (item d xs) (length xs + 1) x g ne))
+    subst (λ n. item_at d (xs ++ x ∷ []) n ≡ upd (item_at d xs) n x n) (sym e) (item-suc d (xs ++ x ∷ []) (length xs) ∙ get_or-append_seam xs x [] d ∙ sym (upd_same (item_at d xs) (suc (length xs)) x)))
+    (λ g ne. others g ne ∙ sym (upd_other (item_at d xs) (length xs + 1) x g ne))
   where
-    others : (g : ℕ) → length xs + 1 ≢ g → item d (xs ++ x ∷ []) g ≡ item d xs g
+    others : (g : ℕ) → length xs + 1 ≢ g → item_at d (xs ++ x ∷ []) g ≡ item_at d xs g
     others zero ne = refl
     others (suc k) ne = item-suc d (xs ++ x ∷ []) k ∙ ⊎_elim
         (λ (y : k < length xs). get_or-append xs (x ∷ []) d k y)

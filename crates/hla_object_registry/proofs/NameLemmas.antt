@@ -13,8 +13,8 @@ use Rattle.std.proofs.lemmas.Map.Keys.{apart_from_distinct}
 use Rattle.std.proofs.lemmas.Slice.Eq.{bytes_eq-Decides}
 use Rattle.indexmap.specs.IndexMap.{insert_entry}
 use Rattle.hla_object_registry.specs.declared.entry.Entry.{Entry}
-use Rattle.hla_object_registry.specs.Registered.{Registered, unregistered, item, registry_of}
-use Rattle.hla_object_registry.specs.Queries.{is_name_used, is_known, object_named}
+use Rattle.hla_object_registry.specs.Registered.{Registered, unregistered, item_at, registry_of}
+use Rattle.hla_object_registry.specs.Queries.{is_name_used_in, is_known_in, object_found}
 use Rattle.hla_object_registry.specs.Entries.{registered, name_at, IsUnused, IsNumberOf}
 use Rattle.hla_object_registry.proofs.Items.{item-suc}
 use Rattle.hla_object_registry.proofs.Numbers.{any_none, any_at, any_each, find_none, find_only}
@@ -105,59 +105,59 @@ and_second true b h = h
 and_second false b h = absurd (true≢false (sym h))
 
 module _ (rs : List Registered) (name : List ℕ) where
-  name_of : (k : ℕ) → (item unregistered rs (suc k)).object.name ≡ name_at rs k
+  name_of : (k : ℕ) → (item_at unregistered rs (suc k)).object.name ≡ name_at rs k
   name_of k = ap (λ (r : Registered). r.object.name) (item-suc unregistered rs k)
 
-  is_named : (h : ℕ) → 0 < h → bytes_eq (item unregistered rs h).object.name name ≡ bytes_eq (name_at rs (h - 1)) name
+  is_named : (h : ℕ) → 0 < h → bytes_eq (item_at unregistered rs h).object.name name ≡ bytes_eq (name_at rs (h - 1)) name
   is_named zero some = absurd (omega arith)
   is_named (suc k) some = let back : suc k - 1 ≡ k = omega arith in ap (λ n. bytes_eq n name) (name_of k) ∙ ap (λ n. bytes_eq (name_at rs n) name) (sym back)
 
-  test_unused : IsUnused rs name → (a : ℕ → Bool) → a 0 ≡ false → (j : ℕ) → j < length rs + 1 → (a j && bytes_eq (item unregistered rs j).object.name name) ≡ false
-  test_unused unused a first zero below = ap (λ b. b && bytes_eq (item unregistered rs 0).object.name name) first
+  test_unused : IsUnused rs name → (a : ℕ → Bool) → a 0 ≡ false → (j : ℕ) → j < length rs + 1 → (a j && bytes_eq (item_at unregistered rs j).object.name name) ≡ false
+  test_unused unused a first zero below = ap (λ b. b && bytes_eq (item_at unregistered rs 0).object.name name) first
   test_unused unused a first (suc k) below = and_false (a (suc k)) _ (ap (λ n. bytes_eq n name) (name_of k) ∙ unused k (omega arith))
 
-  test_only : (h : ℕ) → IsNumberOf rs name h → (a : ℕ → Bool) → a 0 ≡ false → (j : ℕ) → j < length rs + 1 → (a j && bytes_eq (item unregistered rs j).object.name name) ≡ true → j ≡ h
-  test_only h only a first zero below passes = absurd (true≢false (sym passes ∙ ap (λ b. b && bytes_eq (item unregistered rs 0).object.name name) first))
+  test_only : (h : ℕ) → IsNumberOf rs name h → (a : ℕ → Bool) → a 0 ≡ false → (j : ℕ) → j < length rs + 1 → (a j && bytes_eq (item_at unregistered rs j).object.name name) ≡ true → j ≡ h
+  test_only h only a first zero below passes = absurd (true≢false (sym passes ∙ ap (λ b. b && bytes_eq (item_at unregistered rs 0).object.name name) first))
   test_only h only a first (suc k) below passes = let next : k + 1 ≡ h = only.only k (omega arith) (ap (λ n. bytes_eq n name) (sym (name_of k)) ∙ and_second (a (suc k)) _ passes) in omega arith
 
-  test_at : (h : ℕ) → IsNumberOf rs name h → (a : ℕ → Bool) → a h ≡ true → (a h && bytes_eq (item unregistered rs h).object.name name) ≡ true
+  test_at : (h : ℕ) → IsNumberOf rs name h → (a : ℕ → Bool) → a h ≡ true → (a h && bytes_eq (item_at unregistered rs h).object.name name) ≡ true
   test_at h only a passes = and_true (a h) _ passes (is_named h only.some ∙ only.named)
 
   nonzero : (h : ℕ) → 0 < h → not (eqb h 0) ≡ true
   nonzero h some = let e : eqb h 0 ≡ false = ne_eqb h 0 (λ z. absurd (omega arith)) in rw e refl
 
-  pub not_used : IsUnused rs name → is_name_used (registry_of rs) name ≡ false
+  pub not_used : IsUnused rs name → is_name_used_in (registry_of rs) name ≡ false
   not_used unused = any_none _ _ (test_unused unused (λ h. not (eqb h 0)) refl)
 
-  pub used : (h : ℕ) → IsNumberOf rs name h → is_name_used (registry_of rs) name ≡ true
+  pub used : (h : ℕ) → IsNumberOf rs name h → is_name_used_in (registry_of rs) name ≡ true
   used h only = any_at _ _ h (test_at h only (λ h. not (eqb h 0)) (nonzero h only.some)) (let within : h ≤ length rs = only.within in omega arith)
 
-  pub unused_from : is_name_used (registry_of rs) name ≡ false → IsUnused rs name
+  pub unused_from : is_name_used_in (registry_of rs) name ≡ false → IsUnused rs name
   unused_from none k below =
-      let each = any_each (λ h. not (eqb h 0) && bytes_eq (item unregistered rs h).object.name name) (length rs + 1) none (suc k) (omega arith) in
+      let each = any_each (λ h. not (eqb h 0) && bytes_eq (item_at unregistered rs h).object.name name) (length rs + 1) none (suc k) (omega arith) in
       ⊎_elim
       (λ (named : bytes_eq (name_at rs k) name ≡ true). absurd (true≢false (sym (and_true (not (eqb (suc k) 0)) _ (nonzero (suc k) (omega arith)) (ap (λ n. bytes_eq n name) (name_of k) ∙ named)) ∙ each)))
       (λ (other : bytes_eq (name_at rs k) name ≡ false). other)
       (cases_Bool (bytes_eq (name_at rs k) name))
 
   module _ (f : ℕ) where
-    pub named_none : IsUnused rs name → object_named (registry_of rs) f name ≡ None
-    named_none unused = find_none _ _ (test_unused unused (λ h. is_known (registry_of rs) f h) refl)
+    pub named_none : IsUnused rs name → object_found (registry_of rs) f name ≡ None
+    named_none unused = find_none _ _ (test_unused unused (λ h. is_known_in (registry_of rs) f h) refl)
 
-    pub named_known : (h : ℕ) → IsNumberOf rs name h → is_known (registry_of rs) f h ≡ true → object_named (registry_of rs) f name ≡ Some h
+    pub named_known : (h : ℕ) → IsNumberOf rs name h → is_known_in (registry_of rs) f h ≡ true → object_found (registry_of rs) f name ≡ Some h
     named_known h only passes =
-        find_only _ _ h (test_at h only (λ h. is_known (registry_of rs) f h) passes) (let within : h ≤ length rs = only.within in omega arith) (test_only h only (λ h. is_known (registry_of rs) f h) refl)
+        find_only _ _ h (test_at h only (λ h. is_known_in (registry_of rs) f h) passes) (let within : h ≤ length rs = only.within in omega arith) (test_only h only (λ h. is_known_in (registry_of rs) f h) refl)
 
-    pub named_unknown : (h : ℕ) → IsNumberOf rs name h → is_known (registry_of rs) f h ≡ false → object_named (registry_of rs) f name ≡ None
+    pub named_unknown : (h : ℕ) → IsNumberOf rs name h → is_known_in (registry_of rs) f h ≡ false → object_found (registry_of rs) f name ≡ None
     named_unknown h only fails = find_none _ _ (λ j below. ⊎_elim
-        (λ (passes : (is_known (registry_of rs) f j && bytes_eq (item unregistered rs j).object.name name) ≡ true).
-        let same : j ≡ h = test_only h only (λ h. is_known (registry_of rs) f h) refl j below passes in
-        absurd (true≢false (sym (and_first (is_known (registry_of rs) f j) _ passes) ∙ ap (λ n. is_known (registry_of rs) f n) same ∙ fails)))
-        (λ (other : (is_known (registry_of rs) f j && bytes_eq (item unregistered rs j).object.name name) ≡ false). other)
-        (cases_Bool (is_known (registry_of rs) f j && bytes_eq (item unregistered rs j).object.name name)))
+        (λ (passes : (is_known_in (registry_of rs) f j && bytes_eq (item_at unregistered rs j).object.name name) ≡ true).
+        let same : j ≡ h = test_only h only (λ h. is_known_in (registry_of rs) f h) refl j below passes in
+        absurd (true≢false (sym (and_first (is_known_in (registry_of rs) f j) _ passes) ∙ ap (λ n. is_known_in (registry_of rs) f n) same ∙ fails)))
+        (λ (other : (is_known_in (registry_of rs) f j && bytes_eq (item_at unregistered rs j).object.name name) ≡ false). other)
+        (cases_Bool (is_known_in (registry_of rs) f j && bytes_eq (item_at unregistered rs j).object.name name)))
 
 -- a name that no object has is entered last
-pub inserted : (es : Entries) (rs : List Registered) (name : List ℕ) (k : Vec ℕ Global) (v : Entry) → registered es ≡ rs → k.items ≡ name → is_name_used (registry_of rs) name ≡ false
+pub inserted : (es : Entries) (rs : List Registered) (name : List ℕ) (k : Vec ℕ Global) (v : Entry) → registered es ≡ rs → k.items ≡ name → is_name_used_in (registry_of rs) name ≡ false
     → insert_entry same_key es k v ≡ es ++ (k, v) ∷ []
 inserted es rs name k v view same unused = absent_inserted es k v (ap (λ n. lookup (is_key n) es) same ∙ not_looked_up es name (let P : List Registered → Type 0 = λ l. IsUnused l name in subst P (sym view) (unused_from rs name unused)))
   where

@@ -5,7 +5,7 @@ use Rattle.hla_base.specs.Tables.{upd}
 use Rattle.hla_machine.specs.Directory.{Object}
 use Rattle.hla_object_registry.specs.Registered.{RegistryValue}
 use Rattle.hla_object_registry.specs.Entries.{AreOwned}
-use Rattle.hla_object_registry.specs.Queries.{with_object}
+use Rattle.hla_object_registry.specs.Queries.{with_registered}
 use Rattle.hla_object_registry.proofs.Items.{upd_same, upd_other}
 
 -- an object that has an owner in place of another, or as the next one
@@ -15,7 +15,7 @@ owned_upd r n x owned positive last h some below rest = ⊎_elim
     (λ (ne : n ≢ h). subst (λ (o : Object). 0 < o.owner) (sym (upd_other r.object n x h ne)) (owned h some (rest (λ e. ne (sym e)))))
     (cases_eq n h)
 
-pub owned_with : (r : RegistryValue) (class : ℕ) (name : List ℕ) (owner : ℕ) (attributes : List ℕ) → AreOwned r → 0 < owner → AreOwned (with_object r class name owner attributes)
+pub owned_with : (r : RegistryValue) (class : ℕ) (name : List ℕ) (owner : ℕ) (attributes : List ℕ) → AreOwned r → 0 < owner → AreOwned (with_registered r class name owner attributes)
 owned_with r class name owner attributes owned positive h some below = owned_upd r r.next_object _ owned positive (omega arith) h some below (λ ne. omega (arith, ne, below))
 
 pub owned_changed : (r : RegistryValue) (g : ℕ) (x : Object) → AreOwned r → x.owner ≡ (r.object g).owner → 0 < g → g < r.next_object → AreOwned (record r { object = upd r.object g x })

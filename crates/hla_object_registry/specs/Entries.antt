@@ -3,6 +3,7 @@ use Rattle.std.specs.Prelude.{◌≡◌, ℕ, ◌+◌, ◌-◌, ◌<◌, ◌≤�
 use Rattle.std.specs.Str.{bytes_eq}
 use Rattle.std.specs.declared.vec.Vec.{Vec}
 use Rattle.std.specs.declared.alloc.Global.{Global}
+use Rattle.hla_base.specs.Limits.{max_objects}
 use Rattle.hla_object_registry.specs.Registered.{Registered, RegistryValue, unregistered, registry_of}
 use Rattle.hla_object_registry.specs.declared.entry.Entry.{Entry}
 
@@ -37,6 +38,6 @@ pub record IsNumberOf (objects : List Registered) (name : List ℕ) (h : ℕ) : 
 abbrev pub AreOwned : RegistryValue → Type 0
 AreOwned r = (h : ℕ) → 0 < h → h < r.next_object → 0 < (r.object h).owner
 
-pub record IsKept (es : List (Vec ℕ Global × Entry)) : Type 0 where
-  pub few : length es ≤ 4096
+pub record AreEntriesKept (es : List (Vec ℕ Global × Entry)) : Type 0 where
+  pub few : length es ≤ max_objects
   pub owned : AreOwned (registry_of (registered es))

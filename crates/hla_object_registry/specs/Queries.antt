@@ -7,36 +7,36 @@ use Rattle.hla_fed_file.specs.Lookup.{contains_number}
 use Rattle.hla_object_registry.specs.Registered.{RegistryValue}
 
 -- was the name ever given to an object
-abbrev pub is_name_used : RegistryValue → List ℕ → Bool
-is_name_used r name = list_any (λ h. not (eqb h 0) && bytes_eq (r.object h).name name) (numbers_below r.next_object)
+abbrev pub is_name_used_in : RegistryValue → List ℕ → Bool
+is_name_used_in r name = list_any (λ h. not (eqb h 0) && bytes_eq (r.object h).name name) (numbers_below r.next_object)
 
 -- the object exists, and the federate knows it
-abbrev pub is_known : RegistryValue → ℕ → ℕ → Bool
-is_known r f h = (r.object h).exists && r.known h f
+abbrev pub is_known_in : RegistryValue → ℕ → ℕ → Bool
+is_known_in r f h = (r.object h).exists && r.known h f
 
-abbrev pub is_owned : RegistryValue → ℕ → ℕ → ℕ → Bool
-is_owned r f h attribute = eqb (r.object h).owner f && contains_number attribute (r.object h).attributes
+abbrev pub is_owned_in : RegistryValue → ℕ → ℕ → ℕ → Bool
+is_owned_in r f h attribute = eqb (r.object h).owner f && contains_number attribute (r.object h).attributes
 
 -- the object exists, and the federate owns it
 abbrev pub is_object_of : RegistryValue → ℕ → ℕ → Bool
 is_object_of r f h = (r.object h).exists && eqb (r.object h).owner f
 
 -- a federate's objects that exist, by rising number
-abbrev pub objects_of : RegistryValue → ℕ → List ℕ
-objects_of r f = filter (is_object_of r f) (numbers_below r.next_object)
+abbrev pub objects_owned : RegistryValue → ℕ → List ℕ
+objects_owned r f = filter (is_object_of r f) (numbers_below r.next_object)
 
 -- the object of that name that the federate knows
-abbrev pub object_named : RegistryValue → ℕ → List ℕ → Option ℕ
-object_named r f name = find (λ h. is_known r f h && bytes_eq (r.object h).name name) (numbers_below r.next_object)
+abbrev pub object_found : RegistryValue → ℕ → List ℕ → Option ℕ
+object_found r f name = find (λ h. is_known_in r f h && bytes_eq (r.object h).name name) (numbers_below r.next_object)
 
 -- ---- the registry after a service
-abbrev pub with_object : RegistryValue → ℕ → List ℕ → ℕ → List ℕ → RegistryValue
-with_object r class name owner attributes = record r {
+abbrev pub with_registered : RegistryValue → ℕ → List ℕ → ℕ → List ℕ → RegistryValue
+with_registered r class name owner attributes = record r {
   next_object = r.next_object + 1;
   object = upd r.object r.next_object (record { class = class; name = name; owner = owner; attributes = attributes; exists = true });
   known = upd2 r.known r.next_object owner true;
 }
 
 -- the objects of a federate are deleted
-abbrev pub without_objects_of : RegistryValue → ℕ → RegistryValue
-without_objects_of r f = record r { object = λ h. record (r.object h) { exists = (r.object h).exists && not (eqb (r.object h).owner f) } }
+abbrev pub without_owned : RegistryValue → ℕ → RegistryValue
+without_owned r f = record r { object = λ h. record (r.object h) { exists = (r.object h).exists && not (eqb (r.object h).owner f) } }

@@ -17,19 +17,19 @@ pub record RegistryValue : Type 0 where
   pub known : ℕ → ℕ → Bool  -- to which federates an object is known, deleted or not
 
 -- the item with a number, counted from 1, and d where there is none
-abbrev pub item : {X : Type 0} → X → List X → ℕ → X
-item d xs n = unwrap_or (numbered xs n) d
+abbrev pub item_at : {X : Type 0} → X → List X → ℕ → X
+item_at d xs n = unwrap_or (numbered xs n) d
 
 -- is a federate in a set of federates
 abbrev pub is_in : List Bool → ℕ → Bool
-is_in flags federate = item false flags federate
+is_in flags federate = item_at false flags federate
 
 -- the tables of the objects that were registered, in the order of their numbers
 abbrev pub registry_of : List Registered → RegistryValue
 registry_of objects = record {
   next_object = length objects + 1;
-  object = λ h. (item unregistered objects h).object;
-  known = λ h f. is_in (item unregistered objects h).known f;
+  object = λ h. (item_at unregistered objects h).object;
+  known = λ h f. is_in (item_at unregistered objects h).known f;
 }
 
 -- no object was registered

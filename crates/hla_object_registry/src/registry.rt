@@ -3,11 +3,12 @@
 ghost use Rattle.std.specs.Prelude.{◌≡◌, ◌<◌, ◌≤◌, ◌+◌, IfSome, MatchOption, OnOk, OnErr, IfOk, IfErr, true, false, length};
 ghost use Rattle.std.specs.Option.{option_map};
 ghost use Rattle.std.specs.Map.Iter.{deref_pair};
+ghost use Rattle.hla_base.specs.Limits.{max_joins, max_objects};
 ghost use Rattle.hla_base.specs.Tables.{upd, upd2};
 ghost use Rattle.hla_base.specs.declared.fault.Fault.TheVariants.{OutOfMemory};
 ghost use Rattle.hla_fed_file.specs.Lookup.{numbered};
 ghost use Rattle.hla_object_registry.specs.Registered.{registry_of, new_registry};
-ghost use Rattle.hla_object_registry.specs.Queries.{is_name_used, is_known, is_owned, is_object_of, objects_of, object_named, with_object, without_objects_of};
+ghost use Rattle.hla_object_registry.specs.Queries.{is_name_used_in, is_known_in, is_owned_in, is_object_of, objects_owned, object_found, with_registered, without_owned};
 ghost use Rattle.hla_object_registry.specs.Entries.{registered_as, IsUnused, IsNumberOf, AreOwned};
 
 use crate::entry::Entry;
@@ -31,11 +32,11 @@ impl Model for Registry {
 
     ghost Value = { List Registered };
 
-    ghost use Rattle.hla_object_registry.specs.Entries.{registered, IsKept};
+    ghost use Rattle.hla_object_registry.specs.Entries.{registered, AreEntriesKept};
 
     ghost view = { λ r. registered r.entries.entries };
 
-    ghost invariant = { λ r. IsKept r.entries.entries };
+    ghost invariant = { λ r. AreEntriesKept r.entries.entries };
 }
 
 impl Registry {
@@ -132,7 +133,7 @@ impl Registry {
 
     /// Whether an object exists and is known to a federate.
     pub fn is_known(&self, object: ObjectNo, federate: FederateNo) -> bool
-        ensures { result ≡ is_known (registry_of self.now) federate object }
+        ensures { result ≡ is_known_in (registry_of self.now) federate object }
     {
         self.exists(object) && self.was_made_known(object, federate)
     }
@@ -144,7 +145,7 @@ impl Registry {
         object: ObjectNo,
         attribute: AttributeNo,
     ) -> bool
-        ensures { result ≡ is_owned (registry_of self.now) federate object attribute }
+        ensures { result ≡ is_owned_in (registry_of self.now) federate object attribute }
     {
         match self.entry(object) {
             Some((_, entry)) => {
@@ -166,7 +167,7 @@ impl Registry {
 
     /// Whether a name was ever given to an object, deleted or not. It is answered without going over all objects.
     pub fn is_name_used(&self, name: &[u8]) -> bool
-        ensures { result ≡ is_name_used (registry_of self.now) name.now }
+        ensures { result ≡ is_name_used_in (registry_of self.now) name.now }
     {
         self.number_of(name).is_some()
     }
@@ -174,7 +175,7 @@ impl Registry {
     /// The object of a name that exists and is known to a federate, if there is one (Get Object Instance Handle). It is found
     /// without going over all objects.
     pub fn named(&self, federate: FederateNo, name: &[u8]) -> Option<ObjectNo>
-        ensures { result ≡ object_named (registry_of self.now) federate name.now }
+        ensures { result ≡ object_found (registry_of self.now) federate name.now }
     {
         match self.number_of(name) {
             Some(object) => {
@@ -197,12 +198,12 @@ impl Registry {
         owner: FederateNo,
         attributes: List<AttributeNo>,
     ) -> Result<ObjectNo, Fault>
-        requires few { (registry_of self.old).next_object ≤ 4096 }
+        requires few { (registry_of self.old).next_object ≤ max_objects }
         requires some { 0 < owner }
-        requires within { owner ≤ 16 }
-        requires unused { is_name_used (registry_of self.old) name ≡ false }
+        requires within { owner ≤ max_joins }
+        requires unused { is_name_used_in (registry_of self.old) name ≡ false }
         ensures answer { IfOk result (λ h. h ≡ (registry_of self.old).next_object) }
-        ensures registered { OnOk result (registry_of self.new ≡ with_object (registry_of self.old) class name owner attributes) }
+        ensures registered { OnOk result (registry_of self.new ≡ with_registered (registry_of self.old) class name owner attributes) }
         ensures err { IfErr result (λ e. e ≡ Fault.OutOfMemory) }
         ensures unchanged { OnErr result (self.new ≡ self.old) }
     {
@@ -225,7 +226,7 @@ impl Registry {
         requires object { 0 < object }
         requires registered { object < (registry_of self.old).next_object }
         requires federate { 0 < federate }
-        requires within { federate ≤ 16 }
+        requires within { federate ≤ max_joins }
         ensures { registry_of self.new ≡ record (registry_of self.old) { known = upd2 (registry_of self.old).known object federate true } }
     {
         let entry = &mut self.entries[object as usize - 1];
@@ -244,7 +245,7 @@ impl Registry {
 
     /// Deletes all objects of a federate that resigns (Resign Federation Execution). It takes no memory.
     pub fn delete_owned_by(&mut self, federate: FederateNo)
-        ensures { registry_of self.new ≡ without_objects_of (registry_of self.old) federate }
+        ensures { registry_of self.new ≡ without_owned (registry_of self.old) federate }
     {
         for place in 0..self.entries.len() {
             let entry = &mut self.entries[place];
@@ -254,7 +255,7 @@ impl Registry {
 
     /// The objects of a federate that exist, by rising number; `OutOfMemory` where a growth was refused.
     pub fn owned_by(&self, alloc: Global, federate: FederateNo) -> Result<List<ObjectNo>, Fault>
-        ensures ok { IfOk result (λ objects. objects ≡ objects_of (registry_of self.now) federate) }
+        ensures ok { IfOk result (λ objects. objects ≡ objects_owned (registry_of self.now) federate) }
         ensures err { IfErr result (λ e. e ≡ Fault.OutOfMemory) }
     {
         let mut objects = List::new(alloc);
@@ -268,7 +269,7 @@ impl Registry {
 
     /// How many objects of a federate exist. It takes no memory.
     pub fn count_owned_by(&self, federate: FederateNo) -> usize
-        ensures { result ≡ length (objects_of (registry_of self.now) federate) }
+        ensures { result ≡ length (objects_owned (registry_of self.now) federate) }
     {
         let mut count = 0;
         for object in 1..self.next_object() {

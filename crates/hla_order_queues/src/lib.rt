@@ -1,6 +1,13 @@
 //! The queues in which a component keeps what has arrived and is not yet picked up.
 #![tactic(auto)]
 
+mod control;
+mod key;
 mod receive;
+#[cfg(test)]
+mod tests;
+mod tso;
 
+pub use control::Control;
 pub use receive::RoQueue;
+pub use tso::TsoQueue;

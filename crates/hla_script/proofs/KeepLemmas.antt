@@ -1,47 +1,66 @@
 -- What records lead to.
-use Rattle.std.proofs.Common.{◌≡◌, ℕ, ◌+◌, ◌<◌, ◌≤◌, ltb, cond, List, [], ◌∷◌, ◌++◌, Option, None, Some, true, false, is_some, option_map, refl, sym, ap, ◌∙◌, arith, codes, subst}
+use Rattle.std.proofs.Common.{◌≡◌, ℕ, ◌+◌, ◌<◌, ◌≤◌, ltb, cond, List, [], ◌∷◌, ◌++◌, Option, None, Some, true, false, is_some, option_map, refl, sym, ap, ◌∙◌, arith, codes, subst, inl, inr}
 use Rattle.std.proofs.lemmas.Bool.Decides.{nat_tests}
-use Rattle.hla_fed_file.specs.Tables.{Tables}
-use Rattle.hla_machine.specs.Central.{Central, new_central}
-use Rattle.std.proofs.Common.{inl, inr}
 use Rattle.hla_base.specs.declared.fault.Fault.{Fault}
 use Rattle.hla_base.specs.declared.fault.Fault.TheVariants as fault
-use Rattle.hla_federation.specs.FederationValue.{FederationValue}
-use Rattle.hla_federation.specs.State.{state_of}
-use Rattle.hla_federation.specs.Federation.{new_federation}
-use Rattle.hla_federation.specs.CentralOf.{central}
-use Rattle.hla_federation.specs.Messages.{find_event, events, discoveries, discoveries_from, retractions, dues}
-use Rattle.hla_federation.specs.Soundness.{done_as, IsRefusedWith}
+use Rattle.hla_fed_file.specs.CatalogueValue.{CatalogueValue}
+use Rattle.hla_machine.specs.Refusals.{refusal}
+use Rattle.hla_machine.specs.Runs.{EndsAs, create_fault, destroy_fault, is_joined_by_any}
 use Rattle.hla_machine.specs.declared.step.Step.{Step}
-use Rattle.hla_machine.specs.declared.step.Answer.{Answer}
-use Rattle.hla_machine.specs.Runs.{IsMachineStep, Executions, no_executions, AllowedAct, after_act, AreRun, EndsAs, destroy_fault, is_joined_by_any}
 use Rattle.hla_machine.specs.declared.step.Act.{Act}
 use Rattle.hla_machine.specs.declared.step.Act.TheVariants as act
+use Rattle.hla_machine.specs.declared.step.Answer.{Answer}
 use Rattle.hla_machine.specs.declared.step.Answer.TheVariants as answer
 use Rattle.hla_machine.specs.declared.step.Outcome.{Outcome}
 use Rattle.hla_machine.specs.declared.step.Outcome.TheVariants as outcome
 use Rattle.hla_machine.specs.declared.step.Choice.TheVariants as choice
 use Rattle.hla_machine.specs.declared.step.Record.{Record}
+use Rattle.hla_components.specs.CentralOf.{central}
+use Rattle.hla_components.specs.Components.{Components, new_components}
+use Rattle.hla_components.specs.Next.{Outcomes, next, components_seen, step_outcome}
+use Rattle.hla_federation.specs.Tables.FederationValue.{FederationValue}
+use Rattle.hla_federation.specs.Steps.Memory.{IsRefusedWith}
+use Rattle.hla_federation.specs.Steps.State.{state_of, IsBuilt}
 use Rattle.hla_script.specs.declared.members.Member.{Member}
-use Rattle.hla_script.specs.Keeping.{central_of, IsStepped}
-use Rattle.hla_script.specs.Keeping.{Standing, Holds, left_by, IsDestroyed, Leads, IsActed, IsKept}
+use Rattle.hla_components.specs.Executions.{Federations, no_federations, central_executions, with_created, with_destroyed, ending_unless, next_act, after_record, step_in, IsNext, AreNext}
+use Rattle.hla_script.specs.Keeping.{components_of, DoesNext, IsStepped, Standing, Holds, left_after, IsDestroyed, Leads, IsActed, IsKept}
 use Rattle.hla_script.specs.Playing.{created_with}
 use Rattle.hla_script.specs.Members.{members_from, member_after}
+use Rattle.hla_script.proofs.ChoiceLemmas.{built_choice}
+
+-- ---- creating
+no_choice : (f : Option Fault) (x y : Federations) → choice.None ≡ (ending_unless f x y).choice
+no_choice None x y = refl
+no_choice (Some e) x y = refl
+
+module _ (cat : Option CatalogueValue) (f : Option Fault) (x : Federations) (is : create_fault (central_executions x) (codes "play") cat ≡ f) where
+  create_next : (out : Outcome) → out ≡ (ending_unless f x (with_created x (codes "play") cat)).outcome
+      → IsNext x (record { actor = 0; execution = codes "play"; act = act.Create cat; outcome = out; choice = choice.None })
+  create_next out e = record {
+    outcome = subst (λ (g : Option Fault). out ≡ (ending_unless g x (with_created x (codes "play") cat)).outcome) (sym is) e;
+    choice = no_choice (create_fault (central_executions x) (codes "play") cat) x (with_created x (codes "play") cat);
+  }
+
+  create_holds : (new : Standing) → Holds (ending_unless f x (with_created x (codes "play") cat)).executions new → Holds (next_act x (codes "play") (act.Create cat)).executions new
+  create_holds new h = subst (λ (g : Option Fault). Holds (ending_unless g x (with_created x (codes "play") cat)).executions new) (sym is) h
 
 -- the record of a create that is accepted
-abbrev pub creation : Tables → Record
+abbrev pub creation : CatalogueValue → Record
 creation c = record { actor = 0; execution = codes "play"; act = act.Create (Some c); outcome = outcome.Done answer.Done; choice = choice.None }
 
--- only the execution that is there refuses a create, below the limit
-creates : (c : Tables) (n : ℕ) (new : Central) → n < 64 → new ≡ new_central c → Leads (creation c) (record { creates = n; here = None }) (record { creates = n + 1; here = Some new })
+-- below the limit only the execution that is there refuses a create
+accepts : (c : CatalogueValue) (n : ℕ) (x : Federations) → n < 64 → Holds x (record { creates = n; here = None }) → create_fault (central_executions x) (codes "play") (Some c) ≡ None
+accepts c n x few h =
+    let room : ltb n 64 ≡ true = grind (arith, nat_tests) in
+    rw (h.execution, h.present, h.creates, room) refl
+
+creates : (c : CatalogueValue) (n : ℕ) (new : Components) → n < 64 → new ≡ new_components c → Leads (creation c) (record { creates = n; here = None }) (record { creates = n + 1; here = Some new })
 creates c n new few e = record {
-  allowed = λ x h.
-      let room : ltb n 64 ≡ true = grind (arith, nat_tests) in
-      rw (h.execution, h.present, h.creates, room) refl;
-  follows = λ x h. record { creates = omega (arith, h.creates); present = omega (arith, h.present); execution = ap (λ (d : Central). Some d) (sym e) };
+  next = λ x h. create_next (Some c) None x (accepts c n x few h) (outcome.Done answer.Done) refl;
+  follows = λ x h. create_holds (Some c) None x (accepts c n x few h) (record { creates = n + 1; here = Some new }) (record { creates = omega (arith, h.creates); present = omega (arith, h.present); execution = ap (λ (d : Components). Some d) (sym e) });
 }
 
-pub creation_acts : (c : Tables) (n m : ℕ) (old : Option Central) (ms after : List Member) (new : Central) (r : Record) → n < 64 → m ≡ n + 1 → old ≡ None → new ≡ new_central c → r ≡ creation c → after ≡ []
+pub creation_acts : (c : CatalogueValue) (n m : ℕ) (old : Option Components) (ms after : List Member) (new : Components) (r : Record) → n < 64 → m ≡ n + 1 → old ≡ None → new ≡ new_components c → r ≡ creation c → after ≡ []
     → IsActed (act.Create (created_with c r.outcome)) (record { creates = n; here = old }) ms r (record { creates = m; here = Some new }) after
 creation_acts c n m old ms after new r few next none is_new same cleared =
     let main : IsActed (act.Create (Some c)) (record { creates = n; here = None }) ms (creation c) (record { creates = n + 1; here = Some new }) [] =
@@ -49,28 +68,51 @@ creation_acts c n m old ms after new r few next none is_new same cleared =
     subst (λ (x : Record). IsActed (act.Create (created_with c x.outcome)) (record { creates = n; here = old }) ms x (record { creates = m; here = Some new }) after) (sym same) (rw (none, cleared, next) main)
 
 -- the record of a create past the limit
-abbrev pub excess : Tables → Record
+abbrev pub excess : CatalogueValue → Record
 excess c = record { actor = 0; execution = codes "play"; act = act.Create (Some c); outcome = outcome.Refused fault.LimitReached; choice = choice.None }
 
-exceeds : (c : Tables) (n : ℕ) → 64 ≤ n → Leads (excess c) (record { creates = n; here = None }) (record { creates = n; here = None })
+refuses : (c : CatalogueValue) (n : ℕ) (x : Federations) → 64 ≤ n → Holds x (record { creates = n; here = None }) → create_fault (central_executions x) (codes "play") (Some c) ≡ Some fault.LimitReached
+refuses c n x many h =
+    let full : ltb n 64 ≡ false = grind (arith, nat_tests) in
+    rw (h.execution, h.present, h.creates, full) refl
+
+exceeds : (c : CatalogueValue) (n : ℕ) → 64 ≤ n → Leads (excess c) (record { creates = n; here = None }) (record { creates = n; here = None })
 exceeds c n many = record {
-  allowed = λ x h.
-      let full : ltb n 64 ≡ false = grind (arith, nat_tests) in
-      rw (h.execution, h.present, h.creates, full) refl;
-  follows = λ x h. h;
+  next = λ x h. create_next (Some c) (Some fault.LimitReached) x (refuses c n x many h) (outcome.Refused fault.LimitReached) refl;
+  follows = λ x h. create_holds (Some c) (Some fault.LimitReached) x (refuses c n x many h) (record { creates = n; here = None }) h;
 }
 
-pub excess_acts : (c : Tables) (n : ℕ) (old : Option Central) (ms : List Member) (r : Record) → 64 ≤ n → old ≡ None → r ≡ excess c
+pub excess_acts : (c : CatalogueValue) (n : ℕ) (old : Option Components) (ms : List Member) (r : Record) → 64 ≤ n → old ≡ None → r ≡ excess c
     → IsActed (act.Create (created_with c r.outcome)) (record { creates = n; here = old }) ms r (record { creates = n; here = old }) ms
 excess_acts c n old ms r many none same =
     let main : IsActed (act.Create (Some c)) (record { creates = n; here = None }) ms (excess c) (record { creates = n; here = None }) ms =
     record { same = refl; remembered = λ e. cc; members = refl; leads = exceeds c n many } in
     subst (λ (x : Record). IsActed (act.Create (created_with c x.outcome)) (record { creates = n; here = old }) ms x (record { creates = n; here = old }) ms) (sym same) (rw none main)
 
+-- the record of a create of an execution that is there
+abbrev pub repetition : Record
+repetition = record { actor = 0; execution = codes "play"; act = act.Create None; outcome = outcome.Refused fault.FederationExecutionAlreadyExists; choice = choice.None }
+
+repeats : (n : ℕ) (s : Components) (x : Federations) → Holds x (record { creates = n; here = Some s }) → create_fault (central_executions x) (codes "play") None ≡ Some fault.FederationExecutionAlreadyExists
+repeats n s x h = rw h.execution refl
+
+pub repetition_acts : (c : CatalogueValue) (n : ℕ) (f : Option FederationValue) (ms : List Member) (r : Record) → is_some f ≡ true → r ≡ repetition
+    → IsActed (act.Create (created_with c r.outcome)) (record { creates = n; here = option_map components_of f }) ms r (record { creates = n; here = option_map components_of f }) ms
+repetition_acts c n None ms r there same = cc
+repetition_acts c n (Some f) ms r there same =
+    let s = components_of f in
+    let leads : Leads repetition (record { creates = n; here = Some s }) (record { creates = n; here = Some s }) = record {
+      next = λ x h. create_next None (Some fault.FederationExecutionAlreadyExists) x (repeats n s x h) (outcome.Refused fault.FederationExecutionAlreadyExists) refl;
+      follows = λ x h. create_holds None (Some fault.FederationExecutionAlreadyExists) x (repeats n s x h) (record { creates = n; here = Some s }) h;
+    } in
+    let main : IsActed (act.Create None) (record { creates = n; here = Some s }) ms repetition (record { creates = n; here = Some s }) ms =
+    record { same = refl; remembered = λ e. cc; members = refl; leads = leads } in
+    subst (λ (x : Record). IsActed (act.Create (created_with c x.outcome)) (record { creates = n; here = Some s }) ms x (record { creates = n; here = Some s }) ms) (sym same) main
+
 -- ---- destroying
-not_memory : (old : Option Central) (out : Outcome) → EndsAs (destroy_fault old) out → out ≡ outcome.Refused fault.OutOfMemory → ⊥
+not_memory : (old : Option Components) (out : Outcome) → EndsAs (destroy_fault (option_map central old)) out → out ≡ outcome.Refused fault.OutOfMemory → ⊥
 not_memory None out ends e = let clash : outcome.Refused fault.FederationExecutionDoesNotExist ≡ outcome.Refused fault.OutOfMemory = sym ends ∙ e in cc
-not_memory (Some c) out ends e = elim (is_joined_by_any c) as (λ b. EndsAs (cond b (Some fault.FederatesCurrentlyJoined) None) out → ⊥) [
+not_memory (Some c) out ends e = elim (is_joined_by_any (central c)) as (λ b. EndsAs (cond b (Some fault.FederatesCurrentlyJoined) None) out → ⊥) [
   | true ↦ λ ends. let clash : outcome.Refused fault.FederatesCurrentlyJoined ≡ outcome.Refused fault.OutOfMemory = sym ends ∙ e in cc
   | false ↦ λ ends. let clash : outcome.Done answer.Done ≡ outcome.Refused fault.OutOfMemory = sym ends ∙ e in cc
 ] ends
@@ -79,55 +121,63 @@ not_memory (Some c) out ends e = elim (is_joined_by_any c) as (λ b. EndsAs (con
 abbrev pub destruction : Outcome → Record
 destruction out = record { actor = 0; execution = codes "play"; act = act.Destroy; outcome = out; choice = choice.None }
 
-destroyed_holds : (n : ℕ) (old : Option Central) (out : Outcome) (x : Executions) → EndsAs (destroy_fault old) out → Holds x (record { creates = n; here = old })
-    → Holds (after_act x (codes "play") act.Destroy out choice.None) (record { creates = n; here = left_by old out })
-destroyed_holds n None (outcome.Done a) x ends h = absurd (let clash : outcome.Done a ≡ outcome.Refused fault.FederationExecutionDoesNotExist = ends in cc)
-destroyed_holds n (Some c) (outcome.Done a) x ends h = record { creates = h.creates; present = omega (arith, h.present); execution = refl }
-destroyed_holds n old (outcome.Refused e) x ends h = h
-destroyed_holds n old (outcome.Failed given) x ends h = h
+ends_outcome : (f : Option Fault) (out : Outcome) (x y : Federations) → EndsAs f out → out ≡ (ending_unless f x y).outcome
+ends_outcome None out x y ends = ends
+ends_outcome (Some e) out x y ends = ends
 
-pub destroys : (n : ℕ) (old new : Option Central) (ms : List Member) (out : Outcome) (r : Record) → IsDestroyed old out new → r ≡ destruction out
+destroyed_holds : (n : ℕ) (old : Option Components) (f : Option Fault) (out : Outcome) (x : Federations) → EndsAs f out → Holds x (record { creates = n; here = old })
+    → Holds (ending_unless f x (with_destroyed x (codes "play"))).executions (record { creates = n; here = left_after old out })
+destroyed_holds n None None out x ends h = rw ends (record { creates = h.creates; present = omega (arith, h.present); execution = refl })
+destroyed_holds n (Some c) None out x ends h = rw ends (record { creates = h.creates; present = omega (arith, h.present); execution = refl })
+destroyed_holds n old (Some e) out x ends h = rw ends h
+
+pub destroys : (n : ℕ) (old new : Option Components) (ms : List Member) (out : Outcome) (r : Record) → IsDestroyed old out new → r ≡ destruction out
     → IsActed act.Destroy (record { creates = n; here = old }) ms r (record { creates = n; here = new }) ms
 destroys n old new ms out r is same =
-    let main : IsActed act.Destroy (record { creates = n; here = old }) ms (destruction out) (record { creates = n; here = left_by old out }) ms =
+    let ends : (x : Federations) → Holds x (record { creates = n; here = old }) → EndsAs (destroy_fault (option_map central (x.execution (codes "play")))) out =
+    λ x h. subst (λ (here : Option Components). EndsAs (destroy_fault (option_map central here)) out) (sym h.execution) is.ends in
+    let main : IsActed act.Destroy (record { creates = n; here = old }) ms (destruction out) (record { creates = n; here = left_after old out }) ms =
     record {
       same = refl;
       remembered = not_memory old out is.ends;
       members = refl;
-      leads = record { allowed = λ x h. subst (λ (here : Option Central). EndsAs (destroy_fault here) out) (sym h.execution) is.ends; follows = λ x h. destroyed_holds n old out x is.ends h };
+      leads = record {
+        next = λ x h. record { outcome = ends_outcome _ out x _ (ends x h); choice = no_choice _ x _ };
+        follows = λ x h. destroyed_holds n old _ out x (ends x h) h;
+      };
     } in
     rw (same, is.follows) main
 
-pub gone : (f : FederationValue) → is_joined_by_any (central (state_of f)) ≡ false → IsDestroyed (Some (central_of f)) (outcome.Done answer.Done) None
-unfolding central_of
+pub gone : (f : FederationValue) → is_joined_by_any (central (state_of f)) ≡ false → IsDestroyed (Some (components_of f)) (outcome.Done answer.Done) None
+unfolding components_of
 gone f none = record { ends = rw none refl; follows = refl }
 
-pub kept_while_joined : (f : FederationValue) → is_joined_by_any (central (state_of f)) ≡ true → IsDestroyed (Some (central_of f)) (outcome.Refused fault.FederatesCurrentlyJoined) (Some (central_of f))
-unfolding central_of
+pub kept_while_joined : (f : FederationValue) → is_joined_by_any (central (state_of f)) ≡ true → IsDestroyed (Some (components_of f)) (outcome.Refused fault.FederatesCurrentlyJoined) (Some (components_of f))
+unfolding components_of
 kept_while_joined f some = record { ends = rw some refl; follows = refl }
 
 pub none_left : {X Y : Type 0} (f : X → Y) (o : Option X) → is_some o ≡ false → option_map f o ≡ None
 none_left f None e = refl
 none_left f (Some x) e = cc
 
-run_more : (rs : List Record) (x y : Executions) (r : Record) → AreRun x rs y → AllowedAct y r.execution r.act r.outcome r.choice → AreRun x (rs ++ r ∷ []) (after_act y r.execution r.act r.outcome r.choice)
-run_more [] x y r run allowed = (subst (λ (z : Executions). AllowedAct z r.execution r.act r.outcome r.choice) (sym run) allowed, ap (λ (z : Executions). after_act z r.execution r.act r.outcome r.choice) run)
-run_more (q ∷ rs) x y r run allowed = (run.0, run_more rs (after_act x q.execution q.act q.outcome q.choice) y r run.1 allowed)
+-- ---- one more record
+next_more : (rs : List Record) (x y : Federations) (r : Record) → AreNext x rs y → IsNext y r → AreNext x (rs ++ r ∷ []) (after_record y r)
+next_more [] x y r run is = (subst (λ (z : Federations). IsNext z r) (sym run) is, ap (λ (z : Federations). after_record z r) run)
+next_more (q ∷ rs) x y r run is = (run.0, next_more rs (after_record x q) y r run.1 is)
 
 members_more : (rs : List Record) (ms : List Member) (r : Record) → members_from ms (rs ++ r ∷ []) ≡ member_after (members_from ms rs) r.act r.outcome
 unfolding members_from
 members_more [] ms r = refl
 members_more (q ∷ rs) ms r = members_more rs (member_after ms q.act q.outcome) r
 
--- one more record is kept
 pub keeps_more : (a : Act) (rs : List Record) (old new : Standing) (ms ms' : List Member) (r : Record) → IsKept rs old ms → IsActed a old ms r new ms' → IsKept (rs ++ r ∷ []) new ms'
 keeps_more a rs old new ms ms' r kept acted =
     let x = kept.executions in
     let is : r.act ≡ a = ap (λ (q : Record). q.act) acted.same in
     let joined : ms' ≡ member_after ms r.act r.outcome = acted.members ∙ ap (λ (b : Act). member_after ms b r.outcome) (sym is) in
     record {
-      executions = after_act x r.execution r.act r.outcome r.choice;
-      run = run_more rs no_executions x r kept.run (acted.leads.allowed x kept.holds);
+      executions = after_record x r;
+      next = next_more rs no_federations x r kept.next (acted.leads.next x kept.holds);
       holds = acted.leads.follows x kept.holds;
       joins = joined ∙ rw kept.joins (sym (members_more rs [] r));
     }
@@ -135,20 +185,60 @@ keeps_more a rs old new ms ms' r kept acted =
 -- at first nothing is kept
 pub keeps_nothing : IsKept [] (record { creates = 0; here = None }) []
 unfolding members_from
-keeps_nothing = record { executions = no_executions; run = refl; holds = record { creates = refl; present = refl; execution = refl }; joins = refl }
+keeps_nothing = record { executions = no_federations; next = refl; holds = record { creates = refl; present = refl; execution = refl }; joins = refl }
 
-pub opens : (f : FederationValue) (c : Tables) → state_of f ≡ new_federation c → central_of f ≡ new_central c
-unfolding central_of find_event events discoveries discoveries_from retractions dues
-opens f c e = let none : central (new_federation c) ≡ new_central c = refl in ap central e ∙ none
+pub opens : (f : FederationValue) (c : CatalogueValue) → state_of f ≡ new_components c → components_of f ≡ new_components c
+unfolding components_of
+opens f c e = e
 
-pub steps_done : (old new : FederationValue) (s : Step) (a : Answer) → IsMachineStep (central (state_of old)) (done_as s a) (central (state_of new)) → IsStepped (Some (central_of old)) s (outcome.Done a) (Some (central_of new))
-unfolding central_of
-steps_done old new s a h = record { remembered = λ e. cc; allowed = h.allowed; follows = ap (λ (d : Central). Some d) h.follows }
-
-pub steps_refused : (old new : FederationValue) (s : Step) (e : Fault) → new ≡ old → IsRefusedWith (state_of old) s e → (e ≡ fault.OutOfMemory → ⊥) → IsStepped (Some (central_of old)) s (outcome.Refused e) (Some (central_of new))
-unfolding central_of
-steps_refused old new s e same h some = record {
-  remembered = λ is. let out : e ≡ fault.OutOfMemory = cc in some out;
-  allowed = elim h [ inl r ↦ r | inr p ↦ absurd (some p.1) ];
-  follows = ap (λ (f : FederationValue). Some (central (state_of f))) same;
+-- ---- a step
+pub steps_done : (old new : FederationValue) (s : Step) (a : Answer) → IsBuilt s → (next (state_of old) s).outcome ≡ outcome.Done a → state_of new ≡ (next (state_of old) s).state
+    → IsStepped (Some (components_of old)) s (outcome.Done a) (Some (components_of new))
+unfolding components_of
+steps_done old new s a built ends leads = record {
+  remembered = λ e. cc;
+  does = (sym ends, sym (built_choice old s built), ap (λ (c : Components). Some c) leads);
 }
+
+refused_outcome : (c : Components) (s : Step) (e : Fault) → refusal (components_seen c) s ≡ Some e → next c s ≡ record { outcome = outcome.Refused e; choice = choice.None; state = c }
+refused_outcome c s e is = rw is refl
+
+pub steps_refused : (old new : FederationValue) (s : Step) (e : Fault) → new ≡ old → IsRefusedWith (state_of old) s e → (e ≡ fault.OutOfMemory → ⊥) → IsStepped (Some (components_of old)) s (outcome.Refused e) (Some (components_of new))
+unfolding components_of
+steps_refused old new s e same h some =
+    let is : refusal (components_seen (state_of old)) s ≡ Some e = elim h [ inl r ↦ r | inr p ↦ absurd (some p.1) ] in
+    let does = refused_outcome (state_of old) s e is in
+    record {
+      remembered = λ is. let out : e ≡ fault.OutOfMemory = cc in some out;
+      does = (sym (ap (λ (o : Outcomes). o.outcome) does), sym (ap (λ (o : Outcomes). o.choice) does), ap (λ (f : FederationValue). Some (state_of f)) same ∙ sym (ap (λ (o : Outcomes). Some o.state) does));
+    }
+
+-- ---- the record of a step
+abbrev pub step_record : Step → Outcome → Record
+step_record s out = record { actor = 0; execution = codes "play"; act = act.Step s; outcome = out; choice = choice.None }
+
+stepped_next : (here : Option Components) (x : Federations) (s : Step) (out : Outcome) (new : Option Components) → DoesNext here s out new → (out ≡ (step_in x (codes "play") here s).outcome) × (choice.None ≡ (step_in x (codes "play") here s).choice)
+stepped_next None x s out new does = (does.0, refl)
+stepped_next (Some c) x s out new does = (does.0, does.1)
+
+stepped_holds : (n : ℕ) (here : Option Components) (x : Federations) (s : Step) (out : Outcome) (new : Option Components) → DoesNext here s out new → Holds x (record { creates = n; here = here })
+    → Holds (step_in x (codes "play") here s).executions (record { creates = n; here = new })
+stepped_holds n None x s out new does h = rw does.1 h
+stepped_holds n (Some c) x s out new does h = rw does.2 (record { creates = h.creates; present = h.present; execution = refl })
+
+pub step_acts : (n : ℕ) (old new : Option Components) (ms after : List Member) (s : Step) (out : Outcome) (r : Record) → IsStepped old s out new → r ≡ step_record s out → after ≡ member_after ms (act.Step s) out
+    → IsActed (act.Step s) (record { creates = n; here = old }) ms r (record { creates = n; here = new }) after
+step_acts n old new ms after s out r is same joined =
+    let main : IsActed (act.Step s) (record { creates = n; here = old }) ms (step_record s out) (record { creates = n; here = new }) after =
+    record {
+      same = refl;
+      remembered = is.remembered;
+      members = joined;
+      leads = record {
+        next = λ x h.
+            let e = subst (λ (here : Option Components). (out ≡ (step_in x (codes "play") here s).outcome) × (choice.None ≡ (step_in x (codes "play") here s).choice)) (sym h.execution) (stepped_next old x s out new is.does) in
+            record { outcome = e.0; choice = e.1 };
+        follows = λ x h. subst (λ (here : Option Components). Holds (step_in x (codes "play") here s).executions (record { creates = n; here = new })) (sym h.execution) (stepped_holds n old x s out new is.does h);
+      };
+    } in
+    rw same main

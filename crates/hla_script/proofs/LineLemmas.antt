@@ -2,7 +2,7 @@
 use Rattle.std.proofs.Common.{◌≡◌, ℕ, ◌+◌, List, [], ◌∷◌, ◌++◌, Option, None, Some, Result, Ok, Err, refl, sym, ap, ◌∙◌, append_assoc}
 use Rattle.std.proofs.lemmas.List.{append-nil}
 use Rattle.hla_script.specs.Reading.{Means}
-use Rattle.hla_script.specs.Script.{command_of, line_then, script_from, with_front, FailsAs}
+use Rattle.hla_script.specs.Script.{command_of, line_then, script_from, with_front, IsFirstScriptFault}
 use Rattle.hla_script.specs.declared.lines.Command.{Command}
 use Rattle.hla_script.specs.declared.lines.ScriptFaultKind.{ScriptFaultKind}
 use Rattle.hla_script.specs.declared.lines.ScriptFaultKind.TheVariants.{OutOfMemory}
@@ -32,7 +32,7 @@ unfolding script_from
 fails front n l ls k all e h =
     let one : with_front front (script_from n (l ∷ ls)) ≡ Err (record { line = n + 1; kind = k }) = ap (λ (r : Result (Option Command) ScriptFaultKind). with_front front (line_then r (n + 1) (script_from (n + 1) ls))) e in sym h ∙ one
 
-pub fails_as : (front : List Line) (n : ℕ) (l : List ℕ) (ls : List (List ℕ)) (k : ScriptFaultKind) (all : All) → Means {X = Option Command} (Err k) (command_of l) → with_front front (script_from n (l ∷ ls)) ≡ all → FailsAs (n + 1) k all
+pub fails_as : (front : List Line) (n : ℕ) (l : List ℕ) (ls : List (List ℕ)) (k : ScriptFaultKind) (all : All) → Means {X = Option Command} (Err k) (command_of l) → with_front front (script_from n (l ∷ ls)) ≡ all → IsFirstScriptFault (n + 1) k all
 fails_as front n l ls OutOfMemory all e h = tt
 fails_as front n l ls k all e h = fails front n l ls k all e h
 

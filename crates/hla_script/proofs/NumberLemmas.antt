@@ -9,7 +9,7 @@ use Rattle.std.specs.Char.{is_ascii_digit, digit_value}
 use Rattle.std.specs.Int.{IsInRange}
 use Rattle.std.specs.List.{list_all}
 use Rattle.std.specs.Str.Parse.{digits_value}
-use Rattle.hla_script.specs.Script.{number_of}
+use Rattle.hla_script.specs.Script.{word_number}
 use Rattle.hla_script.specs.declared.lines.ScriptFaultKind.TheVariants.{BadNumber}
 
 in_range : (c : ℕ) → is_ascii_digit c ≡ true → IsInRange 48 57 c
@@ -50,20 +50,20 @@ none_of false false true x y e f g = cc
 none_of false true c x y e f g = cc
 none_of true b c x y e f g = cc
 
-pub empty_word : (word : List ℕ) → length word ≡ 0 → Err BadNumber ≡ number_of word
-unfolding number_of
+pub empty_word : (word : List ℕ) → length word ≡ 0 → Err BadNumber ≡ word_number word
+unfolding word_number
 empty_word word e = sym (first (length word == 0) _ _ _ _ (grind (arith, nat_tests)))
 
-pub no_digits : (word : List ℕ) → list_all is_ascii_digit word ≡ false → Err BadNumber ≡ number_of word
-unfolding number_of
+pub no_digits : (word : List ℕ) → list_all is_ascii_digit word ≡ false → Err BadNumber ≡ word_number word
+unfolding word_number
 no_digits word e = sym (second (length word == 0) (not (list_all is_ascii_digit word)) _ _ _ (rw e refl))
 
-pub large_word : (word : List ℕ) → 18446744073709551615 < digits_value 10 word → Err BadNumber ≡ number_of word
-unfolding number_of
+pub large_word : (word : List ℕ) → 18446744073709551615 < digits_value 10 word → Err BadNumber ≡ word_number word
+unfolding word_number
 large_word word above = sym (third (length word == 0) (not (list_all is_ascii_digit word)) (nat_lt 18446744073709551615 (digits_value 10 word)) _ _ (grind (arith, nat_tests)))
 
-pub number_word : (word : List ℕ) (n : ℕ) → length word ≢ 0 → list_all is_ascii_digit word ≡ true → n < 18446744073709551616 → n ≡ digits_value 10 word → Ok n ≡ number_of word
-unfolding number_of
+pub number_word : (word : List ℕ) (n : ℕ) → length word ≢ 0 → list_all is_ascii_digit word ≡ true → n < 18446744073709551616 → n ≡ digits_value 10 word → Ok n ≡ word_number word
+unfolding word_number
 number_word word n some all within is =
     let small : nat_lt 18446744073709551615 (digits_value 10 word) ≡ false = grind (arith, nat_tests) in
     let there : (length word == 0) ≡ false = grind (arith, nat_tests) in

@@ -1,12 +1,12 @@
 -- The execution named `play`, and the history that leads to it
 use Rattle.std.specs.Prelude.{◌≡◌, ◌≢◌, ℕ, List, Option, None, Some, option_map, codes}
 use Rattle.hla_base.specs.declared.fault.Fault.TheVariants as fault
-use Rattle.hla_federation.specs.CentralOf.{central}
-use Rattle.hla_federation.specs.FederationValue.{FederationValue}
-use Rattle.hla_federation.specs.State.{state_of, IsBuilt}
-use Rattle.hla_machine.specs.Central.{Central}
-use Rattle.hla_machine.specs.Machine.{after}
-use Rattle.hla_machine.specs.Runs.{Executions, no_executions, AllowedIn, AllowedAct, after_act, AreRun, EndsAs, destroy_fault}
+use Rattle.hla_components.specs.CentralOf.{central}
+use Rattle.hla_components.specs.Components.{Components}
+use Rattle.hla_components.specs.Next.{next}
+use Rattle.hla_federation.specs.Tables.FederationValue.{FederationValue}
+use Rattle.hla_federation.specs.Steps.State.{state_of, IsBuilt}
+use Rattle.hla_machine.specs.Runs.{EndsAs, destroy_fault}
 use Rattle.hla_machine.specs.declared.step.Step.{Step}
 use Rattle.hla_machine.specs.declared.step.Act.{Act}
 use Rattle.hla_machine.specs.declared.step.Outcome.{Outcome}
@@ -16,11 +16,12 @@ use Rattle.hla_machine.specs.declared.step.Record.{Record}
 use Rattle.hla_script.specs.declared.members.Member.{Member}
 use Rattle.hla_script.specs.declared.steps.Request.{Request}
 use Rattle.hla_script.specs.declared.steps.Request.TheVariants as request
+use Rattle.hla_components.specs.Executions.{Federations, no_federations, IsNext, AreNext, after_record}
 use Rattle.hla_script.specs.Members.{members, member_after}
 
--- the state of the central machine that a federation stands for
-unfoldable pub central_of : FederationValue → Central
-central_of f = central (state_of f)
+-- the components and wires that a federation stands for
+unfoldable pub components_of : FederationValue → Components
+components_of f = state_of f
 
 -- the federation's code does what is asked
 abbrev pub IsBuiltRequest : Request → Type 0
@@ -28,43 +29,47 @@ IsBuiltRequest (request.Step s) = IsBuilt s
 IsBuiltRequest r = Unit {0}
 
 -- how many executions there are
-abbrev pub count_of : Option Central → ℕ
+abbrev pub count_of : Option Components → ℕ
 count_of None = 0
 count_of (Some c) = 1
 
 -- how many executions were created so far, and the state of the one that is there
 pub record Standing : Type 0 where
   pub creates : ℕ
-  pub here : Option Central
+  pub here : Option Components
 
 abbrev pub standing : ℕ → Option FederationValue → Standing
-standing creates federation = record { creates = creates; here = option_map central_of federation }
+standing creates federation = record { creates = creates; here = option_map components_of federation }
 
 -- of all executions there is at most the one named `play`, in this state
-pub record Holds (x : Executions) (s : Standing) : Type 0 where
+pub record Holds (x : Federations) (s : Standing) : Type 0 where
   pub creates : x.creates ≡ s.creates
   pub present : x.present ≡ count_of s.here
   pub execution : x.execution (codes "play") ≡ s.here
 
--- the machine allows a step in the execution, and leads it from one state to another
-pub record IsStepped (old : Option Central) (s : Step) (out : Outcome) (new : Option Central) : Type 0 where
-  pub remembered : out ≢ outcome.Refused fault.OutOfMemory
-  pub allowed : AllowedIn old s out choice.None
-  pub follows : new ≡ option_map (λ c. after c s out choice.None) old
+-- a step in the execution ends as the next-state function says, chooses nothing, and leads from one state to another
+abbrev pub DoesNext : Option Components → Step → Outcome → Option Components → Type 0
+DoesNext None s out new = (out ≡ outcome.Refused fault.FederationExecutionDoesNotExist) × (new ≡ None)
+DoesNext (Some c) s out new = (out ≡ (next c s).outcome) × (choice.None ≡ (next c s).choice) × (new ≡ Some (next c s).state)
 
-abbrev pub left_by : Option Central → Outcome → Option Central
-left_by here (outcome.Done a) = None
-left_by here out = here
+-- the same, and memory was not wanting
+pub record IsStepped (old : Option Components) (s : Step) (out : Outcome) (new : Option Components) : Type 0 where
+  pub remembered : out ≢ outcome.Refused fault.OutOfMemory
+  pub does : DoesNext old s out new
+
+abbrev pub left_after : Option Components → Outcome → Option Components
+left_after here (outcome.Done a) = None
+left_after here out = here
 
 -- the execution is destroyed where it may be, and left as it is otherwise
-pub record IsDestroyed (old : Option Central) (out : Outcome) (new : Option Central) : Type 0 where
-  pub ends : EndsAs (destroy_fault old) out
-  pub follows : new ≡ left_by old out
+pub record IsDestroyed (old : Option Components) (out : Outcome) (new : Option Components) : Type 0 where
+  pub ends : EndsAs (destroy_fault (option_map central old)) out
+  pub follows : new ≡ left_after old out
 
--- the machine allows what a record says, and leads the execution from one state to another
+-- a record says what the next-state function says, which leads from one state of the execution to another
 pub record Leads (r : Record) (old new : Standing) : Type 0 where
-  pub allowed : (x : Executions) → Holds x old → AllowedAct x r.execution r.act r.outcome r.choice
-  pub follows : (x : Executions) → Holds x old → Holds (after_act x r.execution r.act r.outcome r.choice) new
+  pub next : (x : Federations) → Holds x old → IsNext x r
+  pub follows : (x : Federations) → Holds x old → Holds (after_record x r) new
 
 -- a record of an act leads from one state and its members to others
 pub record IsActed (act : Act) (old : Standing) (joined : List Member) (r : Record) (new : Standing) (joined_then : List Member) : Type 0 where
@@ -73,9 +78,9 @@ pub record IsActed (act : Act) (old : Standing) (joined : List Member) (r : Reco
   pub members : joined_then ≡ member_after joined act r.outcome
   pub leads : Leads r old new
 
--- the records are a run from no executions, and lead to this state and these members
+-- the records are those of the next-state function from no executions, and lead to this state and these members
 pub record IsKept (records : List Record) (now : Standing) (joined : List Member) : Type 0 where
-  pub executions : Executions
-  pub run : AreRun no_executions records executions
+  pub executions : Federations
+  pub next : AreNext no_federations records executions
   pub holds : Holds executions now
   pub joins : joined ≡ members records

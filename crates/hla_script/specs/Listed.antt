@@ -12,7 +12,7 @@ use Rattle.hla_fed_file.specs.declared.declared.Transport.{Transport}
 use Rattle.hla_fed_file.specs.declared.declared.Transport.TheVariants as transport
 use Rattle.hla_fed_file.specs.Grammar.{Describes}
 use Rattle.hla_fed_file.specs.Reading as reading
-use Rattle.hla_fed_file.specs.Tables.{Tables}
+use Rattle.hla_fed_file.specs.CatalogueValue.{CatalogueValue}
 use Rattle.hla_script.specs.declared.listing.ListFault.{ListFault}
 use Rattle.hla_script.specs.declared.listing.ListFault.TheVariants as stop
 
@@ -61,15 +61,15 @@ abbrev pub interaction_text : List Parameter → ℕ → InteractionClass → Li
 interaction_text parameters n k = interaction_line n k ++ each_numbered (own_parameter_text n) parameters
 
 -- the object classes in the order of their numbers, and then the interaction classes
-abbrev pub listing : Tables → List ℕ
+abbrev pub listing : CatalogueValue → List ℕ
 listing c = each_numbered (object_text c.attributes) c.object_classes ++ each_numbered (interaction_text c.parameters) c.interaction_classes
 
 -- the text describes a catalogue, and what was written is its listing
 abbrev pub IsListed : List ℕ → Option (List ℕ) → Option (List ℕ) → Type 0
-IsListed fed old new = (c : Tables) × Describes fed c × Appends old new (listing c)
+IsListed fed old new = (c : CatalogueValue) × Describes fed c × Appends old new (listing c)
 
 -- why nothing was listed to its end; a text at fault prints nothing
 abbrev pub StopsListing : List ℕ → Option (List ℕ) → Option (List ℕ) → ListFault → Type 0
-StopsListing fed old new (stop.Fed e) = reading.Gives (Err e) (reading.read_of fed) × Appends old new []
-StopsListing fed old new stop.Write = (c : Tables) × Describes fed c
-StopsListing fed old new stop.Memory = ((c : Tables) × Describes fed c) × Appends old new []
+StopsListing fed old new (stop.Fed e) = reading.ReadsAs (Err e) (reading.read_of fed) × Appends old new []
+StopsListing fed old new stop.Write = (c : CatalogueValue) × Describes fed c
+StopsListing fed old new stop.Memory = ((c : CatalogueValue) × Describes fed c) × Appends old new []

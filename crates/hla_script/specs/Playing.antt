@@ -1,9 +1,9 @@
 -- What the lines of a script do
-use Rattle.std.specs.Prelude.{◌≡◌, ◌≢◌, ◌<◌, ◌≤◌, ℕ, List, [], ◌∷◌, ◌++◌, length, Option, None, Some, Ok, Err, codes}
+use Rattle.std.specs.Prelude.{◌≡◌, ◌≢◌, ◌<◌, ◌≤◌, ℕ, List, [], ◌∷◌, ◌++◌, ◌⊎◌, length, Option, None, Some, Ok, Err, codes}
 use Rattle.std.specs.Io.KnownBytes.{Appends}
 use Rattle.hla_base.specs.declared.fault.Fault.{Fault}
 use Rattle.hla_base.specs.declared.fault.Fault.TheVariants as fault
-use Rattle.hla_fed_file.specs.Tables.{Tables}
+use Rattle.hla_fed_file.specs.CatalogueValue.{CatalogueValue}
 use Rattle.hla_fed_file.specs.Reading as reading
 use Rattle.hla_fed_file.specs.Grammar.{Describes}
 use Rattle.hla_machine.specs.declared.step.Act.{Act}
@@ -19,70 +19,79 @@ use Rattle.hla_script.specs.declared.player.PlayFault.{PlayFault}
 use Rattle.hla_script.specs.declared.player.PlayFault.TheVariants as stop
 use Rattle.hla_script.specs.declared.steps.Request.{Request}
 use Rattle.hla_script.specs.declared.steps.Request.TheVariants as request
-use Rattle.hla_script.specs.Script.{script_of, Gives}
+use Rattle.hla_script.specs.Script.{script_of, ParsesAs}
 use Rattle.hla_script.specs.Printed.{line_text}
 use Rattle.hla_script.specs.Members.{members}
-use Rattle.hla_script.specs.Requests.{without_step, request_of}
+use Rattle.hla_script.specs.Requests.{request_of}
 
 -- ---- the record of a line
 -- a create that is accepted holds the catalogue; so does one past the limit, which is tested behind the FED file
-abbrev pub created_with : Tables → Outcome → Option Tables
+abbrev pub created_with : CatalogueValue → Outcome → Option CatalogueValue
 created_with c (outcome.Done a) = Some c
 created_with c (outcome.Refused fault.LimitReached) = Some c
 created_with c out = None
 
-abbrev pub act_of : Tables → Request → Outcome → Act
+abbrev pub act_of : CatalogueValue → Request → Outcome → Act
 act_of c request.Create out = act.Create (created_with c out)
 act_of c request.Destroy out = act.Destroy
 act_of c (request.Step s) out = act.Step s
 
 -- the record of a line's step, by its outcome
-abbrev pub record_of : Tables → List Member → Command → Outcome → Record
-record_of c ms command out = record { actor = 0; execution = codes "play"; act = act_of c (request_of c ms command) out; outcome = out; choice = choice.None }
+abbrev pub record_of : CatalogueValue → Request → Outcome → Record
+record_of c asked out = record { actor = 0; execution = codes "play"; act = act_of c asked out; outcome = out; choice = choice.None }
 
 -- ---- the lines in turn
+-- a line asks for something behind some records, and there is room for its record
+pub record IsAdmitted (c : CatalogueValue) (before : List Record) (command : Command) (asked : Request) : Type 0 where
+  pub asks : request_of c (members before) command ≡ Ok asked
+  pub room : length before < 32768
+
+-- there is no room for one more record: the history is full, or memory ran out
+abbrev pub HasNoRoom : List Record → Fault → Type 0
+HasNoRoom before e = ((32768 ≤ length before) × (e ≡ fault.HistoryFull)) ⊎ ((length before < 32768) × (e ≡ fault.OutOfMemory))
+
 -- how a line comes out behind some records, and the record that it adds, if it does
-pub data Ends (c : Tables) (before : List Record) (command : Command) (out : Outcome) (added : List Record) : Type 0 where
+pub data LineEnds (c : CatalogueValue) (before : List Record) (command : Command) (out : Outcome) (added : List Record) : Type 0 where
   -- it makes no step
-  WithoutStep : (e : Fault) → without_step c (members before) command ≡ Some e → out ≡ outcome.Refused e → added ≡ [] → Ends c before command out added
+  WithoutStep : (e : Fault) → request_of c (members before) command ≡ Err e → out ≡ outcome.Refused e → added ≡ [] → LineEnds c before command out added
   -- the history is full
-  Full : without_step c (members before) command ≡ None → 32768 ≤ length before → out ≡ outcome.Refused fault.HistoryFull → added ≡ [] → Ends c before command out added
+  Full : (asked : Request) → request_of c (members before) command ≡ Ok asked → 32768 ≤ length before → out ≡ outcome.Refused fault.HistoryFull → added ≡ [] → LineEnds c before command out added
   -- memory ran out
-  OutOfMemory : without_step c (members before) command ≡ None → length before < 32768 → out ≡ outcome.Refused fault.OutOfMemory → added ≡ [] → Ends c before command out added
+  OutOfMemory : (asked : Request) → IsAdmitted c before command asked → out ≡ outcome.Refused fault.OutOfMemory → added ≡ [] → LineEnds c before command out added
   -- its step is recorded
-  Recorded : without_step c (members before) command ≡ None → length before < 32768 → out ≢ outcome.Refused fault.OutOfMemory → added ≡ record_of c (members before) command out ∷ [] → Ends c before command out added
+  Recorded : (asked : Request) → IsAdmitted c before command asked → out ≢ outcome.Refused fault.OutOfMemory → added ≡ record_of c asked out ∷ [] → LineEnds c before command out added
 
 -- the lines end so, one after another, and lead from some records to others
-abbrev pub Plays : Tables → List Record → List Line → List Outcome → List Record → Type 0
+abbrev pub Plays : CatalogueValue → List Record → List Line → List Outcome → List Record → Type 0
 Plays c before [] [] after = before ≡ after
 Plays c before [] (o ∷ os) after = ⊥
 Plays c before (l ∷ ls) [] after = ⊥
-Plays c before (l ∷ ls) (o ∷ os) after = (added : List Record) × (Ends c before l.command o added × Plays c (before ++ added) ls os after)
+Plays c before (l ∷ ls) (o ∷ os) after = (added : List Record) × (LineEnds c before l.command o added × Plays c (before ++ added) ls os after)
 
 -- what is printed, a line for each
-unfoldable pub transcript : Tables → List Line → List Outcome → List ℕ
+unfoldable pub transcript : CatalogueValue → List Line → List Outcome → List ℕ
 transcript c [] os = []
 transcript c (l ∷ ls) [] = []
 transcript c (l ∷ ls) (o ∷ os) = line_text c l.number o ++ transcript c ls os
 
 -- the lines have led from no records to these, and their outcomes are what was written
-pub record IsPlayed (c : Tables) (lines : List Line) (old new : Option (List ℕ)) (records : List Record) : Type 0 where
+pub record IsPlayed (c : CatalogueValue) (lines : List Line) (old new : Option (List ℕ)) (records : List Record) : Type 0 where
   pub outcomes : List Outcome
   pub plays : Plays c [] lines outcomes records
   pub writes : Appends old new (transcript c lines outcomes)
 
 -- a line has led from some records to others, and a text has grown by its outcome
-pub record IsAnswered (c : Tables) (line : Line) (before after : List Record) (old new : List ℕ) : Type 0 where
+pub record IsAnswered (c : CatalogueValue) (line : Line) (before after : List Record) (old new : List ℕ) : Type 0 where
   pub ended : Outcome
   pub added : List Record
-  pub ends : Ends c before line.command ended added
+  pub ends : LineEnds c before line.command ended added
   pub records : after ≡ before ++ added
   pub text : new ≡ old ++ line_text c line.number ended
 
 -- ---- a script over a FED file
 -- the FED file describes a catalogue, the script asks for these lines, and they were played
 pub record IsPlayedFrom (fed script : List ℕ) (old new : Option (List ℕ)) (records : List Record) : Type 0 where
-  pub catalogue : Tables
+  pub catalogue : CatalogueValue
   pub lines : List Line
   pub describes : Describes fed catalogue
   pub says : script_of script ≡ Ok lines
@@ -90,7 +99,7 @@ pub record IsPlayedFrom (fed script : List ℕ) (old new : Option (List ℕ)) (r
 
 -- why a script was not played to its end: the FED file is tested first, and a text at fault prints nothing
 abbrev pub StopsBy : List ℕ → List ℕ → Option (List ℕ) → Option (List ℕ) → PlayFault → Type 0
-StopsBy fed script old new (stop.Fed e) = reading.Gives (Err e) (reading.read_of fed) × Appends old new []
-StopsBy fed script old new (stop.Script e) = ((c : Tables) × Describes fed c) × Gives (Err e) (script_of script) × Appends old new []
+StopsBy fed script old new (stop.Fed e) = reading.ReadsAs (Err e) (reading.read_of fed) × Appends old new []
+StopsBy fed script old new (stop.Script e) = ((c : CatalogueValue) × Describes fed c) × ParsesAs (Err e) (script_of script) × Appends old new []
 StopsBy fed script old new stop.Write = Unit {0}
 StopsBy fed script old new stop.Memory = Unit {0}

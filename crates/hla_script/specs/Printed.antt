@@ -11,7 +11,7 @@ use Rattle.hla_callbacks.specs.declared.callback.Callback.{Callback}
 use Rattle.hla_callbacks.specs.declared.callback.Callback.TheVariants as callback
 use Rattle.hla_callbacks.specs.declared.callback.Delivery.{Delivery}
 use Rattle.hla_callbacks.specs.declared.callback.Delivery.TheVariants as delivery
-use Rattle.hla_fed_file.specs.Tables.{Tables}
+use Rattle.hla_fed_file.specs.CatalogueValue.{CatalogueValue}
 use Rattle.hla_fed_file.specs.Lookup.{object_path, interaction_path, attribute_name, parameter_name}
 use Rattle.hla_machine.specs.declared.step.Answer.{Answer}
 use Rattle.hla_machine.specs.declared.step.Answer.TheVariants as answer
@@ -39,7 +39,7 @@ delivery_text e (delivery.Demoted stamp) = codes " RO " ++ decimal stamp ++ code
 delivery_text e (delivery.TimeStamp stamp) = codes " TSO " ++ decimal stamp ++ codes " " ++ event_text e
 
 -- a callback, behind a space
-abbrev pub callback_text : Tables → Callback → List ℕ
+abbrev pub callback_text : CatalogueValue → Callback → List ℕ
 callback_text c (callback.DiscoverObjectInstance object class name) = codes " discover " ++ decimal object ++ codes " " ++ object_path c class ++ codes " " ++ name
 callback_text c (callback.ReflectAttributeValues object values event order) = codes " reflect " ++ decimal object ++ flat_map (pair_text (attribute_name c)) values ++ delivery_text event order
 callback_text c (callback.ReceiveInteraction class values event order) = codes " receive " ++ interaction_path c class ++ flat_map (pair_text (parameter_name c)) values ++ delivery_text event order
@@ -59,7 +59,7 @@ carried_text (carried.Retraction event) = codes " retraction " ++ event_text eve
 carried_text (carried.Discovery object) = codes " discovery " ++ decimal object
 
 -- what a step answered, behind a space; nothing where it has no answer
-abbrev pub answer_text : Tables → Answer → List ℕ
+abbrev pub answer_text : CatalogueValue → Answer → List ℕ
 answer_text c answer.Done = []
 answer_text c (answer.Federate federate) = codes " " ++ decimal federate
 answer_text c (answer.Registered object name) = codes " " ++ decimal object ++ codes " " ++ name
@@ -79,11 +79,11 @@ abbrev pub fault_text : Fault → List ℕ
 fault_text e = codes "error " ++ decimal (number_of e) ++ codes " " ++ name_of e
 
 -- how a step ended
-abbrev pub outcome_text : Tables → Outcome → List ℕ
+abbrev pub outcome_text : CatalogueValue → Outcome → List ℕ
 outcome_text c (outcome.Done given) = codes "ok" ++ answer_text c given
 outcome_text c (outcome.Refused e) = fault_text e
 outcome_text c (outcome.Failed given) = fault_text FederateInternalError
 
 -- a line of the transcript
-abbrev pub line_text : Tables → ℕ → Outcome → List ℕ
+abbrev pub line_text : CatalogueValue → ℕ → Outcome → List ℕ
 line_text c number o = decimal number ++ codes " " ++ outcome_text c o ++ codes "\n"

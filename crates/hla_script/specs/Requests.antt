@@ -1,11 +1,9 @@
--- What a line asks of the execution, and with which fault it is answered where it makes no step
-use Rattle.std.specs.Prelude.{ℕ, Bool, nat_lt, min, List, length, map, Option, None, Some, is_none, unwrap_or}
-use Rattle.std.specs.List.{list_any}
-use Rattle.hla_base.specs.Tables.{or_else, when}
+-- What a line asks of the execution, or the fault with which it is answered where it makes no step
+use Rattle.std.specs.Prelude.{◌≡◌, ℕ, nat_lt, min, List, [], ◌∷◌, ◌++◌, length, Option, None, Some, Result, Ok, Err, if◌then◌else◌}
 use Rattle.hla_base.specs.declared.fault.Fault.{Fault}
 use Rattle.hla_base.specs.declared.fault.Fault.TheVariants as fault
 use Rattle.hla_base.specs.declared.content.HandleValuePair.{HandleValuePair}
-use Rattle.hla_fed_file.specs.Tables.{Tables}
+use Rattle.hla_fed_file.specs.CatalogueValue.{CatalogueValue}
 use Rattle.hla_fed_file.specs.Lookup.{object_class_named, interaction_class_named, attribute_named, parameter_named}
 use Rattle.hla_machine.specs.declared.service.Service.{Service}
 use Rattle.hla_machine.specs.declared.service.Service.TheVariants as service
@@ -19,89 +17,84 @@ use Rattle.hla_script.specs.declared.lines.Call.{Call}
 use Rattle.hla_script.specs.declared.lines.Call.TheVariants as call
 use Rattle.hla_script.specs.declared.lines.NameValuePair.{NameValuePair}
 use Rattle.hla_script.specs.declared.members.Member.{Member}
+use Rattle.hla_script.specs.declared.lookups.AskFault.{AskFault}
+use Rattle.hla_script.specs.declared.lookups.AskFault.TheVariants as stop
+use Rattle.hla_script.specs.declared.lookups.Class.{Class}
+use Rattle.hla_script.specs.declared.lookups.Class.TheVariants as class
 use Rattle.hla_script.specs.declared.steps.Request.{Request}
 use Rattle.hla_script.specs.declared.steps.Request.TheVariants as request
 use Rattle.hla_script.specs.Members.{federate_named, joined_named}
 
--- ---- lines that make no step
-abbrev pub if_none : Option ℕ → Fault → Option Fault
-if_none found e = when (is_none found) (Some e)
+-- ---- what is asked, or a fault
+-- what is asked next, or the fault before it
+abbrev pub ask_then : {X Y : Type 0} → Result X Fault → (X → Result Y Fault) → Result Y Fault
+ask_then (Ok x) next = next x
+ask_then (Err e) next = Err e
 
--- nobody has joined under the name since the last create that was accepted
-abbrev pub unknown_federate : List Member → List ℕ → Option Fault
-unknown_federate ms name = if_none (federate_named ms name) fault.FederateNotExecutionMember
+-- the answer is what is meant, or that memory ran out where no fault is meant
+abbrev pub Asks : {X : Type 0} → Result X AskFault → Result X Fault → Type 0
+Asks (Ok x) meant = meant ≡ Ok x
+Asks {X = X} (Err stop.Memory) meant = (x : X) × (meant ≡ Ok x)
+Asks (Err (stop.Refused e)) meant = meant ≡ Err e
 
--- nobody is joined under the name
-abbrev pub not_joined : List Member → List ℕ → Option Fault
-not_joined ms name = if_none (joined_named ms name) fault.FederateNotExecutionMember
+-- the answer is just what is meant
+abbrev pub Finds : {X : Type 0} → Result X AskFault → Result X Fault → Type 0
+Finds (Ok x) meant = meant ≡ Ok x
+Finds (Err stop.Memory) meant = ⊥
+Finds (Err (stop.Refused e)) meant = meant ≡ Err e
 
-abbrev pub unknown_object_class : Tables → List ℕ → Option Fault
-unknown_object_class c class = if_none (object_class_named c class) fault.NameNotFound
+abbrev pub found_or : Option ℕ → Fault → Result ℕ Fault
+found_or (Some n) e = Ok n
+found_or None e = Err e
 
-abbrev pub unknown_interaction_class : Tables → List ℕ → Option Fault
-unknown_interaction_class c class = if_none (interaction_class_named c class) fault.NameNotFound
+-- ---- the numbers of names
+-- somebody has joined under the name since the last create that was accepted
+abbrev pub known_federate : List Member → List ℕ → Result ℕ Fault
+known_federate ms name = found_or (federate_named ms name) fault.FederateNotExecutionMember
 
-abbrev pub object_class_number : Tables → List ℕ → ℕ
-object_class_number c class = unwrap_or (object_class_named c class) 0
+-- somebody is joined under the name
+abbrev pub joined_federate : List Member → List ℕ → Result ℕ Fault
+joined_federate ms name = found_or (joined_named ms name) fault.FederateNotExecutionMember
 
-abbrev pub interaction_class_number : Tables → List ℕ → ℕ
-interaction_class_number c class = unwrap_or (interaction_class_named c class) 0
+abbrev pub object_class_of : CatalogueValue → List ℕ → Result ℕ Fault
+object_class_of c name = found_or (object_class_named c name) fault.NameNotFound
 
-abbrev pub is_unknown_attribute : Tables → ℕ → List ℕ → Bool
-is_unknown_attribute c class name = is_none (attribute_named c class name)
+abbrev pub interaction_class_of : CatalogueValue → List ℕ → Result ℕ Fault
+interaction_class_of c name = found_or (interaction_class_named c name) fault.NameNotFound
 
-abbrev pub is_unknown_parameter : Tables → ℕ → List ℕ → Bool
-is_unknown_parameter c class name = is_none (parameter_named c class name)
+-- an attribute of an object class, or a parameter of an interaction class
+abbrev pub handle_named : CatalogueValue → Class → List ℕ → Option ℕ
+handle_named c (class.Object k) name = attribute_named c k name
+handle_named c (class.Interaction k) name = parameter_named c k name
 
--- attributes of an object class, one of which it does not have
-abbrev pub bad_attributes : Tables → ℕ → List (List ℕ) → Option Fault
-bad_attributes c class attributes = when (list_any (is_unknown_attribute c class) attributes) (Some fault.NameNotFound)
+abbrev pub with_handle : Option ℕ → Result (List ℕ) Fault → Result (List ℕ) Fault
+with_handle None later = Err fault.NameNotFound
+with_handle (Some n) later = ask_then later (λ ns. Ok (n ∷ ns))
 
--- a value of more than 1,024 bytes
-abbrev pub is_too_long : NameValuePair → Bool
-is_too_long p = nat_lt 1024 (length p.value)
+-- the numbers of names, all of which must be found
+unfoldable pub named_handles : (List ℕ → Option ℕ) → List (List ℕ) → Result (List ℕ) Fault
+named_handles find [] = Ok []
+named_handles find (name ∷ names) = with_handle (find name) (named_handles find names)
 
-abbrev pub too_long : List NameValuePair → Option Fault
-too_long values = when (list_any is_too_long values) (Some fault.LimitReached)
+-- a value of more than 1,024 bytes is refused
+abbrev pub limited : {X : Type 0} → List ℕ → X → Result X Fault
+limited value x = if nat_lt 1024 (length value) then Err fault.LimitReached else Ok x
 
--- all names are tested before the values
-abbrev pub bad_attribute_values : Tables → ℕ → List NameValuePair → Option Fault
-bad_attribute_values c class values = or_else (when (list_any (λ (p : NameValuePair). is_unknown_attribute c class p.name) values) (Some fault.NameNotFound)) (too_long values)
+abbrev pub with_pair : Option ℕ → List ℕ → Result (List HandleValuePair) Fault → Result (List HandleValuePair) Fault
+with_pair None value later = Err fault.NameNotFound
+with_pair (Some n) value later = ask_then later (λ ps. limited value (record { handle = n; value = value } ∷ ps))
 
-abbrev pub bad_parameter_values : Tables → ℕ → List NameValuePair → Option Fault
-bad_parameter_values c class values = or_else (when (list_any (λ (p : NameValuePair). is_unknown_parameter c class p.name) values) (Some fault.NameNotFound)) (too_long values)
+-- attributes or parameters by their numbers, with their values: all names are looked up before the values are tested
+unfoldable pub named_pairs : (List ℕ → Option ℕ) → List NameValuePair → Result (List HandleValuePair) Fault
+named_pairs find [] = Ok []
+named_pairs find (p ∷ ps) = with_pair (find p.name) p.value (named_pairs find ps)
 
-abbrev pub call_without_step : Tables → Call → Option Fault
-call_without_step c call.Tick = None
-call_without_step c (call.Resign way) = None
-call_without_step c (call.DeclareObject d class attributes) = or_else (unknown_object_class c class) (bad_attributes c (object_class_number c class) attributes)
-call_without_step c (call.WithdrawObject d class) = unknown_object_class c class
-call_without_step c (call.DeclareInteraction d class) = unknown_interaction_class c class
-call_without_step c (call.WithdrawInteraction d class) = unknown_interaction_class c class
-call_without_step c (call.Register class name) = unknown_object_class c class
-call_without_step c (call.Update object class values) = or_else (unknown_object_class c class) (bad_attribute_values c (object_class_number c class) values)
-call_without_step c (call.Send class values) = or_else (unknown_interaction_class c class) (bad_parameter_values c (interaction_class_number c class) values)
-call_without_step c (call.Delete object) = None
-call_without_step c (call.ObjectHandle name) = None
-call_without_step c (call.ObjectName object) = None
+-- the same with one more behind
+abbrev pub with_last_handle : Result (List ℕ) Fault → ℕ → Result (List ℕ) Fault
+with_last_handle meant n = ask_then meant (λ ns. Ok (ns ++ n ∷ []))
 
--- the fault with which a line is answered that makes no step; federates are tested before the names of the FED file
-abbrev pub without_step : Tables → List Member → Command → Option Fault
-without_step c ms command.Create = None
-without_step c ms command.Destroy = None
-without_step c ms (command.Join name) = None
-without_step c ms (command.Carry from to) = or_else (unknown_federate ms from) (unknown_federate ms to)
-without_step c ms (command.Federate name call) = or_else (not_joined ms name) (call_without_step c call)
-
--- ---- the steps of the others
-abbrev pub attribute_number : Tables → ℕ → List ℕ → ℕ
-attribute_number c class name = unwrap_or (attribute_named c class name) 0
-
-abbrev pub attribute_value : Tables → ℕ → NameValuePair → HandleValuePair
-attribute_value c class p = record { handle = attribute_number c class p.name; value = p.value }
-
-abbrev pub parameter_value : Tables → ℕ → NameValuePair → HandleValuePair
-parameter_value c class p = record { handle = unwrap_or (parameter_named c class p.name) 0; value = p.value }
+abbrev pub with_last_pair : Result (List HandleValuePair) Fault → ℕ → List ℕ → Result (List HandleValuePair) Fault
+with_last_pair meant n value = ask_then meant (λ ps. limited value (ps ++ record { handle = n; value = value } ∷ []))
 
 -- the number of the object that a number word names: the word's own number, but the largest of 32 bits for all that are
 -- above it. No object has that one, since an execution has at most 4,096
@@ -124,35 +117,56 @@ abbrev pub withdrawn_interaction : Declaration → ℕ → Service
 withdrawn_interaction declaration.Publication class = service.UnpublishInteractionClass class
 withdrawn_interaction declaration.Subscription class = service.UnsubscribeInteractionClass class
 
--- the service that a federate calls; a tick calls none
-abbrev pub service_of : Tables → Call → Option Service
-service_of c call.Tick = None
-service_of c (call.Resign way) = Some (service.Resign way)
-service_of c (call.DeclareObject d class attributes) = Some (declared_object d (object_class_number c class) (map (attribute_number c (object_class_number c class)) attributes))
-service_of c (call.WithdrawObject d class) = Some (withdrawn_object d (object_class_number c class))
-service_of c (call.DeclareInteraction d class) = Some (declared_interaction d (interaction_class_number c class))
-service_of c (call.WithdrawInteraction d class) = Some (withdrawn_interaction d (interaction_class_number c class))
-service_of c (call.Register class name) = Some (service.RegisterObjectInstance (object_class_number c class) name)
-service_of c (call.Update object class values) = Some (service.UpdateAttributeValues (object_number object) (map (attribute_value c (object_class_number c class)) values) None)
-service_of c (call.Send class values) = Some (service.SendInteraction (interaction_class_number c class) (map (parameter_value c (interaction_class_number c class)) values) None)
-service_of c (call.Delete object) = Some (service.DeleteObjectInstance (object_number object) None)
-service_of c (call.ObjectHandle name) = Some (service.GetObjectInstanceHandle name)
-service_of c (call.ObjectName object) = Some (service.GetObjectInstanceName (object_number object))
+-- ---- services, with what they name looked up
+abbrev pub object_declaration : CatalogueValue → Declaration → List ℕ → List (List ℕ) → Result Service Fault
+object_declaration c d name names = ask_then (object_class_of c name) (λ k. ask_then (named_handles (handle_named c (class.Object k)) names) (λ attributes. Ok (declared_object d k attributes)))
 
+abbrev pub object_withdrawal : CatalogueValue → Declaration → List ℕ → Result Service Fault
+object_withdrawal c d name = ask_then (object_class_of c name) (λ k. Ok (withdrawn_object d k))
+
+abbrev pub interaction_declaration : CatalogueValue → Declaration → List ℕ → Result Service Fault
+interaction_declaration c d name = ask_then (interaction_class_of c name) (λ k. Ok (declared_interaction d k))
+
+abbrev pub interaction_withdrawal : CatalogueValue → Declaration → List ℕ → Result Service Fault
+interaction_withdrawal c d name = ask_then (interaction_class_of c name) (λ k. Ok (withdrawn_interaction d k))
+
+abbrev pub registration : CatalogueValue → List ℕ → Option (List ℕ) → Result Service Fault
+registration c name object = ask_then (object_class_of c name) (λ k. Ok (service.RegisterObjectInstance k object))
+
+abbrev pub update_of : CatalogueValue → ℕ → List ℕ → List NameValuePair → Result Service Fault
+update_of c object name values = ask_then (object_class_of c name) (λ k. ask_then (named_pairs (handle_named c (class.Object k)) values) (λ ps. Ok (service.UpdateAttributeValues (object_number object) ps None)))
+
+abbrev pub interaction_of : CatalogueValue → List ℕ → List NameValuePair → Result Service Fault
+interaction_of c name values = ask_then (interaction_class_of c name) (λ k. ask_then (named_pairs (handle_named c (class.Interaction k)) values) (λ ps. Ok (service.SendInteraction k ps None)))
+
+abbrev pub calls : Result Service Fault → Result (Option Service) Fault
+calls called = ask_then called (λ s. Ok (Some s))
+
+-- the service that a federate calls; a tick calls none
+abbrev pub service_of : CatalogueValue → Call → Result (Option Service) Fault
+service_of c call.Tick = Ok None
+service_of c (call.Resign way) = Ok (Some (service.Resign way))
+service_of c (call.DeclareObject d name names) = calls (object_declaration c d name names)
+service_of c (call.WithdrawObject d name) = calls (object_withdrawal c d name)
+service_of c (call.DeclareInteraction d name) = calls (interaction_declaration c d name)
+service_of c (call.WithdrawInteraction d name) = calls (interaction_withdrawal c d name)
+service_of c (call.Register name object) = calls (registration c name object)
+service_of c (call.Update object name values) = calls (update_of c object name values)
+service_of c (call.Send name values) = calls (interaction_of c name values)
+service_of c (call.Delete object) = Ok (Some (service.DeleteObjectInstance (object_number object) None))
+service_of c (call.ObjectHandle name) = Ok (Some (service.GetObjectInstanceHandle name))
+service_of c (call.ObjectName object) = Ok (Some (service.GetObjectInstanceName (object_number object)))
+
+-- ---- what a line asks for
 abbrev pub step_by : ℕ → Option Service → Step
 step_by f None = step.Tick f
 step_by f (Some s) = step.Call f s
 
-abbrev pub federate_number : List Member → List ℕ → ℕ
-federate_number ms name = unwrap_or (federate_named ms name) 0
-
-abbrev pub joined_number : List Member → List ℕ → ℕ
-joined_number ms name = unwrap_or (joined_named ms name) 0
-
--- what a line asks for
-abbrev pub request_of : Tables → List Member → Command → Request
-request_of c ms command.Create = request.Create
-request_of c ms command.Destroy = request.Destroy
-request_of c ms (command.Join name) = request.Step (step.Join name)
-request_of c ms (command.Carry from to) = request.Step (step.Carry (federate_number ms from) (federate_number ms to))
-request_of c ms (command.Federate name call) = request.Step (step_by (joined_number ms name) (service_of c call))
+-- what a line asks for, or the fault with which it is answered without a step: federates are tested before the names of
+-- the FED file, and names before values
+abbrev pub request_of : CatalogueValue → List Member → Command → Result Request Fault
+request_of c ms command.Create = Ok request.Create
+request_of c ms command.Destroy = Ok request.Destroy
+request_of c ms (command.Join name) = Ok (request.Step (step.Join name))
+request_of c ms (command.Carry from to) = ask_then (known_federate ms from) (λ g. ask_then (known_federate ms to) (λ f. Ok (request.Step (step.Carry g f))))
+request_of c ms (command.Federate name call) = ask_then (joined_federate ms name) (λ f. ask_then (service_of c call) (λ s. Ok (request.Step (step_by f s))))

@@ -93,14 +93,14 @@ action_in [] = Err kind.MissingWord
 action_in (word ∷ words) = action_where (action_of word) words
 
 -- the number that decimal digits say, if it is not above the largest
-unfoldable pub number_of : List ℕ → Result ℕ ScriptFaultKind
-number_of word =
+unfoldable pub word_number : List ℕ → Result ℕ ScriptFaultKind
+word_number word =
     if length word == 0 || not (list_all is_ascii_digit word) || nat_lt 18446744073709551615 (digits_value 10 word) then Err kind.BadNumber
     else Ok (digits_value 10 word)
 
-abbrev pub number_in : List (List ℕ) → Reading ℕ
-number_in [] = Err kind.MissingWord
-number_in (word ∷ words) = read_then (number_of word) (λ n. Ok (n, words))
+abbrev pub number_word : List (List ℕ) → Reading ℕ
+number_word [] = Err kind.MissingWord
+number_word (word ∷ words) = read_then (word_number word) (λ n. Ok (n, words))
 
 abbrev pub federate_where : Opening → List ℕ → List (List ℕ) → Reading (List ℕ)
 federate_where opening.Federate word words = Ok (word, words)
@@ -130,7 +130,7 @@ abbrev pub register_in : List (List ℕ) → Reading Call
 register_in words = read_then (name_in words) (λ n. read_then (optional_in n.1) (λ o. Ok (call.Register n.0 o.0, o.1)))
 
 abbrev pub update_in : List (List ℕ) → Reading Call
-update_in words = read_then (number_in words) (λ h. read_then (name_in h.1) (λ n. read_then (pairs_of n.1) (λ ps. Ok (call.Update h.0 n.0 ps, []))))
+update_in words = read_then (number_word words) (λ h. read_then (name_in h.1) (λ n. read_then (pairs_of n.1) (λ ps. Ok (call.Update h.0 n.0 ps, []))))
 
 abbrev pub send_in : List (List ℕ) → Reading Call
 send_in words = read_then (name_in words) (λ n. read_then (pairs_of n.1) (λ ps. Ok (call.Send n.0 ps, [])))
@@ -141,7 +141,7 @@ delete_where object [] = Ok (call.Delete object, [])
 delete_where object (word ∷ words) = Err kind.BadWord
 
 abbrev pub delete_in : List (List ℕ) → Reading Call
-delete_in words = read_then (number_in words) (λ h. delete_where h.0 h.1)
+delete_in words = read_then (number_word words) (λ h. delete_where h.0 h.1)
 
 -- a verb with its words
 abbrev pub call_by : Verb → List (List ℕ) → Reading Call
@@ -156,7 +156,7 @@ call_by verb.Update words = update_in words
 call_by verb.Send words = send_in words
 call_by verb.Delete words = delete_in words
 call_by verb.ObjectHandle words = read_then (name_in words) (λ n. Ok (call.ObjectHandle n.0, n.1))
-call_by verb.ObjectName words = read_then (number_in words) (λ h. Ok (call.ObjectName h.0, h.1))
+call_by verb.ObjectName words = read_then (number_word words) (λ h. Ok (call.ObjectName h.0, h.1))
 
 abbrev pub call_where : Option Verb → List (List ℕ) → Reading Call
 call_where None words = Err kind.UnknownWord
@@ -215,14 +215,14 @@ script_of text =
     if nat_lt 1048576 (length text) then Err (record { line = 1; kind = kind.TooLarge })
     else script_from 0 (map without_terminator (lines_of text))
 
-abbrev pub FailsAs : ℕ → ScriptFaultKind → Result (List Line) ScriptFault → Type 0
-FailsAs line kind.OutOfMemory meant = Unit {0}
-FailsAs line k meant = meant ≡ Err (record { line = line; kind = k })
+abbrev pub IsFirstScriptFault : ℕ → ScriptFaultKind → Result (List Line) ScriptFault → Type 0
+IsFirstScriptFault line kind.OutOfMemory meant = Unit {0}
+IsFirstScriptFault line k meant = meant ≡ Err (record { line = line; kind = k })
 
 -- the answer is what is meant, or that memory ran out, in some line
-abbrev pub Gives : Result (List Line) ScriptFault → Result (List Line) ScriptFault → Type 0
-Gives (Ok ls) meant = meant ≡ Ok ls
-Gives (Err e) meant = FailsAs e.line e.kind meant
+abbrev pub ParsesAs : Result (List Line) ScriptFault → Result (List Line) ScriptFault → Type 0
+ParsesAs (Ok ls) meant = meant ≡ Ok ls
+ParsesAs (Err e) meant = IsFirstScriptFault e.line e.kind meant
 
 -- lines that were read before, and what is read then
 abbrev pub with_front : List Line → Result (List Line) ScriptFault → Result (List Line) ScriptFault

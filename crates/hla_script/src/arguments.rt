@@ -5,7 +5,7 @@ ghost use Rattle.std.specs.List.{prefix_len, position_or_len, list_all};
 ghost use Rattle.std.specs.Char.{is_ascii_digit};
 ghost use Rattle.std.specs.Str.Parse.{digits_value};
 ghost use Rattle.hla_script.specs.Reading.{Means, Reads};
-ghost use Rattle.hla_script.specs.Script.{name_in, optional_in, names_in, federate_in, action_in, number_of, number_in, pair_of, pairs_of};
+ghost use Rattle.hla_script.specs.Script.{name_in, optional_in, names_in, federate_in, action_in, word_number, number_word, pair_of, pairs_of};
 
 use crate::lines::{NameValuePair, ScriptFaultKind};
 use crate::vocabulary::{Opening, action_of};
@@ -102,7 +102,7 @@ fn digits_value(digits: &[u8]) -> Option<u64>
 
 /// The number that a word of decimal digits says.
 fn number_of(word: &[u8]) -> Result<u64, ScriptFaultKind>
-    ensures { result ≡ number_of word.now }
+    ensures { result ≡ word_number word.now }
 {
     if word.is_empty() || !are_digits(word) {
         return Err(ScriptFaultKind::BadNumber);
@@ -115,7 +115,7 @@ fn number_of(word: &[u8]) -> Result<u64, ScriptFaultKind>
 
 /// A number.
 pub fn number(words: &mut Words<'_>) -> Result<u64, ScriptFaultKind>
-    ensures { Reads result words.new (number_in words.old) }
+    ensures { Reads result words.new (number_word words.old) }
 {
     let word = word(words)?;
     number_of(word)

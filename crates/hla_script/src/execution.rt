@@ -3,12 +3,10 @@
 ghost use Rattle.std.specs.Prelude.{◌≡◌, ◌<◌, ◌+◌, ◌≤◌, [], Some, None, IfOk, IfErr, OnErr, option_map, codes, vec_len, vec_capacity};
 ghost use Rattle.hla_machine.specs.declared.step.Choice.TheVariants as choice;
 ghost use Rattle.hla_machine.specs.declared.step.Act.TheVariants as act;
-ghost use Rattle.hla_script.specs.Requests.{request_of};
 ghost use Rattle.hla_script.specs.Playing.{act_of, created_with};
-ghost use Rattle.hla_federation.specs.State.{IsBuilt};
-ghost use Rattle.hla_script.specs.Keeping.{central_of, standing, IsStepped, IsDestroyed, IsActed};
+ghost use Rattle.hla_federation.specs.Steps.State.{IsBuilt};
+ghost use Rattle.hla_script.specs.Keeping.{components_of, standing, IsStepped, IsDestroyed, IsActed, IsBuiltRequest};
 
-use crate::lines::Command;
 use crate::members::{Change, Member, note};
 use crate::steps::Request;
 use hla_base::{ExecutionName, Fault, Plain};
@@ -36,7 +34,7 @@ pub struct Execution {
 /// Does a step, and answers how it ended; where memory ran out it is not done.
 fn stepped(federation: &mut Option<Federation>, step: &Step) -> Result<Outcome, Fault>
     requires { IsBuilt step.now }
-    ensures ok { IfOk result (λ out. IsStepped (option_map central_of federation.old) step.now out (option_map central_of federation.new)) }
+    ensures ok { IfOk result (λ out. IsStepped (option_map components_of federation.old) step.now out (option_map components_of federation.new)) }
     ensures err { OnErr result (federation.new ≡ federation.old) }
 {
     match federation {
@@ -55,7 +53,7 @@ fn stepped(federation: &mut Option<Federation>, step: &Step) -> Result<Outcome, 
 
 /// Destroys the execution where it is there and no federate is joined.
 fn destroyed(federation: &mut Option<Federation>) -> Outcome
-    ensures { IsDestroyed (option_map central_of federation.old) result (option_map central_of federation.new) }
+    ensures { IsDestroyed (option_map components_of federation.old) result (option_map components_of federation.new) }
 {
     match federation {
         None => return Outcome::Refused(Fault::FederationExecutionDoesNotExist),
@@ -100,22 +98,17 @@ impl Execution {
         }
     }
 
-    /// Does what a line asks for that makes a step, and answers its record. Where memory runs out, nothing has changed.
-    pub fn act(&mut self, command: &Command) -> Result<Record, Fault>
-        requires { self.old.name ≡ codes "play" }
-        ensures ok { IfOk result (λ r. IsActed (act_of self.old.catalogue (request_of self.old.catalogue self.old.members.items command.now) r.outcome) (standing self.old.creates self.old.federation) self.old.members.items r (standing self.new.creates self.new.federation) self.new.members.items) }
+    /// Does what is asked, and answers its record. Where memory runs out, nothing has changed.
+    pub fn act(&mut self, request: Request) -> Result<Record, Fault>
+        requires name { self.old.name ≡ codes "play" }
+        requires built { IsBuiltRequest request }
+        ensures ok { IfOk result (λ r. IsActed (act_of self.old.catalogue request r.outcome) (standing self.old.creates self.old.federation) self.old.members.items r (standing self.new.creates self.new.federation) self.new.members.items) }
         ensures err { OnErr result (self.new.federation ≡ self.old.federation) }
         ensures creates { OnErr result (self.new.creates ≡ self.old.creates) }
         ensures members { OnErr result (self.new.members.items ≡ self.old.members.items) }
         ensures catalogue { self.new.catalogue ≡ self.old.catalogue }
         ensures name { self.new.name ≡ self.old.name }
     {
-        let request = Request::of(
-            self.alloc,
-            &self.catalogue,
-            self.members.as_slice(),
-            command,
-        )?;
         match request {
             Request::Create => self.create(),
             Request::Destroy => Ok(self.destroy()),

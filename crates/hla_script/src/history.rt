@@ -1,15 +1,17 @@
 //! The records of what a script does.
 
-ghost use Rattle.std.specs.Prelude.{◌≡◌, ◌≢◌, ◌++◌, ◌∷◌, ◌≤◌, ◌<◌, [], OnOk, OnErr, IfErr, length, codes, vec_len, vec_capacity};
-ghost use Rattle.hla_script.specs.Playing.{IsAnswered};
+ghost use Rattle.std.specs.Prelude.{◌≡◌, ◌≢◌, ◌+◌, ◌++◌, ◌∷◌, ◌≤◌, ◌<◌, [], OnOk, OnErr, IfOk, IfErr, length, codes, vec_len, vec_capacity};
+ghost use Rattle.hla_script.specs.Playing.{IsAnswered, LineEnds, IsAdmitted, HasNoRoom};
+ghost use Rattle.hla_script.specs.Members.{members};
 ghost use Rattle.hla_script.specs.Printed.{line_text};
-ghost use Rattle.hla_script.specs.Keeping.{standing, IsKept};
+ghost use Rattle.hla_script.specs.Keeping.{standing, IsKept, IsBuiltRequest};
 ghost use Rattle.hla_machine.specs.declared.step.Outcome.TheVariants as outcome;
 
 use crate::execution::Execution;
-use crate::lines::Line;
+use crate::lines::{Command, Line};
+use crate::lookups::AskFault;
 use crate::printing;
-use crate::refusals::without_step;
+use crate::steps::Request;
 use crate::text::Text;
 use hla_base::Fault;
 use hla_fed_file::Catalogue;
@@ -23,6 +25,59 @@ fn refused(text: &mut Text, catalogue: &Catalogue, number: usize, fault: Fault) 
     ensures { OnOk result (text.new ≡ text.old ++ line_text catalogue.now number (outcome.Refused fault)) }
 {
     printing::line(text, catalogue, number as u64, &Outcome::Refused(fault))
+}
+
+/// Why there is no room for one more record.
+fn no_room(records: &[Record]) -> Fault
+    ensures { HasNoRoom records.now result }
+{
+    if records.len() >= HISTORY_LIMIT {
+        Fault::HistoryFull
+    } else {
+        Fault::OutOfMemory
+    }
+}
+
+/// Reserves room for one more record.
+fn reserve_one(records: &mut Vec<Record>) -> Result<(), Fault>
+    ensures few { OnOk result (length records.old.items < 32768) }
+    ensures room { OnOk result (vec_len records.new + 1 ≤ vec_capacity records.new) }
+    ensures err { IfErr result (HasNoRoom records.old.items) }
+    ensures records { records.new.items ≡ records.old.items }
+{
+    if records.len() < HISTORY_LIMIT && records.reserve(1).is_ok() {
+        Ok(())
+    } else {
+        Err(no_room(records.as_slice()))
+    }
+}
+
+/// What a line asks for, where the history has room for its record: room for one more record is then reserved.
+fn admitted(
+    execution: &Execution,
+    records: &mut Vec<Record>,
+    command: &Command,
+) -> Result<Request, Fault>
+    requires { execution.now.members.items ≡ members records.old.items }
+    ensures admitted { IfOk result (IsAdmitted execution.now.catalogue records.old.items command.now) }
+    ensures built { IfOk result IsBuiltRequest }
+    ensures room { OnOk result (vec_len records.new + 1 ≤ vec_capacity records.new) }
+    ensures refused { IfErr result (λ e. LineEnds execution.now.catalogue records.old.items command.now (outcome.Refused e) []) }
+    ensures records { records.new.items ≡ records.old.items }
+{
+    match Request::of(
+        execution.alloc,
+        &execution.catalogue,
+        execution.members.as_slice(),
+        command,
+    ) {
+        Ok(request) => match reserve_one(records) {
+            Ok(()) => Ok(request),
+            Err(fault) => Err(fault),
+        },
+        Err(AskFault::Refused(fault)) => Err(fault),
+        Err(AskFault::Memory) => Err(no_room(records.as_slice())),
+    }
 }
 
 /// Does what a line asks for, and prints how it ended: with the fault of a line that makes no step, or `HistoryFull` where
@@ -40,26 +95,21 @@ pub fn play_line(
     ensures kept { OnOk result (IsKept records.new.items (standing execution.new.creates execution.new.federation) execution.new.members.items) }
     ensures answered { OnOk result (IsAnswered execution.old.catalogue line.now records.old.items records.new.items text.old text.new) }
 {
-    let number = line.number;
-    if let Some(fault) = without_step(
-        &execution.catalogue,
-        execution.members.as_slice(),
-        &line.command,
-    ) {
-        return refused(text, &execution.catalogue, number, fault);
-    }
-    if records.len() >= HISTORY_LIMIT {
-        return refused(text, &execution.catalogue, number, Fault::HistoryFull);
-    }
-    if records.reserve(1).is_err() {
-        return refused(text, &execution.catalogue, number, Fault::OutOfMemory);
-    }
-    match execution.act(&line.command) {
+    let request = match admitted(execution, records, &line.command) {
+        Ok(request) => request,
+        Err(fault) => return refused(text, &execution.catalogue, line.number, fault),
+    };
+    match execution.act(request) {
         Ok(record) => {
-            printing::line(text, &execution.catalogue, number as u64, &record.outcome)?;
+            printing::line(
+                text,
+                &execution.catalogue,
+                line.number as u64,
+                &record.outcome,
+            )?;
             records.push_reserved(record);
             Ok(())
         }
-        Err(_) => refused(text, &execution.catalogue, number, Fault::OutOfMemory),
+        Err(_) => refused(text, &execution.catalogue, line.number, Fault::OutOfMemory),
     }
 }

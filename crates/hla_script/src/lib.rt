@@ -12,7 +12,6 @@ mod members;
 mod player;
 mod printing;
 mod reader;
-mod refusals;
 mod steps;
 mod text;
 mod vocabulary;

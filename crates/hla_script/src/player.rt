@@ -2,7 +2,9 @@
 
 ghost use Rattle.std.specs.Prelude.{◌≡◌, IfOk, IfErr};
 ghost use Rattle.std.specs.Io.KnownBytes.{Appends};
-ghost use Rattle.hla_machine.specs.Runs.{Executions, no_executions, AreRun};
+ghost use Rattle.hla_machine.specs.Runs as machine;
+ghost use Rattle.hla_machine.specs.Runs.{AreRun};
+ghost use Rattle.hla_components.specs.Executions.{Federations, no_federations, AreNext};
 ghost use Rattle.hla_script.specs.Playing.{IsPlayed, IsPlayedFrom, StopsBy};
 
 use crate::execution::Execution;
@@ -45,7 +47,7 @@ fn play_lines<W: Write>(
     out: &mut W,
 ) -> Result<List<Record>, StopFault>
     ensures played { IfOk result (λ records. IsPlayed catalogue script.now (W.contents out.old) (W.contents out.new) records) }
-    ensures run { IfOk result (λ records. (x : Executions) × AreRun no_executions records x) }
+    ensures next { IfOk result (λ records. (x : Federations) × AreNext no_federations records x) }
 {
     let Ok(name) = ExecutionName::new(b"play") else {
         return Err(StopFault::Memory);
@@ -80,8 +82,12 @@ pub fn play<W: Write>(
     // is these outcomes, and the records are just those of the steps, in order.
     ensures played { IfOk result (IsPlayedFrom fed.now script.now (W.contents out.old) (W.contents out.new)) }
 
-    // The records are a run of the central machine from no executions.
-    ensures run { IfOk result (λ records. (x : Executions) × AreRun no_executions records x) }
+    // The records are, one after another, those of the components' next-state function from no executions: each line that
+    // makes a step is answered as that function says, with what it carries and delivers.
+    ensures next { IfOk result (λ records. (x : Federations) × AreNext no_federations records x) }
+
+    // So they are a run of the central machine from no executions.
+    ensures run { IfOk result (λ records. (y : machine.Executions) × AreRun machine.no_executions records y) }
 
     // The first fault of the FED file, or else that of the script, with nothing written.
     ensures stopped { IfErr result (StopsBy fed.now script.now (W.contents out.old) (W.contents out.new)) }

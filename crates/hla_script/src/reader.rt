@@ -3,7 +3,7 @@
 ghost use Rattle.std.specs.Prelude.{◌≡◌, ◌≤◌, length};
 ghost use Rattle.std.specs.List.{list_all};
 ghost use Rattle.hla_script.specs.Reading.{Means, Reads};
-ghost use Rattle.hla_script.specs.Script.{command_in, command_by, command_of, is_plain, script_of, Gives};
+ghost use Rattle.hla_script.specs.Script.{command_in, command_by, command_of, is_plain, script_of, ParsesAs};
 
 use crate::arguments::{federate, owned};
 use crate::calls::call;
@@ -97,7 +97,7 @@ fn command(alloc: Global, line: &[u8]) -> Result<Option<Command>, ScriptFaultKin
 /// come before any other fault, and its line is left open.
 #[tactic(auto, using(crate::proofs::LineLemmas::steps))]
 pub fn parse(alloc: Global, text: &[u8]) -> Result<Script, ScriptFault>
-    ensures { Gives result (script_of text.now) }
+    ensures { ParsesAs result (script_of text.now) }
 {
     if text.len() > SCRIPT_LIMIT {
         return Err(ScriptFault {

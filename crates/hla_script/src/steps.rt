@@ -1,18 +1,17 @@
 //! What a line asks of the execution.
 
-ghost use Rattle.std.specs.Prelude.{◌≡◌, IfSome, IfOk, None, map};
-ghost use Rattle.hla_machine.specs.declared.service.Service.TheVariants as service;
-ghost use Rattle.hla_federation.specs.State.{IsBuilt, IsBuiltService};
+ghost use Rattle.std.specs.Prelude.{◌≡◌, IfOk, IfErr, IfSome};
+ghost use Rattle.hla_federation.specs.Steps.State.{IsBuilt, IsBuiltService};
 ghost use Rattle.hla_script.specs.Keeping.{IsBuiltRequest};
-ghost use Rattle.hla_script.specs.Requests.{declared_object, withdrawn_object, declared_interaction, withdrawn_interaction, object_class_number, interaction_class_number, attribute_number, attribute_value, parameter_value, object_number, step_by, service_of, federate_number, joined_number, request_of};
+ghost use Rattle.hla_script.specs.Requests.{Asks, object_declaration, object_withdrawal, interaction_declaration, interaction_withdrawal, registration, update_of, interaction_of, service_of, request_of};
 
 use crate::lines::{Call, Command, Declaration, NameValuePair};
 use crate::lookups::{
-    attribute_numbers, attribute_values, interaction_class_number, object_class_number,
-    object_number, parameter_values,
+    AskFault, Class, attributes, interaction_class, joined_federate, known_federate, object_class,
+    object_number, pairs,
 };
-use crate::members::{Member, federate_named, joined_named};
-use hla_base::{Fault, FederateNo, List, Plain};
+use crate::members::Member;
+use hla_base::{List, Plain};
 use hla_fed_file::Catalogue;
 use hla_machine::{Service, Step};
 use std::alloc::Global;
@@ -28,18 +27,29 @@ pub enum Request {
     Step(Step),
 }
 
+/// A copy, of which only want of memory can deprive.
+fn copied<T: Plain>(item: &T) -> Result<T, AskFault>
+    ensures ok { IfOk result (λ copy. copy ≡ item.now) }
+    ensures err { IfErr result (λ e. e ≡ AskFault.Memory) }
+{
+    match item.copy() {
+        Ok(copy) => Ok(copy),
+        Err(_) => Err(AskFault::Memory),
+    }
+}
+
 fn declare_object(
     alloc: Global,
     catalogue: &Catalogue,
     declaration: Declaration,
     class: &List<u8>,
-    attributes: &List<List<u8>>,
-) -> Result<Service, Fault>
-    ensures meant { IfOk result (λ s. s ≡ declared_object declaration (object_class_number catalogue.now class.now) (map (attribute_number catalogue.now (object_class_number catalogue.now class.now)) attributes.now)) }
+    names: &List<List<u8>>,
+) -> Result<Service, AskFault>
+    ensures meant { Asks result (object_declaration catalogue.now declaration class.now names.now) }
     ensures built { IfOk result IsBuiltService }
 {
-    let class = object_class_number(catalogue, class.as_slice());
-    let attributes = attribute_numbers(alloc, catalogue, class, attributes.as_slice())?;
+    let class = object_class(catalogue, class.as_slice())?;
+    let attributes = attributes(alloc, catalogue, Class::Object(class), names.as_slice())?;
     match declaration {
         Declaration::Publication => Ok(Service::PublishObjectClass { class, attributes }),
         Declaration::Subscription => Ok(Service::SubscribeObjectClassAttributes {
@@ -49,25 +59,33 @@ fn declare_object(
     }
 }
 
-fn withdraw_object(catalogue: &Catalogue, declaration: Declaration, class: &List<u8>) -> Service
-    ensures meant { result ≡ withdrawn_object declaration (object_class_number catalogue.now class.now) }
-    ensures built { IsBuiltService result }
+fn withdraw_object(
+    catalogue: &Catalogue,
+    declaration: Declaration,
+    class: &List<u8>,
+) -> Result<Service, AskFault>
+    ensures meant { Asks result (object_withdrawal catalogue.now declaration class.now) }
+    ensures built { IfOk result IsBuiltService }
 {
-    let class = object_class_number(catalogue, class.as_slice());
+    let class = object_class(catalogue, class.as_slice())?;
     match declaration {
-        Declaration::Publication => Service::UnpublishObjectClass { class },
-        Declaration::Subscription => Service::UnsubscribeObjectClass { class },
+        Declaration::Publication => Ok(Service::UnpublishObjectClass { class }),
+        Declaration::Subscription => Ok(Service::UnsubscribeObjectClass { class }),
     }
 }
 
-fn declare_interaction(catalogue: &Catalogue, declaration: Declaration, class: &List<u8>) -> Service
-    ensures meant { result ≡ declared_interaction declaration (interaction_class_number catalogue.now class.now) }
-    ensures built { IsBuiltService result }
+fn declare_interaction(
+    catalogue: &Catalogue,
+    declaration: Declaration,
+    class: &List<u8>,
+) -> Result<Service, AskFault>
+    ensures meant { Asks result (interaction_declaration catalogue.now declaration class.now) }
+    ensures built { IfOk result IsBuiltService }
 {
-    let class = interaction_class_number(catalogue, class.as_slice());
+    let class = interaction_class(catalogue, class.as_slice())?;
     match declaration {
-        Declaration::Publication => Service::PublishInteractionClass { class },
-        Declaration::Subscription => Service::SubscribeInteractionClass { class },
+        Declaration::Publication => Ok(Service::PublishInteractionClass { class }),
+        Declaration::Subscription => Ok(Service::SubscribeInteractionClass { class }),
     }
 }
 
@@ -75,14 +93,14 @@ fn withdraw_interaction(
     catalogue: &Catalogue,
     declaration: Declaration,
     class: &List<u8>,
-) -> Service
-    ensures meant { result ≡ withdrawn_interaction declaration (interaction_class_number catalogue.now class.now) }
-    ensures built { IsBuiltService result }
+) -> Result<Service, AskFault>
+    ensures meant { Asks result (interaction_withdrawal catalogue.now declaration class.now) }
+    ensures built { IfOk result IsBuiltService }
 {
-    let class = interaction_class_number(catalogue, class.as_slice());
+    let class = interaction_class(catalogue, class.as_slice())?;
     match declaration {
-        Declaration::Publication => Service::UnpublishInteractionClass { class },
-        Declaration::Subscription => Service::UnsubscribeInteractionClass { class },
+        Declaration::Publication => Ok(Service::UnpublishInteractionClass { class }),
+        Declaration::Subscription => Ok(Service::UnsubscribeInteractionClass { class }),
     }
 }
 
@@ -90,14 +108,13 @@ fn register(
     catalogue: &Catalogue,
     class: &List<u8>,
     name: &Option<List<u8>>,
-) -> Result<Service, Fault>
-    ensures meant { IfOk result (λ s. s ≡ service.RegisterObjectInstance (object_class_number catalogue.now class.now) name.now) }
+) -> Result<Service, AskFault>
+    ensures meant { Asks result (registration catalogue.now class.now name.now) }
     ensures built { IfOk result IsBuiltService }
 {
-    Ok(Service::RegisterObjectInstance {
-        class: object_class_number(catalogue, class.as_slice()),
-        name: name.copy()?,
-    })
+    let class = object_class(catalogue, class.as_slice())?;
+    let name = copied(name)?;
+    Ok(Service::RegisterObjectInstance { class, name })
 }
 
 fn update(
@@ -106,14 +123,15 @@ fn update(
     object: u64,
     class: &List<u8>,
     values: &List<NameValuePair>,
-) -> Result<Service, Fault>
-    ensures meant { IfOk result (λ s. s ≡ service.UpdateAttributeValues (object_number object) (map (attribute_value catalogue.now (object_class_number catalogue.now class.now)) values.now) None) }
+) -> Result<Service, AskFault>
+    ensures meant { Asks result (update_of catalogue.now object class.now values.now) }
     ensures built { IfOk result IsBuiltService }
 {
-    let class = object_class_number(catalogue, class.as_slice());
+    let class = object_class(catalogue, class.as_slice())?;
+    let values = pairs(alloc, catalogue, Class::Object(class), values.as_slice())?;
     Ok(Service::UpdateAttributeValues {
         object: object_number(object),
-        values: attribute_values(alloc, catalogue, class, values.as_slice())?,
+        values,
         stamp: None,
     })
 }
@@ -123,31 +141,27 @@ fn send(
     catalogue: &Catalogue,
     class: &List<u8>,
     values: &List<NameValuePair>,
-) -> Result<Service, Fault>
-    ensures meant { IfOk result (λ s. s ≡ service.SendInteraction (interaction_class_number catalogue.now class.now) (map (parameter_value catalogue.now (interaction_class_number catalogue.now class.now)) values.now) None) }
+) -> Result<Service, AskFault>
+    ensures meant { Asks result (interaction_of catalogue.now class.now values.now) }
     ensures built { IfOk result IsBuiltService }
 {
-    let class = interaction_class_number(catalogue, class.as_slice());
+    let class = interaction_class(catalogue, class.as_slice())?;
+    let values = pairs(
+        alloc,
+        catalogue,
+        Class::Interaction(class),
+        values.as_slice(),
+    )?;
     Ok(Service::SendInteraction {
         class,
-        values: parameter_values(alloc, catalogue, class, values.as_slice())?,
+        values,
         stamp: None,
     })
 }
 
-fn delete(object: u64) -> Service
-    ensures meant { result ≡ service.DeleteObjectInstance (object_number object) None }
-    ensures built { IsBuiltService result }
-{
-    Service::DeleteObjectInstance {
-        object: object_number(object),
-        stamp: None,
-    }
-}
-
 /// The service that a federate calls; a tick calls none.
-fn service(alloc: Global, catalogue: &Catalogue, call: &Call) -> Result<Option<Service>, Fault>
-    ensures meant { IfOk result (λ service. service ≡ service_of catalogue.now call.now) }
+fn service(alloc: Global, catalogue: &Catalogue, call: &Call) -> Result<Option<Service>, AskFault>
+    ensures meant { Asks result (service_of catalogue.now call.now) }
     ensures built { IfOk result (λ service. IfSome service IsBuiltService) }
 {
     match call {
@@ -159,13 +173,13 @@ fn service(alloc: Global, catalogue: &Catalogue, call: &Call) -> Result<Option<S
             attributes,
         } => Ok(Some(declare_object(alloc, catalogue, *declaration, class, attributes)?)),
         Call::WithdrawObject { declaration, class } => {
-            Ok(Some(withdraw_object(catalogue, *declaration, class)))
+            Ok(Some(withdraw_object(catalogue, *declaration, class)?))
         }
         Call::DeclareInteraction { declaration, class } => {
-            Ok(Some(declare_interaction(catalogue, *declaration, class)))
+            Ok(Some(declare_interaction(catalogue, *declaration, class)?))
         }
         Call::WithdrawInteraction { declaration, class } => {
-            Ok(Some(withdraw_interaction(catalogue, *declaration, class)))
+            Ok(Some(withdraw_interaction(catalogue, *declaration, class)?))
         }
         Call::Register { class, name } => Ok(Some(register(catalogue, class, name)?)),
         Call::Update {
@@ -174,9 +188,12 @@ fn service(alloc: Global, catalogue: &Catalogue, call: &Call) -> Result<Option<S
             values,
         } => Ok(Some(update(alloc, catalogue, *object, class, values)?)),
         Call::Send { class, values } => Ok(Some(send(alloc, catalogue, class, values)?)),
-        Call::Delete { object } => Ok(Some(delete(*object))),
+        Call::Delete { object } => Ok(Some(Service::DeleteObjectInstance {
+            object: object_number(*object),
+            stamp: None,
+        })),
         Call::ObjectHandle { name } => Ok(Some(Service::GetObjectInstanceHandle {
-            name: name.copy()?,
+            name: copied(name)?,
         })),
         Call::ObjectName { object } => Ok(Some(Service::GetObjectInstanceName {
             object: object_number(*object),
@@ -184,55 +201,34 @@ fn service(alloc: Global, catalogue: &Catalogue, call: &Call) -> Result<Option<S
     }
 }
 
-fn call_step(
-    alloc: Global,
-    catalogue: &Catalogue,
-    federate: FederateNo,
-    call: &Call,
-) -> Result<Step, Fault>
-    ensures meant { IfOk result (λ step. step ≡ step_by federate (service_of catalogue.now call.now)) }
-    ensures built { IfOk result IsBuilt }
-{
-    match service(alloc, catalogue, call)? {
-        None => Ok(Step::Tick { federate }),
-        Some(service) => Ok(Step::Call { federate, service }),
-    }
-}
-
-fn federate_number(members: &[Member], name: &[u8]) -> FederateNo
-    ensures { result ≡ federate_number members.now name.now }
-{
-    federate_named(members, name).unwrap_or(0)
-}
-
-fn joined_number(members: &[Member], name: &[u8]) -> FederateNo
-    ensures { result ≡ joined_number members.now name.now }
-{
-    joined_named(members, name).unwrap_or(0)
-}
-
 impl Request {
-    /// What a line asks for; an error is want of memory.
+    /// What a line asks for. All names and values of the line are tested before want of memory is told.
     pub fn of(
         alloc: Global,
         catalogue: &Catalogue,
         members: &[Member],
         command: &Command,
-    ) -> Result<Request, Fault>
-        ensures meant { IfOk result (λ request. request ≡ request_of catalogue.now members.now command.now) }
+    ) -> Result<Request, AskFault>
+        ensures meant { Asks result (request_of catalogue.now members.now command.now) }
         ensures built { IfOk result IsBuiltRequest }
     {
         match command {
             Command::Create => Ok(Request::Create),
             Command::Destroy => Ok(Request::Destroy),
-            Command::Join { name } => Ok(Request::Step(Step::Join { name: name.copy()? })),
-            Command::Carry { from, to } => Ok(Request::Step(Step::Carry {
-                from: federate_number(members, from.as_slice()),
-                to: federate_number(members, to.as_slice()),
+            Command::Join { name } => Ok(Request::Step(Step::Join {
+                name: copied(name)?,
             })),
+            Command::Carry { from, to } => {
+                let from = known_federate(members, from.as_slice())?;
+                let to = known_federate(members, to.as_slice())?;
+                Ok(Request::Step(Step::Carry { from, to }))
+            }
             Command::Federate { name, call } => {
-                let federate = joined_number(members, name.as_slice());
-                Ok(Request::Step(call_step(alloc, catalogue, federate, call)?))
+                let federate = joined_federate(members, name.as_slice())?;
+                match service(alloc, catalogue, call)? {
+                    None => Ok(Request::Step(Step::Tick { federate })),
+                    Some(service) => Ok(Request::Step(Step::Call { federate, service })),
+                }
             }
         }
     }

@@ -1,1 +1,2 @@
+-- Cutting one more line off.
 pub mod PartLemmas

@@ -38,24 +38,24 @@ fn bytes_of<R: Runtime + AllocGlobal>(rt: &R, name: &str) -> Result<Vec<u8>, Loa
 }
 
 /// Says that memory ran out.
-fn starved<R: Runtime + AllocGlobal>(rt: &R) -> u8 {
+fn report_out_of_memory<R: Runtime + AllocGlobal>(rt: &R) -> u8 {
     let _ = eprintln!(rt; "out of memory");
     REFUSED
 }
 
 /// Says that a file was not read.
-fn unread<R: Runtime + AllocGlobal>(rt: &R, name: &str, fault: LoadFault) -> u8 {
+fn report_unread<R: Runtime + AllocGlobal>(rt: &R, name: &str, fault: LoadFault) -> u8 {
     match fault {
         LoadFault::Read => {
             let _ = eprintln!(rt; "cannot read {name}");
             REFUSED
         }
-        LoadFault::Memory => starved(rt),
+        LoadFault::Memory => report_out_of_memory(rt),
     }
 }
 
 /// Says why a script was not played to its end.
-fn stopped<R: Runtime + AllocGlobal>(rt: &R, fault: PlayFault) -> u8 {
+fn report_stop<R: Runtime + AllocGlobal>(rt: &R, fault: PlayFault) -> u8 {
     match fault {
         PlayFault::Fed(fault) => {
             let line = fault.line;
@@ -70,7 +70,7 @@ fn stopped<R: Runtime + AllocGlobal>(rt: &R, fault: PlayFault) -> u8 {
         PlayFault::Write => {
             let _ = eprintln!(rt; "cannot write");
         }
-        PlayFault::Memory => return starved(rt),
+        PlayFault::Memory => return report_out_of_memory(rt),
     }
     REFUSED
 }
@@ -79,13 +79,13 @@ fn stopped<R: Runtime + AllocGlobal>(rt: &R, fault: PlayFault) -> u8 {
 fn play_bytes<R: Runtime + AllocGlobal>(rt: &R, fed: &[u8], script: &[u8]) -> u8 {
     let alloc: Global = rt.alloc();
     let Ok(mut out) = BufWriter::new(alloc, io::writer(rt)) else {
-        return starved(rt);
+        return report_out_of_memory(rt);
     };
     match play(alloc, fed, script, &mut out) {
-        Err(fault) => stopped(rt, fault),
+        Err(fault) => report_stop(rt, fault),
         Ok(_) => match out.flush() {
             Ok(()) => DONE,
-            Err(_) => stopped(rt, PlayFault::Write),
+            Err(_) => report_stop(rt, PlayFault::Write),
         },
     }
 }
@@ -97,7 +97,7 @@ fn play_shared<R: Runtime + AllocGlobal>(rt: &R) -> u8 {
             let (fed, script) = parts(input.as_slice());
             play_bytes(rt, fed, script)
         }
-        Err(fault) => unread(rt, "-", fault),
+        Err(fault) => report_unread(rt, "-", fault),
     }
 }
 
@@ -108,11 +108,11 @@ fn play_files<R: Runtime + AllocGlobal>(rt: &R, fed_name: &str, script_name: &st
     }
     let fed = match bytes_of(rt, fed_name) {
         Ok(fed) => fed,
-        Err(fault) => return unread(rt, fed_name, fault),
+        Err(fault) => return report_unread(rt, fed_name, fault),
     };
     match bytes_of(rt, script_name) {
         Ok(script) => play_bytes(rt, fed.as_slice(), script.as_slice()),
-        Err(fault) => unread(rt, script_name, fault),
+        Err(fault) => report_unread(rt, script_name, fault),
     }
 }
 
@@ -120,9 +120,9 @@ fn play_files<R: Runtime + AllocGlobal>(rt: &R, fed_name: &str, script_name: &st
 fn list_bytes<R: Runtime + AllocGlobal>(rt: &R, fed: &[u8]) -> u8 {
     match list(rt.alloc(), fed, &mut io::writer(rt)) {
         Ok(()) => DONE,
-        Err(ListFault::Fed(fault)) => stopped(rt, PlayFault::Fed(fault)),
-        Err(ListFault::Write) => stopped(rt, PlayFault::Write),
-        Err(ListFault::Memory) => starved(rt),
+        Err(ListFault::Fed(fault)) => report_stop(rt, PlayFault::Fed(fault)),
+        Err(ListFault::Write) => report_stop(rt, PlayFault::Write),
+        Err(ListFault::Memory) => report_out_of_memory(rt),
     }
 }
 
@@ -130,12 +130,12 @@ fn list_bytes<R: Runtime + AllocGlobal>(rt: &R, fed: &[u8]) -> u8 {
 fn list_file<R: Runtime + AllocGlobal>(rt: &R, name: &str) -> u8 {
     match bytes_of(rt, name) {
         Ok(fed) => list_bytes(rt, fed.as_slice()),
-        Err(fault) => unread(rt, name, fault),
+        Err(fault) => report_unread(rt, name, fault),
     }
 }
 
 /// The words of the command line.
-fn given<R: Runtime + AllocGlobal>(rt: &R) -> io::Result<Vec<String>> {
+fn command_words<R: Runtime + AllocGlobal>(rt: &R) -> io::Result<Vec<String>> {
     let mut words = Vec::new(rt.alloc());
     for word in env::args(rt)? {
         words.push(word)?;
@@ -144,7 +144,7 @@ fn given<R: Runtime + AllocGlobal>(rt: &R) -> io::Result<Vec<String>> {
 }
 
 /// The words, lent.
-fn lent(alloc: Global, words: &[String]) -> io::Result<Vec<&str>> {
+fn texts_of(alloc: Global, words: &[String]) -> io::Result<Vec<&str>> {
     let mut texts = Vec::new(alloc);
     for word in words {
         texts.push(word.as_str())?;
@@ -155,8 +155,8 @@ fn lent(alloc: Global, words: &[String]) -> io::Result<Vec<&str>> {
 /// Does what the command line asks for, and answers the status.
 fn run<R: Runtime + AllocGlobal>(rt: &R) -> io::Result<u8> {
     let alloc: Global = rt.alloc();
-    let words = given(rt)?;
-    let texts = lent(alloc, words.as_slice())?;
+    let words = command_words(rt)?;
+    let texts = texts_of(alloc, words.as_slice())?;
     match parse(alloc, texts.as_slice()) {
         Ok(Task::Play { fed, script }) => Ok(play_files(rt, fed, script)),
         Ok(Task::List { fed }) => Ok(list_file(rt, fed)),
@@ -164,14 +164,14 @@ fn run<R: Runtime + AllocGlobal>(rt: &R) -> io::Result<u8> {
             let _ = eprint!(rt; "{error}");
             Ok(MISUSED)
         }
-        Err(_) => Ok(starved(rt)),
+        Err(_) => Ok(report_out_of_memory(rt)),
     }
 }
 
 fn main(rt: HostRuntime) -> ExitCode {
     match run(&rt) {
         Ok(status) => ExitCode::from(status),
-        Err(_) => ExitCode::from(starved(&rt)),
+        Err(_) => ExitCode::from(report_out_of_memory(&rt)),
     }
 }
 

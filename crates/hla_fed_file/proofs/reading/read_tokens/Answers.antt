@@ -1,11 +1,11 @@
 use Rattle.hla_fed_file.proofs.ReadingLemmas.{too_long, ends_whole, fails_whole}
 use Rattle.hla_fed_file.proofs.reading.read_tokens.Goals as goal
 
-pub returns-then-text-gt1048576 : goal.returns-then-text-gt1048576
-returns-then-text-gt1048576 c = too_long c.args.text.now c.if-text-gt1048576.true
+pub returns-then-text-gt-MAX_FED_FILE : goal.returns-then-text-gt-MAX_FED_FILE
+returns-then-text-gt-MAX_FED_FILE c = too_long c.args.text.now c.if-text-gt-MAX_FED_FILE.true
 
 pub returns-in-Ok : goal.returns-in-Ok
-returns-in-Ok c = ends_whole c.args.text.now c.in-Ok.line c.new-reader.result c.take_all.new.reader c.finish.result c.new-reader.ensures c.if-text-gt1048576.false c.in-Ok.ensures c.finish.ensures
+returns-in-Ok c = ends_whole c.args.text.now c.in-Ok.line c.new-reader.result c.take_all.new.reader c.finish.result c.new-reader.ensures c.if-text-gt-MAX_FED_FILE.false c.in-Ok.ensures c.finish.ensures
 
 pub returns-in-Err : goal.returns-in-Err
-returns-in-Err c = fails_whole c.args.text.now c.new-reader.result c.in-Err.fault c.new-reader.ensures c.if-text-gt1048576.false c.in-Err.ensures
+returns-in-Err c = fails_whole c.args.text.now c.new-reader.result c.in-Err.fault c.new-reader.ensures c.if-text-gt-MAX_FED_FILE.false c.in-Err.ensures

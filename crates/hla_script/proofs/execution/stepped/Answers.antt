@@ -4,7 +4,7 @@ use Rattle.hla_script.proofs.KeepLemmas.{steps_done, steps_refused}
 use Rattle.hla_script.proofs.execution.stepped.Goals as goal
 
 pub returns-in-Ok-clause-ok : goal.returns-in-Ok-clause-ok
-returns-in-Ok-clause-ok c = rw c.in-Some.is (steps_done c.in-Some.federation c.step.new.self c.args.step.now c.in-Ok.answer c.in-Ok.ensures.machine)
+returns-in-Ok-clause-ok c = rw c.in-Some.is (steps_done c.in-Some.federation c.step.new.self c.args.step.now c.in-Ok.answer c.requires c.in-Ok.ensures.outcome c.in-Ok.ensures.state)
 
 pub returns-else-number-eq38-clause-ok : goal.returns-else-number-eq38-clause-ok
 returns-else-number-eq38-clause-ok c =

@@ -1,31 +1,27 @@
-use Rattle.std.proofs.Common.{◌≤◌, ◌<◌, length, arith}
-use Rattle.std.proofs.lemmas.Grind.{common_steps}
-use Rattle.hla_script.proofs.PlayLemmas.{unstepped, filled, starved, starved_in}
+use Rattle.std.proofs.Common.{sym}
+use Rattle.hla_base.specs.declared.fault.Fault.TheVariants as fault
+use Rattle.hla_script.specs.Playing.{OutOfMemory}
+use Rattle.hla_script.proofs.PlayLemmas.{adds_none, adds_none_in, adds_one}
 use Rattle.hla_script.proofs.KeepLemmas.{keeps_more}
+use Rattle.std.proofs.Common.{refl}
 use Rattle.hla_script.proofs.history.play_line.Goals as goal
-
-pub returns-in-Some-clause-answered : goal.returns-in-Some-clause-answered
-returns-in-Some-clause-answered c =
-    unstepped c.args.execution.now.catalogue c.args.line.now c.args.records.now.items c.as_slice.result.now _ _ _ c.refused.result c.without_step.result c.in-Some.fault c.as_slice.ensures.value c.requires.kept.joins c.without_step.ensures c.in-Some.is c.refused.ensures
-
-pub returns-then-len-ge-HISTORY_LIMIT-clause-answered : goal.returns-then-len-ge-HISTORY_LIMIT-clause-answered
-returns-then-len-ge-HISTORY_LIMIT-clause-answered c =
-    let full : 32768 ≤ length c.args.records.now.items = grind (arith, common_steps) in
-    filled c.args.execution.now.catalogue c.args.line.now c.args.records.now.items c.as_slice.result.now _ _ _ c.refused-then-len-ge-HISTORY_LIMIT.result c.without_step.result c.as_slice.ensures.value c.requires.kept.joins c.without_step.ensures c.in_default.is full
-    c.refused-then-len-ge-HISTORY_LIMIT.ensures
-
-pub returns-then-is_err-clause-answered : goal.returns-then-is_err-clause-answered
-returns-then-is_err-clause-answered c =
-    let room : length c.args.records.now.items < 32768 = grind (arith, common_steps) in
-    rw c.reserve.ensures.items (starved c.args.execution.now.catalogue c.args.line.now c.args.records.now.items c.as_slice.result.now _ _ _ c.refused-then-is_err.result c.without_step.result c.as_slice.ensures.value c.requires.kept.joins c.without_step.ensures c.in_default.is room
-    c.refused-then-is_err.ensures)
-
-pub returns-in_ok-line-in-Ok-clause-kept : goal.returns-in_ok-line-in-Ok-clause-kept
-returns-in_ok-line-in-Ok-clause-kept c =
-    rw (c.push_reserved.ensures.items, c.reserve.ensures.items) (keeps_more _ c.args.records.now.items _ _ c.args.execution.now.members.items _ c.in-Ok.record c.requires.kept c.in-Ok.ensures.ok)
 
 pub returns-in-Err-clause-answered : goal.returns-in-Err-clause-answered
 returns-in-Err-clause-answered c =
-    let room : length c.args.records.now.items < 32768 = grind (arith, common_steps) in
-    rw c.reserve.ensures.items (starved_in c.args.execution.now.catalogue _ c.args.line.now c.args.records.now.items c.as_slice.result.now _ _ _ c.refused-in-Err.result c.without_step.result c.as_slice.ensures.value c.requires.kept.joins c.without_step.ensures c.in_default.is room
-    c.act.ensures.catalogue c.refused-in-Err.ensures)
+    rw c.admitted.ensures.records (adds_none c.args.execution.now.catalogue c.args.line.now c.args.records.now.items _ _ c.refused.result c.in-Err.fault c.in-Err.ensures.refused c.refused.ensures)
+
+pub returns-in_ok-line-in-Ok-act-clause-kept : goal.returns-in_ok-line-in-Ok-act-clause-kept
+returns-in_ok-line-in-Ok-act-clause-kept c =
+    rw (c.push_reserved.ensures.items, c.admitted.ensures.records) (keeps_more _ c.args.records.now.items _ _ c.args.execution.now.members.items _ c.in-Ok-act.record c.requires.kept c.in-Ok-act.ensures.ok)
+
+pub returns-in_ok-line-in-Ok-act-clause-answered : goal.returns-in_ok-line-in-Ok-act-clause-answered
+returns-in_ok-line-in-Ok-act-clause-answered c =
+    let acted = c.in-Ok-act.ensures.ok in
+    rw (c.push_reserved.ensures.items, c.admitted.ensures.records)
+    (adds_one c.args.execution.now.catalogue _ c.args.line.now c.args.records.now.items c.in-Ok.request c.in-Ok-act.record _ _ c.act.ensures.catalogue c.in-Ok.ensures.admitted acted.remembered acted.same c.in_ok-line-in-Ok-act.ensures.ok)
+
+pub returns-in-Err-act-clause-answered : goal.returns-in-Err-act-clause-answered
+returns-in-Err-act-clause-answered c =
+    rw c.admitted.ensures.records
+    (adds_none_in c.args.execution.now.catalogue _ c.args.line.now c.args.records.now.items _ _ c.refused-in-Err-act.result fault.OutOfMemory c.act.ensures.catalogue (OutOfMemory c.in-Ok.request c.in-Ok.ensures.admitted refl refl)
+    c.refused-in-Err-act.ensures)

@@ -1,6 +1,6 @@
 use Rattle.std.proofs.Common.{ℕ, Option, List, [], ◌∷◌, ◌++◌, ap, sym, ◌∙◌}
-use Rattle.hla_declaration.specs.Declarations.{tables_of}
-use Rattle.hla_declaration.specs.Receivers.{served_interaction}
+use Rattle.hla_declaration.specs.Declarations.{declarations_of}
+use Rattle.hla_declaration.specs.Receivers.{interaction_class_served}
 use Rattle.hla_declaration.specs.declared.receiver.Receiver.{Receiver}
 use Rattle.hla_declaration.proofs.ReceiverLemmas.{nobody_interaction, receivers_none, one_more, none_more}
 use Rattle.hla_declaration.proofs.declarations.Declarations.receivers_of_interaction_class.Goals as goal
@@ -8,12 +8,12 @@ use Rattle.hla_declaration.proofs.declarations.Declarations.receivers_of_interac
 
 pub loop-place-init : goal.loop-place-init
 loop-place-init c =
-    let served : ℕ → Option ℕ = λ g. served_interaction c.args.catalogue.now (tables_of c.args.self.now).subscribed_interaction g c.args.class in
+    let served : ℕ → Option ℕ = λ g. interaction_class_served c.args.catalogue.now (declarations_of c.args.self.now).subscribed_interaction g c.args.class in
     c.new-receivers.ensures ∙ sym (receivers_none served c.args.sender (nobody_interaction c.args.catalogue.now c.args.self.now c.args.class))
 
 pub loop-place-preserved : goal.loop-place-preserved
 loop-place-preserved c =
-    let served : ℕ → Option ℕ = λ g. served_interaction c.args.catalogue.now (tables_of c.args.self.now).subscribed_interaction g c.args.class in
+    let served : ℕ → Option ℕ = λ g. interaction_class_served c.args.catalogue.now (declarations_of c.args.self.now).subscribed_interaction g c.args.class in
     let is = rw c.interaction_class_served-served.ensures at c.receiver.ensures in
     elim c.match-receiver.branch [
       | in-Some+in_ok-push w ↦

@@ -2,7 +2,7 @@ use Rattle.std.proofs.Common.{◌+◌, ◌∷◌, [], length, ◌<◌, ap, arith
 use Rattle.std.proofs.lemmas.List.{length-append}
 use Rattle.hla_fed_file.specs.Groups.{IsNoted}
 use Rattle.hla_fed_file.specs.declared.declared.Parameter.{Parameter}
-use Rattle.hla_fed_file.specs.Tables.{Tables}
+use Rattle.hla_fed_file.specs.CatalogueValue.{CatalogueValue}
 use Rattle.hla_fed_file.proofs.GroupLemmas.{declared_added}
 use Rattle.hla_fed_file.proofs.catalogue.Catalogue.add_parameter.Goals as goal
 
@@ -10,7 +10,7 @@ pub invariant_of-self-in-Ok-note : goal.invariant_of-self-in-Ok-note
 invariant_of-self-in-Ok-note c =
     let before = c.self.inside.parameters in
     let kept = c.self.invariant in
-    let room : length before < 4096 = rw (ap (λ (t : Tables). length t.parameters) c.self.view_is) c.requires in
+    let room : length before < 4096 = rw (ap (λ (t : CatalogueValue). length t.parameters) c.self.view_is) c.requires in
     let noted : IsNoted c.self.inside.parameter_names c.note.new.self c.args.parameter.name (record { class = c.args.parameter.class; number = length before + 1 }) =
     rw (← c.len.ensures, ← c.as_slice.ensures, ← c.in-Ok.ensures.items) c.in-Ok-note.ensures.ok in
     rw c.in_ok-push.ensures.ok

@@ -2,8 +2,8 @@ use Rattle.std.proofs.Common.{List, ap, ◌∙◌}
 use Rattle.std.specs.List.{find}
 use Rattle.std.specs.Option.{option_map}
 use Rattle.hla_fed_file.specs.Lookup.{contains_number}
-use Rattle.hla_fed_file.specs.Groups.{number_of}
-use Rattle.hla_fed_file.specs.Tables.{Tables}
+use Rattle.hla_fed_file.specs.Groups.{declared_number}
+use Rattle.hla_fed_file.specs.CatalogueValue.{CatalogueValue}
 use Rattle.hla_fed_file.specs.Declaring.{attribute_among}
 use Rattle.hla_fed_file.specs.declared.groups.Declared.{Declared}
 use Rattle.hla_fed_file.specs.declared.declared.Attribute.{Attribute}
@@ -15,6 +15,6 @@ returns c =
     let classes = c.args.classes.now in
     let name = c.args.name.now in
     c.first_number.ensures
-    ∙ ap (λ (ds : List Declared). option_map number_of (find (λ (d : Declared). contains_number d.class classes) ds)) (c.group.ensures ∙ c.self.invariant.attributes name)
+    ∙ ap (λ (ds : List Declared). option_map declared_number (find (λ (d : Declared). contains_number d.class classes) ds)) (c.group.ensures ∙ c.self.invariant.attributes name)
     ∙ first_numbered (λ (a : Attribute). a.class) (λ (a : Attribute). a.name) classes name c.self.inside.attributes
-    ∙ ap (λ (t : Tables). attribute_among t classes name) c.self.view_is
+    ∙ ap (λ (t : CatalogueValue). attribute_among t classes name) c.self.view_is

@@ -1,4 +1,4 @@
-use Rattle.hla_federation.proofs.Sound.{state_new, sound_new}
+use Rattle.hla_federation.proofs.Steps.Sound.{state_new, sound_new}
 use Rattle.hla_federation.proofs.federation.Federation.new.Goals as goal
 
 pub invariant_of-result : goal.invariant_of-result

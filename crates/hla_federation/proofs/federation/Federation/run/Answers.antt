@@ -1,16 +1,16 @@
 use Rattle.std.proofs.Common.{subst, ap, arith}
-use Rattle.hla_federation.specs.FederationValue.{FederationValue}
-use Rattle.hla_federation.specs.Invariant.{Inv}
-use Rattle.hla_federation.specs.State.{state_of}
-use Rattle.hla_federation.proofs.RoomyLemmas.{on_err}
-use Rattle.hla_federation.proofs.Running.{steps_more, one_step, take_item, take_all, are_run}
+use Rattle.hla_federation.specs.Tables.FederationValue.{FederationValue}
+use Rattle.hla_components.specs.Invariant.{Inv}
+use Rattle.hla_federation.specs.Steps.State.{state_of}
+use Rattle.hla_federation.proofs.Tables.Rooms.{on_err}
+use Rattle.hla_federation.proofs.Steps.Running.{steps_more, one_step, take_item, take_all, are_run}
 use Rattle.hla_federation.proofs.federation.Federation.run.Goals as goal
 
 pub loop-step-preserved : goal.loop-step-preserved
 loop-step-preserved c =
     let old = c.loop-step.self in
     let new = c.step.new.self in
-    let one = one_step (state_of old) (state_of new) c.step-item.result c.step.result c.step.ensures.next c.step.ensures.refused (on_err c.step.result (ap state_of) c.step.ensures.unchanged) in
+    let one = one_step (state_of old) (state_of new) c.step-item.result c.step.result c.step.ensures.outcome c.step.ensures.state c.step.ensures.refused (on_err c.step.result (ap state_of) c.step.ensures.unchanged) in
     let more = steps_more _ _ _ _ _ c.step-item.result c.step.result c.loop-step.invariant.steps one in
     record {
       steps = rw (take_item c.args.steps.now c.loop-step.step-index c.step-item.result c.loop-step-test.true c.step-item.is, c.push_reserved.ensures.items) more;

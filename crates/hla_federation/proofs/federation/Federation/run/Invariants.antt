@@ -1,6 +1,6 @@
 use Rattle.std.proofs.Common.{◌≡◌, ◌≤◌, length, take, vec_len, vec_capacity}
-use Rattle.hla_federation.specs.Soundness.{AreSteps}
-use Rattle.hla_federation.specs.State.{state_of}
+use Rattle.hla_federation.specs.Steps.Soundness.{AreSteps}
+use Rattle.hla_federation.specs.Steps.State.{state_of}
 use Rattle.hla_federation.proofs.federation.Federation.run.Given as goal
 
 -- the steps so far, and room for the answers of the others

@@ -1,10 +1,9 @@
-use Rattle.std.proofs.Common.{◌≤◌, ℕ, length, [], ◌++◌, ap, ◌∙◌, arith}
+use Rattle.std.proofs.Common.{◌≤◌, ℕ, length, [], ◌++◌, ap, ◌∙◌, arith, List}
 use Rattle.hla_null_message.specs.declared.message.Message.{Message}
-use Rattle.std.proofs.Common.{List}
 use Rattle.hla_base.specs.Tables.{upd}
-use Rattle.hla_federation.specs.Items.{item}
-use Rattle.hla_federation.proofs.Tables.{upd_other}
-use Rattle.hla_federation.proofs.LaneLemmas.{read_messages, read_room, set_messages, set_rooms}
+use Rattle.hla_federation.specs.Tables.MemberValue.{item}
+use Rattle.hla_base.proofs.Tables.{upd_other}
+use Rattle.hla_federation.proofs.Tables.Wires.{read_messages, read_room, set_messages, set_rooms}
 use Rattle.hla_federation.proofs.incoming.Incoming.append.Goals as goal
 
 pub append-requires : goal.append-requires

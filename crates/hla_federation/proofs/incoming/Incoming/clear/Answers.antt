@@ -1,5 +1,5 @@
 use Rattle.std.proofs.Common.{arith}
-use Rattle.hla_federation.proofs.LaneLemmas.{quiet-map}
+use Rattle.hla_federation.proofs.Tables.Wires.{quiet-map}
 use Rattle.hla_federation.proofs.incoming.Incoming.clear.Goals as goal
 
 pub returns : goal.returns

@@ -1,6 +1,6 @@
 use Rattle.std.proofs.Common.{◌≡◌, ◌≤◌, List, length, [], subst, IsTrue, ◌↔◌, arith}
 use Rattle.hla_null_message.specs.declared.message.Message.{Message}
-use Rattle.hla_federation.proofs.LaneLemmas.{read_messages}
+use Rattle.hla_federation.proofs.Tables.Wires.{read_messages}
 use Rattle.hla_federation.proofs.incoming.Incoming.is_empty.Goals as goal
 
 pub returns : goal.returns

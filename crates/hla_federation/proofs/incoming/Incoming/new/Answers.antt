@@ -1,5 +1,5 @@
 use Rattle.std.proofs.Common.{arith}
-use Rattle.hla_federation.proofs.LaneLemmas.{quiet-map}
+use Rattle.hla_federation.proofs.Tables.Wires.{quiet-map}
 use Rattle.hla_federation.proofs.incoming.Incoming.new.Goals as goal
 
 pub returns-clause-ok : goal.returns-clause-ok

@@ -1,11 +1,10 @@
 use Rattle.std.proofs.Common.{◌≡◌, ◌≢◌, ◌≤◌, ◌-◌, ⊎_elim, ℕ, length, ap, ◌∙◌, arith}
 use Rattle.std.proofs.Math.Seq.{map-set_same}
 use Rattle.std.proofs.lemmas.Bool.{cases_eq}
-use Rattle.hla_null_message.specs.WireValue.{WireValue}
-use Rattle.hla_federation.specs.Items.{item}
-use Rattle.hla_federation.specs.MemberValue.{IncomingValue}
-use Rattle.hla_federation.proofs.Tables.{upd_same, upd_other}
-use Rattle.hla_federation.proofs.LaneLemmas.{read_room, set_rooms}
+use Rattle.hla_null_message.specs.Wires.{WireValue}
+use Rattle.hla_federation.specs.Tables.MemberValue.{item, IncomingValue}
+use Rattle.hla_base.proofs.Tables.{upd_same, upd_other}
+use Rattle.hla_federation.proofs.Tables.Wires.{read_room, set_rooms}
 use Rattle.hla_federation.proofs.incoming.Incoming.reserve.Goals as goal
 
 pub returns-clause-wires : goal.returns-clause-wires

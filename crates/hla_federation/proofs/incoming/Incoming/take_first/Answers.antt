@@ -1,8 +1,8 @@
 use Rattle.std.proofs.Common.{◌≤◌, List, length, [], drop, slice_get, ap, ◌∙◌, arith}
 use Rattle.hla_null_message.specs.declared.message.Message.{Message}
 use Rattle.hla_base.specs.Tables.{upd}
-use Rattle.hla_federation.specs.Items.{item}
-use Rattle.hla_federation.proofs.LaneLemmas.{read_messages, set_messages}
+use Rattle.hla_federation.specs.Tables.MemberValue.{item}
+use Rattle.hla_federation.proofs.Tables.Wires.{read_messages, set_messages}
 use Rattle.hla_federation.proofs.incoming.Incoming.take_first.Goals as goal
 
 pub returns-clause-first : goal.returns-clause-first

@@ -1,8 +1,7 @@
 use Rattle.std.proofs.Common.{◌≡◌, List, [], drop, refl, ap, sym, ◌∙◌}
 use Rattle.hla_null_message.specs.declared.message.Message.{Message}
-use Rattle.hla_federation.specs.MemberValue.{RoomyMember}
-use Rattle.hla_federation.specs.Items.{item}
-use Rattle.hla_federation.proofs.MemberTables.{upd-self}
+use Rattle.hla_federation.specs.Tables.MemberValue.{RoomyMember, item}
+use Rattle.hla_federation.proofs.Tables.MemberTables.{upd-self}
 use Rattle.hla_federation.proofs.member.Member.arrive.Goals as goal
 
 pub returns-then-is_empty-clause-wires : goal.returns-then-is_empty-clause-wires

@@ -1,8 +1,8 @@
 use Rattle.std.proofs.Common.{◌-◌, set, ap, ◌∙◌}
-use Rattle.hla_federation.specs.MemberValue.{MemberValue}
-use Rattle.hla_federation.specs.Members.{tables_of}
-use Rattle.hla_federation.proofs.RoomyLemmas.{read_shown, read_rooms, set_shown, rooms_stay, within_shown}
-use Rattle.hla_federation.proofs.MemberTables.{put}
+use Rattle.hla_federation.specs.Tables.MemberValue.{MemberValue}
+use Rattle.hla_federation.specs.Tables.Members.{members_of}
+use Rattle.hla_federation.proofs.Tables.Rooms.{read_shown, read_rooms, set_shown, rooms_stay, within_shown}
+use Rattle.hla_federation.proofs.Tables.MemberTables.{put}
 use Rattle.hla_federation.proofs.members.Members.append.Goals as goal
 
 pub append-requires-clause-room : goal.append-requires-clause-room
@@ -14,8 +14,8 @@ pub returns-clause-wires : goal.returns-clause-wires
 returns-clause-wires c =
     let is = read_shown c.self.inside.members.items c.args.self.now c.self.view_is c.args.to c.requires.some c.requires.within c.index_mut.result.now c.index_mut.ensures.value in
     let wires = rw is at c.append.ensures.wires in
-    ap tables_of (set_shown c.self.inside.members.items c.args.self.now c.self.view_is c.args.to c.requires.some c.requires.within c.append.new.self)
-    ∙ ap (λ (m : MemberValue). tables_of (set c.args.self.now.shown (c.args.to - 1) m)) (c.append.ensures.same ∙ ap (λ (m : MemberValue). record m { incoming = c.append.new.self.shown.incoming }) is)
+    ap members_of (set_shown c.self.inside.members.items c.args.self.now c.self.view_is c.args.to c.requires.some c.requires.within c.append.new.self)
+    ∙ ap (λ (m : MemberValue). members_of (set c.args.self.now.shown (c.args.to - 1) m)) (c.append.ensures.same ∙ ap (λ (m : MemberValue). record m { incoming = c.append.new.self.shown.incoming }) is)
     ∙ put c.args.self.now.shown c.args.to c.requires.some (within_shown c.self.inside.members.items c.args.self.now c.self.view_is c.args.to c.requires.some c.requires.within) c.args.from c.append.new.self.shown.incoming _ wires
 
 pub returns-clause-room : goal.returns-clause-room

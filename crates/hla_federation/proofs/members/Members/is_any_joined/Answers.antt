@@ -1,8 +1,8 @@
 use Rattle.std.proofs.Common.{refl, ap, sym, ◌∙◌}
 use Rattle.std.specs.List.{list_any}
-use Rattle.hla_federation.specs.MemberValue.{MemberValue, RoomyMember, RoomyMembers}
-use Rattle.hla_federation.specs.Members.{no_member}
-use Rattle.hla_federation.proofs.Names.{any_member, any_map}
+use Rattle.hla_federation.specs.Tables.MemberValue.{MemberValue, RoomyMember, RoomyMembers}
+use Rattle.hla_federation.specs.Tables.Members.{no_member}
+use Rattle.hla_federation.proofs.Tables.Finding.{any_member, any_map}
 use Rattle.hla_federation.proofs.members.Members.is_any_joined.Goals as goal
 
 pub returns : goal.returns

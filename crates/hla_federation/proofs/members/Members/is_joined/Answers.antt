@@ -1,6 +1,6 @@
 use Rattle.std.proofs.Common.{◌<◌, ◌+◌, length, ap, ◌∙◌, arith}
-use Rattle.hla_federation.specs.MemberValue.{MemberValue}
-use Rattle.hla_federation.proofs.RoomyLemmas.{read_shown, same_length}
+use Rattle.hla_federation.specs.Tables.MemberValue.{MemberValue}
+use Rattle.hla_federation.proofs.Tables.Rooms.{read_shown, same_length}
 use Rattle.hla_federation.proofs.members.Members.is_joined.Goals as goal
 
 pub returns : goal.returns

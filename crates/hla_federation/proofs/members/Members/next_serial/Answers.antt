@@ -1,6 +1,6 @@
 use Rattle.std.proofs.Common.{ap, ◌∙◌}
-use Rattle.hla_federation.specs.MemberValue.{MemberValue}
-use Rattle.hla_federation.proofs.RoomyLemmas.{read_shown}
+use Rattle.hla_federation.specs.Tables.MemberValue.{MemberValue}
+use Rattle.hla_federation.proofs.Tables.Rooms.{read_shown}
 use Rattle.hla_federation.proofs.members.Members.next_serial.Goals as goal
 
 pub returns : goal.returns

@@ -1,18 +1,18 @@
 use Rattle.std.proofs.Common.{◌≡◌, ◌++◌, ℕ, List, [], ap, ◌∙◌, arith}
 use Rattle.hla_base.specs.Tables.{upd2}
 use Rattle.hla_null_message.specs.declared.message.Message.{Message}
-use Rattle.hla_federation.specs.Items.{item}
-use Rattle.hla_federation.specs.Members.{MemberTables, tables_of, posted_below}
-use Rattle.hla_federation.specs.Wiring.{source, target}
-use Rattle.hla_federation.proofs.Tables.{upd_other}
-use Rattle.hla_federation.proofs.Posting.{posted_more, room_rest}
+use Rattle.hla_federation.specs.Tables.MemberValue.{item}
+use Rattle.hla_federation.specs.Tables.Members.{MemberTables, members_of, posted_below}
+use Rattle.hla_federation.specs.Tables.Wiring.{source, target}
+use Rattle.hla_base.proofs.Tables.{upd_other}
+use Rattle.hla_federation.proofs.Tables.Posting.{posted_more, room_rest}
 use Rattle.hla_federation.proofs.members.Members.post_all.Goals as goal
 
 pub loop-peer-preserved : goal.loop-peer-preserved
 loop-peer-preserved c =
     let o = item [] c.args.outbox in
     let peer = c.loop-peer.peer in
-    let old = tables_of c.args.self.now.shown in
+    let old = members_of c.args.self.now.shown in
     let messages : c.take-messages.result.items ≡ o peer = c.take-messages.ensures.messages ∙ c.loop-peer.invariant.others peer (omega arith) in
     let wires = rw (c.source.ensures, c.target.ensures) at c.append.ensures.wires in
     record {

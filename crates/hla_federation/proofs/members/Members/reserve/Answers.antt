@@ -1,4 +1,4 @@
-use Rattle.hla_federation.proofs.RoomyLemmas.{same_shown, room_here, rooms_grow}
+use Rattle.hla_federation.proofs.Tables.Rooms.{same_shown, room_here, rooms_grow}
 use Rattle.hla_federation.proofs.members.Members.reserve.Goals as goal
 
 pub returns-clause-same : goal.returns-clause-same

@@ -1,6 +1,6 @@
 use Rattle.std.proofs.Common.{◌≡◌, []}
-use Rattle.hla_federation.specs.Items.{item}
-use Rattle.hla_federation.specs.Members.{HasRoom}
+use Rattle.hla_federation.specs.Tables.MemberValue.{item}
+use Rattle.hla_federation.specs.Tables.Members.{HasRoom}
 use Rattle.hla_federation.proofs.members.Members.reserve_all.Given as goal
 
 -- there is room for those so far, and nothing else has changed

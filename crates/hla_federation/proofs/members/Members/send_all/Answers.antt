@@ -1,6 +1,6 @@
 use Rattle.std.proofs.Common.{◌+◌, ◌∙◌, ap}
 use Rattle.hla_base.specs.Tables.{upd}
-use Rattle.hla_federation.specs.Members.{MemberTables}
+use Rattle.hla_federation.specs.Tables.Members.{MemberTables}
 use Rattle.hla_federation.proofs.members.Members.send_all.Goals as goal
 
 pub count_messages-requires-clause-serials : goal.count_messages-requires-clause-serials

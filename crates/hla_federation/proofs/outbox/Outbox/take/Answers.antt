@@ -1,8 +1,8 @@
 use Rattle.std.proofs.Common.{◌≤◌, List, length, [], ap, ◌∙◌, arith}
 use Rattle.hla_null_message.specs.declared.message.Message.{Message}
 use Rattle.hla_base.specs.Tables.{upd}
-use Rattle.hla_federation.specs.Items.{item}
-use Rattle.hla_federation.proofs.MemberTables.{item-set}
+use Rattle.hla_federation.specs.Tables.MemberValue.{item}
+use Rattle.hla_federation.proofs.Tables.MemberTables.{item-set}
 use Rattle.hla_federation.proofs.outbox.Outbox.take.Goals as goal
 
 pub returns-clause-others : goal.returns-clause-others

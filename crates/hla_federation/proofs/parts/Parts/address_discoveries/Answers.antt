@@ -1,9 +1,9 @@
 use Rattle.std.proofs.Common.{[], ◌++◌, refl, sym, ◌∙◌}
 use Rattle.std.proofs.lemmas.List.{at_drop_all, append-nil}
-use Rattle.hla_federation.specs.Items.{item}
-use Rattle.hla_federation.specs.Discovering.{discovery_to}
-use Rattle.hla_federation.specs.Sending.{messages_among}
-use Rattle.hla_federation.proofs.Receivers.{put_more}
+use Rattle.hla_federation.specs.Tables.MemberValue.{item}
+use Rattle.hla_federation.specs.Steps.Discovering.{discovery_to}
+use Rattle.hla_federation.specs.Steps.Sending.{messages_among}
+use Rattle.hla_federation.proofs.Steps.Addressing.{put_more}
 use Rattle.hla_federation.proofs.parts.Parts.address_discoveries.Goals as goal
 
 pub loop-receiver-init : goal.loop-receiver-init

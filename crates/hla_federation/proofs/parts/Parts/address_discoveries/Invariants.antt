@@ -1,7 +1,7 @@
 use Rattle.std.proofs.Common.{◌≡◌, ℕ, [], ◌++◌, drop}
-use Rattle.hla_federation.specs.Items.{item}
-use Rattle.hla_federation.specs.Discovering.{discovery_to}
-use Rattle.hla_federation.specs.Sending.{messages_among}
+use Rattle.hla_federation.specs.Tables.MemberValue.{item}
+use Rattle.hla_federation.specs.Steps.Discovering.{discovery_to}
+use Rattle.hla_federation.specs.Steps.Sending.{messages_among}
 use Rattle.hla_federation.proofs.parts.Parts.address_discoveries.Given as goal
 
 -- with the messages for the receivers that are left, all are there

@@ -6,14 +6,14 @@ use Rattle.hla_base.specs.declared.content.Content.TheVariants as content
 use Rattle.hla_base.specs.declared.content.HandleValuePair.{HandleValuePair}
 use Rattle.hla_fed_file.specs.declared.declared.Order.TheVariants.{Receive}
 use Rattle.hla_declaration.specs.Declarations as declared
-use Rattle.hla_declaration.specs.Receivers.{receivers_of, served_interaction, IsReceiver}
+use Rattle.hla_declaration.specs.Receivers.{receivers_of, interaction_class_served, IsReceiver}
 use Rattle.hla_declaration.specs.declared.receiver.Receiver.{Receiver}
 use Rattle.hla_declaration.proofs.ReceiverLemmas.{interaction_receivers}
 use Rattle.hla_null_message.specs.declared.message.Message.{Message}
-use Rattle.hla_federation.specs.FederationValue.{FederationValue}
-use Rattle.hla_federation.specs.Items.{item}
-use Rattle.hla_federation.specs.Sending.{said, plain_event, messages_among}
-use Rattle.hla_federation.proofs.Addressing.{interaction_at, among-more, added_more, interaction_added}
+use Rattle.hla_federation.specs.Tables.FederationValue.{FederationValue}
+use Rattle.hla_federation.specs.Tables.MemberValue.{item}
+use Rattle.hla_federation.specs.Steps.Sending.{said, plain_event, messages_among}
+use Rattle.hla_federation.proofs.Steps.Addressing.{interaction_at, among-more, added_more, interaction_added}
 use Rattle.hla_federation.proofs.parts.Parts.address_interaction.Goals as goal
 
 pub loop-receiver-init : goal.loop-receiver-init
@@ -22,14 +22,14 @@ loop-receiver-init c = λ h. sym (append-nil (item [] c.args.outbox.now h))
 pub put-requires-clause-some : goal.put-requires-clause-some
 put-requires-clause-some c =
     let d = c.self.inside.declarations in
-    let n = (declared.tables_of d).federates in
+    let n = (declared.declarations_of d).federates in
     let all = subst (All (IsReceiver n c.args.sender)) (sym (c.as_slice-receiver-items.ensures ∙ c.in_ok-receivers.ensures.ok)) (interaction_receivers c.self.inside.catalogue d c.args.class c.args.sender) in
     (All-get_or (IsReceiver n c.args.sender) c.as_slice-receiver-items.result.now c.loop-receiver.receiver-index (record { federate = 0; class = 0 }) (omega arith) all).some
 
 pub put-requires-clause-within : goal.put-requires-clause-within
 put-requires-clause-within c =
     let d = c.self.inside.declarations in
-    let n = (declared.tables_of d).federates in
+    let n = (declared.declarations_of d).federates in
     let all = subst (All (IsReceiver n c.args.sender)) (sym (c.as_slice-receiver-items.ensures ∙ c.in_ok-receivers.ensures.ok)) (interaction_receivers c.self.inside.catalogue d c.args.class c.args.sender) in
     let joined = (All-get_or (IsReceiver n c.args.sender) c.as_slice-receiver-items.result.now c.loop-receiver.receiver-index (record { federate = 0; class = 0 }) (omega arith) all).joined in
     let same = ap (λ (v : FederationValue). length v.declarations.members) c.self.view_is in
@@ -55,5 +55,5 @@ returns-clause-ok c = λ h.
     c.loop-receiver.invariant h
     ∙ ap (λ (rs : List Receiver). item [] c.args.outbox.now h ++ messages_among made rs h)
     (all ∙ c.as_slice-receiver-items.ensures ∙ c.in_ok-receivers.ensures.ok
-    ∙ ap (λ (v : FederationValue). receivers_of (λ g. served_interaction v.catalogue (declared.tables_of v.declarations).subscribed_interaction g c.args.class) (declared.tables_of v.declarations).federates c.args.sender) c.self.view_is)
+    ∙ ap (λ (v : FederationValue). receivers_of (λ g. interaction_class_served v.catalogue (declared.declarations_of v.declarations).subscribed_interaction g c.args.class) (declared.declarations_of v.declarations).federates c.args.sender) c.self.view_is)
     ∙ ap (λ (ms : List Message). item [] c.args.outbox.now h ++ ms) (interaction_added c.args.self.now c.requires Receive c.args.sender c.args.serial c.args.class c.args.values.now h)

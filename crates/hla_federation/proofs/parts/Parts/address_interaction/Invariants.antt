@@ -1,6 +1,6 @@
 use Rattle.std.proofs.Common.{take}
-use Rattle.hla_federation.specs.Sending.{HasAdded, said, messages_among}
-use Rattle.hla_federation.proofs.Addressing.{interaction_at}
+use Rattle.hla_federation.specs.Steps.Sending.{HasAdded, said, messages_among}
+use Rattle.hla_federation.proofs.Steps.Addressing.{interaction_at}
 use Rattle.hla_federation.proofs.parts.Parts.address_interaction.Given as goal
 
 -- the interaction was added for the receivers so far

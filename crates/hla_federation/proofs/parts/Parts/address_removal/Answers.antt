@@ -4,11 +4,11 @@ use Rattle.hla_base.specs.declared.content.Content.TheVariants as content
 use Rattle.hla_fed_file.specs.declared.declared.Order.TheVariants.{Receive}
 use Rattle.hla_null_message.specs.declared.message.Message.{Message}
 use Rattle.hla_machine.specs.Directory.{ADeletion}
-use Rattle.hla_federation.specs.FederationValue.{FederationValue}
-use Rattle.hla_federation.specs.Items.{item}
-use Rattle.hla_federation.specs.Sending.{said, message_to}
-use Rattle.hla_federation.specs.State.{state_of}
-use Rattle.hla_federation.proofs.Addressing.{added_more, added_at, added_none, removal_to, removal_first, removal_last}
+use Rattle.hla_federation.specs.Tables.FederationValue.{FederationValue}
+use Rattle.hla_federation.specs.Tables.MemberValue.{item}
+use Rattle.hla_federation.specs.Steps.Sending.{said, message_to}
+use Rattle.hla_federation.specs.Steps.State.{state_of}
+use Rattle.hla_federation.proofs.Steps.Addressing.{added_more, added_at, added_none, removal_to, removal_first, removal_last}
 use Rattle.hla_federation.proofs.parts.Parts.address_removal.Goals as goal
 use Rattle.hla_federation.proofs.parts.Parts.address_removal.Goals.{then-receives_removal+in_ok-put, else-receives_removal}
 

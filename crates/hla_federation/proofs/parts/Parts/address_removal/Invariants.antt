@@ -1,8 +1,8 @@
 use Rattle.std.proofs.Common.{[], cond, ltb}
 use Rattle.hla_fed_file.specs.declared.declared.Order.TheVariants.{Receive}
 use Rattle.hla_machine.specs.Directory.{ADeletion}
-use Rattle.hla_federation.specs.Sending.{HasAdded, message_to}
-use Rattle.hla_federation.specs.State.{state_of}
+use Rattle.hla_federation.specs.Steps.Sending.{HasAdded, message_to}
+use Rattle.hla_federation.specs.Steps.State.{state_of}
 use Rattle.hla_federation.proofs.parts.Parts.address_removal.Given as goal
 
 -- the removal was added for the federates so far

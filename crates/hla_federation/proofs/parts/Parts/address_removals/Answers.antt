@@ -1,6 +1,6 @@
 use Rattle.std.proofs.Common.{refl, arith}
-use Rattle.hla_federation.specs.State.{state_of}
-use Rattle.hla_federation.proofs.Leaving.{removals_more}
+use Rattle.hla_federation.specs.Steps.State.{state_of}
+use Rattle.hla_federation.proofs.Steps.Resigning.{removals_more}
 use Rattle.hla_federation.proofs.parts.Parts.address_removals.Goals as goal
 
 pub loop-object-preserved : goal.loop-object-preserved

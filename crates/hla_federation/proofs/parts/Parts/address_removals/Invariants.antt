@@ -1,7 +1,7 @@
 use Rattle.std.proofs.Common.{◌≡◌, ◌+◌, take}
 use Rattle.hla_machine.specs.Directory.{deletions_sent}
-use Rattle.hla_federation.specs.Sending.{HasAdded, messages_to}
-use Rattle.hla_federation.specs.State.{state_of}
+use Rattle.hla_federation.specs.Steps.Sending.{HasAdded, messages_to}
+use Rattle.hla_federation.specs.Steps.State.{state_of}
 use Rattle.hla_federation.proofs.parts.Parts.address_removals.Given as goal
 
 -- the removals of the objects so far

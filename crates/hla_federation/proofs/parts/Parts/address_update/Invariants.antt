@@ -1,7 +1,7 @@
 use Rattle.std.proofs.Common.{take}
-use Rattle.hla_federation.specs.Sending.{HasAdded, said, messages_among}
-use Rattle.hla_federation.specs.State.{state_of}
-use Rattle.hla_federation.proofs.Addressing.{reflection_at}
+use Rattle.hla_federation.specs.Steps.Sending.{HasAdded, said, messages_among}
+use Rattle.hla_federation.specs.Steps.State.{state_of}
+use Rattle.hla_federation.proofs.Steps.Addressing.{reflection_at}
 use Rattle.hla_federation.proofs.parts.Parts.address_update.Given as goal
 
 -- the update was added for the receivers so far

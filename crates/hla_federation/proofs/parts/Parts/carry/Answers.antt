@@ -1,29 +1,28 @@
-use Rattle.std.proofs.Common.{◌≡◌, eqb, ltb, true, false, ℕ, Bool, refl, sym, ap, subst, ◌∙◌, arith}
-use Rattle.std.proofs.lemmas.Bool.Decides.{nat_tests}
+use Rattle.std.proofs.Common.{◌≡◌, ℕ, Bool, refl, sym, ap, subst, ◌∙◌}
 use Rattle.hla_machine.specs.declared.step.Step.TheVariants.{Carry}
 use Rattle.hla_machine.specs.declared.step.Carried.{Carried}
 use Rattle.hla_machine.specs.declared.step.Answer.TheVariants as answer
 use Rattle.hla_declaration.specs.Declarations as declared
 use Rattle.hla_declaration.specs.Declarations.{DeclarationsValue}
 use Rattle.hla_object_registry.specs.Registered.{registry_of}
-use Rattle.hla_federation.specs.Members.{MemberTables, tables_of, arrived}
-use Rattle.hla_federation.specs.Next.{next, answers}
-use Rattle.hla_federation.specs.State.{state_of, state_from}
-use Rattle.hla_federation.specs.FederationValue.{FederationValue}
-use Rattle.hla_federation.proofs.Doing.{does_next}
-use Rattle.hla_federation.proofs.StepStates.{came, unretracting, queued_same}
-use Rattle.hla_federation.proofs.Wholes.{whole_same}
+use Rattle.hla_federation.specs.Tables.Members.{MemberTables, members_of, with_arrival}
+use Rattle.hla_components.specs.Next.{next, answer_outcome}
+use Rattle.hla_federation.specs.Steps.State.{state_of, state_from}
+use Rattle.hla_federation.specs.Tables.FederationValue.{FederationValue}
+use Rattle.hla_federation.proofs.Steps.Doing.{does_next}
+use Rattle.hla_federation.proofs.Steps.Declaring.{came, unretracting, queued_same}
+use Rattle.hla_federation.proofs.Tables.Wholes.{whole_same}
 use Rattle.hla_federation.proofs.parts.Parts.carry.Goals as goal
 
 pub arrive-requires-clause-unretracting : goal.arrive-requires-clause-unretracting
 arrive-requires-clause-unretracting c =
     let sound = rw (← c.self.view_is) at c.requires in
-    unretracting c.self.inside.catalogue (declared.tables_of c.self.inside.declarations) (registry_of c.self.inside.registry) (tables_of c.self.inside.members.shown) c.args.from c.args.to sound.kept
+    unretracting c.self.inside.catalogue (declared.declarations_of c.self.inside.declarations) (registry_of c.self.inside.registry) (members_of c.self.inside.members.shown) c.args.from c.args.to sound.kept
 
 pub returns-clause-whole : goal.returns-clause-whole
 returns-clause-whole c =
     let whole = rw (← c.self.view_is) at c.requires.whole in
-    let old = tables_of c.self.inside.members.shown in
+    let old = members_of c.self.inside.members.shown in
     let state = c.in_ok-carried.ensures.state in
     let same = queued_same old c.args.from c.args.to (old.wire c.args.from c.args.to) in
     let joined = ap (λ (t : MemberTables). t.joined) state ∙ same.1 in
@@ -35,14 +34,11 @@ returns-clause-whole c =
 pub returns-clause-done : goal.returns-clause-done
 returns-clause-done c =
     let sound = rw (← c.self.view_is) at c.requires in
-    let old = tables_of c.self.inside.members.shown in
-    let joined : old.joined c.args.to ≡ true = sym c.is_joined.ensures ∙ c.if-not-is_joined.false in
-    let other : eqb c.args.from c.args.to ≡ false = grind (arith, nat_tests, c.if-from-to.false) in
-    let some : eqb c.args.from 0 ≡ false = grind (arith, nat_tests, c.if-from-eq0.false) in
-    let below : ltb c.args.from old.next_federate ≡ true = grind (arith, nat_tests, c.if-from-next_federate.false, c.next_federate.ensures.number) in
+    let old = members_of c.self.inside.members.shown in
+    let fault_is = rw (← c.self.view_is) at c.carry_fault.ensures in
     let small = rw c.in_ok-carried.ensures.answer at c.in_ok-carried.ensures.small in
-    subst (λ (v : FederationValue). next (state_of v) (Carry c.args.from c.args.to) ≡ answers (answer.Carried c.in_ok-carried.carried) (state_from c.self.inside.catalogue (declared.tables_of c.self.inside.declarations) (registry_of c.self.inside.registry) (tables_of c.arrive.new.self.shown)))
-    c.self.view_is (does_next (state_from c.self.inside.catalogue (declared.tables_of c.self.inside.declarations) (registry_of c.self.inside.registry) (tables_of c.self.inside.members.shown)) (Carry c.args.from c.args.to) (rw (joined, other, some, below) refl)
-    ∙ came c.self.inside.catalogue (declared.tables_of c.self.inside.declarations) (registry_of c.self.inside.registry) (tables_of c.self.inside.members.shown) c.args.from c.args.to (old.wire c.args.from c.args.to) refl (unretracting c.self.inside.catalogue (declared.tables_of c.self.inside.declarations) (registry_of c.self.inside.registry) (tables_of c.self.inside.members.shown) c.args.from c.args.to sound.kept) small
-    ∙ ap (λ (x : Carried). answers (answer.Carried x) (state_from c.self.inside.catalogue (declared.tables_of c.self.inside.declarations) (registry_of c.self.inside.registry) (arrived c.args.from c.args.to old))) (sym c.in_ok-carried.ensures.answer)
-    ∙ ap (λ (t : MemberTables). answers (answer.Carried c.in_ok-carried.carried) (state_from c.self.inside.catalogue (declared.tables_of c.self.inside.declarations) (registry_of c.self.inside.registry) t)) (sym c.in_ok-carried.ensures.state))
+    subst (λ (v : FederationValue). next (state_of v) (Carry c.args.from c.args.to) ≡ answer_outcome (answer.Carried c.in_ok-carried.carried) (state_from c.self.inside.catalogue (declared.declarations_of c.self.inside.declarations) (registry_of c.self.inside.registry) (members_of c.arrive.new.self.shown)))
+    c.self.view_is (does_next (state_from c.self.inside.catalogue (declared.declarations_of c.self.inside.declarations) (registry_of c.self.inside.registry) (members_of c.self.inside.members.shown)) (Carry c.args.from c.args.to) (sym fault_is ∙ c.in_default.is)
+    ∙ came c.self.inside.catalogue (declared.declarations_of c.self.inside.declarations) (registry_of c.self.inside.registry) (members_of c.self.inside.members.shown) c.args.from c.args.to (old.wire c.args.from c.args.to) refl (unretracting c.self.inside.catalogue (declared.declarations_of c.self.inside.declarations) (registry_of c.self.inside.registry) (members_of c.self.inside.members.shown) c.args.from c.args.to sound.kept) small
+    ∙ ap (λ (x : Carried). answer_outcome (answer.Carried x) (state_from c.self.inside.catalogue (declared.declarations_of c.self.inside.declarations) (registry_of c.self.inside.registry) (with_arrival c.args.from c.args.to old))) (sym c.in_ok-carried.ensures.answer)
+    ∙ ap (λ (t : MemberTables). answer_outcome (answer.Carried c.in_ok-carried.carried) (state_from c.self.inside.catalogue (declared.declarations_of c.self.inside.declarations) (registry_of c.self.inside.registry) t)) (sym c.in_ok-carried.ensures.state))

@@ -1,7 +1,7 @@
 use Rattle.std.proofs.Common.{◌≡◌, Bool, cond, true, false, refl, ap, sym, ◌∙◌}
 use mir.Val.{bool_byte}
-use Rattle.hla_federation.specs.State.{state_of}
-use Rattle.hla_federation.proofs.UpdateParts.{sum_is, length-update}
+use Rattle.hla_federation.specs.Steps.State.{state_of}
+use Rattle.hla_federation.proofs.Steps.Updates.{sum_is, length-update}
 use Rattle.hla_federation.proofs.parts.Parts.count_parts.Goals as goal
 
 byte_is : (b : Bool) → bool_byte b ≡ cond b 1 0

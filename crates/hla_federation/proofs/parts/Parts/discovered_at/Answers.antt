@@ -4,8 +4,8 @@ use Rattle.std.proofs.lemmas.Bool.Decides.{nat_tests}
 use Rattle.hla_fed_file.specs.Lookup.{object_lineage}
 use Rattle.hla_machine.specs.Directory.{Directory}
 use Rattle.hla_federation.specs.contracts.parts.Parts.{the_view}
-use Rattle.hla_federation.specs.State.{state_of}
-use Rattle.hla_federation.proofs.FoundObjects.{class_at}
+use Rattle.hla_federation.specs.Steps.State.{state_of}
+use Rattle.hla_federation.proofs.Steps.FoundObjects.{class_at}
 use Rattle.hla_federation.proofs.parts.Parts.discovered_at.Goals as goal
 
 pub returns : goal.returns

@@ -4,14 +4,14 @@ use Rattle.hla_machine.specs.declared.step.Answer.TheVariants as answer
 use Rattle.hla_declaration.specs.Declarations as declared
 use Rattle.hla_declaration.specs.Declarations.{DeclarationsValue}
 use Rattle.hla_object_registry.specs.Registered.{registry_of}
-use Rattle.hla_federation.specs.Members.{MemberTables, tables_of, admitted}
-use Rattle.hla_federation.specs.Next.{answers}
-use Rattle.hla_federation.specs.State.{state_from}
-use Rattle.hla_federation.proofs.Doing.{does_next}
+use Rattle.hla_federation.specs.Tables.Members.{MemberTables, members_of, with_member_admitted}
+use Rattle.hla_components.specs.Next.{answer_outcome}
+use Rattle.hla_federation.specs.Steps.State.{state_from}
+use Rattle.hla_federation.proofs.Steps.Doing.{does_next}
 use Rattle.hla_machine.specs.Directory.{default_name}
-use Rattle.hla_federation.specs.Federation.{Federation}
-use Rattle.hla_federation.proofs.StepStates.{joined_state}
-use Rattle.hla_federation.proofs.Wholes.{whole_admitted, few_joined}
+use Rattle.hla_components.specs.Components.{Components}
+use Rattle.hla_federation.proofs.Steps.Declaring.{joined_state}
+use Rattle.hla_federation.proofs.Tables.Wholes.{whole_admitted, few_joined}
 use Rattle.hla_federation.proofs.parts.Parts.join.Goals as goal
 
 pub returns-clause-whole : goal.returns-clause-whole
@@ -32,10 +32,10 @@ returns-clause-done c =
     let fault_is = rw (← c.self.view_is) at c.join_fault.ensures in
     let name : c.in_ok-member.member.shown.name ≡ c.args.name.now = ap (λ m. m.name) c.in_ok-member.ensures.ok ∙ c.in_ok-copied.ensures.ok in
     let members = rw (c.in_ok-reserve_one.ensures.same, name) at c.admit-2.ensures in
-    let old = tables_of c.self.inside.members.shown in
-    let new = admitted old c.args.name.now in
-    rw (← c.self.view_is) (does_next (state_from c.self.inside.catalogue (declared.tables_of c.self.inside.declarations) (registry_of c.self.inside.registry) (tables_of c.self.inside.members.shown)) (Join c.args.name.now) (sym fault_is ∙ c.in_default.is)
-    ∙ ap (λ (s : Federation). answers (answer.Federate old.next_federate) s) (joined_state c.self.inside.catalogue (declared.tables_of c.self.inside.declarations) (registry_of c.self.inside.registry) (tables_of c.self.inside.members.shown) c.args.name.now sound.kept)
-    ∙ ap (λ (n : ℕ). answers (answer.Federate n) (state_from c.self.inside.catalogue (record (declared.tables_of c.self.inside.declarations) { federates = (declared.tables_of c.self.inside.declarations).federates + 1 }) (registry_of c.self.inside.registry) new)) (sym c.next_federate-federate.ensures.number)
-    ∙ ap (λ (d : DeclarationsValue). answers (answer.Federate c.next_federate-federate.result) (state_from c.self.inside.catalogue d (registry_of c.self.inside.registry) new)) (sym c.in_ok-admit.ensures.ok)
-    ∙ ap (λ (t : MemberTables). answers (answer.Federate c.next_federate-federate.result) (state_from c.self.inside.catalogue (declared.tables_of c.admit.new.self) (registry_of c.self.inside.registry) t)) (sym members))
+    let old = members_of c.self.inside.members.shown in
+    let new = with_member_admitted old c.args.name.now in
+    rw (← c.self.view_is) (does_next (state_from c.self.inside.catalogue (declared.declarations_of c.self.inside.declarations) (registry_of c.self.inside.registry) (members_of c.self.inside.members.shown)) (Join c.args.name.now) (sym fault_is ∙ c.in_default.is)
+    ∙ ap (λ (s : Components). answer_outcome (answer.Federate old.next_federate) s) (joined_state c.self.inside.catalogue (declared.declarations_of c.self.inside.declarations) (registry_of c.self.inside.registry) (members_of c.self.inside.members.shown) c.args.name.now sound.kept)
+    ∙ ap (λ (n : ℕ). answer_outcome (answer.Federate n) (state_from c.self.inside.catalogue (record (declared.declarations_of c.self.inside.declarations) { federates = (declared.declarations_of c.self.inside.declarations).federates + 1 }) (registry_of c.self.inside.registry) new)) (sym c.next_federate-federate.ensures.number)
+    ∙ ap (λ (d : DeclarationsValue). answer_outcome (answer.Federate c.next_federate-federate.result) (state_from c.self.inside.catalogue d (registry_of c.self.inside.registry) new)) (sym c.in_ok-admit.ensures.ok)
+    ∙ ap (λ (t : MemberTables). answer_outcome (answer.Federate c.next_federate-federate.result) (state_from c.self.inside.catalogue (declared.declarations_of c.admit.new.self) (registry_of c.self.inside.registry) t)) (sym members))

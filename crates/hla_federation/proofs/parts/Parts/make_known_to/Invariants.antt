@@ -1,6 +1,6 @@
 use Rattle.std.proofs.Common.{◌≡◌, drop}
 use Rattle.hla_object_registry.specs.Registered.{registry_of}
-use Rattle.hla_federation.specs.Discovering.{known_among}
+use Rattle.hla_federation.specs.Steps.Discovering.{known_among}
 use Rattle.hla_federation.proofs.parts.Parts.make_known_to.Given as goal
 
 -- nothing but who knows what has changed, and it becomes right once the receivers that are left know the object

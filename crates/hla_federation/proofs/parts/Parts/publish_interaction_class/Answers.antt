@@ -1,7 +1,7 @@
-use Rattle.hla_federation.proofs.Wholes.{whole_published}
+use Rattle.hla_federation.proofs.Tables.Wholes.{whole_published}
 use Rattle.hla_federation.proofs.parts.Parts.publish_interaction_class.Goals as goal
 
 pub returns-clause-whole : goal.returns-clause-whole
 returns-clause-whole c =
-    let whole = rw (← c.self.view_is) at c.requires in
+    let whole = rw (← c.self.view_is) at c.requires.sound.whole in
     record { parts = rw c.publish_interaction_class.ensures (whole_published _ _ _ whole.parts _ _); named = whole.named }

@@ -8,23 +8,23 @@ use Rattle.hla_machine.specs.declared.step.Step.TheVariants.{Call}
 use Rattle.hla_machine.specs.declared.step.Answer.TheVariants as answer
 use Rattle.hla_machine.specs.Directory.{default_name, deletions_sent, objects_of}
 use Rattle.hla_machine.specs.Refusals.{refusal}
-use Rattle.hla_federation.specs.Federation.{Federation}
-use Rattle.hla_federation.specs.FederationValue.{FederationValue}
-use Rattle.hla_federation.specs.Items.{item}
-use Rattle.hla_federation.specs.Members.{MemberTables, tables_of, withdrawn}
-use Rattle.hla_federation.specs.Next.{answers, seen, leaves, sent_all}
-use Rattle.hla_federation.specs.Sending.{messages_to}
-use Rattle.hla_federation.specs.State.{state_of, state_from, directory_from}
-use Rattle.hla_federation.proofs.Doing.{does_next}
-use Rattle.hla_federation.proofs.Leaving.{resign_serials, resigned_state, resign_ways, joined_before, joined_below}
-use Rattle.hla_federation.proofs.Wholes.{whole_withdrawn}
+use Rattle.hla_components.specs.Components.{Components}
+use Rattle.hla_federation.specs.Tables.FederationValue.{FederationValue}
+use Rattle.hla_federation.specs.Tables.MemberValue.{item}
+use Rattle.hla_federation.specs.Tables.Members.{MemberTables, members_of, with_member_withdrawn}
+use Rattle.hla_components.specs.Next.{answer_outcome, components_seen, with_federate_gone, with_messages_sent}
+use Rattle.hla_federation.specs.Steps.Sending.{messages_to}
+use Rattle.hla_federation.specs.Steps.State.{state_of, state_from, directory_from}
+use Rattle.hla_federation.proofs.Steps.Doing.{does_next}
+use Rattle.hla_federation.proofs.Steps.Resigning.{resign_serials, resigned_state, resign_ways, joined_before, joined_below}
+use Rattle.hla_federation.proofs.Tables.Wholes.{whole_withdrawn}
 use Rattle.hla_federation.proofs.parts.Parts.resign.Goals as goal
 
 pub returns-clause-whole : goal.returns-clause-whole
 returns-clause-whole c =
-    let whole = rw (← c.self.view_is) at c.requires.whole in
-    let old = tables_of c.self.inside.members.shown in
-    let new = c.resign.ensures ∙ ap (λ (t : MemberTables). withdrawn t c.args.federate) c.in_ok-send_all.ensures.ok in
+    let whole = rw (← c.self.view_is) at c.requires.sound.whole in
+    let old = members_of c.self.inside.members.shown in
+    let new = c.resign.ensures ∙ ap (λ (t : MemberTables). with_member_withdrawn t c.args.federate) c.in_ok-send_all.ensures.ok in
     let joined = ap (λ (t : MemberTables). t.joined) new in
     record {
       parts = rw c.withdraw.ensures (whole_withdrawn _ _ old _ c.args.federate whole.parts (ap (λ (t : MemberTables). t.next_federate) new) joined);
@@ -34,38 +34,38 @@ returns-clause-whole c =
 pub returns-clause-done : goal.returns-clause-done
 returns-clause-done c =
     let f = c.args.federate in
-    let none : refusal (seen (state_of c.args.self.now)) (Call f (service.Resign c.args.action)) ≡ None = sym c.resign_fault.ensures ∙ c.in_default.is in
-    let old = tables_of c.self.inside.members.shown in
+    let none : refusal (components_seen (state_of c.args.self.now)) (Call f (service.Resign c.args.action)) ≡ None = sym c.resign_fault.ensures ∙ c.in_default.is in
+    let old = members_of c.self.inside.members.shown in
     let hs = c.in_ok-objects.objects in
     let o = item [] c.address_removals.new.outbox in
     let posted = rw (c.as_slice.ensures, c.next_serial-serial.ensures, ← c.self.view_is) at c.in_ok-address_removals.ensures.ok in
-    let is : (h : ℕ) → o h ≡ messages_to (directory_from c.self.inside.catalogue (declared.tables_of c.self.inside.declarations) (registry_of c.self.inside.registry) (tables_of c.self.inside.members.shown)) f (old.serial f) (deletions_sent hs) h = λ h. posted h
-    ∙ ap (λ (ms : List Message). ms ++ messages_to (directory_from c.self.inside.catalogue (declared.tables_of c.self.inside.declarations) (registry_of c.self.inside.registry) (tables_of c.self.inside.members.shown)) f (old.serial f) (deletions_sent hs) h) (c.in_ok-outbox.ensures.ok h) in
+    let is : (h : ℕ) → o h ≡ messages_to (directory_from c.self.inside.catalogue (declared.declarations_of c.self.inside.declarations) (registry_of c.self.inside.registry) (members_of c.self.inside.members.shown)) f (old.serial f) (deletions_sent hs) h = λ h. posted h
+    ∙ ap (λ (ms : List Message). ms ++ messages_to (directory_from c.self.inside.catalogue (declared.declarations_of c.self.inside.declarations) (registry_of c.self.inside.registry) (members_of c.self.inside.members.shown)) f (old.serial f) (deletions_sent hs) h) (c.in_ok-outbox.ensures.ok h) in
     let sent = rw c.len.ensures at c.in_ok-send_all.ensures.ok in
-    let members = c.resign.ensures ∙ ap (λ (t : MemberTables). withdrawn t f) sent in
-    let new = state_from c.self.inside.catalogue (declared.tables_of c.withdraw.new.self) (registry_of c.delete_owned_by.new.self) (tables_of c.resign.new.self.shown) in
-    let left : leaves (sent_all (state_from c.self.inside.catalogue (declared.tables_of c.self.inside.declarations) (registry_of c.self.inside.registry) (tables_of c.self.inside.members.shown)) f None (deletions_sent (objects_of (directory_from c.self.inside.catalogue (declared.tables_of c.self.inside.declarations) (registry_of c.self.inside.registry) (tables_of c.self.inside.members.shown)) f))) f ≡ new
-    = ap (λ (ks : List ℕ). leaves (sent_all (state_from c.self.inside.catalogue (declared.tables_of c.self.inside.declarations) (registry_of c.self.inside.registry) (tables_of c.self.inside.members.shown)) f None (deletions_sent ks)) f) (sym c.in_ok-objects.ensures.ok)
-    ∙ resigned_state c.self.inside.catalogue (declared.tables_of c.self.inside.declarations) (registry_of c.self.inside.registry) (tables_of c.self.inside.members.shown) f hs o is (joined_below c.self.inside.members.shown)
+    let members = c.resign.ensures ∙ ap (λ (t : MemberTables). with_member_withdrawn t f) sent in
+    let new = state_from c.self.inside.catalogue (declared.declarations_of c.withdraw.new.self) (registry_of c.delete_owned_by.new.self) (members_of c.resign.new.self.shown) in
+    let left : with_federate_gone (with_messages_sent (state_from c.self.inside.catalogue (declared.declarations_of c.self.inside.declarations) (registry_of c.self.inside.registry) (members_of c.self.inside.members.shown)) f None (deletions_sent (objects_of (directory_from c.self.inside.catalogue (declared.declarations_of c.self.inside.declarations) (registry_of c.self.inside.registry) (members_of c.self.inside.members.shown)) f))) f ≡ new
+    = ap (λ (ks : List ℕ). with_federate_gone (with_messages_sent (state_from c.self.inside.catalogue (declared.declarations_of c.self.inside.declarations) (registry_of c.self.inside.registry) (members_of c.self.inside.members.shown)) f None (deletions_sent ks)) f) (sym c.in_ok-objects.ensures.ok)
+    ∙ resigned_state c.self.inside.catalogue (declared.declarations_of c.self.inside.declarations) (registry_of c.self.inside.registry) (members_of c.self.inside.members.shown) f hs o is (joined_below c.self.inside.members.shown)
     ∙ (λ i. state_from c.self.inside.catalogue (sym c.withdraw.ensures i) (sym c.delete_owned_by.ensures i) (sym members i)) in
     does_next (state_of c.args.self.now) (Call f (service.Resign c.args.action)) none
-    ∙ ap (λ (s : Federation). answers answer.Done s) (resign_ways (state_of c.args.self.now) f c.args.action none
-    ∙ subst (λ (v : FederationValue). leaves (sent_all (state_of v) f None (deletions_sent (objects_of (state_of v).directory f))) f ≡ new) c.self.view_is left)
+    ∙ ap (λ (s : Components). answer_outcome answer.Done s) (resign_ways (state_of c.args.self.now) f c.args.action none
+    ∙ subst (λ (v : FederationValue). with_federate_gone (with_messages_sent (state_of v) f None (deletions_sent (objects_of (state_of v).directory f))) f ≡ new) c.self.view_is left)
 
 pub address_removals-requires-clause-serials : goal.address_removals-requires-clause-serials
 address_removals-requires-clause-serials c =
     let f = c.args.federate in
-    let none : refusal (seen (state_of c.args.self.now)) (Call f (service.Resign c.args.action)) ≡ None = sym c.resign_fault.ensures ∙ c.in_default.is in
-    let small : (tables_of c.self.inside.members.shown).serial f ≤ 18446744073709551615 = rw (← c.next_serial-serial.ensures) (omega (arith, c.next_serial-serial.type_inv)) in
-    let now = resign_serials (seen (state_of c.args.self.now)) f c.args.action (subst (λ (v : FederationValue). (tables_of v.members).serial f ≤ 18446744073709551615) c.self.view_is small) none in
-    let inside = subst (λ (v : FederationValue). (tables_of v.members).serial f + length (objects_of (state_of v).directory f) ≤ 18446744073709551615) (sym c.self.view_is) now in
+    let none : refusal (components_seen (state_of c.args.self.now)) (Call f (service.Resign c.args.action)) ≡ None = sym c.resign_fault.ensures ∙ c.in_default.is in
+    let small : (members_of c.self.inside.members.shown).serial f ≤ 18446744073709551615 = rw (← c.next_serial-serial.ensures) (omega (arith, c.next_serial-serial.type_inv)) in
+    let now = resign_serials (components_seen (state_of c.args.self.now)) f c.args.action (subst (λ (v : FederationValue). (members_of v.members).serial f ≤ 18446744073709551615) c.self.view_is small) none in
+    let inside = subst (λ (v : FederationValue). (members_of v.members).serial f + length (objects_of (state_of v).directory f) ≤ 18446744073709551615) (sym c.self.view_is) now in
     rw (c.as_slice.ensures, c.next_serial-serial.ensures, c.in_ok-objects.ensures.ok) inside
 
 pub send_all-requires-clause-serials : goal.send_all-requires-clause-serials
 send_all-requires-clause-serials c =
     let f = c.args.federate in
-    let none : refusal (seen (state_of c.args.self.now)) (Call f (service.Resign c.args.action)) ≡ None = sym c.resign_fault.ensures ∙ c.in_default.is in
-    let small : (tables_of c.self.inside.members.shown).serial f ≤ 18446744073709551615 = rw (← c.next_serial-serial.ensures) (omega (arith, c.next_serial-serial.type_inv)) in
-    let now = resign_serials (seen (state_of c.args.self.now)) f c.args.action (subst (λ (v : FederationValue). (tables_of v.members).serial f ≤ 18446744073709551615) c.self.view_is small) none in
-    let inside = subst (λ (v : FederationValue). (tables_of v.members).serial f + length (objects_of (state_of v).directory f) ≤ 18446744073709551615) (sym c.self.view_is) now in
+    let none : refusal (components_seen (state_of c.args.self.now)) (Call f (service.Resign c.args.action)) ≡ None = sym c.resign_fault.ensures ∙ c.in_default.is in
+    let small : (members_of c.self.inside.members.shown).serial f ≤ 18446744073709551615 = rw (← c.next_serial-serial.ensures) (omega (arith, c.next_serial-serial.type_inv)) in
+    let now = resign_serials (components_seen (state_of c.args.self.now)) f c.args.action (subst (λ (v : FederationValue). (members_of v.members).serial f ≤ 18446744073709551615) c.self.view_is small) none in
+    let inside = subst (λ (v : FederationValue). (members_of v.members).serial f + length (objects_of (state_of v).directory f) ≤ 18446744073709551615) (sym c.self.view_is) now in
     rw (c.len.ensures, c.in_ok-objects.ensures.ok) inside

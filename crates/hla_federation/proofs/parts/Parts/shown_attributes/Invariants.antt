@@ -1,6 +1,6 @@
 use Rattle.std.proofs.Common.{◌≡◌, take}
 use Rattle.hla_machine.specs.Directory.{subscribed_values}
-use Rattle.hla_federation.specs.State.{state_of}
+use Rattle.hla_federation.specs.Steps.State.{state_of}
 use Rattle.hla_federation.proofs.parts.Parts.shown_attributes.Given as goal
 
 -- what is shown of the values so far

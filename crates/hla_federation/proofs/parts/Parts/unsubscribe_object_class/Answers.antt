@@ -1,12 +1,8 @@
-use Rattle.std.proofs.Common.{sym, ◌∙◌}
-use Rattle.hla_federation.specs.Members.{tables_of}
-use Rattle.hla_federation.proofs.Doing.{joined_of}
-use Rattle.hla_federation.proofs.Wholes.{whole_subscribed}
+use Rattle.hla_federation.proofs.Tables.Wholes.{whole_subscribed}
 use Rattle.hla_federation.proofs.parts.Parts.unsubscribe_object_class.Goals as goal
 
 pub returns-clause-whole : goal.returns-clause-whole
 returns-clause-whole c =
-    let whole = rw (← c.self.view_is) at c.requires in
-    let fault_is = rw (← c.self.view_is) at c.unsubscribe_object_fault.ensures in
-    let joined = joined_of ((tables_of c.self.inside.members.shown).joined c.args.federate) _ _ (sym fault_is ∙ c.in_default.is) in
+    let whole = rw (← c.self.view_is) at c.requires.sound.whole in
+    let joined = rw (← c.self.view_is) at c.requires.joined in
     record { parts = rw c.unsubscribe_object_class.ensures (whole_subscribed _ _ _ whole.parts c.args.federate c.args.class joined _); named = whole.named }

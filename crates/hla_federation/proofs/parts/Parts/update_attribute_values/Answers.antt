@@ -9,13 +9,13 @@ use Rattle.hla_machine.specs.declared.service.Service.TheVariants as service
 use Rattle.hla_machine.specs.declared.step.Answer.TheVariants as answer
 use Rattle.hla_machine.specs.declared.step.Step.TheVariants.{Call}
 use Rattle.hla_federation.specs.declared.direction.Direction.TheVariants.{From}
-use Rattle.hla_federation.specs.FederationValue.{FederationValue}
-use Rattle.hla_federation.specs.Items.{item}
-use Rattle.hla_federation.specs.Members.{tables_of, posted_below}
-use Rattle.hla_federation.specs.Next.{answers, seen}
-use Rattle.hla_federation.specs.State.{IsWhole, state_of}
-use Rattle.hla_federation.proofs.Sent.{none_applies, sent_whole, sends_done}
-use Rattle.hla_federation.proofs.UpdateParts.{parts_counted, parts_added}
+use Rattle.hla_federation.specs.Tables.FederationValue.{FederationValue}
+use Rattle.hla_federation.specs.Tables.MemberValue.{item}
+use Rattle.hla_federation.specs.Tables.Members.{members_of, posted_below}
+use Rattle.hla_components.specs.Next.{answer_outcome, components_seen}
+use Rattle.hla_federation.specs.Steps.State.{IsWhole, state_of}
+use Rattle.hla_federation.proofs.Steps.Sent.{none_applies, sent_whole, sends_done}
+use Rattle.hla_federation.proofs.Steps.Updates.{parts_counted, parts_added}
 use Rattle.hla_federation.proofs.parts.Parts.update_attribute_values.Goals as goal
 
 pub send_all-requires-clause-serials : goal.send_all-requires-clause-serials
@@ -28,12 +28,12 @@ send_all-requires-clause-serials c =
     let by2 = c.as_slice-2.ensures ∙ c.in_ok-values.ensures.ok in
     let received = c.as_slice-3.ensures ∙ c.in_ok-received.ensures.ok ∙ ap (λ (vs : List HandleValuePair). values_of_order d Receive vs) by in
     let stamped = c.as_slice-4.ensures ∙ c.in_ok-stamped.ensures.ok ∙ ap (λ (vs : List HandleValuePair). values_of_order d Timestamp vs) by2 in
-    let many = parts_counted d f c.next_serial-serial.result ((tables_of now.members).serial f) c.args.object c.args.values.now c.as_slice-3.result.now c.as_slice-4.result.now c.in_ok-first.first c.in_ok-second.second received stamped c.in_ok-first.ensures.count c.in_ok-second.ensures.count in
-    let none : refusal (seen (state_of now)) (Call f (service.UpdateAttributeValues c.args.object c.args.values.now None)) ≡ None = sym c.update_fault.ensures ∙ c.in_default.is in
-    let left : ltb (max_time + 1) ((tables_of now.members).serial f + length outs) ≡ false = (none_applies (tests (seen (state_of now)) (Call f (service.UpdateAttributeValues c.args.object c.args.values.now None))) none).1.1.1.1.1.1.0 in
-    let same = ap (λ (v : FederationValue). (tables_of v.members).serial f) c.self.view_is in
-    let counted : (tables_of now.members).serial f + length outs ≤ 1000000000000000001 = grind (arith, nat_tests) in
-    let few : (tables_of now.members).serial f + length outs ≤ 18446744073709551615 = omega (arith, counted) in
+    let many = parts_counted d f c.next_serial-serial.result ((members_of now.members).serial f) c.args.object c.args.values.now c.as_slice-3.result.now c.as_slice-4.result.now c.in_ok-first.first c.in_ok-second.second received stamped c.in_ok-first.ensures.count c.in_ok-second.ensures.count in
+    let none : refusal (components_seen (state_of now)) (Call f (service.UpdateAttributeValues c.args.object c.args.values.now None)) ≡ None = sym c.update_fault.ensures ∙ c.in_default.is in
+    let left : ltb (max_time + 1) ((members_of now.members).serial f + length outs) ≡ false = (none_applies (tests (components_seen (state_of now)) (Call f (service.UpdateAttributeValues c.args.object c.args.values.now None))) none).1.1.1.1.1.1.0 in
+    let same = ap (λ (v : FederationValue). (members_of v.members).serial f) c.self.view_is in
+    let counted : (members_of now.members).serial f + length outs ≤ 1000000000000000001 = grind (arith, nat_tests) in
+    let few : (members_of now.members).serial f + length outs ≤ 18446744073709551615 = omega (arith, counted) in
     rw (same, many) few
 
 pub returns-clause-whole : goal.returns-clause-whole
@@ -46,15 +46,15 @@ returns-clause-whole c =
     let by2 = c.as_slice-2.ensures ∙ c.in_ok-values.ensures.ok in
     let received = c.as_slice-3.ensures ∙ c.in_ok-received.ensures.ok ∙ ap (λ (vs : List HandleValuePair). values_of_order d Receive vs) by in
     let stamped = c.as_slice-4.ensures ∙ c.in_ok-stamped.ensures.ok ∙ ap (λ (vs : List HandleValuePair). values_of_order d Timestamp vs) by2 in
-    let many = parts_counted d f c.next_serial-serial.result ((tables_of now.members).serial f) c.args.object c.args.values.now c.as_slice-3.result.now c.as_slice-4.result.now c.in_ok-first.first c.in_ok-second.second received stamped c.in_ok-first.ensures.count c.in_ok-second.ensures.count in
+    let many = parts_counted d f c.next_serial-serial.result ((members_of now.members).serial f) c.args.object c.args.values.now c.as_slice-3.result.now c.as_slice-4.result.now c.in_ok-first.first c.in_ok-second.second received stamped c.in_ok-first.ensures.count c.in_ok-second.ensures.count in
     let o = item [] c.address_part-2.new.outbox in
     let is = c.in_ok-send_all.ensures.ok
-    ∙ ap (λ (v : FederationValue). record (tables_of v.members) { serial = upd (tables_of v.members).serial f ((tables_of v.members).serial f + (c.in_ok-first.first + c.in_ok-second.second)); wire = posted_below (From f) o (tables_of v.members).next_federate (tables_of v.members).wire }) c.self.view_is in
-    let added = parts_added d f c.next_serial-serial.result ((tables_of now.members).serial f) c.args.object c.args.values.now c.as_slice-3.result.now c.as_slice-4.result.now c.in_ok-first.first c.in_ok-second.second received stamped c.in_ok-first.ensures.count c.in_ok-second.ensures.count
+    ∙ ap (λ (v : FederationValue). record (members_of v.members) { serial = upd (members_of v.members).serial f ((members_of v.members).serial f + (c.in_ok-first.first + c.in_ok-second.second)); wire = posted_below (From f) o (members_of v.members).next_federate (members_of v.members).wire }) c.self.view_is in
+    let added = parts_added d f c.next_serial-serial.result ((members_of now.members).serial f) c.args.object c.args.values.now c.as_slice-3.result.now c.as_slice-4.result.now c.in_ok-first.first c.in_ok-second.second received stamped c.in_ok-first.ensures.count c.in_ok-second.ensures.count
     c.in_ok-outbox.outbox c.address_part.new.outbox c.address_part-2.new.outbox c.in_ok-outbox.ensures.ok c.in_ok-first.ensures.ok c.in_ok-second.ensures.ok
-    (c.next_serial-serial.ensures ∙ ap (λ (v : FederationValue). (tables_of v.members).serial f) c.self.view_is) in
+    (c.next_serial-serial.ensures ∙ ap (λ (v : FederationValue). (members_of v.members).serial f) c.self.view_is) in
     subst (λ (v : FederationValue). IsWhole (record v { members = c.send_all.new.self.shown })) (sym c.self.view_is)
-    (sent_whole now f (c.in_ok-first.first + c.in_ok-second.second) outs o c.send_all.new.self.shown is many added c.requires.whole now.objects refl)
+    (sent_whole now f (c.in_ok-first.first + c.in_ok-second.second) outs o c.send_all.new.self.shown is many added c.requires.sound.whole now.objects refl)
 
 pub returns-clause-done : goal.returns-clause-done
 returns-clause-done c =
@@ -66,13 +66,13 @@ returns-clause-done c =
     let by2 = c.as_slice-2.ensures ∙ c.in_ok-values.ensures.ok in
     let received = c.as_slice-3.ensures ∙ c.in_ok-received.ensures.ok ∙ ap (λ (vs : List HandleValuePair). values_of_order d Receive vs) by in
     let stamped = c.as_slice-4.ensures ∙ c.in_ok-stamped.ensures.ok ∙ ap (λ (vs : List HandleValuePair). values_of_order d Timestamp vs) by2 in
-    let many = parts_counted d f c.next_serial-serial.result ((tables_of now.members).serial f) c.args.object c.args.values.now c.as_slice-3.result.now c.as_slice-4.result.now c.in_ok-first.first c.in_ok-second.second received stamped c.in_ok-first.ensures.count c.in_ok-second.ensures.count in
+    let many = parts_counted d f c.next_serial-serial.result ((members_of now.members).serial f) c.args.object c.args.values.now c.as_slice-3.result.now c.as_slice-4.result.now c.in_ok-first.first c.in_ok-second.second received stamped c.in_ok-first.ensures.count c.in_ok-second.ensures.count in
     let o = item [] c.address_part-2.new.outbox in
     let is = c.in_ok-send_all.ensures.ok
-    ∙ ap (λ (v : FederationValue). record (tables_of v.members) { serial = upd (tables_of v.members).serial f ((tables_of v.members).serial f + (c.in_ok-first.first + c.in_ok-second.second)); wire = posted_below (From f) o (tables_of v.members).next_federate (tables_of v.members).wire }) c.self.view_is in
-    let added = parts_added d f c.next_serial-serial.result ((tables_of now.members).serial f) c.args.object c.args.values.now c.as_slice-3.result.now c.as_slice-4.result.now c.in_ok-first.first c.in_ok-second.second received stamped c.in_ok-first.ensures.count c.in_ok-second.ensures.count
+    ∙ ap (λ (v : FederationValue). record (members_of v.members) { serial = upd (members_of v.members).serial f ((members_of v.members).serial f + (c.in_ok-first.first + c.in_ok-second.second)); wire = posted_below (From f) o (members_of v.members).next_federate (members_of v.members).wire }) c.self.view_is in
+    let added = parts_added d f c.next_serial-serial.result ((members_of now.members).serial f) c.args.object c.args.values.now c.as_slice-3.result.now c.as_slice-4.result.now c.in_ok-first.first c.in_ok-second.second received stamped c.in_ok-first.ensures.count c.in_ok-second.ensures.count
     c.in_ok-outbox.outbox c.address_part.new.outbox c.address_part-2.new.outbox c.in_ok-outbox.ensures.ok c.in_ok-first.ensures.ok c.in_ok-second.ensures.ok
-    (c.next_serial-serial.ensures ∙ ap (λ (v : FederationValue). (tables_of v.members).serial f) c.self.view_is) in
-    let none : refusal (seen (state_of now)) (Call f (service.UpdateAttributeValues c.args.object c.args.values.now None)) ≡ None = sym c.update_fault.ensures ∙ c.in_default.is in
+    (c.next_serial-serial.ensures ∙ ap (λ (v : FederationValue). (members_of v.members).serial f) c.self.view_is) in
+    let none : refusal (components_seen (state_of now)) (Call f (service.UpdateAttributeValues c.args.object c.args.values.now None)) ≡ None = sym c.update_fault.ensures ∙ c.in_default.is in
     rw none (sends_done now f (c.in_ok-first.first + c.in_ok-second.second) outs o c.send_all.new.self.shown is many added
-    ∙ ap (λ (v : FederationValue). answers (answer.Sent None) (state_of (record v { members = c.send_all.new.self.shown }))) (sym c.self.view_is))
+    ∙ ap (λ (v : FederationValue). answer_outcome (answer.Sent None) (state_of (record v { members = c.send_all.new.self.shown }))) (sym c.self.view_is))

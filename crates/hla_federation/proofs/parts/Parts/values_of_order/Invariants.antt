@@ -1,6 +1,6 @@
 use Rattle.std.proofs.Common.{◌≡◌, take}
 use Rattle.hla_machine.specs.Directory.{values_of_order}
-use Rattle.hla_federation.specs.State.{state_of}
+use Rattle.hla_federation.specs.Steps.State.{state_of}
 use Rattle.hla_federation.proofs.parts.Parts.values_of_order.Given as goal
 
 -- those of the order among the values so far

@@ -1,7 +1,7 @@
 use Rattle.std.proofs.Common.{◌<◌, length, ap, sym, subst, ◌∙◌, arith}
 use Rattle.hla_object_registry.specs.Registered.{registry_of}
 use Rattle.hla_object_registry.specs.Entries.{AreOwned}
-use Rattle.hla_object_registry.specs.Queries.{without_objects_of}
+use Rattle.hla_object_registry.specs.Queries.{without_owned}
 use Rattle.hla_object_registry.proofs.EntryLemmas.{length-registered, entry_withdrawn}
 use Rattle.hla_object_registry.proofs.Changes.{all_withdrawn}
 use Rattle.hla_object_registry.proofs.registry.Registry.delete_owned_by.Goals as goal
@@ -27,4 +27,4 @@ loop-place-preserved c =
 pub returns : goal.returns
 returns c =
     all_withdrawn c.args.federate c.loop-place.place _ _ c.loop-place.invariant (omega (arith, c.loop-place-test.false, c.len-place-end.ensures.len, length-registered c.self.inside.entries.entries))
-    ∙ ap (λ rs. without_objects_of (registry_of rs) c.args.federate) c.self.view_is
+    ∙ ap (λ rs. without_owned (registry_of rs) c.args.federate) c.self.view_is

@@ -1,0 +1,5 @@
+use Rattle.hla_components.proofs.Refinement.Counts.{each_counts}
+use Rattle.hla_components.proofs.headline.each_epoch_counts.Goals as goal
+
+pub returns : goal.returns
+returns c = λ catalogue steps. each_counts catalogue steps

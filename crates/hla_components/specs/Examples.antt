@@ -1,0 +1,8 @@
+-- The words in which examples are told
+pub mod Words
+-- Declarations, objects and receive order
+pub mod Objects
+-- Bounds, advances and queues
+pub mod Time
+-- Roles that change, the floor, and retraction
+pub mod Roles

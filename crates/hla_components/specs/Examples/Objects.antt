@@ -1,0 +1,144 @@
+-- Worked examples of declarations, objects and receive order
+use Rattle.std.specs.Prelude.{ℕ, ◌≡◌, Some, None, List, codes, [], ◌∷◌}
+use Rattle.hla_machine.specs.declared.service.Service.TheVariants as service
+use Rattle.hla_machine.specs.declared.service.ResignAction.TheVariants as action
+use Rattle.hla_machine.specs.declared.step.Answer.TheVariants as answer
+use Rattle.hla_machine.specs.declared.step.Carried.TheVariants as carried
+use Rattle.hla_base.specs.declared.fault.Fault.TheVariants as fault
+use Rattle.hla_callbacks.specs.declared.callback.Callback.TheVariants as callback
+use Rattle.hla_callbacks.specs.declared.callback.Delivery.TheVariants as delivery
+use Rattle.hla_machine.specs.declared.step.Step.TheVariants.{Join, Call, Carry, Announce, Tick}
+use Rattle.hla_machine.specs.declared.step.Step.{Step}
+use Rattle.hla_machine.specs.declared.step.Choice.TheVariants as choice
+use Rattle.hla_machine.specs.Runs.{Executions, no_executions, create_fault, destroy_fault, after_create, after_destroy, AllowedIn}
+use Rattle.hla_components.specs.Components.{Components, new_components}
+use Rattle.hla_components.specs.CentralOf.{central}
+use Rattle.hla_components.specs.Headline.{state_after}
+use Rattle.hla_components.specs.Examples.Words.{Shows, catalogue, ◌⟶◌, A, B, C, object_root, car, pos, paint, note, memo, hit, text, extra, pair, event, refused, answers, announces, brings, idle, told, sent, ok}
+
+-- an interaction comes at the class that its receiver subscribes, with what that class has
+abbrev pub Ancestor : Type 0
+Ancestor = Shows (
+    Join (codes "A") ⟶ answers (answer.Federate 1)
+    ∷ Join (codes "B") ⟶ answers (answer.Federate 2)
+    ∷ Call A (service.PublishInteractionClass memo) ⟶ ok
+    ∷ Call B (service.SubscribeInteractionClass note) ⟶ ok
+    ∷ Call A (service.SendInteraction memo (pair text (codes "a") ∷ pair extra (codes "b") ∷ []) None) ⟶ sent None
+    ∷ Carry A B ⟶ brings (carried.Event (event 1 1))
+    ∷ Tick B ⟶ told (callback.ReceiveInteraction note (pair text (codes "a") ∷ []) (event 1 1) delivery.Receive)
+    ∷ [])
+
+-- a constrained federate that asks for no advance is given receive order only with asynchronous delivery
+abbrev pub AsynchronousDelivery : Type 0
+AsynchronousDelivery = Shows (
+    Join (codes "A") ⟶ answers (answer.Federate 1)
+    ∷ Join (codes "B") ⟶ answers (answer.Federate 2)
+    ∷ Call A (service.PublishInteractionClass note) ⟶ ok
+    ∷ Call B (service.SubscribeInteractionClass note) ⟶ ok
+    ∷ Call B service.EnableTimeConstrained ⟶ ok
+    ∷ Tick B ⟶ told (callback.TimeConstrainedEnabled 0)
+    ∷ Call A (service.SendInteraction note (pair text (codes "hi") ∷ []) None) ⟶ sent None
+    ∷ Carry A B ⟶ brings (carried.Event (event 1 1))
+    ∷ Tick B ⟶ idle
+    ∷ Call B service.EnableAsynchronousDelivery ⟶ ok
+    ∷ Tick B ⟶ told (callback.ReceiveInteraction note (pair text (codes "hi") ∷ []) (event 1 1) delivery.Receive)
+    ∷ [])
+
+-- an update is cut by the orders of its attributes, and of two events with one stamp that of the lower sender comes first
+abbrev pub TwoOrdersAndATie : Type 0
+TwoOrdersAndATie = Shows (
+    Join (codes "A") ⟶ answers (answer.Federate 1)
+    ∷ Join (codes "B") ⟶ answers (answer.Federate 2)
+    ∷ Join (codes "C") ⟶ answers (answer.Federate 3)
+    ∷ Call A (service.PublishObjectClass car (pos ∷ paint ∷ [])) ⟶ ok
+    ∷ Call C (service.SubscribeObjectClassAttributes car (pos ∷ paint ∷ [])) ⟶ ok
+    ∷ Call B (service.PublishInteractionClass hit) ⟶ ok
+    ∷ Call C (service.SubscribeInteractionClass hit) ⟶ ok
+    ∷ Call A (service.EnableTimeRegulation 0 1) ⟶ ok
+    ∷ Tick A ⟶ told (callback.TimeRegulationEnabled 0)
+    ∷ Carry A C ⟶ brings (carried.Null 1)
+    ∷ Call B (service.EnableTimeRegulation 0 1) ⟶ ok
+    ∷ Tick B ⟶ told (callback.TimeRegulationEnabled 0)
+    ∷ Carry B C ⟶ brings (carried.Null 1)
+    ∷ Call C service.EnableTimeConstrained ⟶ ok
+    ∷ Tick C ⟶ told (callback.TimeConstrainedEnabled 0)
+    ∷ Call A (service.RegisterObjectInstance car None) ⟶ answers (answer.Registered 1 (codes "object-1"))
+    ∷ Call A (service.UpdateAttributeValues 1 (pair pos (codes "3") ∷ pair paint (codes "red") ∷ []) (Some 5)) ⟶ sent (Some (event 1 2))
+    ∷ Call B (service.SendInteraction hit [] (Some 5)) ⟶ sent (Some (event 2 1))
+    ∷ Call A (service.TimeAdvanceRequest 5) ⟶ ok
+    ∷ Call B (service.TimeAdvanceRequest 5) ⟶ ok
+    ∷ Announce A ⟶ announces (Some 6)
+    ∷ Announce B ⟶ announces (Some 6)
+    ∷ Carry B C ⟶ brings (carried.Event (event 2 1))
+    ∷ Carry B C ⟶ brings (carried.Null 6)
+    ∷ Carry A C ⟶ brings (carried.Discovery 1)
+    ∷ Carry A C ⟶ brings (carried.Event (event 1 1))
+    ∷ Carry A C ⟶ brings (carried.Event (event 1 2))
+    ∷ Carry A C ⟶ brings (carried.Null 6)
+    ∷ Call C (service.TimeAdvanceRequest 5) ⟶ ok
+    ∷ Tick C ⟶ told (callback.DiscoverObjectInstance 1 car (codes "object-1"))
+    ∷ Tick C ⟶ told (callback.ReflectAttributeValues 1 (pair paint (codes "red") ∷ []) (event 1 1) delivery.Receive)
+    ∷ Tick C ⟶ told (callback.ReflectAttributeValues 1 (pair pos (codes "3") ∷ []) (event 1 2) (delivery.TimeStamp 5))
+    ∷ Tick C ⟶ told (callback.ReceiveInteraction hit [] (event 2 1) (delivery.TimeStamp 5))
+    ∷ Tick C ⟶ told (callback.TimeAdvanceGrant 5)
+    ∷ [])
+
+-- joining under a name in use, resigning with objects, an action that is not offered, a federate that has resigned
+abbrev pub Refusals : Type 0
+Refusals = Shows (
+    Join (codes "A") ⟶ answers (answer.Federate 1)
+    ∷ Join (codes "A") ⟶ refused fault.FederateAlreadyExecutionMember
+    ∷ Call A (service.PublishObjectClass car (pos ∷ [])) ⟶ ok
+    ∷ Call A (service.RegisterObjectInstance car (Some (codes "x"))) ⟶ answers (answer.Registered 1 (codes "x"))
+    ∷ Call A (service.Resign action.NoAction) ⟶ refused fault.FederateOwnsAttributes
+    ∷ Call A (service.Resign action.ReleaseAttributes) ⟶ refused fault.InvalidResignAction
+    ∷ Call A (service.Resign action.DeleteObjects) ⟶ ok
+    ∷ Tick A ⟶ refused fault.FederateNotExecutionMember
+    ∷ [])
+
+-- who subscribes later discovers the object then, at the class that it subscribes
+abbrev pub LateSubscriber : Type 0
+LateSubscriber = Shows (
+    Join (codes "A") ⟶ answers (answer.Federate 1)
+    ∷ Join (codes "B") ⟶ answers (answer.Federate 2)
+    ∷ Call A (service.PublishObjectClass car (pos ∷ [])) ⟶ ok
+    ∷ Call A (service.RegisterObjectInstance car None) ⟶ answers (answer.Registered 1 (codes "object-1"))
+    ∷ Call B (service.SubscribeObjectClassAttributes object_root []) ⟶ ok
+    ∷ Carry A B ⟶ brings (carried.Discovery 1)
+    ∷ Tick B ⟶ told (callback.DiscoverObjectInstance 1 object_root (codes "object-1"))
+    ∷ Call A (service.GetObjectInstanceHandle (codes "object-1")) ⟶ answers (answer.Handle 1)
+    ∷ Call B (service.GetObjectInstanceName 1) ⟶ answers (answer.Name (codes "object-1"))
+    ∷ Call A (service.DeleteObjectInstance 1 None) ⟶ ok
+    ∷ Carry A B ⟶ brings (carried.Removal (event 1 1))
+    ∷ Tick B ⟶ told (callback.RemoveObjectInstance 1 (event 1 1) delivery.Receive)
+    ∷ Carry A B ⟶ brings carried.Nothing
+    ∷ Call B (service.UnsubscribeObjectClass object_root) ⟶ ok
+    ∷ Call A (service.UnpublishObjectClass car) ⟶ ok
+    ∷ Call A (service.PublishInteractionClass note) ⟶ ok
+    ∷ Call A (service.UnpublishInteractionClass note) ⟶ ok
+    ∷ Call A (service.UnpublishInteractionClass note) ⟶ refused fault.InteractionClassNotPublished
+    ∷ Call B (service.SubscribeInteractionClass note) ⟶ ok
+    ∷ Call B (service.UnsubscribeInteractionClass note) ⟶ ok
+    ∷ Call B (service.UnsubscribeInteractionClass note) ⟶ refused fault.InteractionClassNotSubscribed
+    ∷ [])
+
+abbrev pub play : List ℕ
+play = codes "play"
+
+-- the executions when that one was created, and when it was destroyed again
+abbrev pub with_play : Executions
+with_play = after_create no_executions play (Some catalogue)
+
+abbrev pub without_play : Executions
+without_play = after_destroy with_play play
+
+abbrev pub play_after : List Step → Components
+play_after steps = state_after (new_components catalogue) steps
+
+-- an execution is created once, and destroyed when no federate is joined; then nobody joins it
+pub record CreateAndDestroy : Type 0 where
+  pub created : create_fault no_executions play (Some catalogue) ≡ None
+  pub again : create_fault with_play play (Some catalogue) ≡ Some fault.FederationExecutionAlreadyExists
+  pub joined : destroy_fault (Some (central (play_after (Join (codes "A") ∷ [])))) ≡ Some fault.FederatesCurrentlyJoined
+  pub resigned : destroy_fault (Some (central (play_after (Join (codes "A") ∷ Call A (service.Resign action.DeleteObjects) ∷ [])))) ≡ None
+  pub gone : AllowedIn (without_play.execution play) (Join (codes "A")) (refused fault.FederationExecutionDoesNotExist) choice.None

@@ -1,0 +1,50 @@
+//! Plays each example and says whether its transcript is the expected one.
+//!
+//! It runs in the folder of the examples: for each name there is a script `NAME.script`, played over `text-f.fed`, and what it
+//! must print, `NAME.expected`.
+#![tactic(auto)]
+
+use hla_script::play;
+use std::process::ExitCode;
+use std::rt::Runtime;
+use std::{fs, io};
+
+/// The examples, by name.
+const NAMES: [&str; 3] = ["ancestor", "late_subscriber", "refusals"];
+
+/// The status where an example differs from what is expected, or could not be read.
+const DIFFERS: u8 = 1;
+
+/// Whether an example prints just what is expected.
+fn is_as_expected<R: Runtime + AllocGlobal>(rt: &R, name: &str) -> io::Result<bool> {
+    let alloc = rt.alloc();
+    let fed = fs::read_to_string(rt, "text-f.fed")?;
+    let script_name = format!(in alloc; "{name}.script")?;
+    let script = fs::read_to_string(rt, script_name.as_str())?;
+    let expected_name = format!(in alloc; "{name}.expected")?;
+    let expected = fs::read_to_string(rt, expected_name.as_str())?;
+    let mut transcript = Vec::new(alloc);
+    match play(alloc, fed.as_bytes(), script.as_bytes(), &mut transcript) {
+        Ok(_) => Ok(transcript.as_slice() == expected.as_bytes()),
+        Err(_) => Ok(false),
+    }
+}
+
+/// Plays all of them, and says of each whether it is as expected.
+fn play_all<R: Runtime + AllocGlobal>(rt: &R) -> io::Result<bool> {
+    let mut are_all = true;
+    for name in NAMES.iter() {
+        let is = is_as_expected(rt, name)?;
+        are_all = are_all && is;
+        let word = if is { "ok" } else { "differs" };
+        println!(rt; "{name} {word}")?;
+    }
+    Ok(are_all)
+}
+
+fn main(rt: HostRuntime) -> ExitCode {
+    match play_all(&rt) {
+        Ok(true) => ExitCode::SUCCESS,
+        _ => ExitCode::from(DIFFERS),
+    }
+}

@@ -1,0 +1,198 @@
+-- Resigning is what the next-state function says
+use Rattle.std.proofs.Common.{◌≡◌, ⊎_elim, ℕ, zero, suc, ◌+◌, ◌<◌, ◌≤◌, cond, eqb, ltb, not, ◌&&◌, Bool, true, false, None, Some, List, [], ◌∷◌, ◌++◌, length, take, get_or, refl, sym, ap, ◌∙◌, arith}
+use Rattle.std.proofs.lemmas.Bool.{cases_Bool}
+use Rattle.std.proofs.lemmas.Bool.Decides.{nat_tests}
+use Rattle.std.proofs.lemmas.List.{append-nil, append_assoc, take_more, get_or_past}
+use Rattle.std.proofs.Math.Path.{fun_ext}
+use Rattle.hla_base.specs.declared.fault.Fault.{Fault}
+use Rattle.hla_base.specs.declared.fault.Fault.TheVariants as fault
+use Rattle.hla_base.specs.Tables.{forever, upd, upd_row, clear, is_other}
+use Rattle.hla_base.specs.Rows.{new_row}
+use Rattle.hla_fed_file.specs.CatalogueValue.{CatalogueValue}
+use Rattle.hla_fed_file.specs.declared.declared.Order.TheVariants.{Receive}
+use Rattle.hla_declaration.specs.Declarations.{DeclarationsValue}
+use Rattle.hla_object_registry.specs.Registered.{RegistryValue}
+use Rattle.hla_object_registry.specs.Queries.{without_owned}
+use Rattle.hla_null_message.specs.declared.message.Message.{Message}
+use Rattle.hla_machine.specs.Directory.{Directory, Outgoing, ADeletion, deletions_sent, objects_of}
+use Rattle.hla_machine.specs.declared.service.Service.TheVariants as service
+use Rattle.hla_machine.specs.declared.service.ResignAction.{ResignAction}
+use Rattle.hla_machine.specs.declared.service.ResignAction.TheVariants.{ReleaseAttributes, DeleteObjects, DeleteObjectsAndReleaseAttributes, NoAction}
+use Rattle.hla_machine.specs.declared.step.Step.TheVariants.{Call}
+use Rattle.hla_machine.specs.Refusals.{Seen, refusal}
+use Rattle.hla_federation.specs.declared.direction.Direction.TheVariants.{From}
+use Rattle.hla_components.specs.Components.{Components}
+use Rattle.hla_federation.specs.Tables.MemberValue.{item, MemberValue}
+use Rattle.hla_federation.specs.Tables.Members.{no_member, MemberTables, members_of, is_number, posted_below, with_member_withdrawn}
+use Rattle.hla_components.specs.Next.{with_federate_gone, with_messages_sent, with_federate_resigned, components_seen}
+use Rattle.hla_federation.specs.Steps.Sending.{HasAdded, message_to, messages_to}
+use Rattle.hla_federation.specs.Steps.State.{state_from, directory_from}
+use Rattle.hla_federation.proofs.Tables.MemberTables.{upd-self}
+use Rattle.hla_federation.proofs.Steps.SendingAll.{sent_wire, sent_all-plain}
+use Rattle.hla_federation.proofs.Steps.Declaring.{and-false}
+
+-- ---- The deletions of a federate that resigns
+-- there is one for each object
+pub count_deletions : (hs : List ℕ) → length (deletions_sent hs) ≡ length hs
+count_deletions [] = refl
+count_deletions (h ∷ hs) = rw (count_deletions hs) refl
+
+-- resigning with them is refused where there are no serials for them
+pub delete_refusal : (s : Seen) (f : ℕ) (b : Bool) → s.directory.joined f ≡ true → ltb 1000000000000000001 (s.serial f + length (objects_of s.directory f)) ≡ b
+    → refusal s (Call f (service.Resign DeleteObjects)) ≡ cond b (Some fault.LimitReached) None
+delete_refusal s f b joined over = rw (joined, count_deletions (objects_of s.directory f), over) refl
+
+-- ---- removals one after another
+messages-append : (d : Directory) (f m : ℕ) (xs ys : List Outgoing) (h : ℕ) → messages_to d f m (xs ++ ys) h ≡ messages_to d f m xs h ++ messages_to d f (m + length xs) ys h
+messages-append d f m [] ys h = ap (λ (n : ℕ). messages_to d f n ys h) (omega arith)
+messages-append d f m (x ∷ xs) ys h =
+    let serials : m + 1 + length xs ≡ m + length (x ∷ xs) = omega arith in
+    ap (λ (ms : List Message). message_to d f m x h ++ ms) (messages-append d f (m + 1) xs ys h ∙ ap (λ (n : ℕ). messages_to d f (m + 1) xs h ++ messages_to d f n ys h) serials)
+    ∙ sym (append_assoc (message_to d f m x h) (messages_to d f (m + 1) xs h) (messages_to d f (m + length (x ∷ xs)) ys h))
+
+deletions-append : (xs ys : List ℕ) → deletions_sent (xs ++ ys) ≡ deletions_sent xs ++ deletions_sent ys
+deletions-append [] ys = refl
+deletions-append (x ∷ xs) ys = rw (deletions-append xs ys) refl
+
+deletions-length : (xs : List ℕ) → length (deletions_sent xs) ≡ length xs
+deletions-length [] = refl
+deletions-length (x ∷ xs) = rw (deletions-length xs) refl
+
+take-length : (xs : List ℕ) (k : ℕ) → k ≤ length xs → length (take k xs) ≡ k
+take-length xs zero b = refl
+take-length [] (suc k) b = absurd (omega (arith, b))
+take-length (x ∷ xs) (suc k) b = let rest = take-length xs k (omega (arith, b)) in omega (arith, rest)
+
+-- those of one object more
+pub removals_more : (d : Directory) (f serial k : ℕ) (hs : List ℕ) (h next : ℕ) (first old new : List (List Message)) → k < length hs → h ≡ get_or hs k 0 → next ≡ serial + k
+    → HasAdded (messages_to d f serial (deletions_sent (take k hs))) first old
+    → HasAdded (message_to d f next (record { order = Receive; body = ADeletion h })) old new
+    → HasAdded (messages_to d f serial (deletions_sent (take (k + 1) hs))) first new
+removals_more d f serial k hs h next first old new b read next_is before more g =
+    let one = deletions_sent (h ∷ []) in
+    let all : deletions_sent (take (k + 1) hs) ≡ deletions_sent (take k hs) ++ one = ap deletions_sent (take_more hs k 0 b ∙ ap (λ (x : ℕ). take k hs ++ x ∷ []) (sym read)) ∙ deletions-append (take k hs) (h ∷ []) in
+    let count : serial + length (deletions_sent (take k hs)) ≡ next = omega (arith, next_is, deletions-length (take k hs), take-length hs k (omega (arith, b))) in
+    let last_announced : messages_to d f (serial + length (deletions_sent (take k hs))) one g ≡ message_to d f next (record { order = Receive; body = ADeletion h }) g
+    = ap (λ (n : ℕ). messages_to d f n one g) count ∙ append-nil (message_to d f next (record { order = Receive; body = ADeletion h }) g) in
+    more g ∙ ap (λ (ms : List Message). ms ++ message_to d f next (record { order = Receive; body = ADeletion h }) g) (before g)
+    ∙ append_assoc (item [] first g) (messages_to d f serial (deletions_sent (take k hs)) g) (message_to d f next (record { order = Receive; body = ADeletion h }) g)
+    ∙ ap (λ (ms : List Message). item [] first g ++ ms) (ap (λ (ms : List Message). messages_to d f serial (deletions_sent (take k hs)) g ++ ms) (sym last_announced)
+    ∙ sym (messages-append d f serial (deletions_sent (take k hs)) one g) ∙ ap (λ (outs : List Outgoing). messages_to d f serial outs g) (sym all))
+
+-- ---- who is joined has a number
+pub joined_below : (members : List MemberValue) (f : ℕ) → (members_of members).joined f ≡ true → is_number (length members + 1) f ≡ true
+joined_below members zero y = absurd (cc)
+joined_below members (suc k) y = ⊎_elim
+    (λ (l : ltb (suc k) (length members + 1) ≡ true). let some : eqb (suc k) 0 ≡ false = grind (arith, nat_tests) in rw (some, l) refl)
+    (λ (n : ltb (suc k) (length members + 1) ≡ false).
+    let past : length members ≤ k = grind (arith, nat_tests, n) in
+    let none : (members_of members).joined (suc k) ≡ false = ap (λ (m : MemberValue). m.joined) (get_or_past members k no_member past) in
+    absurd (cc))
+    (cases_Bool (ltb (suc k) (length members + 1)))
+
+-- ---- what is posted is what is sent
+messages_none : (d : Directory) (f m : ℕ) (outs : List Outgoing) (h : ℕ) → d.joined h ≡ false → messages_to d f m outs h ≡ []
+messages_none d f m [] h away = refl
+messages_none d f m (out ∷ outs) h away = rw (away, and-false, messages_none d f (m + 1) outs h away) refl
+
+pub posted_sent : (d : Directory) (f m : ℕ) (outs : List Outgoing) (next : ℕ) (wire : ℕ → ℕ → List Message) (o : ℕ → List Message) → ((h : ℕ) → o h ≡ messages_to d f m outs h)
+    → ((h : ℕ) → d.joined h ≡ true → is_number next h ≡ true) → posted_below (From f) o next wire ≡ sent_wire d f m outs wire
+posted_sent d f m outs next wire o is numbers = fun_ext (λ g. fun_ext (λ h. at g h))
+  where
+    at : (g h : ℕ) → posted_below (From f) o next wire g h ≡ sent_wire d f m outs wire g h
+    at g h = ⊎_elim
+        (λ (y : eqb f g ≡ true). ⊎_elim
+        (λ (z : is_number next h ≡ true). rw (y, z) (ap (λ (ms : List Message). wire g h ++ ms) (is h)))
+        (λ (z : is_number next h ≡ false).
+        let away : d.joined h ≡ false = ⊎_elim (λ (j : d.joined h ≡ true). let t = numbers h j in absurd (cc)) (λ (n : d.joined h ≡ false). n) (cases_Bool (d.joined h)) in
+        rw (y, z, messages_none d f m outs h away) (sym (append-nil (wire g h))))
+        (cases_Bool (is_number next h)))
+        (λ (n : eqb f g ≡ false). rw n refl)
+        (cases_Bool (eqb f g))
+
+-- ---- leaving
+same_row : (wire : ℕ → ℕ → List Message) (joined : ℕ → Bool) (f : ℕ) → upd_row wire joined f (λ _ ms. ms) ≡ wire
+unfolding upd_row
+same_row wire joined f = fun_ext (λ g. fun_ext (λ h. ⊎_elim
+    (λ (y : eqb f g && is_other joined f h ≡ true). rw y refl)
+    (λ (n : eqb f g && is_other joined f h ≡ false). rw n refl)
+    (cases_Bool (eqb f g && is_other joined f h))))
+
+module _ (c : CatalogueValue) (d : DeclarationsValue) (r : RegistryValue) (m : MemberTables) (f : ℕ) where
+  abbrev pub withdrawn_declarations : DeclarationsValue
+  withdrawn_declarations = record d { published = upd d.published f (λ _. None); subscribed = upd d.subscribed f (λ _. None); published_interaction = upd d.published_interaction f (λ _. false); subscribed_interaction = upd d.subscribed_interaction f (λ _. false) }
+
+  pub left_state : with_federate_gone (state_from c d r m) f ≡ state_from c withdrawn_declarations (without_owned r f) (with_member_withdrawn m f)
+  left_state = λ i. record (state_from c withdrawn_declarations (without_owned r f) (with_member_withdrawn m f)) {
+    row = upd-self (λ _. new_row) f new_row refl i;
+    last_announced = upd-self (λ _. forever) f forever refl i;
+    tso = upd-self (λ _. []) f [] refl i;
+    wire = clear (same_row m.wire m.joined f i) f [];
+  }
+
+-- with the deletions before
+module _ (c : CatalogueValue) (d : DeclarationsValue) (r : RegistryValue) (m : MemberTables) (f : ℕ) (hs : List ℕ) (o : ℕ → List Message)
+    (is : (h : ℕ) → o h ≡ messages_to (directory_from c d r m) f (m.serial f) (deletions_sent hs) h) (numbers : (h : ℕ) → m.joined h ≡ true → is_number m.next_federate h ≡ true) where
+  abbrev sent_members : MemberTables
+  sent_members = record m { serial = upd m.serial f (m.serial f + length (deletions_sent hs)); wire = sent_wire (directory_from c d r m) f (m.serial f) (deletions_sent hs) m.wire }
+
+  pub resigned_state : with_federate_gone (with_messages_sent (state_from c d r m) f None (deletions_sent hs)) f
+      ≡ state_from c (withdrawn_declarations c d r m f) (without_owned r f) (with_member_withdrawn (record m { serial = upd m.serial f (m.serial f + length hs); wire = posted_below (From f) o m.next_federate m.wire }) f)
+  resigned_state =
+      ap (λ (s : Components). with_federate_gone s f) (sent_all-plain (state_from c d r m) f (deletions_sent hs) refl (λ g k. refl))
+      ∙ left_state c d r sent_members f
+      ∙ (λ i. state_from c (withdrawn_declarations c d r m f) (without_owned r f) (with_member_withdrawn (record m {
+        serial = upd m.serial f (m.serial f + deletions-length hs i);
+        wire = sym (posted_sent (directory_from c d r m) f (m.serial f) (deletions_sent hs) m.next_federate m.wire o is numbers) i;
+      }) f))
+
+-- ---- in which way it may resign
+no_objects : (hs : List ℕ) → ltb 0 (length hs) ≡ false → hs ≡ []
+no_objects [] e = refl
+no_objects (h ∷ hs) e = absurd (grind (arith, nat_tests))
+
+refused_way : (b : Bool) (e : Fault) → cond (not b) (Some fault.FederateNotExecutionMember) (Some e) ≡ None → ⊥
+refused_way true e none = absurd (cc)
+refused_way false e none = absurd (cc)
+
+no_action : (b owns : Bool) → cond (not b) (Some fault.FederateNotExecutionMember) (cond owns (Some fault.FederateOwnsAttributes) None) ≡ None → owns ≡ false
+no_action true true none = absurd (cc)
+no_action true false none = refl
+no_action false owns none = absurd (cc)
+
+-- without objects there is nothing to delete
+pub resign_ways : (s : Components) (f : ℕ) (way : ResignAction) → refusal (components_seen s) (Call f (service.Resign way)) ≡ None
+    → with_federate_resigned s f way ≡ with_federate_gone (with_messages_sent s f None (deletions_sent (objects_of s.directory f))) f
+resign_ways s f DeleteObjects none = refl
+resign_ways s f NoAction none = ap (λ (hs : List ℕ). with_federate_gone (with_messages_sent s f None (deletions_sent hs)) f)
+    (sym (no_objects (objects_of s.directory f) (no_action (s.directory.joined f) (ltb 0 (length (objects_of s.directory f))) none)))
+resign_ways s f ReleaseAttributes none = absurd (refused_way (s.directory.joined f) fault.InvalidResignAction none)
+resign_ways s f DeleteObjectsAndReleaseAttributes none = absurd (refused_way (s.directory.joined f) fault.InvalidResignAction none)
+
+-- who is not among the joined any more was before
+pub joined_before : (joined : ℕ → Bool) (f g : ℕ) → upd joined f false g ≡ true → joined g ≡ true
+unfolding upd
+joined_before joined f g y = ⊎_elim
+    (λ (e : eqb f g ≡ true). let t = rw e at y in absurd (cc))
+    (λ (n : eqb f g ≡ false). rw n at y)
+    (cases_Bool (eqb f g))
+
+-- the serials that it needs are there
+not_over : (b over : Bool) → cond (not b) (Some fault.FederateNotExecutionMember) (cond over (Some fault.LimitReached) None) ≡ None → over ≡ false
+not_over true true none = absurd (cc)
+not_over true false none = refl
+not_over false over none = absurd (cc)
+
+within_serials : (serial n : ℕ) → ltb 1000000000000000001 (serial + n) ≡ false → serial + n ≤ 18446744073709551615
+within_serials serial n under = grind (arith, nat_tests)
+
+pub resign_serials : (s : Seen) (f : ℕ) (way : ResignAction) → s.serial f ≤ 18446744073709551615 → refusal s (Call f (service.Resign way)) ≡ None
+    → s.serial f + length (objects_of s.directory f) ≤ 18446744073709551615
+resign_serials s f DeleteObjects small none =
+    let under = not_over (s.directory.joined f) (ltb 1000000000000000001 (s.serial f + length (deletions_sent (objects_of s.directory f)))) none in
+    within_serials (s.serial f) (length (objects_of s.directory f)) (ap (λ (n : ℕ). ltb 1000000000000000001 (s.serial f + n)) (sym (deletions-length (objects_of s.directory f))) ∙ under)
+resign_serials s f NoAction small none =
+    let empty = no_objects (objects_of s.directory f) (no_action (s.directory.joined f) (ltb 0 (length (objects_of s.directory f))) none) in
+    omega (arith, small, ap (λ (hs : List ℕ). length hs) empty)
+resign_serials s f ReleaseAttributes small none = absurd (refused_way (s.directory.joined f) fault.InvalidResignAction none)
+resign_serials s f DeleteObjectsAndReleaseAttributes small none = absurd (refused_way (s.directory.joined f) fault.InvalidResignAction none)

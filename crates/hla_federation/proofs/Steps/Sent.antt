@@ -1,0 +1,128 @@
+-- A federation's parts after messages were sent from its outbox
+use Rattle.std.proofs.Common.{◌≡◌, ℕ, ◌+◌, List, [], ◌∷◌, ◌++◌, length, cond, eqb, not, true, false, Bool, Option, None, Some, refl, sym, ap, subst, ◌∙◌, arith, ⊎_elim}
+use Rattle.std.proofs.Math.Bool.{and-false}
+use Rattle.std.proofs.lemmas.Bool.{cases_Bool}
+use Rattle.std.proofs.lemmas.List.{append-nil, append_assoc}
+use Rattle.std.proofs.Math.Path.{fun_ext}
+use Rattle.hla_base.specs.declared.fault.Fault.{Fault}
+use Rattle.hla_base.specs.declared.number.EventHandle.{EventHandle}
+use Rattle.hla_base.specs.Tables.{upd}
+use Rattle.hla_declaration.specs.Declarations as declared
+use Rattle.hla_object_registry.specs.Registered.{Registered, RegistryValue, registry_of}
+use Rattle.hla_null_message.specs.declared.message.Message.{Message}
+use Rattle.hla_machine.specs.declared.step.Answer.TheVariants as answer
+use Rattle.hla_machine.specs.Directory.{Directory, Outgoing, default_name, without_object}
+use Rattle.hla_machine.specs.Refusals.{Test, first_fault}
+use Rattle.hla_federation.specs.declared.direction.Direction.TheVariants.{From}
+use Rattle.hla_components.specs.Components.{Components}
+use Rattle.hla_federation.specs.Tables.FederationValue.{FederationValue}
+use Rattle.hla_federation.specs.Tables.MemberValue.{item, MemberValue}
+use Rattle.hla_federation.specs.Tables.Members.{MemberTables, members_of, posted_below, is_number, AreQuiet}
+use Rattle.hla_components.specs.Next.{answer_outcome, send_outcome, with_messages_sent, with_directory}
+use Rattle.hla_federation.specs.Steps.Sending.{HasAdded, message_to, messages_to}
+use Rattle.hla_federation.specs.Steps.State.{AreWhole, IsWhole, state_of, state_from}
+use Rattle.hla_federation.proofs.Steps.Addressing.{joined_number}
+use Rattle.hla_federation.proofs.Steps.SendingAll.{sent_wire, sent_all-plain, no_handle}
+
+-- ---- what the outbox has
+pub one_added : (d : Directory) (f n m : ℕ) (out : Outgoing) (old new : List (List Message)) → AreQuiet old → HasAdded (message_to d f n out) old new → n ≡ m
+    → (h : ℕ) → item [] new h ≡ messages_to d f m (out ∷ []) h
+one_added d f n m out old new quiet added same h =
+    added h
+    ∙ ap (λ (ms : List Message). ms ++ message_to d f n out h) (quiet h)
+    ∙ ap (λ (k : ℕ). message_to d f k out h) same
+    ∙ sym (append-nil (message_to d f m out h))
+
+messages_append : (d : Directory) (f n : ℕ) (outs more : List Outgoing) (h : ℕ) → messages_to d f n (outs ++ more) h ≡ messages_to d f n outs h ++ messages_to d f (n + length outs) more h
+messages_append d f n [] more h = let same : n + 0 ≡ n = omega arith in rw same refl
+messages_append d f n (out ∷ outs) more h =
+    let same : n + 1 + length outs ≡ n + length (out ∷ outs) = omega arith in
+    ap (λ (ms : List Message). message_to d f n out h ++ ms) (messages_append d f (n + 1) outs more h ∙ ap (λ (k : ℕ). messages_to d f (n + 1) outs h ++ messages_to d f k more h) same)
+    ∙ sym (append_assoc (message_to d f n out h) (messages_to d f (n + 1) outs h) (messages_to d f (n + length (out ∷ outs)) more h))
+
+pub two_added : (d : Directory) (f n m k : ℕ) (outs more : List Outgoing) (old middle new : List (List Message)) → AreQuiet old → HasAdded (messages_to d f n outs) old middle
+    → HasAdded (messages_to d f k more) middle new → n ≡ m → k ≡ n + length outs → (h : ℕ) → item [] new h ≡ messages_to d f m (outs ++ more) h
+two_added d f n m k outs more old middle new quiet first second same next h =
+    second h
+    ∙ ap (λ (ms : List Message). ms ++ messages_to d f k more h) (first h ∙ ap (λ (ms : List Message). ms ++ messages_to d f n outs h) (quiet h))
+    ∙ ap (λ (j : ℕ). messages_to d f n outs h ++ messages_to d f j more h) next
+    ∙ sym (messages_append d f n outs more h)
+    ∙ ap (λ (j : ℕ). messages_to d f j (outs ++ more) h) same
+
+-- who is not joined is sent nothing
+nothing_to : (d : Directory) (f n : ℕ) (outs : List Outgoing) (h : ℕ) → d.joined h ≡ false → messages_to d f n outs h ≡ []
+nothing_to d f n [] h left = refl
+nothing_to d f n (out ∷ outs) h left = rw (left, and-false (not (eqb f h))) (nothing_to d f (n + 1) outs h left)
+
+-- ---- the state after the messages were put on their wires and counted
+module _ (v : FederationValue) (f n : ℕ) (outs : List Outgoing) (o : ℕ → List Message) (members : List MemberValue)
+    (is : members_of members ≡ record (members_of v.members) { serial = upd (members_of v.members).serial f ((members_of v.members).serial f + n); wire = posted_below (From f) o (members_of v.members).next_federate (members_of v.members).wire })
+    (many : n ≡ length outs)
+    (added : (h : ℕ) → o h ≡ messages_to (state_of v).directory f ((members_of v.members).serial f) outs h) where
+  wire_at : (g h : ℕ) → sent_wire (state_of v).directory f ((members_of v.members).serial f) outs (members_of v.members).wire g h
+      ≡ posted_below (From f) o (members_of v.members).next_federate (members_of v.members).wire g h
+  wire_at g h = ⊎_elim
+      (λ (y : eqb f g ≡ true). ⊎_elim
+      (λ (z : (members_of v.members).joined h ≡ true). let number = joined_number v.members h z in rw (y, number, added h) refl)
+      (λ (z : (members_of v.members).joined h ≡ false).
+      let none = nothing_to (state_of v).directory f ((members_of v.members).serial f) outs h z in
+      let same = added h ∙ none in
+      rw (y, none, same, append-nil ((members_of v.members).wire g h)) (sym (either (is_number (members_of v.members).next_federate h) ((members_of v.members).wire g h))))
+      (cases_Bool ((members_of v.members).joined h)))
+      (λ (no : eqb f g ≡ false). rw no refl)
+      (cases_Bool (eqb f g))
+    where
+      either : (b : Bool) (ms : List Message) → cond b ms ms ≡ ms
+      either true ms = refl
+      either false ms = refl
+
+  pub sent_state : with_messages_sent (state_of v) f None outs ≡ state_of (record v { members = members })
+  sent_state =
+      let m = members_of v.members in
+      let r = registry_of v.objects in
+      let d = declared.declarations_of v.declarations in
+      sent_all-plain (state_of v) f outs refl (λ g k. refl)
+      ∙ (λ i. state_from v.catalogue d r (record m {
+        serial = upd m.serial f (m.serial f + sym many i);
+        wire = fun_ext (λ g. fun_ext (λ h. wire_at g h)) i;
+      }))
+      ∙ ap (λ (t : MemberTables). state_from v.catalogue d r t) (sym is)
+
+  pub sent_whole : IsWhole v → (objects : List Registered) → (registry_of objects).next_object ≡ (registry_of v.objects).next_object → IsWhole (record v { objects = objects; members = members })
+  sent_whole whole objects same = record {
+    parts = subst (λ (t : MemberTables). AreWhole v.catalogue (declared.declarations_of v.declarations) t) (sym is) (record {
+      few = whole.parts.few;
+      federates = whole.parts.federates;
+      object_classes = whole.parts.object_classes;
+      interaction_classes = whole.parts.interaction_classes;
+      silent = whole.parts.silent;
+    });
+    named = subst (λ (t : MemberTables). (g : ℕ) → t.joined g ≡ true → v.next_name ≡ default_name (registry_of objects).next_object) (sym is)
+        (λ g y. whole.named g y ∙ ap default_name (sym same));
+  }
+
+  pub sends_done : send_outcome (state_of v) f None outs ≡ answer_outcome (answer.Sent None) (state_of (record v { members = members }))
+  sends_done =
+      ap (λ (x : Option EventHandle). answer_outcome (answer.Sent x) (with_messages_sent (state_of v) f None outs)) (no_handle f ((members_of v.members).serial f) outs)
+      ∙ ap (λ (s : Components). answer_outcome (answer.Sent None) s) sent_state
+
+  -- and an object does not exist any more
+  pub deletes_state : (object : ℕ) (objects : List Registered)
+      → registry_of objects ≡ record (registry_of v.objects) { object = upd (registry_of v.objects).object object (record ((registry_of v.objects).object object) { exists = false }) }
+      → with_directory (with_messages_sent (state_of v) f None outs) (without_object (with_messages_sent (state_of v) f None outs).directory object) ≡ state_of (record v { objects = objects; members = members })
+  deletes_state object objects gone =
+      ap (λ (s : Components). with_directory s (without_object s.directory object)) sent_state
+      ∙ ap (λ (r : RegistryValue). state_from v.catalogue (declared.declarations_of v.declarations) r (members_of members)) (sym gone)
+
+-- ---- where nothing is refused, no test applies
+abbrev pub NoneApplies : List Test → Type 0
+NoneApplies [] = Unit {0}
+NoneApplies (t ∷ ts) = (t.applies ≡ false) × NoneApplies ts
+
+cond_none : (b : Bool) (e : Fault) (o : Option Fault) → cond b (Some e) o ≡ None → (b ≡ false) × (o ≡ None)
+cond_none true e o none = absurd (cc)
+cond_none false e o none = (refl, none)
+
+pub none_applies : (ts : List Test) → first_fault ts ≡ None → NoneApplies ts
+none_applies [] none = tt
+none_applies (t ∷ ts) none = let parts = cond_none t.applies t.fault (first_fault ts) none in (parts.0, none_applies ts parts.1)

@@ -1,0 +1,236 @@
+-- The tables that a list of members stands for, after a change of the list
+use Rattle.std.proofs.Common.{◌≡◌, ◌≢◌, ℕ, zero, suc, ◌+◌, ◌-◌, ◌<◌, ◌≤◌, List, [], ◌∷◌, ◌++◌, length, get_or, set, drop, cond, eqb, ◌&&◌, true, false, refl, sym, ap, ◌∙◌, arith, length-set, length-append, get_or-set_same, get_or-set_other, ⊎_elim}
+use Rattle.std.proofs.lemmas.Bool.{cases_Bool, cases_eq}
+use Rattle.std.proofs.lemmas.Bool.Decides.{nat_tests}
+use Rattle.std.proofs.lemmas.List.{get_or_default, get_or_past}
+use Rattle.std.proofs.Math.Path.{fun_ext}
+use Rattle.hla_base.specs.Tables.{upd, upd2, clear}
+use Rattle.hla_null_message.specs.declared.message.Message.{Message}
+use Rattle.hla_null_message.specs.declared.message.Message.TheVariants as message
+use Rattle.hla_order_queues.specs.declared.control.Control.{Control}
+use Rattle.hla_order_queues.specs.declared.control.Control.TheVariants.{ToDiscover}
+use Rattle.hla_federation.specs.Tables.MemberValue.{item, MemberValue}
+use Rattle.hla_federation.specs.Tables.Members.{no_member, MemberTables, members_of, new_member, AreQuiet, with_member_admitted, with_member_withdrawn, member_receiving, with_arrival, with_first_picked}
+use Rattle.hla_federation.specs.Steps.Picking.{left_at}
+
+-- a list with another item is a table with another item
+pub item-set : {X : Type 0} (d : X) (xs : List X) (f : ℕ) (x : X) → 0 < f → f ≤ length xs → item d (set xs (f - 1) x) ≡ upd (item d xs) f x
+unfolding upd
+item-set d xs zero x some within = absurd (omega arith)
+item-set d xs (suc k) x some within = let at : suc k - 1 ≡ k = omega arith in rw at (fun_ext (λ g. each g))
+  where
+    each : (g : ℕ) → item d (set xs k x) g ≡ cond (eqb (suc k) g) x (item d xs g)
+    each zero = let n : eqb (suc k) 0 ≡ false = grind (arith, nat_tests) in rw n refl
+    each (suc j) = ⊎_elim
+        (λ (e : k ≡ j). let y : eqb (suc k) (suc j) ≡ true = grind (arith, nat_tests) in rw (y, ← e) (get_or-set_same xs k x d (omega (arith, within))))
+        (λ (ne : k ≢ j). let n : eqb (suc k) (suc j) ≡ false = grind (arith, nat_tests) in let back : j ≢ k = λ e. ne (sym e) in rw n (get_or-set_other xs k j x d back))
+        (cases_eq k j)
+
+-- a list with one more item
+get_or-push : {X : Type 0} (xs : List X) (x d : X) (k : ℕ) → get_or (xs ++ x ∷ []) k d ≡ cond (eqb (length xs) k) x (get_or xs k d)
+get_or-push [] x d zero = refl
+get_or-push [] x d (suc k) = let n : eqb 0 (suc k) ≡ false = grind (arith, nat_tests) in rw n refl
+get_or-push (y ∷ ys) x d zero = let n : eqb (suc (length ys)) 0 ≡ false = grind (arith, nat_tests) in rw n refl
+get_or-push (y ∷ ys) x d (suc k) = get_or-push ys x d k ∙ (let e : eqb (suc (length ys)) (suc k) ≡ eqb (length ys) k = grind (arith, nat_tests) in rw e refl)
+
+pub item-push : {X : Type 0} (d : X) (xs : List X) (x : X) → item d (xs ++ x ∷ []) ≡ upd (item d xs) (length xs + 1) x
+unfolding upd
+item-push d xs x = fun_ext (λ g. each g)
+  where
+    each : (g : ℕ) → item d (xs ++ x ∷ []) g ≡ cond (eqb (length xs + 1) g) x (item d xs g)
+    each zero = let n : eqb (length xs + 1) 0 ≡ false = grind (arith, nat_tests) in rw n refl
+    each (suc k) = get_or-push xs x d k ∙ (let e : eqb (length xs + 1) (suc k) ≡ eqb (length xs) k = grind (arith, nat_tests) in rw e refl)
+
+-- an item outside the list
+pub item-past : {X : Type 0} (d : X) (xs : List X) → item d xs (length xs + 1) ≡ d
+item-past d xs = let e : length xs + 1 ≡ suc (length xs) = omega arith in rw e (get_or_past xs (length xs) d (omega arith))
+
+-- a field of the items of a table with another item
+pub upd-field : {X Y : Type 0} (p : X → Y) (t : ℕ → X) (f : ℕ) (x : X) → (λ g. p (upd t f x g)) ≡ upd (λ g. p (t g)) f (p x)
+unfolding upd
+upd-field p t f x = fun_ext (λ g. ⊎_elim (λ (y : eqb f g ≡ true). rw y refl) (λ (n : eqb f g ≡ false). rw n refl) (cases_Bool (eqb f g)))
+
+-- a table that is written what it has
+pub upd-self : {X : Type 0} (t : ℕ → X) (f : ℕ) (x : X) → x ≡ t f → upd t f x ≡ t
+unfolding upd
+upd-self t f x same = fun_ext (λ g. ⊎_elim
+    (λ (y : eqb f g ≡ true). let e : f ≡ g = grind (arith, nat_tests) in rw y (same ∙ ap t e))
+    (λ (n : eqb f g ≡ false). rw n refl)
+    (cases_Bool (eqb f g)))
+
+-- what a read of the list gives is the item with the number
+pub item_read : {X : Type 0} (d : X) (xs : List X) (f : ℕ) (y : X) → 0 < f → f ≤ length xs → y ≡ get_or xs (f - 1) y → y ≡ item d xs f
+item_read d xs zero y some within e = absurd (omega (arith, some))
+item_read d xs (suc k) y some within e =
+    let at : suc k - 1 ≡ k = omega arith in
+    let read = rw at at e in read ∙ get_or_default xs k y d (omega (arith, within))
+
+-- ---- one member changes
+module _ (members : List MemberValue) (f : ℕ) (x : MemberValue) (some : 0 < f) (within : f ≤ length members) where
+  field : {Y : Type 0} (p : MemberValue → Y) → (λ g. p (item no_member (set members (f - 1) x) g)) ≡ upd (λ g. p (item no_member members g)) f (p x)
+  field p = (λ i. λ g. p (item-set no_member members f x some within i g)) ∙ upd-field p (item no_member members) f x
+
+  pub changed : members_of (set members (f - 1) x) ≡ record {
+    next_federate = length members + 1;
+    joined = upd (members_of members).joined f x.joined;
+    name = upd (members_of members).name f x.name;
+    serial = upd (members_of members).serial f x.next_serial;
+    ro = upd (members_of members).ro f x.received;
+    controls = upd (members_of members).controls f x.controls;
+    wire = λ g. upd ((members_of members).wire g) f (item [] x.incoming g);
+  }
+  changed = λ i. record {
+    next_federate = length-set members (f - 1) x i + 1;
+    joined = field (λ m. m.joined) i;
+    name = field (λ m. m.name) i;
+    serial = field (λ m. m.next_serial) i;
+    ro = field (λ m. m.received) i;
+    controls = field (λ m. m.controls) i;
+    wire = λ g. field (λ m. item [] m.incoming g) i;
+  }
+
+-- one wire of a table of wires
+pub upd-wire : {X : Type 0} (t : ℕ → ℕ → X) (g f : ℕ) (x : X) → (λ h. upd (t h) f (upd (λ k. t k f) g x h)) ≡ upd2 t g f x
+unfolding upd upd2
+upd-wire t g f x = fun_ext (λ h. fun_ext (λ k. at h k))
+  where
+    at : (h k : ℕ) → cond (eqb f k) (cond (eqb g h) x (t h f)) (t h k) ≡ cond (eqb g h && eqb f k) x (t h k)
+    at h k = ⊎_elim
+        (λ (y : eqb f k ≡ true). let e : f ≡ k = grind (arith, nat_tests) in ⊎_elim
+        (λ (z : eqb g h ≡ true). rw (y, z) refl)
+        (λ (z : eqb g h ≡ false). rw (y, z) (ap (t h) e))
+        (cases_Bool (eqb g h)))
+        (λ (n : eqb f k ≡ false). ⊎_elim
+        (λ (z : eqb g h ≡ true). rw (n, z) refl)
+        (λ (z : eqb g h ≡ false). rw (n, z) refl)
+        (cases_Bool (eqb g h)))
+        (cases_Bool (eqb f k))
+
+pub upd-clear : {X : Type 0} (t : ℕ → ℕ → X) (f : ℕ) (x : X) → (λ h. upd (t h) f x) ≡ clear t f x
+unfolding upd clear
+upd-clear t f x = refl
+
+module _ (members : List MemberValue) (f : ℕ) (some : 0 < f) (within : f ≤ length members) where
+  abbrev m : MemberValue
+  m = item no_member members f
+
+  abbrev t : MemberTables
+  t = members_of members
+
+  keep : {Y : Type 0} (p : MemberValue → Y) → upd (λ g. p (item no_member members g)) f (p m) ≡ (λ g. p (item no_member members g))
+  keep p = upd-self (λ g. p (item no_member members g)) f (p m) refl
+
+  keep_wire : (λ g. upd (t.wire g) f (item [] m.incoming g)) ≡ t.wire
+  keep_wire = fun_ext (λ g. upd-self (t.wire g) f (item [] m.incoming g) refl)
+
+  pub counted : (n : ℕ) → members_of (set members (f - 1) (record m { next_serial = n })) ≡ record t { serial = upd t.serial f n }
+  counted n = changed members f (record m { next_serial = n }) some within ∙ (λ i. record {
+    next_federate = t.next_federate;
+    joined = keep (λ x. x.joined) i;
+    name = keep (λ x. x.name) i;
+    serial = upd t.serial f n;
+    ro = keep (λ x. x.received) i;
+    controls = keep (λ x. x.controls) i;
+    wire = keep_wire i;
+  })
+
+  pub left : (ks : List Control) → m.controls ≡ ks → members_of (set members (f - 1) (left_at m ks)) ≡ with_first_picked t f ks
+  left [] is = changed members f (left_at m []) some within ∙ (λ i. record {
+    next_federate = t.next_federate;
+    joined = keep (λ x. x.joined) i;
+    name = keep (λ x. x.name) i;
+    serial = keep (λ x. x.next_serial) i;
+    ro = upd t.ro f (drop 1 m.received);
+    controls = keep (λ x. x.controls) i;
+    wire = keep_wire i;
+  })
+  left (k ∷ ks) is = changed members f (left_at m (k ∷ ks)) some within ∙ (λ i. record {
+    next_federate = t.next_federate;
+    joined = keep (λ x. x.joined) i;
+    name = keep (λ x. x.name) i;
+    serial = keep (λ x. x.next_serial) i;
+    ro = keep (λ x. x.received) i;
+    controls = upd t.controls f ks;
+    wire = keep_wire i;
+  })
+
+  wires_after : (g : ℕ) (incoming : List (List Message)) (ms : List Message) → item [] incoming ≡ upd (item [] m.incoming) g ms
+      → (λ h. upd (t.wire h) f (item [] incoming h)) ≡ upd2 t.wire g f ms
+  wires_after g incoming ms is = (λ i. λ h. upd (t.wire h) f (is i h)) ∙ upd-wire t.wire g f ms
+
+  pub put : (g : ℕ) (incoming : List (List Message)) (ms : List Message) → item [] incoming ≡ upd (item [] m.incoming) g ms
+      → members_of (set members (f - 1) (record m { incoming = incoming })) ≡ record t { wire = upd2 t.wire g f ms }
+  put g incoming ms is = changed members f (record m { incoming = incoming }) some within ∙ (λ i. record {
+    next_federate = t.next_federate;
+    joined = keep (λ x. x.joined) i;
+    name = keep (λ x. x.name) i;
+    serial = keep (λ x. x.next_serial) i;
+    ro = keep (λ x. x.received) i;
+    controls = keep (λ x. x.controls) i;
+    wire = wires_after g incoming ms is i;
+  })
+
+  pub came : (g : ℕ) (incoming : List (List Message)) (ms : List Message) → t.wire g f ≡ ms → item [] incoming ≡ upd (item [] m.incoming) g (drop 1 ms)
+      → members_of (set members (f - 1) (record (member_receiving g m ms) { incoming = incoming })) ≡ with_arrival g f t
+  came g incoming [] wire is = put g incoming [] is ∙ rw wire refl
+  came g incoming (message.Event e ∷ ms) wire is = changed members f (record m { received = m.received ++ e ∷ []; incoming = incoming }) some within ∙ rw wire (λ i. record {
+    next_federate = t.next_federate;
+    joined = keep (λ x. x.joined) i;
+    name = keep (λ x. x.name) i;
+    serial = keep (λ x. x.next_serial) i;
+    ro = upd t.ro f (m.received ++ e ∷ []);
+    controls = keep (λ x. x.controls) i;
+    wire = wires_after g incoming ms is i;
+  })
+  came g incoming (message.Null k v ∷ ms) wire is = put g incoming ms is ∙ rw wire refl
+  came g incoming (message.Retraction n ∷ ms) wire is = put g incoming ms is ∙ rw wire refl
+  came g incoming (message.Discovery d ∷ ms) wire is = changed members f (record m { controls = m.controls ++ ToDiscover g d ∷ []; incoming = incoming }) some within ∙ rw wire (λ i. record {
+    next_federate = t.next_federate;
+    joined = keep (λ x. x.joined) i;
+    name = keep (λ x. x.name) i;
+    serial = keep (λ x. x.next_serial) i;
+    ro = keep (λ x. x.received) i;
+    controls = upd t.controls f (m.controls ++ ToDiscover g d ∷ []);
+    wire = wires_after g incoming ms is i;
+  })
+
+  pub left_all : (incoming : List (List Message)) → AreQuiet incoming
+      → members_of (set members (f - 1) (record m { joined = false; received = []; controls = []; incoming = incoming })) ≡ with_member_withdrawn t f
+  left_all incoming quiet = changed members f (record m { joined = false; received = []; controls = []; incoming = incoming }) some within ∙ (λ i. record {
+    next_federate = t.next_federate;
+    joined = upd t.joined f false;
+    name = keep (λ x. x.name) i;
+    serial = keep (λ x. x.next_serial) i;
+    ro = upd t.ro f [];
+    controls = upd t.controls f [];
+    wire = ((λ j. λ h. upd (t.wire h) f (quiet h j)) ∙ upd-clear t.wire f []) i;
+  })
+
+-- ---- one more member
+module _ (members : List MemberValue) (name : List ℕ) (incoming : List (List Message)) (quiet : AreQuiet incoming) where
+  abbrev n : ℕ
+  n = length members + 1
+
+  abbrev x : MemberValue
+  x = new_member name incoming
+
+  pushed : {Y : Type 0} (p : MemberValue → Y) → (λ g. p (item no_member (members ++ x ∷ []) g)) ≡ upd (λ g. p (item no_member members g)) n (p x)
+  pushed p = (λ i. λ g. p (item-push no_member members x i g)) ∙ upd-field p (item no_member members) n x
+
+  same : {Y : Type 0} (p : MemberValue → Y) → p x ≡ p no_member → ◌≡◌ {A = ℕ → Y} (λ g. p (item no_member (members ++ x ∷ []) g)) (λ g. p (item no_member members g))
+  same p is = pushed p ∙ upd-self (λ g. p (item no_member members g)) n (p x) (is ∙ sym (ap p (item-past no_member members)))
+
+  no_wires : (g : ℕ) → item {X = List Message} [] [] g ≡ []
+  no_wires zero = refl
+  no_wires (suc k) = refl
+
+  pub joined : members_of (members ++ x ∷ []) ≡ with_member_admitted (members_of members) name
+  joined = λ i. record {
+    next_federate = length-append members (x ∷ []) i + 1;
+    joined = pushed (λ m. m.joined) i;
+    name = pushed (λ m. m.name) i;
+    serial = same (λ m. m.next_serial) refl i;
+    ro = same (λ m. m.received) refl i;
+    controls = same (λ m. m.controls) refl i;
+    wire = λ g. same (λ m. item [] m.incoming g) (quiet g ∙ sym (no_wires g)) i;
+  }

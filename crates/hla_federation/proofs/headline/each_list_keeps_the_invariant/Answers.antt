@@ -1,5 +1,0 @@
-use Rattle.hla_federation.proofs.Runs.{each_inv}
-use Rattle.hla_federation.proofs.headline.each_list_keeps_the_invariant.Goals as goal
-
-pub returns : goal.returns
-returns c = λ catalogue steps. each_inv catalogue steps

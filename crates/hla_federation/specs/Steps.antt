@@ -1,0 +1,12 @@
+-- What a member picks up
+pub mod Picking
+-- What a service puts on the wires
+pub mod Sending
+-- The discoveries of a new object
+pub mod Discovering
+-- The components that the parts stand for, and how a step may end
+pub mod State
+-- Which steps may be refused for want of memory
+pub mod Memory
+-- What a federation keeps, and lists of steps
+pub mod Soundness

@@ -1,0 +1,46 @@
+-- Which steps may be refused for want of memory; no other step ever is
+use Rattle.std.specs.Prelude.{◌≡◌, ◌⊎◌, Bool, true, false, Option, None, Some, slice_get}
+use Rattle.hla_base.specs.declared.fault.Fault.{Fault}
+use Rattle.hla_base.specs.declared.fault.Fault.TheVariants.{OutOfMemory}
+use Rattle.hla_null_message.specs.declared.message.Message.{Message}
+use Rattle.hla_null_message.specs.declared.message.Message.TheVariants as message
+use Rattle.hla_machine.specs.declared.service.Service.{Service}
+use Rattle.hla_machine.specs.declared.service.Service.TheVariants as service
+use Rattle.hla_machine.specs.declared.step.Step.{Step}
+use Rattle.hla_machine.specs.declared.step.Step.TheVariants.{Join, Call, Carry, Announce, Tick}
+use Rattle.hla_machine.specs.Refusals.{refusal}
+use Rattle.hla_components.specs.Components.{Components}
+use Rattle.hla_components.specs.Next.{components_seen}
+
+-- what a component keeps of a message that comes takes memory, but of a null message it keeps a number
+abbrev pub arrival_takes_memory : Option Message → Bool
+arrival_takes_memory None = false
+arrival_takes_memory (Some (message.Null k v)) = false
+arrival_takes_memory (Some m) = true
+
+-- lists, names and messages take memory
+abbrev pub service_takes_memory : Service → Bool
+service_takes_memory (service.UnpublishObjectClass class) = false
+service_takes_memory (service.UnsubscribeObjectClass class) = false
+service_takes_memory (service.PublishInteractionClass class) = false
+service_takes_memory (service.UnpublishInteractionClass class) = false
+service_takes_memory (service.SubscribeInteractionClass class) = false
+service_takes_memory (service.UnsubscribeInteractionClass class) = false
+service_takes_memory (service.GetObjectClassHandle name) = false
+service_takes_memory (service.GetInteractionClassHandle name) = false
+service_takes_memory (service.GetAttributeHandle name class) = false
+service_takes_memory (service.GetParameterHandle name class) = false
+service_takes_memory (service.GetObjectInstanceHandle name) = false
+service_takes_memory service = true
+
+-- a tick gives what has arrived, and what it gives was made when it was sent
+abbrev pub takes_memory : Components → Step → Bool
+takes_memory s (Join name) = true
+takes_memory s (Call f service) = service_takes_memory service
+takes_memory s (Carry from to) = arrival_takes_memory (slice_get (s.wire from to) 0)
+takes_memory s (Announce f) = true
+takes_memory s (Tick f) = false
+
+-- refused as the definitions say; or for want of memory, where they say nothing and the step takes any
+abbrev pub IsRefusedWith : Components → Step → Fault → Type 0
+IsRefusedWith s step e = (refusal (components_seen s) step ≡ Some e) ⊎ ((refusal (components_seen s) step ≡ None) × (e ≡ OutOfMemory) × (takes_memory s step ≡ true))

@@ -1,0 +1,143 @@
+-- The components and wires that a federation's parts stand for. What no service changes yet is as joining made it
+use Rattle.std.specs.Prelude.{ℕ, ◌+◌, ◌≡◌, ◌≤◌, true, false, None, List, [], length, Result, Ok, Err}
+use Rattle.std.specs.List.{All}
+use Rattle.hla_base.specs.declared.fault.Fault.{Fault}
+use Rattle.hla_base.specs.Limits.{forever, max_joins}
+use Rattle.hla_base.specs.Rows.{new_row}
+use Rattle.hla_fed_file.specs.CatalogueValue.{CatalogueValue}
+use Rattle.hla_declaration.specs.Declarations as declared
+use Rattle.hla_declaration.specs.Declarations.{DeclarationsValue}
+use Rattle.hla_object_registry.specs.Registered.{RegistryValue, registry_of}
+use Rattle.hla_machine.specs.declared.service.Service.{Service}
+use Rattle.hla_machine.specs.declared.service.Service.TheVariants as service
+use Rattle.hla_machine.specs.declared.step.Step.{Step}
+use Rattle.hla_machine.specs.declared.step.Step.TheVariants.{Join, Call, Carry, Announce, Tick}
+use Rattle.hla_machine.specs.declared.step.Answer.{Answer}
+use Rattle.hla_machine.specs.Directory.{Directory, default_name}
+use Rattle.hla_machine.specs.Central.{no_event}
+use Rattle.hla_components.specs.Components.{Components}
+use Rattle.hla_components.specs.Next.{next, answer_outcome}
+use Rattle.hla_federation.specs.Steps.Memory.{IsRefusedWith}
+use Rattle.hla_federation.specs.Tables.Members.{MemberTables, members_of}
+use Rattle.hla_federation.specs.Tables.FederationValue.{FederationValue}
+
+abbrev pub directory_from : CatalogueValue → DeclarationsValue → RegistryValue → MemberTables → Directory
+directory_from c d r m = record {
+  catalogue = c;
+  next_federate = m.next_federate;
+  joined = m.joined;
+  name = m.name;
+  published = d.published;
+  subscribed = d.subscribed;
+  published_interaction = d.published_interaction;
+  subscribed_interaction = d.subscribed_interaction;
+  next_object = r.next_object;
+  object = r.object;
+  known = r.known;
+}
+
+abbrev pub state_from : CatalogueValue → DeclarationsValue → RegistryValue → MemberTables → Components
+state_from c d r m = record {
+  directory = directory_from c d r m;
+  row = λ _. new_row;
+  serial = m.serial;
+  ro = m.ro;
+  tso = λ _. [];
+  controls = m.controls;
+  wire = m.wire;
+  bound = λ _ _. forever;
+  known_epoch = λ _ _. 0;
+  last_announced = λ _. forever;
+  epoch = λ _. 0;
+  sent = λ _ _. no_event;
+}
+
+abbrev pub state_of : FederationValue → Components
+state_of v = state_from v.catalogue (declared.declarations_of v.declarations) (registry_of v.objects) (members_of v.members)
+
+-- nobody has declared anything
+abbrev pub nothing_declared : ℕ → ℕ → DeclarationsValue
+nothing_declared object_classes interaction_classes = record {
+  federates = 0;
+  object_classes = object_classes;
+  interaction_classes = interaction_classes;
+  published = λ _ _. None;
+  subscribed = λ _ _. None;
+  published_interaction = λ _ _. false;
+  subscribed_interaction = λ _ _. false;
+}
+
+-- a federate that is not joined subscribes nothing of a class
+pub record SubscribesNothing (d : DeclarationsValue) (f class : ℕ) : Type 0 where
+  pub objects : d.subscribed f class ≡ None
+  pub interactions : d.subscribed_interaction f class ≡ false
+
+-- the parts are of one execution
+pub record AreWhole (c : CatalogueValue) (d : DeclarationsValue) (m : MemberTables) : Type 0 where
+  pub few : m.next_federate ≤ max_joins + 1
+  pub federates : d.federates + 1 ≡ m.next_federate
+  pub object_classes : d.object_classes ≡ length c.object_classes
+  pub interaction_classes : d.interaction_classes ≡ length c.interaction_classes
+  pub silent : (f class : ℕ) → m.joined f ≡ false → SubscribesNothing d f class
+
+-- the name of the next object is there once somebody is joined
+abbrev pub IsNamed : FederationValue → Type 0
+IsNamed v = (f : ℕ) → (members_of v.members).joined f ≡ true → v.next_name ≡ default_name (registry_of v.objects).next_object
+
+pub record IsWhole (v : FederationValue) : Type 0 where
+  pub parts : AreWhole v.catalogue (declared.declarations_of v.declarations) (members_of v.members)
+  pub named : IsNamed v
+
+-- ---- what a step ends in
+-- it does what the next-state function says; or it is refused, as that says or for memory where it takes any, and then
+-- changes nothing
+abbrev pub Ends : FederationValue → Step → Result Answer Fault → FederationValue → Type 0
+Ends old step (Ok a) new = next (state_of old) step ≡ answer_outcome a (state_of new)
+Ends old step (Err e) new = IsRefusedWith (state_of old) step e × (new ≡ old)
+
+-- a step that only asks leaves all as it is
+abbrev pub Answers : FederationValue → Step → Result Answer Fault → Type 0
+Answers v step result = Ends v step result v
+
+-- the support services that look names and numbers up
+abbrev pub IsLookUp : Service → Type 0
+IsLookUp (service.GetObjectClassHandle name) = Unit {0}
+IsLookUp (service.GetInteractionClassHandle name) = Unit {0}
+IsLookUp (service.GetAttributeHandle name class) = Unit {0}
+IsLookUp (service.GetParameterHandle name class) = Unit {0}
+IsLookUp (service.GetObjectInstanceHandle name) = Unit {0}
+IsLookUp (service.GetObjectInstanceName object) = Unit {0}
+IsLookUp service = ⊥
+
+-- the services that are built
+abbrev pub IsBuiltService : Service → Type 0
+IsBuiltService (service.Resign way) = Unit {0}
+IsBuiltService (service.PublishObjectClass class attributes) = Unit {0}
+IsBuiltService (service.UnpublishObjectClass class) = Unit {0}
+IsBuiltService (service.SubscribeObjectClassAttributes class attributes) = Unit {0}
+IsBuiltService (service.UnsubscribeObjectClass class) = Unit {0}
+IsBuiltService (service.PublishInteractionClass class) = Unit {0}
+IsBuiltService (service.UnpublishInteractionClass class) = Unit {0}
+IsBuiltService (service.SubscribeInteractionClass class) = Unit {0}
+IsBuiltService (service.UnsubscribeInteractionClass class) = Unit {0}
+IsBuiltService (service.RegisterObjectInstance class name) = Unit {0}
+IsBuiltService (service.UpdateAttributeValues object values None) = Unit {0}
+IsBuiltService (service.SendInteraction class values None) = Unit {0}
+IsBuiltService (service.DeleteObjectInstance object None) = Unit {0}
+IsBuiltService (service.GetObjectClassHandle name) = Unit {0}
+IsBuiltService (service.GetInteractionClassHandle name) = Unit {0}
+IsBuiltService (service.GetAttributeHandle name class) = Unit {0}
+IsBuiltService (service.GetParameterHandle name class) = Unit {0}
+IsBuiltService (service.GetObjectInstanceHandle name) = Unit {0}
+IsBuiltService (service.GetObjectInstanceName object) = Unit {0}
+IsBuiltService service = ⊥
+
+abbrev pub IsBuilt : Step → Type 0
+IsBuilt (Join name) = Unit {0}
+IsBuilt (Call f service) = IsBuiltService service
+IsBuilt (Carry from to) = Unit {0}
+IsBuilt (Announce f) = ⊥
+IsBuilt (Tick f) = Unit {0}
+
+abbrev pub AreBuilt : List Step → Type 0
+AreBuilt steps = All IsBuilt steps

@@ -1,0 +1,8 @@
+-- The values of members and of the wires to them
+pub mod MemberValue
+-- Wires from one federate, or to one
+pub mod Wiring
+-- Members as tables, and what is done with their wires
+pub mod Members
+-- The value of a federation
+pub mod FederationValue

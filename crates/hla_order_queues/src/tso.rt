@@ -1,0 +1,192 @@
+//! The queue of events in time-stamp order.
+
+ghost use Rattle.std.specs.Prelude.{◌≡◌, ◌++◌, ◌<◌, [], None, length, drop, slice_get, filter, not, nat_lt, IfErr, OnOk, OnErr, MatchBool, IsSome, option_copied};
+ghost use Rattle.std.specs.List.{prefix_len};
+ghost use Rattle.hla_base.specs.declared.fault.Fault.TheVariants.{OutOfMemory};
+ghost use Rattle.hla_order_queues.specs.Queues.{insert_event, find_event, remove_event, first_stamp};
+ghost use Rattle.hla_order_queues.specs.Moving.{is_moved, IsRising};
+
+use crate::key::{EventKey, EventName};
+use crate::receive::RoQueue;
+use hla_base::{Event, FOREVER, Fault, FederateNo, Serial, Ticks};
+use slab::Slab;
+use std::alloc::Global;
+use std::collections::BTreeMap;
+use std::marker::Model;
+
+/// The events that a component has received in time-stamp order and not yet given, by stamp, at equal stamps by sender,
+/// then by serial. Contracts see the list of them in that order.
+#[derive(Debug, Drop)]
+pub struct TsoQueue {
+    events: Slab<Event>,
+    /// The key of the slab at which each event lies.
+    places: BTreeMap<EventKey, usize>,
+    stamps: BTreeMap<EventName, Ticks>,
+}
+
+impl Model for TsoQueue {
+    ghost use Rattle.std.specs.Prelude.{List};
+    ghost use Rattle.hla_base.specs.declared.content.Event.{Event};
+    ghost use Rattle.hla_order_queues.specs.Kept.{events_at, AreSameEvents};
+
+    ghost Value = { List Event };
+
+    ghost view = { λ q. events_at q.events q.places.entries };
+
+    ghost invariant = { λ q. AreSameEvents q.events q.places.entries q.stamps };
+}
+
+impl TsoQueue {
+    /// An empty queue; it takes no memory.
+    pub fn new(alloc: Global) -> TsoQueue
+        ensures { result ≡ [] }
+    {
+        TsoQueue {
+            events: Slab::new(alloc),
+            places: BTreeMap::new(alloc),
+            stamps: BTreeMap::new(alloc),
+        }
+    }
+
+    /// How many events there are.
+    pub fn len(&self) -> usize
+        ensures { result ≡ length self.now }
+    {
+        self.places.len()
+    }
+
+    /// The first event, if there is one.
+    pub fn least(&self) -> Option<&Event>
+        ensures { option_copied result ≡ slice_get self.now 0 }
+    {
+        match self.places.first_key_value() {
+            Some((_, place)) => self.events.get(*place),
+            None => None,
+        }
+    }
+
+    /// The stamp of the first event, and `FOREVER` where there is none.
+    pub fn least_stamp(&self) -> Ticks
+        ensures { result ≡ first_stamp self.now }
+    {
+        match self.places.first_key_value() {
+            Some((key, _)) => key.stamp,
+            None => FOREVER,
+        }
+    }
+
+    /// The event at place `i`, counted from 0, if there are so many. It goes through the keys before it.
+    pub fn nth(&self, i: usize) -> Option<&Event>
+        ensures { option_copied result ≡ slice_get self.now i }
+    {
+        match self.places.values().nth(i) {
+            Some(place) => self.events.get(*place),
+            None => None,
+        }
+    }
+
+    /// Whether an event that `sender` sent with that serial is in the queue.
+    pub fn has(&self, sender: FederateNo, serial: Serial) -> bool
+        ensures { MatchBool result (IsSome (find_event sender serial self.now)) (find_event sender serial self.now ≡ None) }
+    {
+        self.stamps.contains_key(&EventName { sender, serial })
+    }
+
+    /// Puts an event at its place; `OutOfMemory`, and the queue as it was, where a growth was refused. The time grows
+    /// with the logarithm of the events.
+    pub fn insert(&mut self, event: Event) -> Result<(), Fault>
+        requires { find_event event.sender event.serial self.old ≡ None }
+        ensures ok { OnOk result (self.new ≡ insert_event event self.old) }
+        ensures err { IfErr result (λ e. e ≡ Fault.OutOfMemory) }
+        ensures unchanged { OnErr result (self.new ≡ self.old) }
+    {
+        let key = EventKey::of(&event);
+        let Ok(()) = self.events.reserve(1) else {
+            return Err(Fault::OutOfMemory);
+        };
+        let place = self.events.vacant_key();
+        let Ok(_) = self.places.insert(key, place) else {
+            return Err(Fault::OutOfMemory);
+        };
+        let Ok(_) = self.stamps.insert(key.name(), key.stamp) else {
+            let _ = self.places.remove(&key);
+            return Err(Fault::OutOfMemory);
+        };
+        let _ = self.events.insert_reserved(event);
+        Ok(())
+    }
+
+    /// Takes the first event, if there is one. It takes no memory, and time that grows with the logarithm of the events.
+    pub fn take_least(&mut self) -> Option<Event>
+        ensures least { result ≡ slice_get self.old 0 }
+        ensures rest { self.new ≡ drop 1 self.old }
+    {
+        match self.places.pop_first() {
+            Some((key, place)) => {
+                let _ = self.stamps.remove(&key.name());
+                self.events.try_remove(place)
+            }
+            None => None,
+        }
+    }
+
+    /// Takes the event that `sender` sent with that serial, if there is one. It takes no memory, and time that grows with
+    /// the logarithm of the events.
+    pub fn remove(&mut self, sender: FederateNo, serial: Serial) -> Option<Event>
+        ensures found { result ≡ find_event sender serial self.old }
+        ensures rest { self.new ≡ remove_event sender serial self.old }
+    {
+        match self.stamps.remove(&EventName { sender, serial }) {
+            Some(stamp) => match self.places.remove(&EventKey {
+                stamp,
+                sender,
+                serial,
+            }) {
+                Some(place) => self.events.try_remove(place),
+                None => None,
+            },
+            None => None,
+        }
+    }
+
+    /// Moves the events with a stamp below `bound` to the end of a receive-order queue, in their order; `FOREVER` moves
+    /// all. `OutOfMemory` where room for them was refused there; the events of both queues then stay as they are. It
+    /// goes through the events that move.
+    pub fn move_below(&mut self, bound: Ticks, received: &mut RoQueue) -> Result<(), Fault>
+        ensures left { bound < FOREVER → OnOk result (self.new ≡ filter (λ e. not (nat_lt e.stamp bound)) self.old) }
+        ensures moved { bound < FOREVER → OnOk result (received.new.events ≡ received.old.events ++ filter (λ e. nat_lt e.stamp bound) self.old) }
+        ensures none_left { bound ≡ FOREVER → OnOk result (self.new ≡ []) }
+        ensures all_moved { bound ≡ FOREVER → OnOk result (received.new.events ≡ received.old.events ++ self.old) }
+        ensures err { IfErr result (λ e. e ≡ Fault.OutOfMemory) }
+        ensures unchanged { OnErr result (self.new ≡ self.old) }
+        ensures received_unchanged { OnErr result (received.new.events ≡ received.old.events) }
+    {
+        let count = self.count_below(bound);
+        received.reserve(count)?;
+        for _ in 0..count {
+            if let Some(event) = self.take_least() {
+                received.put(event);
+            }
+        }
+        Ok(())
+    }
+
+    fn count_below(&self, bound: Ticks) -> usize
+        ensures count { result ≡ prefix_len (is_moved bound) self.now }
+        ensures rising { IsRising self.now }
+    {
+        self.places
+            .keys()
+            .take_while(|key| key.stamp < bound || bound == FOREVER)
+            .count()
+    }
+
+    /// Takes all events out.
+    pub fn clear(&mut self)
+        ensures { self.new ≡ [] }
+    {
+        self.events.clear();
+        self.places.clear();
+        self.stamps.clear();
+    }
+}
