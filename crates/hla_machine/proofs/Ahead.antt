@@ -25,6 +25,7 @@ use Rattle.hla_machine.specs.Runs.{Happening, IsRun}
 use Rattle.hla_machine.specs.History.{GivesCallback, Brings, Picks, Happens, next_state}
 use Rattle.hla_machine.specs.Laws.{IsAhead}
 use Rattle.hla_machine.proofs.Tests.{ticker_joined}
+use Rattle.hla_machine.proofs.GrantCases.{grant_free, grant_flush, grant_plain}
 use Rattle.hla_machine.proofs.Keeps.{IsKept}
 use Rattle.hla_machine.proofs.Runs.{step_keeps, start_keeps}
 use Rattle.hla_machine.proofs.Turns.{Same, Turn, Fresh, Calm, Asked, Entered, Regulated, Rested, Picked, Granted, step_turn}
@@ -110,10 +111,10 @@ module _ (c : Central) (k : IsKept c) (f : ℕ) (t : Timely (c.row f)) where
   grant_ahead : (q : AdvanceRequest) (v : ℕ) → (c.row f).advance ≡ Some q → MayGrant c f v q → (c.row f).time ≤ v
   grant_ahead q v asks may = ⊎_elim
       (λ (con : is_constrained (c.row f) ≡ true). ⊎_elim
-      (λ (y : is_flush q.kind ≡ true). ((may.0 con).0 y).0)
-      (λ (n : is_flush q.kind ≡ false). let same = ((may.0 con).1 n).0 in le_trans (at_grant (is_next q.kind && is_constrained (c.row f)) (c.row f).first_pick (t.asked q asks) (λ p is. t.first q p asks is)) (omega (arith, same)))
+      (λ (y : is_flush q.kind ≡ true). (grant_flush c f q v may con y).0)
+      (λ (n : is_flush q.kind ≡ false). let same = (grant_plain c f q v may con n).0 in le_trans (at_grant (is_next q.kind && is_constrained (c.row f)) (c.row f).first_pick (t.asked q asks) (λ p is. t.first q p asks is)) (omega (arith, same)))
       (cases_Bool (is_flush q.kind)))
-      (λ (free : is_constrained (c.row f) ≡ false). omega (arith, may.1 free, t.asked q asks))
+      (λ (free : is_constrained (c.row f) ≡ false). omega (arith, grant_free c f q v may free, t.asked q asks))
       (cases_Bool (is_constrained (c.row f)))
     where
       at_grant : (b : Bool) (o : Option ℕ) → (c.row f).time ≤ q.asked → ((p : ℕ) → o ≡ Some p → (c.row f).time ≤ p) → (c.row f).time ≤ cond b (first_or o q.asked) q.asked

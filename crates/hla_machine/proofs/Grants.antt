@@ -10,6 +10,7 @@ use Rattle.hla_machine.specs.Callbacks.{IsCopy, MayGrant}
 use Rattle.hla_machine.specs.Machine.{MayEnd}
 use Rattle.hla_machine.specs.Runs.{Happening, IsRun}
 use Rattle.hla_machine.specs.History.{GivesCallback, IsGranted, IsPickedOrMoved, WaitsInOrder, HappensLater, next_state}
+use Rattle.hla_machine.proofs.GrantCases.{grant_flush, grant_plain}
 use Rattle.hla_machine.proofs.Rows.{flush_not_strict}
 use Rattle.hla_machine.proofs.Keeps.{IsKept}
 use Rattle.hla_machine.proofs.Runs.{step_keeps, start_keeps}
@@ -68,8 +69,8 @@ gone_run c (h ∷ hs) d f e k run w is tso =
 -- what waits at a grant is not before it
 grant_low : (d : Central) (f t : ℕ) (q : AdvanceRequest) → is_constrained (d.row f) ≡ true → MayGrant d f t q → (g m : ℕ) (k : Copy) → d.bag g m f ≡ Some k → (d.sent g m).retracted ≡ false → k.order ≡ Tso → reach q.kind t ≤ k.stamp
 grant_low d f t q con may g m k is live tso = ⊎_elim
-    (λ (y : is_flush q.kind ≡ true). let w = (may.0 con).0 y in let strict = flush_not_strict q.kind y in let low = w.4 g m k is live tso in rw strict low)
-    (λ (n : is_flush q.kind ≡ false). let w = ((may.0 con).1 n).1 in w.1 g m k is live tso)
+    (λ (y : is_flush q.kind ≡ true). let w = grant_flush d f q t may con y in let strict = flush_not_strict q.kind y in let low = w.4 g m k is live tso in rw strict low)
+    (λ (n : is_flush q.kind ≡ false). let w = (grant_plain d f q t may con n).1 in w.1 g m k is live tso)
     (cases_Bool (is_flush q.kind))
 
 pub grant_after_all : (c : Central) (between : List Happening) (d : Central) (h : Happening) (f t : ℕ) (q : AdvanceRequest) (e : EventHandle) (s : ℕ)

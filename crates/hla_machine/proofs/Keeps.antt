@@ -93,7 +93,7 @@ keeps_low next joined row serial bag to sent tells fewer low k = record {
   regulators = k.regulators;
   constrained = k.constrained;
   rows = k.rows;
-  bounded = λ f c. let b = k.bounded f c in (b.0, λ g j ne reg. out_low _ _ (row g) (row f).bar (λ x _. low g x) (b.1 g j ne reg));
+  bounded = λ f c. let b = k.bounded f c in (b.0, λ g j ne reg. out_low _ _ (row g) (row f).bar (low_weaker bag sent g) (λ x _. low g x) (b.1 g j ne reg));
   ahead = λ f c. low f (row f).time (k.ahead f c);
   unused = λ g m f x is tso. k.unused g m f x (fewer g m f x is tso) tso;
 }
@@ -120,7 +120,7 @@ module _ (next : ℕ) (joined : ℕ → Bool) (row : ℕ → TimeRow) (serial : 
           (k.bounded l c).0,
           by_number f _
               (λ j ne. rw upd_same (λ reg. ch.out reg (row l).bar l (λ e. ne (sym e)) c refl))
-              (λ g ng j ne. rw upd_other (λ reg. out_low _ _ (row g) (row l).bar (λ x _. low_fewer to bag sent ch.fewer g x) ((k.bounded l c).1 g j ne reg))),
+              (λ g ng j ne. rw upd_other (λ reg. out_low _ _ (row g) (row l).bar (low_weaker bag sent g) (λ x _. low_fewer to bag sent ch.fewer g x) ((k.bounded l c).1 g j ne reg))),
         )));
     ahead = by_number f _ (rw upd_same ch.ahead) (λ l nl. rw upd_other (λ c. low_fewer to bag sent ch.fewer l (row l).time (k.ahead l c)));
     unused = λ g m l x is tso. k.unused g m l x (ch.fewer g m l x is tso) tso;
@@ -128,7 +128,7 @@ module _ (next : ℕ) (joined : ℕ → Bool) (row : ℕ → TimeRow) (serial : 
 
   -- the old bound, with the new copies
   pub old_bound : Keeps next joined row serial bag sent → NoMore to bag → is_constrained (row f) ≡ true → BoundIn joined row to sent f (row f).bar
-  old_bound k fewer c = let b = k.bounded f c in (b.0, λ g j ne reg. out_low _ _ (row g) (row f).bar (λ x _. low_fewer to bag sent fewer g x) (b.1 g j ne reg))
+  old_bound k fewer c = let b = k.bounded f c in (b.0, λ g j ne reg. out_low _ _ (row g) (row f).bar (low_weaker bag sent g) (λ x _. low_fewer to bag sent fewer g x) (b.1 g j ne reg))
 
   -- what others count on
   pub old_out : Keeps next joined row serial bag sent → is_regulator (row f) ≡ true → (v l : ℕ) → l ≢ f → is_constrained (row l) ≡ true → v ≡ (row l).bar → BelowOut (LowIn bag sent f) (row f) v
@@ -224,7 +224,7 @@ module _ (c : Central) (f : ℕ) (stamp : Option ℕ) (out : Outgoing) (k : IsKe
     regulators = k.regulators;
     constrained = k.constrained;
     rows = k.rows;
-    bounded = λ l con. let b = k.bounded l con in (b.0, λ g j ne reg. out_low _ _ (c.row g) (c.row l).bar (λ x le. sent_low l g x con le) (b.1 g j ne reg));
+    bounded = λ l con. let b = k.bounded l con in (b.0, λ g j ne reg. out_low _ _ (c.row g) (c.row l).bar (low_weaker c.bag c.sent g) (λ x le. sent_low l g x con le) (b.1 g j ne reg));
     ahead = λ l con. sent_low l l (c.row l).time con ((k.rows l).barred con) (k.ahead l con);
     unused = λ g m l x is tso. ⊎_elim
         (λ (w : ((is_key f (c.serial f) g m && is_other c.directory.joined f l) ≡ true) × (copy_for c.directory (c.row f) stamp out l ≡ Some x)).

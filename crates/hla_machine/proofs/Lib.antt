@@ -2,6 +2,8 @@
 pub mod Tests
 -- A bag of copies by key
 pub mod Bags
+-- What a grant rests on, by whether the federate is constrained and whether it flushes
+pub mod GrantCases
 -- What the row of a federate keeps
 pub mod Rows
 -- What the state keeps, by the kinds of change

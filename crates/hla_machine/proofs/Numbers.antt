@@ -40,6 +40,7 @@ use Rattle.hla_machine.specs.CentralInvariant.{RowNumbers}
 use Rattle.hla_machine.specs.Machine.{central_seen, MayEnter, MayAnswer, MayDo, MayEnd, after_enter, after_cease, after_call, after_carry, after_done, after}
 use Rattle.hla_base.proofs.Tables.{upd_each, greatest_le}
 use Rattle.hla_machine.proofs.Tests.{AllClear, clear_call, not-is-false}
+use Rattle.hla_machine.proofs.GrantCases.{grant_free, grant_flush, grant_plain}
 use Rattle.hla_machine.proofs.Runs.{row_after_is}
 use Rattle.hla_machine.proofs.Services.{entry_may}
 use Rattle.hla_machine.proofs.Turns.{sent_rows}
@@ -196,13 +197,13 @@ at_grant false o asked h = omega arith
 grant_low : (c : Central) (f : ℕ) (q : AdvanceRequest) (t : ℕ) → RowNumbers (c.row f) → (c.row f).advance ≡ Some q → MayGrant c f t q → t ≤ q.asked
 grant_low c f q t n asks may = ⊎_elim
     (λ (con : is_constrained (c.row f) ≡ true). ⊎_elim
-    (λ (y : is_flush q.kind ≡ true). ((may.0 con).0 y).1)
+    (λ (y : is_flush q.kind ≡ true). (grant_flush c f q t may con y).1)
     (λ (no : is_flush q.kind ≡ false).
-    let same = ((may.0 con).1 no).0 in
+    let same = (grant_plain c f q t may con no).0 in
     let low = at_grant (is_next q.kind && is_constrained (c.row f)) (c.row f).first_pick q.asked (λ p i. n.first q p asks i) in
     subst (λ (x : ℕ). x ≤ q.asked) (sym same) low)
     (cases_Bool (is_flush q.kind)))
-    (λ (free : is_constrained (c.row f) ≡ false). let same = may.1 free in omega (arith, same))
+    (λ (free : is_constrained (c.row f) ≡ false). let same = grant_free c f q t may free in omega (arith, same))
     (cases_Bool (is_constrained (c.row f)))
 
 -- ---- the entry

@@ -13,6 +13,7 @@ use Rattle.hla_machine.specs.Machine.{MayEnd}
 use Rattle.hla_machine.specs.Runs.{Happening, IsRun}
 use Rattle.hla_machine.specs.History.{Picks, HappenAfter, IsInNoFlush, IsInStrict, IsInOneAdvance, IsBefore, next_state}
 use Rattle.hla_base.proofs.Tables.{upd_same}
+use Rattle.hla_machine.proofs.GrantCases.{grant_plain}
 use Rattle.hla_machine.proofs.Rows.{le_reach}
 use Rattle.hla_machine.proofs.Keeps.{IsKept, fewer_removed}
 use Rattle.hla_machine.proofs.Runs.{row_after_is}
@@ -100,7 +101,7 @@ module _ (f s v : ℕ) (P : ℕ → ℕ → ℕ → Type 0) (from : (g m x : ℕ
           let un : is_flush q.kind ≡ false = subst (λ (q : AdvanceRequest). is_flush q.kind ≡ false) same w.unflushed in
           let first : is_next q.kind ≡ true → (p : ℕ) × ((c.row f).first_pick ≡ Some p) × (s ≤ p) = subst (λ (q : AdvanceRequest). is_next q.kind ≡ true → (p : ℕ) × ((c.row f).first_pick ≡ Some p) × (s ≤ p)) same w.first in
           let asked : s ≤ q.asked = subst (λ (q : AdvanceRequest). s ≤ q.asked) same w.asked in
-          let at = ((may.0 w.constrained).1 un).0 in
+          let at = (grant_plain c f q t may w.constrained un).0 in
           let l = at_grant (is_next q.kind && is_constrained (c.row f)) (c.row f).first_pick asked (λ b. first (and_first (is_next q.kind) (is_constrained (c.row f)) b)) in
           omega (arith, at)
         where

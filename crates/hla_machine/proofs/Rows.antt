@@ -74,7 +74,7 @@ least_out below r None true v h (inr w) = absurd w
 least_out below r None false v h (inr w) = absurd w
 least_out below r (Some q) false v h (inr w) = absurd w
 least_out below r (Some q) true v h (inr w) = ⊎_elim
-    (λ (y : is_next q.kind ≡ true). let at : BelowWake below q r.first_pick (v - width r.lookahead q.kind) = rw y at w in omega (arith, wake_asked below q r.first_pick (v - width r.lookahead q.kind) (λ p is. h q p refl is) at))
+    (λ (y : is_next q.kind ≡ true). let at : BelowRequest below r (Some q) v = rw y at w in omega (arith, at.1, wake_asked below q r.first_pick at.0 (λ p is. h q p refl is) at.2))
     (λ (n : is_next q.kind ≡ false). absurd (rw n at w))
     (cases_Bool (is_next q.kind))
 
@@ -313,13 +313,20 @@ wake_low : (below to : ℕ → Type 0) (q : AdvanceRequest) (first : Option ℕ)
 wake_low below to q (Some p) x low h = h
 wake_low below to q None x low h = (h.0, low h.1)
 
-request_low : (below to : ℕ → Type 0) (r : TimeRow) (o : Option AdvanceRequest) (v : ℕ) → ((x : ℕ) → x ≤ v → below x → to x) → BelowRequest below r o v → BelowRequest to r o v
-request_low below to r None v low h = h
-request_low below to r (Some q) v low h = wake_low below to q r.first_pick (v - width r.lookahead q.kind) (low (v - width r.lookahead q.kind) (omega arith)) h
+-- less is below a wake too
+wake_less : (below : ℕ → Type 0) (q : AdvanceRequest) (first : Option ℕ) (x y : ℕ) → ((x y : ℕ) → y ≤ x → below x → below y) → y ≤ x → BelowWake below q first x → BelowWake below q first y
+wake_less below q (Some p) x y less le h = omega arith
+wake_less below q None x y less le h = (omega (arith, h.0), less x y le h.1)
 
-pub out_low : (below to : ℕ → Type 0) (r : TimeRow) (v : ℕ) → ((x : ℕ) → x ≤ v → below x → to x) → BelowOut below r v → BelowOut to r v
-out_low below to r v low (inl l) = inl l
-out_low below to r v low (inr h) = inr (request_low below to r (next_request r) v low h)
+request_low : (below to : ℕ → Type 0) (r : TimeRow) (o : Option AdvanceRequest) (v : ℕ) → ((x y : ℕ) → y ≤ x → below x → below y) → ((x : ℕ) → x ≤ v → below x → to x) → BelowRequest below r o v → BelowRequest to r o v
+request_low below to r None v less low h = h
+request_low below to r (Some q) v less low h =
+    let x = v - width r.lookahead q.kind in
+    (x, omega arith, wake_low below to q r.first_pick x (low x (omega arith)) (wake_less below q r.first_pick h.0 x less (omega (arith, h.1)) h.2))
+
+pub out_low : (below to : ℕ → Type 0) (r : TimeRow) (v : ℕ) → ((x y : ℕ) → y ≤ x → below x → below y) → ((x : ℕ) → x ≤ v → below x → to x) → BelowOut below r v → BelowOut to r v
+out_low below to r v less low (inl l) = inl l
+out_low below to r v less low (inr h) = inr (request_low below to r (next_request r) v less low h)
 
 -- after a pick
 pick_wake : (below to : ℕ → Type 0) (q k : AdvanceRequest) (first : Option ℕ) (s x : ℕ) → (below x → to x) → (is_flush k.kind ≡ false → below x → x ≤ s) → BelowWake below q first x → BelowWake to q (cond (is_flush k.kind) first (or_else first (Some s))) x
@@ -331,7 +338,7 @@ pick_wake below to q k first s x low high h = cond_both (is_flush k.kind) first 
 
 pick_request : (below to : ℕ → Type 0) (r : TimeRow) (q : AdvanceRequest) (o : Option AdvanceRequest) (s v : ℕ) → ((x : ℕ) → below x → to x) → (is_flush q.kind ≡ false → (x : ℕ) → below x → x ≤ s) → BelowRequest below r o v → BelowRequest to (picked r q s) o v
 pick_request below to r q None s v low high h = h
-pick_request below to r q (Some k) s v low high h = pick_wake below to k q r.first_pick s (v - width r.lookahead k.kind) (low (v - width r.lookahead k.kind)) (λ n. high n (v - width r.lookahead k.kind)) h
+pick_request below to r q (Some k) s v low high h = (h.0, h.1, pick_wake below to k q r.first_pick s h.0 (low h.0) (λ n. high n h.0) h.2)
 
 pub out_picked : (below to : ℕ → Type 0) (r : TimeRow) (q : AdvanceRequest) (s v : ℕ) → ((x : ℕ) → below x → to x) → (is_flush q.kind ≡ false → (x : ℕ) → below x → x ≤ s) → BelowOut below r v → BelowOut to (picked r q s) v
 out_picked below to r q s v low high (inl l) = inl l
@@ -345,7 +352,7 @@ wake_first below q None x h = h.0
 grant_request : (below : ℕ → Type 0) (r : TimeRow) (q : AdvanceRequest) (b : Bool) (t v : ℕ) → (b ≡ true → is_next q.kind ≡ true → first_or r.first_pick q.asked ≤ t) → BelowRequest below r (when b (keep_if (λ q. is_next q.kind) (Some q))) v → v ≤ t + width r.lookahead q.kind
 grant_request below r q false t v first h = absurd h
 grant_request below r q true t v first h = ⊎_elim
-    (λ (y : is_next q.kind ≡ true). let at : BelowWake below q r.first_pick (v - width r.lookahead q.kind) = rw y at h in omega (arith, wake_first below q r.first_pick (v - width r.lookahead q.kind) at, first refl y))
+    (λ (y : is_next q.kind ≡ true). let at : BelowRequest below r (Some q) v = rw y at h in omega (arith, at.1, wake_first below q r.first_pick at.0 at.2, first refl y))
     (λ (n : is_next q.kind ≡ false). absurd (rw n at h))
     (cases_Bool (is_next q.kind))
 

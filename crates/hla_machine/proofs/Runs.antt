@@ -37,6 +37,7 @@ use Rattle.hla_machine.specs.Machine.{central_seen, MayAnswer, MayDo, MayEnd, af
 use Rattle.hla_machine.specs.Runs.{Happening, IsRun}
 use Rattle.hla_machine.specs.Laws.{IsSafe}
 use Rattle.hla_machine.proofs.Tests.{clear_call, caller_joined, ticker_joined}
+use Rattle.hla_machine.proofs.GrantCases.{grant_flush, grant_plain}
 use Rattle.hla_machine.proofs.Rows.{law_new, law_constrained, law_lookahead, law_regulates, law_constrains, law_picked, law_granted, next_not_flush, le_reach, flush_not_strict, out_low, out_idle, out_picked, out_granted}
 use Rattle.hla_machine.proofs.Keeps.{LowIn, BoundIn, IsKept, NoMore, low_fewer, low_weaker, fewer_removed, fewer_demoted, fewer_moved, moved_else, keeps_low, keeps_row, old_bound, old_out, bound_max}
 use Rattle.hla_machine.proofs.Services.{none_from, same_bag, join_keeps, sends_keep, high_stamps, resign_keeps, rest, ask_keeps, stop_keeps, asynchronous_keeps, entry_may, not_early, enter_after, cease_after, retract_keeps}
@@ -115,7 +116,7 @@ module _ (c : Central) (k : IsKept c) where
         })
       where
         bound_fewer : (to : ℕ → ℕ → ℕ → Option Copy) → NoMore to c.bag → (f v : ℕ) → BoundIn c.directory.joined c.row c.bag c.sent f v → BoundIn c.directory.joined c.row to c.sent f v
-        bound_fewer to fewer f v b = (b.0, λ g j ne reg. out_low _ _ (c.row g) v (λ y _. low_fewer to c.bag c.sent fewer g y) (b.1 g j ne reg))
+        bound_fewer to fewer f v b = (b.0, λ g j ne reg. out_low _ _ (c.row g) v (low_weaker c.bag c.sent g) (λ y _. low_fewer to c.bag c.sent fewer g y) (b.1 g j ne reg))
 
     deliver_keeps : (x : Content) (e : EventHandle) (d : Delivery) → MayDeliver c f x e d → IsKept (after_delivery c f e d)
     deliver_keeps x e delivery.Receive may = fewer_keeps (at_key c.bag e.sender e.serial f None) (fewer_removed c.bag e.sender e.serial f)
@@ -154,7 +155,7 @@ module _ (c : Central) (k : IsKept c) where
           member = member;
           law = law_constrains (c.row f) (k.rows f) was may.2;
           out = λ reg v l ne lc same. out_idle _ _ (c.row f) (constrains (c.row f)) v idle (omega arith) (old_out c.directory.next_federate c.directory.joined c.row c.serial c.bag to c.sent f (c.row f) k reg v l ne lc same);
-          bar = λ _. (bound.0, λ g j ne reg. out_low _ _ (c.row g) (c.row f).time (λ y _. low_fewer to c.bag c.sent fewer g y) (bound.1 g j ne reg));
+          bar = λ _. (bound.0, λ g j ne reg. out_low _ _ (c.row g) (c.row f).time (low_weaker c.bag c.sent g) (λ y _. low_fewer to c.bag c.sent fewer g y) (bound.1 g j ne reg));
           ahead = λ _ g m x is live tso. let w = moved_else c.bag f events g m x is tso in ⊎_elim
               (λ (l : x.stamp < (c.row f).time). absurd (let y : is_among events g m ≡ true = below.1 g m x w.1 live tso (subst (λ t. x.stamp < t) (sym may.0) l) in let n : is_among events g m ≡ false = w.0 in cc))
               (λ (l : (c.row f).time ≤ x.stamp). l)
@@ -175,13 +176,13 @@ module _ (c : Central) (k : IsKept c) where
         })
       where
         first : is_constrained (c.row f) ≡ true → is_next q.kind ≡ true → first_or (c.row f).first_pick q.asked ≤ t
-        first con y = let same : t ≡ cond (is_next q.kind && is_constrained (c.row f)) (first_or (c.row f).first_pick q.asked) q.asked = ((may.0 con).1 (next_not_flush q.kind y)).0 in
+        first con y = let same : t ≡ cond (is_next q.kind && is_constrained (c.row f)) (first_or (c.row f).first_pick q.asked) q.asked = (grant_plain c f q t may con (next_not_flush q.kind y)).0 in
             let at : t ≡ first_or (c.row f).first_pick q.asked = rw (y, con) at same in omega arith
 
         reached : is_constrained (c.row f) ≡ true → BelowBound c f (reach q.kind t) × LowIn c.bag c.sent f t
         reached con = ⊎_elim
-            (λ (y : is_flush q.kind ≡ true). let w = (may.0 con).0 y in (rw (flush_not_strict q.kind y) w.3, w.4))
-            (λ (n : is_flush q.kind ≡ false). let w = ((may.0 con).1 n).1 in (w.0, low_weaker c.bag c.sent f (reach q.kind t) t (le_reach q.kind t) w.1))
+            (λ (y : is_flush q.kind ≡ true). let w = grant_flush c f q t may con y in (rw (flush_not_strict q.kind y) w.3, w.4))
+            (λ (n : is_flush q.kind ≡ false). let w = (grant_plain c f q t may con n).1 in (w.0, low_weaker c.bag c.sent f (reach q.kind t) t (le_reach q.kind t) w.1))
             (cases_Bool (is_flush q.kind))
 
     pick_keeps : (x : Callback) (o : Choice) → MayPickUp c f x o → IsKept (after_pick c f x o)

@@ -24,7 +24,7 @@ use Rattle.hla_machine.specs.Machine.{MayEnter, MayAnswer, after_leaving, after_
 use Rattle.hla_base.proofs.Tables.{by_number, upd_same, upd_other, upd_each, upd2_each, le_greatest, greatest_ge}
 use Rattle.hla_machine.proofs.Tests.{AllClear, not-is-false}
 use Rattle.hla_machine.proofs.Rows.{RowLaw, law_new, law_requested, law_free, law_stopped, law_asynchronous, law_entered, out_low}
-use Rattle.hla_machine.proofs.Keeps.{IsKept, NoMore, low_fewer, fewer_moved, keeps_low, keeps_row, keeps_rest, old_out, keeps_sent}
+use Rattle.hla_machine.proofs.Keeps.{IsKept, NoMore, low_fewer, low_weaker, fewer_moved, keeps_low, keeps_row, keeps_rest, old_out, keeps_sent}
 
 pub none_from : (o : Option AdvanceRequest) → not (is_none_of o) ≡ false → o ≡ None
 none_from None h = refl
@@ -64,7 +64,7 @@ left_keeps c f k = record {
     b.0,
     by_number f _
         (λ j ne. rw upd_same (λ reg. absurd (cc)))
-        (λ g ng j ne. rw upd_other (λ reg. out_low _ _ (c.row g) (c.row l).bar (λ x _. low_fewer (λ g m. upd (c.bag g m) f None) c.bag c.sent (left_fewer c f) g x) (b.1 g (rw upd_other at j) ne reg))),
+        (λ g ng j ne. rw upd_other (λ reg. out_low _ _ (c.row g) (c.row l).bar (low_weaker c.bag c.sent g) (λ x _. low_fewer (λ g m. upd (c.bag g m) f None) c.bag c.sent (left_fewer c f) g x) (b.1 g (rw upd_other at j) ne reg))),
   )));
   ahead = by_number f _ (rw upd_same (λ e. absurd (cc))) (λ l nl. rw upd_other (λ con. low_fewer (λ g m. upd (c.bag g m) f None) c.bag c.sent (left_fewer c f) l (c.row l).time (k.ahead l con)));
   unused = λ g m l x is tso. k.unused g m l x (left_fewer c f g m l x is tso) tso;

@@ -24,9 +24,9 @@ IsDiscovered c f (content.Interaction class values) = Unit {0}
 IsDiscovered c f (content.Reflection object values) = (g : ℕ) → All (λ (d : Discovery). d.object ≢ object) (c.discoveries g f)
 IsDiscovered c f (content.Removal object) = (g : ℕ) → All (λ (d : Discovery). d.object ≢ object) (c.discoveries g f)
 
--- an unconstrained federate may be given a message in receive order at any tick, a constrained one while it advances or with asynchronous delivery
+-- a federate may be given a message in receive order where it is unconstrained, or advancing, or has asynchronous delivery
 abbrev pub MayReceive : TimeRow → Type 0
-MayReceive r = is_constrained r && not (is_advancing r) && not r.asynchronous ≡ false
+MayReceive r = (is_constrained r ≡ false) ⊎ ((is_advancing r ≡ true) ⊎ (r.asynchronous ≡ true))
 
 abbrev pub IsCopy : Central → ℕ → EventHandle → Copy → Type 0
 IsCopy c f e k = c.bag e.sender e.serial f ≡ Some k
@@ -75,12 +75,15 @@ abbrev pub MayGrantFlush : Central → ℕ → AdvanceRequest → ℕ → Type 0
 MayGrantFlush c f q t =
     ((c.row f).time ≤ t) × (t ≤ q.asked) × IfSome (c.row f).flushed (λ s. t ≤ s) × BelowBound c f t × BelowAllTso c f t
 
-abbrev pub MayGrantConstrained : Central → ℕ → AdvanceRequest → ℕ → Type 0
-MayGrantConstrained c f q t =
-    (is_flush q.kind ≡ true → MayGrantFlush c f q t) × (is_flush q.kind ≡ false → (t ≡ grant_time (c.row f) q) × Reached c f q.kind t)
+-- by whether the federate is constrained and whether it flushes: unconstrained, it is granted what it asked for; constrained,
+-- a flush as above, and any other advance its time once nothing before the reach of that waits or can still come
+abbrev pub MayGrantAs : Bool → Bool → Central → ℕ → AdvanceRequest → ℕ → Type 0
+MayGrantAs false flush c f q t = t ≡ q.asked
+MayGrantAs true true c f q t = MayGrantFlush c f q t
+MayGrantAs true false c f q t = (t ≡ grant_time (c.row f) q) × Reached c f q.kind t
 
 abbrev pub MayGrant : Central → ℕ → ℕ → AdvanceRequest → Type 0
-MayGrant c f t q = (is_constrained (c.row f) ≡ true → MayGrantConstrained c f q t) × (is_constrained (c.row f) ≡ false → t ≡ q.asked)
+MayGrant c f t q = MayGrantAs (is_constrained (c.row f)) (is_flush q.kind) c f q t
 
 -- ---- demotion
 abbrev pub is_handle : EventHandle → EventHandle → Bool

@@ -71,9 +71,10 @@ abbrev pub BelowWake : (ℕ → Type 0) → AdvanceRequest → Option ℕ → �
 BelowWake below q (Some p) x = x ≤ p
 BelowWake below q None x = (x ≤ q.asked) × below x
 
+-- what may be sent after a next-event request: from its wake on, by the width
 abbrev pub BelowRequest : (ℕ → Type 0) → TimeRow → Option AdvanceRequest → ℕ → Type 0
 BelowRequest below r None v = ⊥
-BelowRequest below r (Some q) v = BelowWake below q r.first_pick (v - width r.lookahead q.kind)
+BelowRequest below r (Some q) v = (x : ℕ) × (v ≤ x + width r.lookahead q.kind) × BelowWake below q r.first_pick x
 
 -- what a regulator may still send: its floor, or in a next-event request what it may send after its wake
 abbrev pub BelowOut : (ℕ → Type 0) → TimeRow → ℕ → Type 0

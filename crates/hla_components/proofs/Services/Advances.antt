@@ -14,7 +14,7 @@ use Rattle.hla_callbacks.specs.declared.callback.Delivery.TheVariants as deliver
 use Rattle.hla_machine.specs.declared.step.Step.TheVariants.{Tick}
 use Rattle.hla_machine.specs.declared.step.Choice.TheVariants as choice
 use Rattle.hla_machine.specs.Central.{reach, Reached, at_key}
-use Rattle.hla_machine.specs.Callbacks.{IsAtFirstPick, IsLeastKey, MayPick, MayPickIn, MayGrantFlush, MayGrantConstrained, row_after, after_delivery}
+use Rattle.hla_machine.specs.Callbacks.{IsAtFirstPick, IsLeastKey, MayPick, MayPickIn, MayGrantFlush, row_after, after_delivery}
 use Rattle.hla_machine.specs.Callbacks as machine
 use Rattle.hla_machine.specs.Refusals.{refusal}
 use Rattle.hla_order_queues.specs.Queues.{find_event, is_event, handle_of, first_stamp}
@@ -27,6 +27,7 @@ use Rattle.hla_components.specs.Invariant.{EachOf, Above, IsTsoQueue, IsInKeyOrd
 use Rattle.hla_machine.specs.CentralInvariant.{CentralInv}
 use Rattle.hla_components.specs.Headline.{IsKeptStep}
 use Rattle.hla_base.proofs.Tables.{upd_self, least_le, least_le-forever}
+use Rattle.hla_machine.proofs.GrantCases.{may_grant}
 use Rattle.hla_components.proofs.Wiring.Keys.{find-key_order}
 use Rattle.hla_components.proofs.Wiring.Queues.{Above-weaker, find-cons, occurs-cons, first_rest}
 use Rattle.hla_components.proofs.Wiring.Wires.{retractions-nil}
@@ -171,7 +172,7 @@ module _ (s : Components) (f : ℕ) (q : AdvanceRequest) (t : ℕ) (kept : Kept 
             steady = λ _ p. let e = old.idle p in let e2 = facts.asks in absurd (cc);
           };
         });
-        allowed = (none, (q, facts.asks, ((λ c. (grant_flush member c, grant_plain member c)), facts.free)));
+        allowed = (none, (q, facts.asks, may_grant (central s) f q t (grant_flush member) (grant_plain member) facts.free));
         follows = ap (λ (r : TimeRow). machine.with_central_row (central s) f r) (sym (row_after_is (s.row f) (s.row f).advance q (λ q. granted (s.row f) q t) facts.asks));
       }
 

@@ -1,5 +1,5 @@
 -- What a tick gives: nothing, a message in receive order, and what waits among the controls
-use Rattle.std.proofs.Common.{◌≡◌, ◌≢◌, ℕ, cond, Bool, true, false, refl, sym, ap, ◌∙◌, subst, ⊎_elim, arith, eqb-true, List, [], ◌∷◌, ◌++◌, Some, None}
+use Rattle.std.proofs.Common.{◌≡◌, ◌≢◌, ◌⊎◌, inl, inr, not, ◌&&◌, ℕ, cond, Bool, true, false, refl, sym, ap, ◌∙◌, subst, ⊎_elim, arith, eqb-true, List, [], ◌∷◌, ◌++◌, Some, None}
 use Rattle.std.proofs.lemmas.Bool.{cases_eq, cases_Bool, and_parts}
 use Rattle.std.specs.List.{All}
 use Rattle.std.proofs.lemmas.List.Elements.{All-nil, All-cons}
@@ -8,6 +8,8 @@ use Rattle.hla_base.specs.declared.content.Content.TheVariants as content
 use Rattle.hla_base.specs.declared.content.Event.{Event}
 use Rattle.hla_base.specs.declared.content.Discovery.{Discovery}
 use Rattle.hla_base.specs.declared.number.EventHandle.{EventHandle}
+use Rattle.hla_base.specs.declared.row.TimeRow.{TimeRow}
+use Rattle.hla_base.specs.Rows.{is_constrained, is_advancing}
 use Rattle.hla_null_message.specs.declared.message.Message.{Message}
 use Rattle.hla_null_message.specs.declared.message.Message.TheVariants as message
 use Rattle.hla_base.specs.Tables.{upd}
@@ -42,6 +44,16 @@ use Rattle.hla_components.proofs.Wiring.Bags.{copy_ro, find_first, bag_ro_picked
 pub each_all : {X : Type 0} (P : X → Type 0) (xs : List X) → EachOf P xs → All P xs
 each_all P [] a = All-nil P
 each_all P (x ∷ xs) a = All-cons P x xs a.0 (each_all P xs a.1)
+
+-- who is not held back may be given a message in receive order
+not_held : (constrained advancing asynchronous : Bool) → (constrained && not advancing && not asynchronous) ≡ false → (constrained ≡ false) ⊎ ((advancing ≡ true) ⊎ (asynchronous ≡ true))
+not_held false a b e = inl refl
+not_held true true b e = inr (inl refl)
+not_held true false true e = inr (inr refl)
+not_held true false false e = absurd (cc)
+
+may_receive : (r : TimeRow) → is_held_back r ≡ false → MayReceive r
+may_receive r e = not_held (is_constrained r) (is_advancing r) r.asynchronous e
 
 -- ---- discoveries
 -- the discoveries on a wire are of its sender's objects
@@ -163,4 +175,4 @@ module _ (s : Components) (f : ℕ) (e : Event) (rest : List Event) (kept : Kept
       plain = let zero : e.stamp ≡ 0 = laws.plain e.sender e.serial f (ro_copy e) copy_front (rw is refl) in rw (is, zero) refl
 
   pub step_ro : CentralInv (central s) → s.controls f ≡ [] → is_held_back (s.row f) ≡ false → refusal (components_seen s) (Tick f) ≡ None → IsKeptStep s (Tick f) (pick_outcome s f (PickRo e rest))
-  step_ro laws free may none = ro_step laws free may none e.ordered refl
+  step_ro laws free open none = ro_step laws free (may_receive (s.row f) open) none e.ordered refl

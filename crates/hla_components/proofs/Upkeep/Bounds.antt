@@ -81,7 +81,7 @@ below_request : (s : Components) (g : ℕ) (o : Option AdvanceRequest) (v : ℕ)
     → (v ≤ (s.row g).floor) ⊎ BelowRequest (BelowAllTso (central s) g) (s.row g) o v
 below_request s g None v kept h = inl h
 below_request s g (Some q) v kept h = ⊎_elim
-    (λ (l : (s.row g).floor < v). inr (below_wake s g q (s.row g).first_pick (v - width (s.row g).lookahead q.kind) kept (omega arith)))
+    (λ (l : (s.row g).floor < v). inr (v - width (s.row g).lookahead q.kind, omega arith, below_wake s g q (s.row g).first_pick (v - width (s.row g).lookahead q.kind) kept (omega arith)))
     (λ (l : v ≤ (s.row g).floor). inl l)
     (cases_lt (s.row g).floor v)
 
