@@ -175,4 +175,4 @@ module _ (s : Components) (f : ℕ) (e : Event) (rest : List Event) (kept : Kept
       plain = let zero : e.stamp ≡ 0 = laws.plain e.sender e.serial f (ro_copy e) copy_front (rw is refl) in rw (is, zero) refl
 
   pub step_ro : CentralInv (central s) → s.controls f ≡ [] → is_held_back (s.row f) ≡ false → refusal (components_seen s) (Tick f) ≡ None → IsKeptStep s (Tick f) (pick_outcome s f (PickRo e rest))
-  step_ro laws free open none = ro_step laws free (may_receive (s.row f) open) none e.ordered refl
+  step_ro laws free clear none = ro_step laws free (may_receive (s.row f) clear) none e.ordered refl
