@@ -62,3 +62,7 @@ max_enablings = 1000000000000000000
 -- above every time, stamp, floor and bound
 abbrev pub forever : ℕ
 forever = 18446744073709551615
+
+-- the largest number of 64 bits, where it is no time
+abbrev pub largest_number : ℕ
+largest_number = 18446744073709551615

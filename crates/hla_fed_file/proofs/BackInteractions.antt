@@ -1,4 +1,5 @@
 -- What is read is in the grammar: parameters and interaction classes.
+use Rattle.hla_base.specs.Limits.{max_parameters, max_classes}
 use Rattle.std.proofs.Common.{◌≡◌, ℕ, ◌+◌, ◌<◌, ◌≤◌, Bool, true, false, List, [], ◌∷◌, ◌++◌, length, Option, None, Some, Ok, Err, nat_le, cond, refl, sym, ap, ◌∙◌, arith, ◌⊎◌, inl, inr, zero, suc}
 use Rattle.std.proofs.lemmas.Bool.Decides.{nat_tests}
 use Rattle.hla_fed_file.specs.Lexical as text
@@ -92,13 +93,13 @@ parameter_named : (n : List ℕ) (d : ℕ) (l : List ℕ) (c : CatalogueValue) (
     → ParameterFits l n c × (next ≡ reader at.ParameterEnd d l (with_parameter l n c))
 parameter_named n d l c next ok =
     let more = record c { parameters = c.parameters ++ record { class = innermost l; name = n } ∷ [] } in
-    once (has_parameter_named c l n) (nat_le 4096 (length c.parameters)) more refl ok
+    once (has_parameter_named c l n) (nat_le max_parameters (length c.parameters)) more refl ok
   where
-    once : (b e : Bool) (more : CatalogueValue) → nat_le 4096 (length c.parameters) ≡ e → cond {A = Step} b (Ok (reader at.ParameterEnd d l c)) (cond {A = Step} e (Err kind.TooLarge) (Ok (reader at.ParameterEnd d l (cond b c more)))) ≡ Ok next
-        → (b ≡ false → length c.parameters < 4096) × (next ≡ reader at.ParameterEnd d l (cond b c more))
+    once : (b e : Bool) (more : CatalogueValue) → nat_le max_parameters (length c.parameters) ≡ e → cond {A = Step} b (Ok (reader at.ParameterEnd d l c)) (cond {A = Step} e (Err kind.TooLarge) (Ok (reader at.ParameterEnd d l (cond b c more)))) ≡ Ok next
+        → (b ≡ false → length c.parameters < max_parameters) × (next ≡ reader at.ParameterEnd d l (cond b c more))
     once true e more g ok = ((λ bad. cc), cc)
     once false true more g ok = cc
-    once false false more g ok = let less : length c.parameters < 4096 = grind (arith, nat_tests) in ((λ _. less), cc)
+    once false false more g ok = let less : length c.parameters < max_parameters = grind (arith, nat_tests) in ((λ _. less), cc)
 
 parameter_back : (d : ℕ) (l : List ℕ) (c : CatalogueValue) (ts : List Lexed) (final : CatalogueValue) → reading (reader (at.Name name.Parameter) (d + 1) l c) ts ≡ Ok final → ParameterRead d l c ts final
 parameter_back d l c [] final h = absurd (none_left (reader (at.Name name.Parameter) (d + 1) l c) final refl h)
@@ -223,7 +224,7 @@ pub record SubclassRead (d : ℕ) (l : List ℕ) (c : CatalogueValue) (ts : List
   pub name : List ℕ
   pub options : Options
   pub short : IsShort name
-  pub room : length c.interaction_classes < 512
+  pub room : length c.interaction_classes < max_classes
   pub tail : Tail (λ ss. Named name ∷ options_then options ss) ts (reader (at.Between lists.InteractionItems) d ((length c.interaction_classes + 1) ∷ l) (with_interaction_class l name (transport_of options) (order_of options) c)) final
 
 pub subclass_back : (d : ℕ) (l : List ℕ) (c : CatalogueValue) (ts : List Lexed) (final : CatalogueValue) → reading (reader (at.Name name.InteractionClass) d l c) ts ≡ Ok final → SubclassRead d l c ts final
@@ -233,7 +234,7 @@ subclass_back d l c (t ∷ ts) final h =
     let n = name_token t.token name.InteractionClass d l c b.next b.step in
     let s = was_named name.InteractionClass (reader (at.Name name.InteractionClass) d l c) b.next n.name n.named in
     let first = first_of_class c l n.name in
-    let k = kept_limit (nat_le 512 (length c.interaction_classes)) 512 (length c.interaction_classes) (pending (at.ClassOptions stage.Named) d l first c) b.next refl s.1 in
+    let k = kept_limit (nat_le max_classes (length c.interaction_classes)) max_classes (length c.interaction_classes) (pending (at.ClassOptions stage.Named) d l first c) b.next refl s.1 in
     let o = class_options_back d l first c ts final (at_next _ _ ts final k.1 b.read) in
     let less : length o.tail.rest ≤ length (t ∷ ts) = omega (arith, o.tail.fewer) in
     record {

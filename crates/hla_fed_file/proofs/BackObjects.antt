@@ -1,4 +1,5 @@
 -- What is read is in the grammar: attributes and object classes.
+use Rattle.hla_base.specs.Limits.{max_attributes, max_classes}
 use Rattle.std.proofs.Common.{◌≡◌, ℕ, ◌+◌, ◌<◌, ◌≤◌, Bool, true, false, List, [], ◌∷◌, length, Option, None, Some, Ok, nat_le, cond, refl, sym, ap, ◌∙◌, arith, ◌⊎◌, inl, inr, zero, suc}
 use Rattle.hla_fed_file.specs.Lexical as text
 use Rattle.hla_fed_file.specs.Lexical.{Lexed, tokens}
@@ -228,7 +229,7 @@ record AttributeRead (d : ℕ) (l : List ℕ) (c : CatalogueValue) (ts : List Le
 attribute_named : (n : List ℕ) (d : ℕ) (l : List ℕ) (c : CatalogueValue) (next : Reader) → named_at name.Attribute (reader (at.Name name.Attribute) d l c) n ≡ Ok next
     → AttributeFits l n c × (next ≡ half (at.AttributeOptions stage.Named) d l (kept_of l n c) c)
 attribute_named n d l c next ok =
-    let k = kept_room (has_attribute_named c l n) (nat_le 4096 (length c.attributes)) 4096 (length c.attributes) (half (at.AttributeOptions stage.Named) d l None c)
+    let k = kept_room (has_attribute_named c l n) (nat_le max_attributes (length c.attributes)) max_attributes (length c.attributes) (half (at.AttributeOptions stage.Named) d l None c)
     (half (at.AttributeOptions stage.Named) d l (Some (record { class = innermost l; name = n; transport = transport.Reliable; order = order.Receive })) c) next refl ok in
     (k.0, k.1 ∙ chosen (has_attribute_named c l n) (Some (record { class = innermost l; name = n; transport = transport.Reliable; order = order.Receive })))
   where
@@ -260,7 +261,7 @@ attribute_back d l c (t ∷ ts) final h =
 pub record ClassRead (d : ℕ) (l : List ℕ) (c : CatalogueValue) (ts : List Lexed) (final : CatalogueValue) : Type 0 where
   pub name : List ℕ
   pub short : IsShort name
-  pub room : length c.object_classes < 512
+  pub room : length c.object_classes < max_classes
   pub tail : Tail (λ ss. Named name ∷ ss) ts (reader (at.Between lists.ObjectItems) d ((length c.object_classes + 1) ∷ l) (with_object_class l name c)) final
 
 pub class_back : (d : ℕ) (l : List ℕ) (c : CatalogueValue) (ts : List Lexed) (final : CatalogueValue) → reading (reader (at.Name name.ObjectClass) d l c) ts ≡ Ok final → ClassRead d l c ts final
@@ -269,7 +270,7 @@ class_back d l c (t ∷ ts) final h =
     let b = back (reader (at.Name name.ObjectClass) d l c) t ts final refl h in
     let n = name_token t.token name.ObjectClass d l c b.next b.step in
     let s = was_named name.ObjectClass (reader (at.Name name.ObjectClass) d l c) b.next n.name n.named in
-    let k = kept_limit (nat_le 512 (length c.object_classes)) 512 (length c.object_classes) (reader (at.Between lists.ObjectItems) d ((length c.object_classes + 1) ∷ l) (with_object_class l n.name c)) b.next refl s.1 in
+    let k = kept_limit (nat_le max_classes (length c.object_classes)) max_classes (length c.object_classes) (reader (at.Between lists.ObjectItems) d ((length c.object_classes + 1) ∷ l) (with_object_class l n.name c)) b.next refl s.1 in
     record { name = n.name; short = s.0; room = k.0; tail = record { rest = ts; fewer = omega arith; spelled = λ ss sp. (n.fits, sp); read = at_next _ _ ts final k.1 b.read } }
 
 data ObjectItemBegins (k : Keyword) (d : ℕ) (place : Place) : Type 0 where

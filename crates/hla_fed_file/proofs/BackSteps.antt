@@ -1,4 +1,5 @@
 -- What is read is in the grammar: one token back, and ignored lists.
+use Rattle.hla_base.specs.Limits.{max_name}
 use Rattle.std.proofs.Common.{◌≡◌, ℕ, ◌+◌, ◌<◌, ◌≤◌, ◌==◌, Bool, true, false, List, [], ◌∷◌, length, Option, None, Some, Ok, Err, nat_lt, nat_le, cond, refl, sym, ap, ◌∙◌, arith, ◌⊎◌, inl, inr, zero, suc}
 use Rattle.std.proofs.lemmas.Bool.Decides.{nat_tests}
 use Rattle.hla_fed_file.specs.Lexical as text
@@ -137,14 +138,14 @@ name_token text.Bad what d l c next ok = cc
 name_token text.Unclosed what d l c next ok = cc
 name_token text.End what d l c next ok = cc
 
-shortened : (a b : Bool) (n : List ℕ) (x : Step) (next : Reader) → (length n == 0) ≡ a → nat_lt 255 (length n) ≡ b → cond a (Err kind.ExpectedName) (cond b (Err kind.TooLarge) x) ≡ Ok next → IsShort n × (x ≡ Ok next)
+shortened : (a b : Bool) (n : List ℕ) (x : Step) (next : Reader) → (length n == 0) ≡ a → nat_lt max_name (length n) ≡ b → cond a (Err kind.ExpectedName) (cond b (Err kind.TooLarge) x) ≡ Ok next → IsShort n × (x ≡ Ok next)
 shortened true b n x next h g ok = cc
 shortened false true n x next h g ok = cc
-shortened false false n x next h g ok = let some : 0 < length n = grind (arith, nat_tests) in let few : length n ≤ 255 = grind (arith, nat_tests) in ((some, few), ok)
+shortened false false n x next h g ok = let some : 0 < length n = grind (arith, nat_tests) in let few : length n ≤ max_name = grind (arith, nat_tests) in ((some, few), ok)
 
 pub was_named : (what : Naming) (s next : Reader) (n : List ℕ) → named what s n ≡ Ok next → IsShort n × (named_at what s n ≡ Ok next)
 unfolding named
-was_named what s next n ok = shortened (length n == 0) (nat_lt 255 (length n)) n (named_at what s n) next refl refl ok
+was_named what s next n ok = shortened (length n == 0) (nat_lt max_name (length n)) n (named_at what s n) next refl refl ok
 
 -- a limit was kept
 pub kept_limit : (b : Bool) (m n : ℕ) (s next : Reader) → nat_le m n ≡ b → cond {A = Step} b (Err kind.TooLarge) (Ok s) ≡ Ok next → (n < m) × (next ≡ s)

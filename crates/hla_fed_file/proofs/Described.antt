@@ -1,4 +1,5 @@
 -- What is in the grammar is read.
+use Rattle.hla_base.specs.Limits.{max_fed_file}
 use Rattle.std.proofs.Common.{◌≡◌, ℕ, false, List, [], ◌∷◌, length, Ok, nat_lt, refl, ap, ◌∙◌, arith, le-ltb}
 use Rattle.hla_fed_file.specs.Lexical as text
 use Rattle.hla_fed_file.specs.Lexical.{Lexed, tokens}
@@ -67,5 +68,5 @@ file_read p ts fit sp =
 pub described_read : (text : List ℕ) (c : CatalogueValue) → Describes text c → read_of text ≡ Ok c
 unfolding read_of
 described_read text c d =
-    let small : nat_lt 1048576 (length text) ≡ false = le-ltb _ _ d.short in
+    let small : nat_lt max_fed_file (length text) ≡ false = le-ltb _ _ d.short in
     rw small (file_read d.parts (tokens text) d.fits d.is_file ∙ ap (λ (x : CatalogueValue). Ok x) d.declares)

@@ -1,4 +1,5 @@
 -- What is in the grammar is read: parameters and interaction classes.
+use Rattle.hla_base.specs.Limits.{max_classes, max_parameters}
 use Rattle.std.proofs.Common.{◌≡◌, ℕ, ◌+◌, ◌<◌, ◌==◌, Bool, true, false, List, [], ◌∷◌, ◌++◌, length, Option, None, Some, Ok, Err, nat_le, cond, refl, sym, ap, ◌∙◌, arith}
 use Rattle.hla_fed_file.specs.Lexical.{Lexed}
 use Rattle.hla_fed_file.specs.CatalogueValue.{CatalogueValue}
@@ -116,9 +117,9 @@ behind_reads (ASubclass n options body others) k d l c s ts ss b sp = same_left 
 abbrev pub first_of_class : CatalogueValue → List ℕ → List ℕ → InteractionClass
 first_of_class c l n = interaction_class c l n transport.Reliable order.Receive
 
-interaction_named : (n : List ℕ) (d : ℕ) (l : List ℕ) (c : CatalogueValue) → length c.interaction_classes < 512
+interaction_named : (n : List ℕ) (d : ℕ) (l : List ℕ) (c : CatalogueValue) → length c.interaction_classes < max_classes
     → named_at name.InteractionClass (reader (at.Name name.InteractionClass) d l c) n ≡ Ok (pending (at.ClassOptions stage.Named) d l (first_of_class c l n) c)
-interaction_named n d l c h = let e : nat_le 512 (length c.interaction_classes) ≡ false = below_limit _ _ h in rw e refl
+interaction_named n d l c h = let e : nat_le max_classes (length c.interaction_classes) ≡ false = below_limit _ _ h in rw e refl
 
 pub amended_class : (o : Options) (l n : List ℕ) (c : CatalogueValue) → class_amended o (first_of_class c l n) ≡ interaction_class c l n (transport_of o) (order_of o)
 amended_class (Bare None) l n c = refl
@@ -127,7 +128,7 @@ amended_class (Ordered None o space) l n c = refl
 amended_class (Ordered (Some t) o space) l n c = refl
 
 -- a class with its options, up to what stands in it
-class_head_read : (n : List ℕ) (o : Options) (i : InteractionItems) (d : ℕ) (l : List ℕ) (c : CatalogueValue) (ts : List Lexed) (ss : List Symbol) → IsShort n → length c.interaction_classes < 512
+class_head_read : (n : List ℕ) (o : Options) (i : InteractionItems) (d : ℕ) (l : List ℕ) (c : CatalogueValue) (ts : List Lexed) (ss : List Symbol) → IsShort n → length c.interaction_classes < max_classes
     → Spells ts (Named n ∷ options_then o (interaction_items_then i (RightParen ∷ ss)))
     → Reads (reader (at.Name name.InteractionClass) d l c) (reader (at.Between lists.InteractionItems) d ((length c.interaction_classes + 1) ∷ l) (with_interaction_class l n (transport_of o) (order_of o) c)) ts (interaction_items_then i (RightParen ∷ ss))
 class_head_read n o i d l c ts ss short room sp =
@@ -160,10 +161,10 @@ parameter_levels_read (ALevel inner others) d l c ts ss fit sp =
     let r = parameter_levels_read others d l c a.rest ss fit.2 a.spelled in
     record { rest = r.rest; spelled = r.spelled; same = a.same ∙ r.same }
 
-parameter_kept : (b : Bool) (d : ℕ) (l : List ℕ) (c more : CatalogueValue) → (b ≡ false → length c.parameters < 4096)
-    → cond {A = Step} b (Ok (reader at.ParameterEnd d l c)) (cond {A = Step} (nat_le 4096 (length c.parameters)) (Err kind.TooLarge) (Ok (reader at.ParameterEnd d l (cond b c more)))) ≡ Ok (reader at.ParameterEnd d l (cond b c more))
+parameter_kept : (b : Bool) (d : ℕ) (l : List ℕ) (c more : CatalogueValue) → (b ≡ false → length c.parameters < max_parameters)
+    → cond {A = Step} b (Ok (reader at.ParameterEnd d l c)) (cond {A = Step} (nat_le max_parameters (length c.parameters)) (Err kind.TooLarge) (Ok (reader at.ParameterEnd d l (cond b c more)))) ≡ Ok (reader at.ParameterEnd d l (cond b c more))
 parameter_kept true d l c more room = refl
-parameter_kept false d l c more room = let e : nat_le 4096 (length c.parameters) ≡ false = below_limit _ _ (room refl) in rw e refl
+parameter_kept false d l c more room = let e : nat_le max_parameters (length c.parameters) ≡ false = below_limit _ _ (room refl) in rw e refl
 
 parameter_read : (n : List ℕ) (v : SecLevels) (d : ℕ) (l : List ℕ) (c : CatalogueValue) (ts : List Lexed) (ss : List Symbol) → d < 64 → IsShort n → ParameterFits l n c → levels_fit (d + 1) v
     → Spells ts (LeftParen ∷ Means word.Parameter ∷ Named n ∷ levels_then v (RightParen ∷ ss)) → Reads (reader (at.Between lists.InteractionItems) d l c) (reader (at.Between lists.InteractionItems) d l (with_parameter l n c)) ts ss

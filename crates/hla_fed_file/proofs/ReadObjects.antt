@@ -1,4 +1,5 @@
 -- What is in the grammar is read: attributes and object classes.
+use Rattle.hla_base.specs.Limits.{max_attributes, max_classes}
 use Rattle.std.proofs.Common.{◌≡◌, ℕ, ◌+◌, ◌<◌, ◌==◌, Bool, true, false, List, [], ◌∷◌, ◌++◌, length, Option, None, Some, Ok, Err, nat_le, cond, refl, ap, ◌∙◌, arith}
 use Rattle.std.specs.Option.{option_map}
 use Rattle.hla_fed_file.specs.Lexical.{Lexed}
@@ -119,11 +120,11 @@ levels_read (ALevel inside others) p d l kept c ts ss e fit sp =
 abbrev pub kept_of : List ℕ → List ℕ → CatalogueValue → Option Attribute
 kept_of l n c = cond (has_attribute_named c l n) None (Some (record { class = innermost l; name = n; transport = transport.Reliable; order = order.Receive }))
 
-attribute_kept : (b : Bool) (d : ℕ) (l n : List ℕ) (c : CatalogueValue) → (b ≡ false → length c.attributes < 4096)
-    → cond {A = Step} b (Ok (half (at.AttributeOptions stage.Named) d l None c)) (cond {A = Step} (nat_le 4096 (length c.attributes)) (Err kind.TooLarge) (Ok (half (at.AttributeOptions stage.Named) d l (Some (record { class = innermost l; name = n; transport = transport.Reliable; order = order.Receive })) c)))
+attribute_kept : (b : Bool) (d : ℕ) (l n : List ℕ) (c : CatalogueValue) → (b ≡ false → length c.attributes < max_attributes)
+    → cond {A = Step} b (Ok (half (at.AttributeOptions stage.Named) d l None c)) (cond {A = Step} (nat_le max_attributes (length c.attributes)) (Err kind.TooLarge) (Ok (half (at.AttributeOptions stage.Named) d l (Some (record { class = innermost l; name = n; transport = transport.Reliable; order = order.Receive })) c)))
     ≡ Ok (half (at.AttributeOptions stage.Named) d l (cond b None (Some (record { class = innermost l; name = n; transport = transport.Reliable; order = order.Receive }))) c)
 attribute_kept true d l n c room = refl
-attribute_kept false d l n c room = let e : nat_le 4096 (length c.attributes) ≡ false = below_limit _ _ (room refl) in rw e refl
+attribute_kept false d l n c room = let e : nat_le max_attributes (length c.attributes) ≡ false = below_limit _ _ (room refl) in rw e refl
 
 pub kept_declares : (b : Bool) (l n : List ℕ) (o : Options) (c : CatalogueValue)
     → with_kept (amended o (cond b None (Some (record { class = innermost l; name = n; transport = transport.Reliable; order = order.Receive })))) c
@@ -162,9 +163,9 @@ attribute_read n o v d l c ts ss h short room fit sp =
     record { rest = r.rest; spelled = r.spelled; same = a.same ∙ b.same ∙ e.same ∙ r.same ∙ ap (λ (c' : CatalogueValue). reading (reader (at.Between lists.ObjectItems) d l c') r.rest) declares }
 
 -- the name of an object class
-class_named : (n : List ℕ) (d : ℕ) (l : List ℕ) (c : CatalogueValue) → length c.object_classes < 512
+class_named : (n : List ℕ) (d : ℕ) (l : List ℕ) (c : CatalogueValue) → length c.object_classes < max_classes
     → named_at name.ObjectClass (reader (at.Name name.ObjectClass) d l c) n ≡ Ok (reader (at.Between lists.ObjectItems) d ((length c.object_classes + 1) ∷ l) (with_object_class l n c))
-class_named n d l c h = let e : nat_le 512 (length c.object_classes) ≡ false = below_limit _ _ h in rw e refl
+class_named n d l c h = let e : nat_le max_classes (length c.object_classes) ≡ false = below_limit _ _ h in rw e refl
 
 -- behind a class in a class
 pub class_closes : (d n : ℕ) (l : List ℕ) (c : CatalogueValue) → 0 < length l → closed (reader (at.Between lists.ObjectItems) (d + 1) (n ∷ l) c) ≡ Ok (reader (at.Between lists.ObjectItems) d l c)

@@ -1,4 +1,5 @@
 -- What is in the grammar is read: one symbol after the other, and ignored lists.
+use Rattle.hla_base.specs.Limits.{max_name}
 use Rattle.std.proofs.Common.{◌≡◌, ℕ, ◌+◌, ◌-◌, ◌<◌, ◌≤◌, ◌==◌, true, false, List, [], ◌∷◌, length, Option, None, Some, Ok, nat_lt, nat_le, refl, ◌∙◌, arith, le-ltb}
 use Rattle.std.proofs.lemmas.Bool.Decides.{nat_tests}
 use Rattle.hla_fed_file.specs.Lexical as text
@@ -130,7 +131,7 @@ short_named : (what : Naming) (s : Reader) (n : List ℕ) → IsShort n → name
 unfolding named
 short_named what s n short =
     let a : (length n == 0) ≡ false = above_zero _ short.0 in
-    let b : nat_lt 255 (length n) ≡ false = le-ltb _ _ short.1 in
+    let b : nat_lt max_name (length n) ≡ false = le-ltb _ _ short.1 in
     rw (a, b) refl
 
 pub name_read : (what : Naming) (n : List ℕ) (d : ℕ) (l : List ℕ) (c : CatalogueValue) (s' : Reader) (ts : List Lexed) (ss : List Symbol) → IsShort n → named_at what (reader (at.Name what) d l c) n ≡ Ok s'

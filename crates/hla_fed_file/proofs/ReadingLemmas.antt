@@ -1,4 +1,5 @@
 -- One more token.
+use Rattle.hla_base.specs.Limits.{max_fed_file}
 use Rattle.std.proofs.Common.{◌≡◌, ℕ, true, false, List, Result, Ok, Err, length, nat_lt, ◌≤◌, ◌<◌, refl, sym, ap, ◌∙◌, le-ltb, lt-ltb}
 use Rattle.hla_fed_file.specs.Lexical as text
 use Rattle.hla_fed_file.specs.Lexical.{Lexed, tokens, tokens_from, Between}
@@ -47,9 +48,9 @@ ends_at s line text.Unclosed rest ts all e h so_far = cc
 ends_at s line text.End rest ts all e h so_far = sym so_far ∙ ap (reading s) e
 
 -- a text that is too long
-pub too_long : (bytes : List ℕ) → 1048576 < length bytes → read_of bytes ≡ Err (record { line = 1; kind = kind.TooLarge })
+pub too_long : (bytes : List ℕ) → max_fed_file < length bytes → read_of bytes ≡ Err (record { line = 1; kind = kind.TooLarge })
 unfolding read_of
-too_long bytes h = let large : nat_lt 1048576 (length bytes) ≡ true = lt-ltb _ _ h in rw large refl
+too_long bytes h = let large : nat_lt max_fed_file (length bytes) ≡ true = lt-ltb _ _ h in rw large refl
 
 own_fault : (line : ℕ) (k : FedFaultKind) → IsFirstFault line k (Err (record { line = line; kind = k }))
 own_fault line kind.OutOfMemory = tt
@@ -80,17 +81,17 @@ fails_with kind.TrailingText s line token rest ts all t e err so_far = fails_at 
 fails_with kind.TooLarge s line token rest ts all t e err so_far = fails_at s kind.TooLarge line token rest ts all t e err so_far
 
 -- a text that is not too long
-pub read_whole : (bytes : List ℕ) → length bytes ≤ 1048576 → read_of bytes ≡ reading start (tokens bytes)
+pub read_whole : (bytes : List ℕ) → length bytes ≤ max_fed_file → read_of bytes ≡ reading start (tokens bytes)
 unfolding read_of
-read_whole bytes h = let small : nat_lt 1048576 (length bytes) ≡ false = le-ltb _ _ h in rw small refl
+read_whole bytes h = let small : nat_lt max_fed_file (length bytes) ≡ false = le-ltb _ _ h in rw small refl
 
 -- its end, and its first fault
-pub ends_whole : (bytes : List ℕ) (line : ℕ) (first s : Reader) (r : All) → first ≡ start → length bytes ≤ 1048576 → reading first (tokens bytes) ≡ ending_of line s → r ≡ ending_of line s → ReadsAs r (read_of bytes)
+pub ends_whole : (bytes : List ℕ) (line : ℕ) (first s : Reader) (r : All) → first ≡ start → length bytes ≤ max_fed_file → reading first (tokens bytes) ≡ ending_of line s → r ≡ ending_of line s → ReadsAs r (read_of bytes)
 ends_whole bytes line first s r begins h e answer =
     let all : read_of bytes ≡ r = read_whole bytes h ∙ ap (λ from. reading from (tokens bytes)) (sym begins) ∙ e ∙ sym answer in
     rw all (gives_own r)
 
-pub fails_whole : (bytes : List ℕ) (first : Reader) (e : FedFault) → first ≡ start → length bytes ≤ 1048576 → IsFirstFault e.line e.kind (reading first (tokens bytes)) → ReadsAs (Err e) (read_of bytes)
+pub fails_whole : (bytes : List ℕ) (first : Reader) (e : FedFault) → first ≡ start → length bytes ≤ max_fed_file → IsFirstFault e.line e.kind (reading first (tokens bytes)) → ReadsAs (Err e) (read_of bytes)
 fails_whole bytes first e begins h fault = rw (read_whole bytes h, ← begins) fault
 
 pub ruleset steps = (goes_on, ends_at)

@@ -1,4 +1,5 @@
 -- What is read is in the grammar.
+use Rattle.hla_base.specs.Limits.{max_fed_file}
 use Rattle.std.proofs.Common.{◌≡◌, ℕ, ◌+◌, ◌≤◌, Bool, true, false, List, [], ◌∷◌, length, Some, Ok, Err, nat_lt, cond, refl, ap, ◌∙◌, arith, inl, inr, zero, suc}
 use Rattle.std.proofs.lemmas.Bool.Decides.{nat_tests}
 use Rattle.hla_fed_file.specs.Lexical as text
@@ -318,15 +319,15 @@ file_back (t ∷ k ∷ ts) final h =
     let e = done_back (parts_declare a.parts empty_catalogue) a.tail.rest final a.tail.read in
     (a.parts, (p.0, (fits, a.tail.spelled _ e.0)), a.fit, e.1)
 
-short_text : (bytes : List ℕ) (b : Bool) (r : Outcome) (c : CatalogueValue) → nat_lt 1048576 (length bytes) ≡ b → cond b (Err (record { line = 1; kind = kind.TooLarge })) r ≡ Ok c → (length bytes ≤ 1048576) × (r ≡ Ok c)
+short_text : (bytes : List ℕ) (b : Bool) (r : Outcome) (c : CatalogueValue) → nat_lt max_fed_file (length bytes) ≡ b → cond b (Err (record { line = 1; kind = kind.TooLarge })) r ≡ Ok c → (length bytes ≤ max_fed_file) × (r ≡ Ok c)
 short_text bytes true r c h ok = cc
-short_text bytes false r c h ok = let few : length bytes ≤ 1048576 = grind (arith, nat_tests) in (few, ok)
+short_text bytes false r c h ok = let few : length bytes ≤ max_fed_file = grind (arith, nat_tests) in (few, ok)
 
 -- what is read is what the grammar relates to the text
 pub read_described : (text : List ℕ) (c : CatalogueValue) → read_of text ≡ Ok c → Describes text c
 unfolding read_of
 read_described text c ok =
-    let s = short_text text (nat_lt 1048576 (length text)) (reading start (tokens text)) c refl ok in
+    let s = short_text text (nat_lt max_fed_file (length text)) (reading start (tokens text)) c refl ok in
     let f = file_back (tokens text) c s.1 in
     record { parts = f.0; is_file = f.1; short = s.0; fits = f.2; declares = f.3 }
 

@@ -89,7 +89,7 @@ impl Catalogue {
     /// The object classes, in the order of their numbers.
     pub fn object_classes(&self) -> &[ObjectClass]
         ensures items { result.now ≡ self.now.object_classes }
-        ensures few { length result.now ≤ 512 }
+        ensures few { length result.now ≤ max_classes }
     {
         self.object_classes.as_slice()
     }
@@ -97,7 +97,7 @@ impl Catalogue {
     /// The interaction classes, in the order of their numbers.
     pub fn interaction_classes(&self) -> &[InteractionClass]
         ensures items { result.now ≡ self.now.interaction_classes }
-        ensures few { length result.now ≤ 512 }
+        ensures few { length result.now ≤ max_classes }
     {
         self.interaction_classes.as_slice()
     }
@@ -105,7 +105,7 @@ impl Catalogue {
     /// The attributes, in the order of their numbers.
     pub fn attributes(&self) -> &[Attribute]
         ensures items { result.now ≡ self.now.attributes }
-        ensures few { length result.now ≤ 4096 }
+        ensures few { length result.now ≤ max_attributes }
     {
         self.attributes.as_slice()
     }
@@ -113,7 +113,7 @@ impl Catalogue {
     /// The parameters, in the order of their numbers.
     pub fn parameters(&self) -> &[Parameter]
         ensures items { result.now ≡ self.now.parameters }
-        ensures few { length result.now ≤ 4096 }
+        ensures few { length result.now ≤ max_parameters }
     {
         self.parameters.as_slice()
     }

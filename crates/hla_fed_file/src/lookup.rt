@@ -1,5 +1,6 @@
 //! Looking up names and numbers in a catalogue (HLA 1.3, support services).
 
+ghost use Rattle.hla_base.specs.Limits.{max_classes};
 ghost use Rattle.std.specs.Prelude.{◌≡◌, ◌≤◌, ◌<◌, length, position, slice_get, IfSome};
 ghost use Rattle.hla_fed_file.specs.declared.declared.ObjectClass.{ObjectClass};
 ghost use Rattle.hla_fed_file.specs.declared.declared.InteractionClass.{InteractionClass};
@@ -193,7 +194,7 @@ impl Catalogue {
 
     /// The first object class whose path ends with a dot and the name.
     fn object_below(&self, name: &[u8]) -> Option<usize>
-        ensures small { IfSome result (λ k. k < 4096) }
+        ensures small { IfSome result (λ k. k < max_classes) }
         ensures first { result ≡ position (λ (k : ObjectClass). ends_with_name k.path name.now) self.now.object_classes }
     {
         self.object_classes()
@@ -203,7 +204,7 @@ impl Catalogue {
 
     /// The first interaction class whose path ends with a dot and the name.
     fn interaction_below(&self, name: &[u8]) -> Option<usize>
-        ensures small { IfSome result (λ k. k < 4096) }
+        ensures small { IfSome result (λ k. k < max_classes) }
         ensures first { result ≡ position (λ (k : InteractionClass). ends_with_name k.path name.now) self.now.interaction_classes }
     {
         self.interaction_classes()

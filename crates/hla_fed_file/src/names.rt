@@ -1,5 +1,6 @@
 //! Names and their first numbers.
 
+ghost use Rattle.hla_base.specs.Limits.{max_attributes};
 ghost use Rattle.std.specs.Prelude.{◌≡◌, OnOk, OnErr, IfErr, IfSome, [], ◌∷◌, ◌++◌, ◌<◌, None};
 ghost use Rattle.hla_fed_file.specs.Lookup.{number_at};
 
@@ -10,7 +11,7 @@ use std::marker::Model;
 
 /// The number of a place.
 pub(crate) fn number_of(place: Option<usize>) -> Option<u32>
-    requires { IfSome place (λ k. k < 4096) }
+    requires { IfSome place (λ k. k < max_attributes) }
     ensures { result ≡ number_at place }
 {
     match place {

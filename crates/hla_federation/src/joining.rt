@@ -1,5 +1,6 @@
 //! Joining and resigning.
 
+ghost use Rattle.hla_base.specs.Limits.{largest_number};
 ghost use Rattle.std.specs.Prelude.{◌≡◌, ◌+◌, ◌≤◌, length, OnOk, IfErr};
 ghost use Rattle.hla_base.specs.declared.fault.Fault.TheVariants.{OutOfMemory};
 ghost use Rattle.hla_machine.specs.Directory.{deletions_sent};
@@ -45,7 +46,7 @@ impl Parts {
         objects: &[ObjectNo],
     ) -> Result<(), Fault>
         requires whole { IsWhole self.now }
-        requires serials { serial + length objects.now ≤ 18446744073709551615 }
+        requires serials { serial + length objects.now ≤ largest_number }
         ensures ok { OnOk result (HasAdded (messages_to (state_of self.now).directory sender serial (deletions_sent objects.now)) outbox.old outbox.new) }
         ensures err { IfErr result (λ e. e ≡ Fault.OutOfMemory) }
     {

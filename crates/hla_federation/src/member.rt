@@ -3,7 +3,7 @@
 ghost use Rattle.std.specs.Prelude.{◌≡◌, ◌≢◌, ◌<◌, ◌≤◌, ◌+◌, ◌-◌, [], ℕ, length, false, true, None, Some, IfOk, IfErr, OnOk, OnErr, ◌++◌, drop, slice_get};
 ghost use Rattle.std.specs.Option.{option_copied};
 ghost use Rattle.std.specs.VecDeque.{deque_capacity, deque_len};
-ghost use Rattle.hla_base.specs.Limits.{max_joins};
+ghost use Rattle.hla_base.specs.Limits.{max_joins, largest_number};
 ghost use Rattle.hla_base.specs.declared.fault.Fault.TheVariants.{OutOfMemory};
 ghost use Rattle.hla_base.specs.Tables.{upd};
 ghost use Rattle.hla_federation.specs.Tables.MemberValue.{item};
@@ -104,7 +104,7 @@ impl Member {
 
     /// So many more messages were sent.
     pub fn count_messages(&mut self, count: u64)
-        requires { self.old.shown.next_serial + count ≤ 18446744073709551615 }
+        requires { self.old.shown.next_serial + count ≤ largest_number }
         ensures { self.new ≡ record self.old { shown = record self.old.shown { next_serial = self.old.shown.next_serial + count } } }
     {
         self.next_serial += count;

@@ -3,7 +3,7 @@
 ghost use Rattle.std.specs.Prelude.{◌≡◌, ◌≢◌, ◌<◌, ◌≤◌, ◌+◌, ◌++◌, [], ℕ, length, false, true, ◌&&◌, ◌⊎◌, IfOk, IfErr, OnOk, OnErr, slice_get};
 ghost use Rattle.std.specs.List.{list_any};
 ghost use Rattle.std.specs.Str.{bytes_eq};
-ghost use Rattle.hla_base.specs.Limits.{max_joins};
+ghost use Rattle.hla_base.specs.Limits.{max_joins, largest_number};
 ghost use Rattle.hla_base.specs.declared.fault.Fault.TheVariants.{OutOfMemory};
 ghost use Rattle.hla_base.specs.Tables.{upd, upd2, numbers_below};
 ghost use Rattle.hla_federation.specs.Tables.Members.{members_of, room_in, IsEnd, AreQuiet, new_member, with_member_admitted, with_member_withdrawn, with_first_picked, HasRoom, posted_below, IsUnretracting, IsSmall, carried_of, with_arrival};
@@ -30,7 +30,7 @@ pub struct Members {
 }
 
 impl Model for Members {
-    ghost use Rattle.hla_base.specs.Limits.{max_joins};
+    ghost use Rattle.hla_base.specs.Limits.{max_joins, largest_number};
     ghost use Rattle.std.specs.Prelude.{length, ◌≤◌, ◌-◌, vec_len, vec_capacity};
     ghost use Rattle.hla_federation.specs.Tables.MemberValue.{RoomyMembers};
     ghost use Rattle.hla_federation.specs.Tables.Members.{roomy};
@@ -111,7 +111,7 @@ impl Members {
     pub fn count_messages(&mut self, federate: FederateNo, count: u64)
         requires some { 0 < federate }
         requires within { federate < (members_of self.old.shown).next_federate }
-        requires serials { (members_of self.old.shown).serial federate + count ≤ 18446744073709551615 }
+        requires serials { (members_of self.old.shown).serial federate + count ≤ largest_number }
         ensures { members_of self.new.shown ≡ record (members_of self.old.shown) { serial = upd (members_of self.old.shown).serial federate ((members_of self.old.shown).serial federate + count) } }
     {
         self.members[federate as usize - 1].count_messages(count);
@@ -214,7 +214,7 @@ impl Members {
     ) -> Result<(), Fault>
         requires some { 0 < federate }
         requires within { federate < (members_of self.old.shown).next_federate }
-        requires serials { (members_of self.old.shown).serial federate + count ≤ 18446744073709551615 }
+        requires serials { (members_of self.old.shown).serial federate + count ≤ largest_number }
         ensures ok { OnOk result (members_of self.new.shown ≡ record (members_of self.old.shown) { serial = upd (members_of self.old.shown).serial federate ((members_of self.old.shown).serial federate + count); wire = posted_below (From federate) (item [] outbox) (members_of self.old.shown).next_federate (members_of self.old.shown).wire }) }
         ensures err { IfErr result (λ e. e ≡ Fault.OutOfMemory) }
         ensures unchanged { OnErr result (self.new.shown ≡ self.old.shown) }

@@ -1,4 +1,5 @@
 -- The objects of a registry's entries
+use Rattle.hla_base.specs.Limits.{max_objects}
 use Rattle.std.proofs.Common.{◌≡◌, ℕ, zero, suc, ◌+◌, ◌-◌, ◌<◌, ◌≤◌, List, [], ◌∷◌, ◌++◌, length, set, slice_get, eqb, not, ◌&&◌, Bool, true, false, Some, unwrap_or, refl, sym, ap, subst, ◌∙◌, arith}
 use Rattle.std.proofs.lemmas.List.{length-append}
 use Rattle.std.specs.Map.{values_of}
@@ -41,7 +42,7 @@ length-set_value_at [] i w = refl
 length-set_value_at (e ∷ es) zero w = refl
 length-set_value_at (e ∷ es) (suc i) w = ap suc (length-set_value_at es i w)
 
-pub still_few : (es : Entries) (i : ℕ) (w : Entry) → length es ≤ 4096 → length (set_value_at es i w) ≤ 4096
+pub still_few : (es : Entries) (i : ℕ) (w : Entry) → length es ≤ max_objects → length (set_value_at es i w) ≤ max_objects
 still_few es i w few = omega (arith, few, length-set_value_at es i w)
 
 -- the key of a value
@@ -81,7 +82,7 @@ module _ (es : Entries) (h : ℕ) (v : Entry) (some : 0 < h) (within : h - 1 < l
       ∙ one_changed (registered es) h some short (record (item_at unregistered (registered es) h).object { exists = false })
 
 -- one more entry
-pub one_longer : (es new : Entries) (rs : List Registered) (k : Vec ℕ Global) (v : Entry) → registered es ≡ rs → length rs + 1 ≤ 4096 → new ≡ es ++ (k, v) ∷ [] → length new ≤ 4096
+pub one_longer : (es new : Entries) (rs : List Registered) (k : Vec ℕ Global) (v : Entry) → registered es ≡ rs → length rs + 1 ≤ max_objects → new ≡ es ++ (k, v) ∷ [] → length new ≤ max_objects
 one_longer es new rs k v view room added = omega (arith, room, ap length view, length-registered es, ap length added, length-append es ((k, v) ∷ []))
 
 pub entry_added : (es new : Entries) (rs : List Registered) (k : Vec ℕ Global) (name : List ℕ) (class owner : ℕ) (attributes : List ℕ) (flags : List Bool) → registered es ≡ rs → k.items ≡ name

@@ -1,4 +1,5 @@
 -- Resigning is what the next-state function says
+use Rattle.hla_base.specs.Limits.{largest_number, max_serial}
 use Rattle.std.proofs.Common.{◌≡◌, ⊎_elim, ℕ, zero, suc, ◌+◌, ◌<◌, ◌≤◌, cond, eqb, ltb, not, ◌&&◌, Bool, true, false, None, Some, List, [], ◌∷◌, ◌++◌, length, take, get_or, refl, sym, ap, ◌∙◌, arith}
 use Rattle.std.proofs.lemmas.Bool.{cases_Bool}
 use Rattle.std.proofs.lemmas.Bool.Decides.{nat_tests}
@@ -38,7 +39,7 @@ count_deletions [] = refl
 count_deletions (h ∷ hs) = rw (count_deletions hs) refl
 
 -- resigning with them is refused where there are no serials for them
-pub delete_refusal : (s : Seen) (f : ℕ) (b : Bool) → s.directory.joined f ≡ true → ltb 1000000000000000001 (s.serial f + length (objects_of s.directory f)) ≡ b
+pub delete_refusal : (s : Seen) (f : ℕ) (b : Bool) → s.directory.joined f ≡ true → ltb (max_serial + 1) (s.serial f + length (objects_of s.directory f)) ≡ b
     → refusal s (Call f (service.Resign DeleteObjects)) ≡ cond b (Some fault.LimitReached) None
 delete_refusal s f b joined over = rw (joined, count_deletions (objects_of s.directory f), over) refl
 
@@ -183,14 +184,14 @@ not_over true true none = absurd (cc)
 not_over true false none = refl
 not_over false over none = absurd (cc)
 
-within_serials : (serial n : ℕ) → ltb 1000000000000000001 (serial + n) ≡ false → serial + n ≤ 18446744073709551615
+within_serials : (serial n : ℕ) → ltb (max_serial + 1) (serial + n) ≡ false → serial + n ≤ largest_number
 within_serials serial n under = grind (arith, nat_tests)
 
-pub resign_serials : (s : Seen) (f : ℕ) (way : ResignAction) → s.serial f ≤ 18446744073709551615 → refusal s (Call f (service.Resign way)) ≡ None
-    → s.serial f + length (objects_of s.directory f) ≤ 18446744073709551615
+pub resign_serials : (s : Seen) (f : ℕ) (way : ResignAction) → s.serial f ≤ largest_number → refusal s (Call f (service.Resign way)) ≡ None
+    → s.serial f + length (objects_of s.directory f) ≤ largest_number
 resign_serials s f DeleteObjects small none =
-    let under = not_over (s.directory.joined f) (ltb 1000000000000000001 (s.serial f + length (deletions_sent (objects_of s.directory f)))) none in
-    within_serials (s.serial f) (length (objects_of s.directory f)) (ap (λ (n : ℕ). ltb 1000000000000000001 (s.serial f + n)) (sym (deletions-length (objects_of s.directory f))) ∙ under)
+    let under = not_over (s.directory.joined f) (ltb (max_serial + 1) (s.serial f + length (deletions_sent (objects_of s.directory f)))) none in
+    within_serials (s.serial f) (length (objects_of s.directory f)) (ap (λ (n : ℕ). ltb (max_serial + 1) (s.serial f + n)) (sym (deletions-length (objects_of s.directory f))) ∙ under)
 resign_serials s f NoAction small none =
     let empty = no_objects (objects_of s.directory f) (no_action (s.directory.joined f) (ltb 0 (length (objects_of s.directory f))) none) in
     omega (arith, small, ap (λ (hs : List ℕ). length hs) empty)

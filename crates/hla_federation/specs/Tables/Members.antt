@@ -1,4 +1,5 @@
 -- The members of a federation as tables, and what is done with their wires
+use Rattle.hla_base.specs.Limits.{forever}
 use Rattle.std.specs.Prelude.{ℕ, ◌+◌, ◌≡◌, ◌<◌, ◌≤◌, cond, eqb, ltb, not, ◌&&◌, Bool, true, false, Option, Some, List, [], ◌∷◌, ◌++◌, length, map, drop}
 use Rattle.hla_base.specs.declared.content.Event.{Event}
 use Rattle.hla_base.specs.Tables.{upd, upd2, clear}
@@ -58,7 +59,7 @@ HasRoomFor m received controls = Unit {0}
 
 -- a bound is a number of ticks in code
 abbrev pub IsSmall : Carried → Type 0
-IsSmall (carried.Null v) = v ≤ 18446744073709551615
+IsSmall (carried.Null v) = v ≤ forever
 IsSmall x = Unit {0}
 
 -- ---- all of them, as tables by number

@@ -1,3 +1,4 @@
+use Rattle.hla_base.specs.Limits.{max_attributes}
 use Rattle.std.proofs.Common.{◌+◌, ◌∷◌, [], length, ◌<◌, ap, arith}
 use Rattle.std.proofs.lemmas.List.{length-append}
 use Rattle.hla_fed_file.specs.Groups.{IsNoted}
@@ -10,7 +11,7 @@ pub invariant_of-self-in-Ok-note : goal.invariant_of-self-in-Ok-note
 invariant_of-self-in-Ok-note c =
     let before = c.self.inside.attributes in
     let kept = c.self.invariant in
-    let room : length before < 4096 = rw (ap (λ (t : CatalogueValue). length t.attributes) c.self.view_is) c.requires in
+    let room : length before < max_attributes = rw (ap (λ (t : CatalogueValue). length t.attributes) c.self.view_is) c.requires in
     let noted : IsNoted c.self.inside.attribute_names c.note.new.self c.args.attribute.name (record { class = c.args.attribute.class; number = length before + 1 }) =
     rw (← c.len.ensures, ← c.as_slice.ensures, ← c.in-Ok.ensures.items) c.in-Ok-note.ensures.ok in
     rw c.in_ok-push.ensures.ok

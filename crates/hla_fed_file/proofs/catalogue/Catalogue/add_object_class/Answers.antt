@@ -1,3 +1,4 @@
+use Rattle.hla_base.specs.Limits.{max_classes}
 use Rattle.std.proofs.Common.{◌∷◌, [], length, ◌<◌, ap, arith}
 use Rattle.std.proofs.lemmas.List.{length-append}
 use Rattle.hla_fed_file.specs.declared.declared.ObjectClass.{ObjectClass}
@@ -9,7 +10,7 @@ pub invariant_of-self-in-Ok-note : goal.invariant_of-self-in-Ok-note
 invariant_of-self-in-Ok-note c =
     let before = c.self.inside.object_classes in
     let kept = c.self.invariant in
-    let room : length before < 512 = rw (ap (λ (t : CatalogueValue). length t.object_classes) c.self.view_is) c.requires in
+    let room : length before < max_classes = rw (ap (λ (t : CatalogueValue). length t.object_classes) c.self.view_is) c.requires in
     rw (c.in-Ok-note.ensures.ok, c.in_ok-push.ensures.ok, c.in-Ok.ensures.items, c.as_slice.ensures, c.len.ensures)
     (record {
       objects = paths_added (λ (k : ObjectClass). k.path) c.self.inside.object_paths before c.args.class kept.objects;

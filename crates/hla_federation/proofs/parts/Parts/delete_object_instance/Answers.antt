@@ -1,3 +1,4 @@
+use Rattle.hla_base.specs.Limits.{largest_number}
 use Rattle.std.proofs.Common.{◌≡◌, ◌+◌, ◌≤◌, [], false, ltb, None, refl, ap, sym, subst, ◌∙◌, arith}
 use Rattle.std.proofs.lemmas.Bool.Decides.{nat_tests}
 use Rattle.hla_base.specs.Tables.{upd, max_time}
@@ -25,7 +26,7 @@ send_all-requires-clause-serials c =
     let left : ltb (max_time + 1) ((members_of now.members).serial f + 1) ≡ false = (none_applies (tests (components_seen (state_of now)) (Call f (service.DeleteObjectInstance c.args.object None))) none).1.1.1.1.0 in
     let same = ap (λ (v : FederationValue). (members_of v.members).serial f) c.self.view_is in
     let counted : (members_of now.members).serial f + 1 ≤ 1000000000000000001 = grind (arith, nat_tests) in
-    let few : (members_of now.members).serial f + 1 ≤ 18446744073709551615 = omega (arith, counted) in
+    let few : (members_of now.members).serial f + 1 ≤ largest_number = omega (arith, counted) in
     rw same few
 
 pub returns-clause-whole : goal.returns-clause-whole

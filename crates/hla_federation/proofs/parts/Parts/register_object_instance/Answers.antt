@@ -1,3 +1,4 @@
+use Rattle.hla_base.specs.Limits.{max_objects}
 use Rattle.std.proofs.Common.{◌≡◌, ◌<◌, ◌≤◌, ◌+◌, ◌++◌, ℕ, List, [], None, length, true, false, ltb, sym, ap, subst, ◌∙◌, arith}
 use Rattle.std.proofs.lemmas.Bool.Decides.{nat_tests}
 use Rattle.hla_declaration.specs.Declarations as declared
@@ -48,8 +49,8 @@ pub register-requires-clause-few : goal.register-requires-clause-few
 register-requires-clause-few c =
     let none : refusal (components_seen (state_of c.args.self.now)) (step.Call c.args.federate (service.RegisterObjectInstance c.args.class c.args.name.now)) ≡ None = sym c.register_fault.ensures ∙ c.in_default.is in
     let clear = clear_call (components_seen (state_of c.args.self.now)) c.args.federate (service.RegisterObjectInstance c.args.class c.args.name.now) none in
-    let limit : ltb 4096 (registry_of c.args.self.now.objects).next_object ≡ false = or_first _ _ clear.1.1.1.0 in
-    let few : (registry_of c.args.self.now.objects).next_object ≤ 4096 = grind (arith, nat_tests) in
+    let limit : ltb max_objects (registry_of c.args.self.now.objects).next_object ≡ false = or_first _ _ clear.1.1.1.0 in
+    let few : (registry_of c.args.self.now.objects).next_object ≤ max_objects = grind (arith, nat_tests) in
     omega (arith, few, ap (λ (v : FederationValue). length v.objects) c.self.view_is)
 
 pub register-requires-clause-unused : goal.register-requires-clause-unused

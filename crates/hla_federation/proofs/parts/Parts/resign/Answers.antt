@@ -1,3 +1,4 @@
+use Rattle.hla_base.specs.Limits.{largest_number}
 use Rattle.std.proofs.Common.{◌≡◌, ◌+◌, ◌≤◌, ◌++◌, None, List, [], ℕ, Bool, length, sym, ap, subst, ◌∙◌, arith}
 use Rattle.hla_null_message.specs.declared.message.Message.{Message}
 use Rattle.hla_declaration.specs.Declarations as declared
@@ -56,16 +57,16 @@ pub address_removals-requires-clause-serials : goal.address_removals-requires-cl
 address_removals-requires-clause-serials c =
     let f = c.args.federate in
     let none : refusal (components_seen (state_of c.args.self.now)) (Call f (service.Resign c.args.action)) ≡ None = sym c.resign_fault.ensures ∙ c.in_default.is in
-    let small : (members_of c.self.inside.members.shown).serial f ≤ 18446744073709551615 = rw (← c.next_serial-serial.ensures) (omega (arith, c.next_serial-serial.type_inv)) in
-    let now = resign_serials (components_seen (state_of c.args.self.now)) f c.args.action (subst (λ (v : FederationValue). (members_of v.members).serial f ≤ 18446744073709551615) c.self.view_is small) none in
-    let inside = subst (λ (v : FederationValue). (members_of v.members).serial f + length (objects_of (state_of v).directory f) ≤ 18446744073709551615) (sym c.self.view_is) now in
+    let small : (members_of c.self.inside.members.shown).serial f ≤ largest_number = rw (← c.next_serial-serial.ensures) (omega (arith, c.next_serial-serial.type_inv)) in
+    let now = resign_serials (components_seen (state_of c.args.self.now)) f c.args.action (subst (λ (v : FederationValue). (members_of v.members).serial f ≤ largest_number) c.self.view_is small) none in
+    let inside = subst (λ (v : FederationValue). (members_of v.members).serial f + length (objects_of (state_of v).directory f) ≤ largest_number) (sym c.self.view_is) now in
     rw (c.as_slice.ensures, c.next_serial-serial.ensures, c.in_ok-objects.ensures.ok) inside
 
 pub send_all-requires-clause-serials : goal.send_all-requires-clause-serials
 send_all-requires-clause-serials c =
     let f = c.args.federate in
     let none : refusal (components_seen (state_of c.args.self.now)) (Call f (service.Resign c.args.action)) ≡ None = sym c.resign_fault.ensures ∙ c.in_default.is in
-    let small : (members_of c.self.inside.members.shown).serial f ≤ 18446744073709551615 = rw (← c.next_serial-serial.ensures) (omega (arith, c.next_serial-serial.type_inv)) in
-    let now = resign_serials (components_seen (state_of c.args.self.now)) f c.args.action (subst (λ (v : FederationValue). (members_of v.members).serial f ≤ 18446744073709551615) c.self.view_is small) none in
-    let inside = subst (λ (v : FederationValue). (members_of v.members).serial f + length (objects_of (state_of v).directory f) ≤ 18446744073709551615) (sym c.self.view_is) now in
+    let small : (members_of c.self.inside.members.shown).serial f ≤ largest_number = rw (← c.next_serial-serial.ensures) (omega (arith, c.next_serial-serial.type_inv)) in
+    let now = resign_serials (components_seen (state_of c.args.self.now)) f c.args.action (subst (λ (v : FederationValue). (members_of v.members).serial f ≤ largest_number) c.self.view_is small) none in
+    let inside = subst (λ (v : FederationValue). (members_of v.members).serial f + length (objects_of (state_of v).directory f) ≤ largest_number) (sym c.self.view_is) now in
     rw (c.len.ensures, c.in_ok-objects.ensures.ok) inside
