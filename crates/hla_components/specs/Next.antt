@@ -199,8 +199,8 @@ call_outcome s f (service.PublishInteractionClass class) = done_outcome (with_di
 call_outcome s f (service.UnpublishInteractionClass class) = done_outcome (with_directory s (with_published_interaction s.directory f class false))
 call_outcome s f (service.SubscribeInteractionClass class) = done_outcome (with_directory s (with_subscribed_interaction s.directory f class true))
 call_outcome s f (service.UnsubscribeInteractionClass class) = done_outcome (with_directory s (with_subscribed_interaction s.directory f class false))
-call_outcome s f (service.RegisterObjectInstance class name) = let h = s.directory.next_object in let event_callback = name_or_default h name in
-    answer_outcome (answer.Registered h event_callback) (with_object_registered s f h (with_object s.directory f class event_callback))
+call_outcome s f (service.RegisterObjectInstance class name) = let h = s.directory.next_object in let chosen = name_or_default h name in
+    answer_outcome (answer.Registered h chosen) (with_object_registered s f h (with_object s.directory f class chosen))
 call_outcome s f (service.UpdateAttributeValues object values stamp) = send_outcome s f stamp (update_sent s.directory object values)
 call_outcome s f (service.SendInteraction class values stamp) = send_outcome s f stamp (interaction_sent s.directory class values)
 call_outcome s f (service.DeleteObjectInstance object stamp) = done_outcome (with_object_deleted s f object stamp)
