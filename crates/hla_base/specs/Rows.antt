@@ -1,11 +1,12 @@
 -- The row of one federate: its roles and its time (HLA 1.3, time management)
-use Rattle.std.specs.Prelude.{ℕ, ◌+◌, ◌-◌, max, min, cond, eqb, leb, ltb, not, ◌&&◌, ◌||◌, Bool, true, false, Option, Some, None}
+use Rattle.std.specs.Prelude.{ℕ, ◌≡◌, ◌≤◌, ◌+◌, ◌-◌, ◌*◌, max, min, cond, eqb, leb, ltb, not, ◌&&◌, ◌||◌, Bool, true, false, Option, Some, None}
 use Rattle.hla_base.specs.declared.row.Role.{Role}
 use Rattle.hla_base.specs.declared.row.Role.TheVariants.{Disabled, Pending, Enabled}
 use Rattle.hla_base.specs.declared.row.AdvanceKind.{AdvanceKind}
 use Rattle.hla_base.specs.declared.row.AdvanceKind.TheVariants.{TimeAdvance, TimeAdvanceAvailable, NextEvent, NextEventAvailable, FlushQueue}
 use Rattle.hla_base.specs.declared.row.AdvanceRequest.{AdvanceRequest}
 use Rattle.hla_base.specs.declared.row.TimeRow.{TimeRow}
+use Rattle.hla_base.specs.Limits.{max_time, max_enablings}
 use Rattle.hla_base.specs.Tables.{or_else, when}
 
 -- ---- kinds of advance
@@ -159,3 +160,14 @@ granted r q t = record r {
   floor = max r.floor (t + width r.lookahead q.kind);
   bar = cond (is_constrained r) (bar_after r q.kind t) r.bar;
 }
+
+-- ---- the numbers of a row, so that none of them wraps in code
+pub record RowNumbers (r : TimeRow) : Type 0 where
+  pub time : r.time ≤ max_time
+  pub lookahead : r.lookahead ≤ max_time
+  pub floor : r.floor ≤ 2 * max_time
+  pub regulation : r.regulation_time ≤ max_time
+  pub bar : r.bar ≤ max_time + 1
+  pub enablings : r.enablings ≤ max_enablings
+  pub asked : (q : AdvanceRequest) → r.advance ≡ Some q → q.asked ≤ max_time
+  pub first : (q : AdvanceRequest) (p : ℕ) → r.advance ≡ Some q → r.first_pick ≡ Some p → p ≤ q.asked

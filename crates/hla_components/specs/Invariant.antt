@@ -9,10 +9,10 @@ use Rattle.hla_base.specs.declared.row.TimeRow.{TimeRow}
 use Rattle.hla_null_message.specs.declared.message.Message.{Message}
 use Rattle.hla_null_message.specs.declared.message.Message.TheVariants as message
 use Rattle.hla_base.specs.Tables.{is_other, least}
-use Rattle.hla_base.specs.Rows.{is_regulator, is_constrained, is_pending}
+use Rattle.hla_base.specs.Rows.{is_regulator, is_constrained, is_pending, RowNumbers}
 use Rattle.hla_machine.specs.Directory.{Directory, served_object}
 use Rattle.hla_machine.specs.Central.{SentEvent}
-use Rattle.hla_machine.specs.CentralInvariant.{CentralInv, RowNumbers}
+use Rattle.hla_machine.specs.CentralInvariant.{CentralInv}
 use Rattle.hla_order_queues.specs.declared.control.Control.{Control}
 use Rattle.hla_order_queues.specs.declared.control.Control.TheVariants.{ToDiscover, ToRetract}
 use Rattle.hla_order_queues.specs.Queues.{is_before, occurs}

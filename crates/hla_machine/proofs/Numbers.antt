@@ -13,7 +13,7 @@ use Rattle.hla_base.specs.declared.content.Content.TheVariants as content
 use Rattle.hla_base.specs.declared.number.EventHandle.{EventHandle}
 use Rattle.hla_base.specs.Limits.{max_time, max_enablings}
 use Rattle.hla_base.specs.Tables.{upd, or_else, greatest, when}
-use Rattle.hla_base.specs.Rows.{is_strict, is_next, is_flush, is_constrained, new_row, width, requested, regulating_from, regulates, constrains, picked, first_or, grant_time, granted, bar_after, keep_if}
+use Rattle.hla_base.specs.Rows.{is_strict, is_next, is_flush, is_constrained, new_row, width, requested, regulating_from, regulates, constrains, picked, first_or, grant_time, granted, bar_after, keep_if, RowNumbers}
 use Rattle.hla_callbacks.specs.declared.callback.Callback.{Callback}
 use Rattle.hla_callbacks.specs.declared.callback.Callback.TheVariants as callback
 use Rattle.hla_callbacks.specs.declared.callback.Delivery.{Delivery}
@@ -35,8 +35,8 @@ use Rattle.hla_machine.specs.Directory.{deletion_sent, deletions_sent, objects_o
 use Rattle.hla_machine.specs.Central.{Central, BelowAllTso, BelowWake, bar_of, low_entry, BelowSomeWake}
 use Rattle.hla_machine.specs.Callbacks.{MayPickIn, MayDeliver, MayPickUp, MayGrant, MayConstrain, row_after, after_delivery, after_constraint, after_pick}
 use Rattle.hla_machine.specs.Sends.{after_messages}
-use Rattle.hla_machine.specs.Refusals.{refusal, request_tests, regulation_tests}
-use Rattle.hla_machine.specs.CentralInvariant.{RowNumbers}
+use Rattle.hla_base.specs.RowRefusals.{request_tests, regulation_tests}
+use Rattle.hla_machine.specs.Refusals.{refusal}
 use Rattle.hla_machine.specs.Machine.{central_seen, MayEnter, MayAnswer, MayDo, MayEnd, after_enter, after_cease, after_call, after_carry, after_done, after}
 use Rattle.hla_base.proofs.Tables.{upd_each, greatest_le}
 use Rattle.hla_machine.proofs.Tests.{AllClear, clear_call, not-is-false}

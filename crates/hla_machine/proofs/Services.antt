@@ -19,7 +19,8 @@ use Rattle.hla_machine.specs.Directory.{Outgoing, is_of_order, objects_of, delet
 use Rattle.hla_machine.specs.Central.{Central, Copy, SentEvent, bar_of, low_entry}
 use Rattle.hla_machine.specs.Callbacks.{with_demoted, with_central_row}
 use Rattle.hla_machine.specs.Sends.{is_ordered, is_some_ordered, after_message, after_messages}
-use Rattle.hla_machine.specs.Refusals.{request_tests, is_bad_stamp}
+use Rattle.hla_base.specs.RowRefusals.{request_tests}
+use Rattle.hla_machine.specs.Refusals.{is_bad_stamp}
 use Rattle.hla_machine.specs.Machine.{MayEnter, MayAnswer, after_leaving, after_resign, after_retract, after_enter, after_cease, joined_by}
 use Rattle.hla_base.proofs.Tables.{by_number, upd_same, upd_other, upd_each, upd2_each, le_greatest, greatest_ge}
 use Rattle.hla_machine.proofs.Tests.{AllClear, not-is-false}

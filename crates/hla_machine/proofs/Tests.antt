@@ -3,7 +3,8 @@ use Rattle.std.proofs.Common.{◌≡◌, ℕ, not, Bool, true, false, refl, List
 use Rattle.std.proofs.lemmas.Bool.{cond_both}
 use Rattle.hla_machine.specs.declared.service.Service.{Service}
 use Rattle.hla_machine.specs.declared.step.Step.TheVariants.{Call, Announce, Tick}
-use Rattle.hla_machine.specs.Refusals.{Test, Seen, first_fault, refusal, joined_test, call_tests}
+use Rattle.hla_base.specs.RowRefusals.{Test, first_fault}
+use Rattle.hla_machine.specs.Refusals.{Seen, refusal, joined_test, call_tests}
 
 abbrev pub AllClear : List Test → Type 0
 AllClear [] = Unit {0}

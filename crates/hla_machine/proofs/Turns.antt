@@ -32,7 +32,8 @@ use Rattle.hla_machine.specs.Directory.{Outgoing, deletion_sent, deletions_sent,
 use Rattle.hla_machine.specs.Central.{Central, Tso, low_entry}
 use Rattle.hla_machine.specs.Callbacks.{IsCopy, MayPickIn, MayDeliver, MayPickUp, MayGrant, MayConstrain, row_after, after_delivery, after_constraint, after_pick}
 use Rattle.hla_machine.specs.Sends.{after_message, after_messages}
-use Rattle.hla_machine.specs.Refusals.{refusal, request_tests}
+use Rattle.hla_base.specs.RowRefusals.{request_tests}
+use Rattle.hla_machine.specs.Refusals.{refusal}
 use Rattle.hla_machine.specs.Machine.{central_seen, MayEnter, MayAnswer, MayDo, MayEnd, joined_by, after_enter, after_cease, after_call, after_carry, after_done, after}
 use Rattle.hla_base.proofs.Tables.{by_number, upd_same, upd_other, upd_each, greatest_ge}
 use Rattle.hla_machine.proofs.Tests.{AllClear, clear_call}

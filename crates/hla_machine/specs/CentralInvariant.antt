@@ -1,8 +1,5 @@
 -- What the central state keeps by itself, whatever the components are: copies, sent events and retractions agree
-use Rattle.std.specs.Prelude.{ℕ, ◌+◌, ◌*◌, ◌≡◌, ◌≤◌, ◌<◌, true, false, Some}
-use Rattle.hla_base.specs.declared.row.AdvanceRequest.{AdvanceRequest}
-use Rattle.hla_base.specs.declared.row.TimeRow.{TimeRow}
-use Rattle.hla_base.specs.Limits.{max_time, max_enablings}
+use Rattle.std.specs.Prelude.{ℕ, ◌≡◌, ◌≤◌, ◌<◌, true, false, Some}
 use Rattle.hla_machine.specs.Central.{Central, Copy, Ro, Tso}
 use Rattle.hla_machine.specs.Sends.{is_told}
 
@@ -15,14 +12,3 @@ pub record CentralInv (c : Central) : Type 0 where
   pub marked : (g m : ℕ) → (c.sent g m).retracted ≡ true → (c.sent g m).retractable ≡ true
   pub unsent : (g m : ℕ) → c.serial g ≤ m → (c.sent g m).retractable ≡ false
   pub unused : (g m f : ℕ) (k : Copy) → c.bag g m f ≡ Some k → m < c.serial g
-
--- ---- the numbers of a row, so that none of them wraps in code
-pub record RowNumbers (r : TimeRow) : Type 0 where
-  pub time : r.time ≤ max_time
-  pub lookahead : r.lookahead ≤ max_time
-  pub floor : r.floor ≤ 2 * max_time
-  pub regulation : r.regulation_time ≤ max_time
-  pub bar : r.bar ≤ max_time + 1
-  pub enablings : r.enablings ≤ max_enablings
-  pub asked : (q : AdvanceRequest) → r.advance ≡ Some q → q.asked ≤ max_time
-  pub first : (q : AdvanceRequest) (p : ℕ) → r.advance ≡ Some q → r.first_pick ≡ Some p → p ≤ q.asked

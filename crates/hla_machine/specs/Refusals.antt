@@ -3,13 +3,14 @@ use Rattle.std.specs.Prelude.{ℕ, ◌+◌, ◌≡◌, cond, eqb, ltb, not, ◌&
 use Rattle.std.specs.List.{list_any}
 use Rattle.std.specs.Option.{option_map_or}
 use Rattle.std.specs.Str.{bytes_eq}
-use Rattle.hla_base.specs.Limits.{max_enablings, max_federate_name, max_joins, max_name, max_objects, max_serial, max_time}
+use Rattle.hla_base.specs.Limits.{max_federate_name, max_joins, max_name, max_objects, max_serial, max_time}
 use Rattle.hla_base.specs.declared.fault.Fault.{Fault}
 use Rattle.hla_base.specs.declared.fault.Fault.TheVariants as fault
 use Rattle.hla_base.specs.declared.content.HandleValuePair.{HandleValuePair}
 use Rattle.hla_base.specs.declared.row.TimeRow.{TimeRow}
 use Rattle.hla_base.specs.Tables.{numbers_below}
-use Rattle.hla_base.specs.Rows.{is_enabled, is_pending, is_disabled, is_constrained, is_advancing, least_stamp}
+use Rattle.hla_base.specs.Rows.{least_stamp}
+use Rattle.hla_base.specs.RowRefusals.{Test, test_for, first_fault, request_tests, regulation_tests, unregulate_tests, constrain_tests, unconstrain_tests, lookahead_tests, asynchronous_on_tests, asynchronous_off_tests}
 use Rattle.hla_fed_file.specs.Lookup.{is_object_class, is_interaction_class, has_attribute, has_parameter, contains_number, object_class_named, interaction_class_named, attribute_named, parameter_named}
 use Rattle.hla_machine.specs.declared.service.Service.{Service}
 use Rattle.hla_machine.specs.declared.service.Service.TheVariants as service
@@ -20,18 +21,6 @@ use Rattle.hla_machine.specs.declared.step.Step.TheVariants.{Join, Call, Carry, 
 use Rattle.hla_machine.specs.Directory.{Directory, Object, Outgoing, name_or_default, objects_of, interaction_sent, update_sent, deletion_sent, deletions_sent}
 use Rattle.hla_machine.specs.Central.{SentEvent, low_entry}
 use Rattle.hla_machine.specs.Sends.{is_some_ordered, may_retract}
-
--- a test, and the fault that it gives
-pub record Test : Type 0 where
-  pub applies : Bool
-  pub fault : Fault
-
-abbrev pub test_for : Fault → Bool → Test
-test_for e b = record { applies = b; fault = e }
-
-abbrev pub first_fault : List Test → Option Fault
-first_fault [] = None
-first_fault (t ∷ ts) = cond t.applies (Some t.fault) (first_fault ts)
 
 -- what the tests read
 pub record Seen : Type 0 where
@@ -71,26 +60,6 @@ abbrev pub is_out_of_serials : ℕ → List Outgoing → Bool
 is_out_of_serials serial outs = ltb (max_serial + 1) (serial + length outs)
 
 -- ---- the tests of each service, in their order
-abbrev pub request_tests : TimeRow → ℕ → List Test
-request_tests r a =
-    test_for fault.TimeAdvanceAlreadyInProgress (is_advancing r)
-    ∷ test_for fault.EnableTimeRegulationPending (is_pending r.regulating)
-    ∷ test_for fault.EnableTimeConstrainedPending (is_pending r.constrained)
-    ∷ test_for fault.InvalidFederationTime (ltb max_time a)
-    ∷ test_for fault.FederationTimeAlreadyPassed (ltb a r.time)
-    ∷ []
-
-abbrev pub regulation_tests : TimeRow → ℕ → ℕ → ℕ → List Test
-regulation_tests r low t lookahead =
-    test_for fault.TimeAdvanceAlreadyInProgress (is_advancing r)
-    ∷ test_for fault.TimeRegulationAlreadyEnabled (is_enabled r.regulating)
-    ∷ test_for fault.EnableTimeRegulationPending (is_pending r.regulating)
-    ∷ test_for fault.InvalidFederationTime (ltb max_time t || cond (is_constrained r) (not (eqb t r.time)) (ltb t r.time))
-    ∷ test_for fault.InvalidLookahead (ltb max_time lookahead)
-    ∷ test_for fault.InvalidFederationTime (not (is_constrained r) && eqb lookahead 0 && eqb low (max_time + 1))
-    ∷ test_for fault.LimitReached (not (ltb r.enablings max_enablings))
-    ∷ []
-
 abbrev pub resign_tests : Seen → ℕ → ResignAction → List Test
 resign_tests s f DeleteObjects = test_for fault.LimitReached (is_out_of_serials (s.serial f) (deletions_sent (objects_of s.directory f))) ∷ []
 resign_tests s f NoAction = test_for fault.FederateOwnsAttributes (ltb 0 (length (objects_of s.directory f))) ∷ []
@@ -164,28 +133,17 @@ call_tests s f (service.SendInteraction class values stamp) = interaction_tests 
 call_tests s f (service.DeleteObjectInstance object stamp) = deletion_tests s.directory (s.row f) (s.serial f) f object stamp
 call_tests s f (service.Retract event) = test_for fault.InvalidRetractionHandle (not (eqb event.sender f && may_retract (s.row f) (s.sent f event.serial))) ∷ []
 call_tests s f (service.EnableTimeRegulation time lookahead) = regulation_tests (s.row f) (low_entry s.directory s.row (time + lookahead)) time lookahead
-call_tests s f service.DisableTimeRegulation = test_for fault.TimeRegulationWasNotEnabled (not (is_enabled (s.row f).regulating)) ∷ []
-call_tests s f service.EnableTimeConstrained =
-    test_for fault.TimeAdvanceAlreadyInProgress (is_advancing (s.row f))
-    ∷ test_for fault.TimeConstrainedAlreadyEnabled (is_enabled (s.row f).constrained)
-    ∷ test_for fault.EnableTimeConstrainedPending (is_pending (s.row f).constrained)
-    ∷ []
-call_tests s f service.DisableTimeConstrained =
-    test_for fault.TimeAdvanceAlreadyInProgress (is_advancing (s.row f))
-    ∷ test_for fault.TimeConstrainedWasNotEnabled (not (is_enabled (s.row f).constrained))
-    ∷ []
+call_tests s f service.DisableTimeRegulation = unregulate_tests (s.row f)
+call_tests s f service.EnableTimeConstrained = constrain_tests (s.row f)
+call_tests s f service.DisableTimeConstrained = unconstrain_tests (s.row f)
 call_tests s f (service.TimeAdvanceRequest time) = request_tests (s.row f) time
 call_tests s f (service.TimeAdvanceRequestAvailable time) = request_tests (s.row f) time
 call_tests s f (service.NextEventRequest time) = request_tests (s.row f) time
 call_tests s f (service.NextEventRequestAvailable time) = request_tests (s.row f) time
 call_tests s f (service.FlushQueueRequest time) = request_tests (s.row f) time
-call_tests s f (service.ModifyLookahead lookahead) =
-    test_for fault.TimeRegulationWasNotEnabled (not (is_enabled (s.row f).regulating))
-    ∷ test_for fault.TimeAdvanceAlreadyInProgress (is_advancing (s.row f))
-    ∷ test_for fault.InvalidLookahead (ltb max_time lookahead)
-    ∷ []
-call_tests s f service.EnableAsynchronousDelivery = test_for fault.AsynchronousDeliveryAlreadyEnabled (s.row f).asynchronous ∷ []
-call_tests s f service.DisableAsynchronousDelivery = test_for fault.AsynchronousDeliveryAlreadyDisabled (not (s.row f).asynchronous) ∷ []
+call_tests s f (service.ModifyLookahead lookahead) = lookahead_tests (s.row f) lookahead
+call_tests s f service.EnableAsynchronousDelivery = asynchronous_on_tests (s.row f)
+call_tests s f service.DisableAsynchronousDelivery = asynchronous_off_tests (s.row f)
 call_tests s f service.QueryLbts = []
 call_tests s f service.QueryFederateTime = []
 call_tests s f service.QueryMinNextEventTime = []

@@ -18,7 +18,7 @@ use Rattle.hla_machine.specs.declared.step.Choice.TheVariants as choice
 use Rattle.hla_machine.specs.declared.step.Record.{Record}
 use Rattle.hla_machine.specs.Central.{Central, new_central}
 use Rattle.hla_machine.specs.Machine.{Allowed, after}
-use Rattle.hla_machine.specs.Refusals.{test_for, first_fault}
+use Rattle.hla_base.specs.RowRefusals.{test_for, first_fault}
 
 -- ---- one execution
 -- one step, how it ended, and what it chose

@@ -13,7 +13,8 @@ use Rattle.hla_base.specs.Rows.{is_next, is_flush, is_regulator, is_constrained,
 use Rattle.hla_machine.specs.declared.service.Service.TheVariants as service
 use Rattle.hla_machine.specs.declared.step.Step.TheVariants.{Call, Announce}
 use Rattle.hla_machine.specs.declared.step.Answer.TheVariants as answer
-use Rattle.hla_machine.specs.Refusals.{refusal, request_tests}
+use Rattle.hla_base.specs.RowRefusals.{request_tests}
+use Rattle.hla_machine.specs.Refusals.{refusal}
 use Rattle.hla_null_message.specs.Wires.{events, discoveries, retractions}
 use Rattle.hla_order_queues.specs.Controls.{discoveries_from}
 use Rattle.hla_components.specs.Components.{Components}

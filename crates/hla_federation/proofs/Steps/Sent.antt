@@ -12,7 +12,7 @@ use Rattle.hla_object_registry.specs.Registered.{Registered, RegistryValue, regi
 use Rattle.hla_null_message.specs.declared.message.Message.{Message}
 use Rattle.hla_machine.specs.declared.step.Answer.TheVariants as answer
 use Rattle.hla_machine.specs.Directory.{Directory, Outgoing, default_name, without_object}
-use Rattle.hla_machine.specs.Refusals.{Test, first_fault}
+use Rattle.hla_base.specs.RowRefusals.{Test, first_fault}
 use Rattle.hla_federation.specs.declared.direction.Direction.TheVariants.{From}
 use Rattle.hla_components.specs.Components.{Components}
 use Rattle.hla_federation.specs.Tables.FederationValue.{FederationValue}

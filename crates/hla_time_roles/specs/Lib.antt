@@ -1,0 +1,2 @@
+-- The row that the fields of a federate's time hold
+pub mod Held
