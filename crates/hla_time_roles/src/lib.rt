@@ -4,5 +4,7 @@
 mod changes;
 mod refusals;
 mod state;
+#[cfg(test)]
+mod tests;
 
 pub use state::TimeState;

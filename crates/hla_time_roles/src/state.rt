@@ -99,60 +99,42 @@ impl TimeState {
     pub fn is_regulator(&self) -> bool
         ensures { result ≡ is_regulator self.now }
     {
-        match self.regulating {
-            Role::Disabled => false,
-            Role::Pending | Role::Enabled => true,
-        }
+        !matches!(self.regulating, Role::Disabled)
     }
 
     /// Whether the federate is time constrained.
     pub fn is_constrained(&self) -> bool
         ensures { result ≡ is_constrained self.now }
     {
-        match self.constrained {
-            Role::Enabled => true,
-            Role::Disabled | Role::Pending => false,
-        }
+        matches!(self.constrained, Role::Enabled)
     }
 
     /// Whether what arrives for the federate in time-stamp order is kept in that order: it is constrained or has asked to be.
     pub fn keeps_order(&self) -> bool
         ensures { result ≡ not (is_disabled self.now.constrained) }
     {
-        match self.constrained {
-            Role::Disabled => false,
-            Role::Pending | Role::Enabled => true,
-        }
+        !matches!(self.constrained, Role::Disabled)
     }
 
     /// Whether the federate regulates: its callback was picked up.
     pub fn is_regulation_enabled(&self) -> bool
         ensures { result ≡ is_enabled self.now.regulating }
     {
-        match self.regulating {
-            Role::Enabled => true,
-            Role::Disabled | Role::Pending => false,
-        }
+        matches!(self.regulating, Role::Enabled)
     }
 
     /// Whether the federate has asked to regulate and has not picked up the callback.
     pub fn is_regulation_pending(&self) -> bool
         ensures { result ≡ is_pending self.now.regulating }
     {
-        match self.regulating {
-            Role::Pending => true,
-            Role::Disabled | Role::Enabled => false,
-        }
+        matches!(self.regulating, Role::Pending)
     }
 
     /// Whether the federate has asked to be constrained and has not picked up the callback.
     pub fn is_constraint_pending(&self) -> bool
         ensures { result ≡ is_pending self.now.constrained }
     {
-        match self.constrained {
-            Role::Pending => true,
-            Role::Disabled | Role::Enabled => false,
-        }
+        matches!(self.constrained, Role::Pending)
     }
 
     /// Whether messages in receive order are given outside advances too.
@@ -207,8 +189,7 @@ fn is_next(kind: AdvanceKind) -> bool
 {
     match kind {
         AdvanceKind::NextEvent | AdvanceKind::NextEventAvailable => true,
-        AdvanceKind::TimeAdvance
-        | AdvanceKind::TimeAdvanceAvailable
-        | AdvanceKind::FlushQueue => false,
+        AdvanceKind::TimeAdvance | AdvanceKind::TimeAdvanceAvailable | AdvanceKind::FlushQueue =>
+            false,
     }
 }
