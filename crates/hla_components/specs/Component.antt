@@ -6,6 +6,7 @@ use Rattle.hla_base.specs.declared.row.AdvanceRequest.{AdvanceRequest}
 use Rattle.hla_base.specs.declared.row.TimeRow.{TimeRow}
 use Rattle.hla_base.specs.Tables.{forever, least, greatest}
 use Rattle.hla_base.specs.Rows.{is_next, is_flush, is_enabled, is_pending, is_advancing, is_constrained, next_request, width, grant_time, first_or, least_of}
+use Rattle.hla_null_message.specs.Promise.{promise_in}
 use Rattle.hla_machine.specs.Central.{reach, bar_of}
 use Rattle.hla_order_queues.specs.declared.control.Control.{Control}
 use Rattle.hla_components.specs.Components.{Components}
@@ -15,14 +16,6 @@ use Rattle.hla_order_queues.specs.Queues.{first_stamp, least_ordered}
 -- the least bound of its peers
 abbrev pub local_bound : Components → ℕ → ℕ
 local_bound s f = least s.directory.next_federate (s.bound f)
-
--- the wake of a next-event request, as far as the component can tell
-abbrev pub least_wake : Option ℕ → ℕ → ℕ → ℕ → ℕ
-least_wake first asked queued bound = min (first_or first asked) (min asked (min queued bound))
-
-abbrev pub promise_in : TimeRow → Option AdvanceRequest → ℕ → ℕ → ℕ
-promise_in r None queued bound = r.floor
-promise_in r (Some q) queued bound = max r.floor (least_wake r.first_pick q.asked queued bound + width r.lookahead q.kind)
 
 -- what a component may promise now: it will send nothing below it
 abbrev pub promise_of : TimeRow → List Event → ℕ → ℕ

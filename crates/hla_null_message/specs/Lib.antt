@@ -1,2 +1,4 @@
 -- What lies on a wire, kind by kind
 pub mod Wires
+-- What a federate may promise
+pub mod Promise

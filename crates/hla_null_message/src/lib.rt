@@ -2,7 +2,9 @@
 #![tactic(auto)]
 
 mod message;
+mod promises;
 mod wire;
 
 pub use message::Message;
+pub use promises::promise;
 pub use wire::Wire;

@@ -13,7 +13,8 @@ use Rattle.hla_machine.specs.Central.{BelowSomeWake, bar_of, low_entry}
 use Rattle.hla_machine.specs.Refusals.{refusal}
 use Rattle.hla_order_queues.specs.Queues.{first_stamp}
 use Rattle.hla_components.specs.Components.{Components}
-use Rattle.hla_components.specs.Component.{promise_in, local_bound, regulation_entry, entry_held, entry_for}
+use Rattle.hla_null_message.specs.Promise.{promise_in}
+use Rattle.hla_components.specs.Component.{local_bound, regulation_entry, entry_held, entry_for}
 use Rattle.hla_components.specs.Next.{components_seen, step_outcome}
 use Rattle.hla_components.specs.CentralOf.{central}
 use Rattle.hla_components.specs.Invariant.{Kept}

@@ -28,7 +28,7 @@ use Rattle.hla_null_message.specs.Wires.{events, discoveries, retractions}
 use Rattle.hla_order_queues.specs.Controls.{discoveries_from}
 use Rattle.hla_order_queues.specs.Queues.{handle_of}
 use Rattle.hla_components.specs.Components.{Components}
-use Rattle.hla_components.specs.Component.{promise_in}
+use Rattle.hla_null_message.specs.Promise.{promise_in}
 use Rattle.hla_components.specs.Next.{with_directory, put_behind, put_event, event_of, with_message_sent, with_messages_sent, step_outcome, components_seen, carry_outcome, with_event_accepted}
 use Rattle.hla_components.specs.CentralOf.{central, bag_of, wire_copy}
 use Rattle.hla_components.specs.Invariant.{IsTold, Tells, IsWired, is_wire, EachOf, TimeInv, Kept, DirectoryInv}

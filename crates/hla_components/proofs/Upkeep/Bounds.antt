@@ -11,7 +11,8 @@ use Rattle.hla_machine.specs.Central.{Copy, Ro, Tso, Demoted, BelowAllTso, Below
 use Rattle.hla_order_queues.specs.Queues.{find_event, first_stamp}
 use Rattle.hla_null_message.specs.Wires.{events}
 use Rattle.hla_components.specs.Components.{Components}
-use Rattle.hla_components.specs.Component.{promise, promise_in, local_bound, least_wake}
+use Rattle.hla_null_message.specs.Promise.{promise_in, least_wake}
+use Rattle.hla_components.specs.Component.{promise, local_bound}
 use Rattle.hla_components.specs.CentralOf.{wire_copy, tso_copy, ro_copy, copy_among, central}
 use Rattle.hla_components.specs.Invariant.{stamps, Kept, IsWired, is_wire}
 use Rattle.hla_machine.proofs.Bags.{or_else-cases, option_map-some}
