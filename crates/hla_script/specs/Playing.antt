@@ -12,15 +12,15 @@ use Rattle.hla_machine.specs.declared.step.Outcome.{Outcome}
 use Rattle.hla_machine.specs.declared.step.Outcome.TheVariants as outcome
 use Rattle.hla_machine.specs.declared.step.Choice.TheVariants as choice
 use Rattle.hla_machine.specs.declared.step.Record.{Record}
-use Rattle.hla_script.specs.declared.lines.Command.{Command}
-use Rattle.hla_script.specs.declared.lines.Line.{Line}
+use Rattle.hla_commands.specs.declared.lines.Command.{Command}
+use Rattle.hla_commands.specs.declared.lines.Line.{Line}
 use Rattle.hla_script.specs.declared.members.Member.{Member}
 use Rattle.hla_script.specs.declared.player.PlayFault.{PlayFault}
 use Rattle.hla_script.specs.declared.player.PlayFault.TheVariants as stop
 use Rattle.hla_script.specs.declared.steps.Request.{Request}
 use Rattle.hla_script.specs.declared.steps.Request.TheVariants as request
-use Rattle.hla_script.specs.Script.{script_of, ParsesAs}
-use Rattle.hla_script.specs.Printed.{line_text}
+use Rattle.hla_commands.specs.Script.{script_of, ParsesAs}
+use Rattle.hla_transcript.specs.Printed.{line_text}
 use Rattle.hla_script.specs.Members.{members}
 use Rattle.hla_script.specs.Requests.{request_of}
 

@@ -9,13 +9,13 @@ use Rattle.hla_machine.specs.declared.service.Service.{Service}
 use Rattle.hla_machine.specs.declared.service.Service.TheVariants as service
 use Rattle.hla_machine.specs.declared.step.Step.{Step}
 use Rattle.hla_machine.specs.declared.step.Step.TheVariants as step
-use Rattle.hla_script.specs.declared.lines.Declaration.{Declaration}
-use Rattle.hla_script.specs.declared.lines.Declaration.TheVariants as declaration
-use Rattle.hla_script.specs.declared.lines.Command.{Command}
-use Rattle.hla_script.specs.declared.lines.Command.TheVariants as command
-use Rattle.hla_script.specs.declared.lines.Call.{Call}
-use Rattle.hla_script.specs.declared.lines.Call.TheVariants as call
-use Rattle.hla_script.specs.declared.lines.NameValuePair.{NameValuePair}
+use Rattle.hla_commands.specs.declared.lines.Declaration.{Declaration}
+use Rattle.hla_commands.specs.declared.lines.Declaration.TheVariants as declaration
+use Rattle.hla_commands.specs.declared.lines.Command.{Command}
+use Rattle.hla_commands.specs.declared.lines.Command.TheVariants as command
+use Rattle.hla_commands.specs.declared.lines.Call.{Call}
+use Rattle.hla_commands.specs.declared.lines.Call.TheVariants as call
+use Rattle.hla_commands.specs.declared.lines.NameValuePair.{NameValuePair}
 use Rattle.hla_script.specs.declared.members.Member.{Member}
 use Rattle.hla_script.specs.declared.lookups.AskFault.{AskFault}
 use Rattle.hla_script.specs.declared.lookups.AskFault.TheVariants as stop
@@ -43,24 +43,24 @@ Finds (Ok x) meant = meant ≡ Ok x
 Finds (Err stop.Memory) meant = ⊥
 Finds (Err (stop.Refused e)) meant = meant ≡ Err e
 
-abbrev pub found_or : Option ℕ → Fault → Result ℕ Fault
-found_or (Some n) e = Ok n
-found_or None e = Err e
+abbrev pub number_or : Option ℕ → Fault → Result ℕ Fault
+number_or (Some n) e = Ok n
+number_or None e = Err e
 
 -- ---- the numbers of names
 -- somebody has joined under the name since the last create that was accepted
 abbrev pub known_federate : List Member → List ℕ → Result ℕ Fault
-known_federate ms name = found_or (federate_named ms name) fault.FederateNotExecutionMember
+known_federate ms name = number_or (federate_named ms name) fault.FederateNotExecutionMember
 
 -- somebody is joined under the name
 abbrev pub joined_federate : List Member → List ℕ → Result ℕ Fault
-joined_federate ms name = found_or (joined_named ms name) fault.FederateNotExecutionMember
+joined_federate ms name = number_or (joined_named ms name) fault.FederateNotExecutionMember
 
 abbrev pub object_class_of : CatalogueValue → List ℕ → Result ℕ Fault
-object_class_of c name = found_or (object_class_named c name) fault.NameNotFound
+object_class_of c name = number_or (object_class_named c name) fault.NameNotFound
 
 abbrev pub interaction_class_of : CatalogueValue → List ℕ → Result ℕ Fault
-interaction_class_of c name = found_or (interaction_class_named c name) fault.NameNotFound
+interaction_class_of c name = number_or (interaction_class_named c name) fault.NameNotFound
 
 -- an attribute of an object class, or a parameter of an interaction class
 abbrev pub handle_named : CatalogueValue → Class → List ℕ → Option ℕ

@@ -32,7 +32,7 @@ pub struct Execution {
 }
 
 /// Does a step, and answers how it ended; where memory ran out it is not done.
-fn stepped(federation: &mut Option<Federation>, step: &Step) -> Result<Outcome, Fault>
+fn do_step(federation: &mut Option<Federation>, step: &Step) -> Result<Outcome, Fault>
     requires { IsBuilt step.now }
     ensures ok { IfOk result (λ out. IsStepped (option_map components_of federation.old) step.now out (option_map components_of federation.new)) }
     ensures err { OnErr result (federation.new ≡ federation.old) }
@@ -52,7 +52,7 @@ fn stepped(federation: &mut Option<Federation>, step: &Step) -> Result<Outcome, 
 }
 
 /// Destroys the execution where it is there and no federate is joined.
-fn destroyed(federation: &mut Option<Federation>) -> Outcome
+fn destroy_unless_joined(federation: &mut Option<Federation>) -> Outcome
     ensures { IsDestroyed (option_map components_of federation.old) result (option_map components_of federation.new) }
 {
     match federation {
@@ -67,7 +67,7 @@ fn destroyed(federation: &mut Option<Federation>) -> Outcome
     Outcome::Done(Answer::Done)
 }
 
-fn recorded(name: ExecutionName, act: Act, outcome: Outcome) -> Record
+fn script_record(name: ExecutionName, act: Act, outcome: Outcome) -> Record
     ensures { result ≡ record { actor = 0; execution = name; act = act; outcome = outcome; choice = choice.None } }
 {
     Record {
@@ -127,7 +127,7 @@ impl Execution {
         ensures name { self.new.name ≡ self.old.name }
     {
         if self.federation.is_some() {
-            return Ok(recorded(
+            return Ok(script_record(
                 self.name,
                 Act::Create { catalogue: None },
                 Outcome::Refused(Fault::FederationExecutionAlreadyExists),
@@ -135,7 +135,7 @@ impl Execution {
         }
         let held = self.catalogue.copy()?;
         if self.creates >= CREATE_LIMIT {
-            return Ok(recorded(
+            return Ok(script_record(
                 self.name,
                 Act::Create {
                     catalogue: Some(held),
@@ -147,7 +147,7 @@ impl Execution {
         self.federation = Some(Federation::new(self.alloc, used));
         self.creates += 1;
         self.members.clear();
-        Ok(recorded(
+        Ok(script_record(
             self.name,
             Act::Create {
                 catalogue: Some(held),
@@ -163,8 +163,8 @@ impl Execution {
         ensures catalogue { self.new.catalogue ≡ self.old.catalogue }
         ensures name { self.new.name ≡ self.old.name }
     {
-        let outcome = destroyed(&mut self.federation);
-        recorded(self.name, Act::Destroy, outcome)
+        let outcome = destroy_unless_joined(&mut self.federation);
+        script_record(self.name, Act::Destroy, outcome)
     }
 
     /// Does a step of the execution.
@@ -182,8 +182,8 @@ impl Execution {
         if self.members.reserve(1).is_err() {
             return Err(Fault::OutOfMemory);
         }
-        let outcome = stepped(&mut self.federation, &step)?;
+        let outcome = do_step(&mut self.federation, &step)?;
         note(&mut self.members, change, &outcome);
-        Ok(recorded(self.name, Act::Step(step), outcome))
+        Ok(script_record(self.name, Act::Step(step), outcome))
     }
 }

@@ -3,28 +3,32 @@
 ghost use Rattle.std.specs.Prelude.{◌≡◌, ◌≢◌, ◌+◌, ◌++◌, ◌∷◌, ◌≤◌, ◌<◌, [], OnOk, OnErr, IfOk, IfErr, length, codes, vec_len, vec_capacity};
 ghost use Rattle.hla_script.specs.Playing.{IsAnswered, LineEnds, IsAdmitted, HasNoRoom};
 ghost use Rattle.hla_script.specs.Members.{members};
-ghost use Rattle.hla_script.specs.Printed.{line_text};
+ghost use Rattle.hla_transcript.specs.Printed.{line_text};
 ghost use Rattle.hla_script.specs.Keeping.{standing, IsKept, IsBuiltRequest};
 ghost use Rattle.hla_machine.specs.declared.step.Outcome.TheVariants as outcome;
 
 use crate::execution::Execution;
-use crate::lines::{Command, Line};
 use crate::lookups::AskFault;
-use crate::printing;
 use crate::steps::Request;
-use crate::text::Text;
 use hla_base::Fault;
+use hla_commands::{Command, Line};
 use hla_fed_file::Catalogue;
 use hla_machine::{Outcome, Record};
+use hla_transcript::{Text, print_line};
 
 /// The most records of a history.
 pub const HISTORY_LIMIT: usize = 32_768;
 
 /// Prints a line that adds no record.
-fn refused(text: &mut Text, catalogue: &Catalogue, number: usize, fault: Fault) -> Result<(), Fault>
+fn print_refusal(
+    text: &mut Text,
+    catalogue: &Catalogue,
+    number: usize,
+    fault: Fault,
+) -> Result<(), Fault>
     ensures { OnOk result (text.new ≡ text.old ++ line_text catalogue.now number (outcome.Refused fault)) }
 {
-    printing::line(text, catalogue, number as u64, &Outcome::Refused(fault))
+    print_line(text, catalogue, number as u64, &Outcome::Refused(fault))
 }
 
 /// Why there is no room for one more record.
@@ -53,7 +57,7 @@ fn reserve_one(records: &mut Vec<Record>) -> Result<(), Fault>
 }
 
 /// What a line asks for, where the history has room for its record: room for one more record is then reserved.
-fn admitted(
+fn request_with_room(
     execution: &Execution,
     records: &mut Vec<Record>,
     command: &Command,
@@ -95,13 +99,13 @@ pub fn play_line(
     ensures kept { OnOk result (IsKept records.new.items (standing execution.new.creates execution.new.federation) execution.new.members.items) }
     ensures answered { OnOk result (IsAnswered execution.old.catalogue line.now records.old.items records.new.items text.old text.new) }
 {
-    let request = match admitted(execution, records, &line.command) {
+    let request = match request_with_room(execution, records, &line.command) {
         Ok(request) => request,
-        Err(fault) => return refused(text, &execution.catalogue, line.number, fault),
+        Err(fault) => return print_refusal(text, &execution.catalogue, line.number, fault),
     };
     match execution.act(request) {
         Ok(record) => {
-            printing::line(
+            print_line(
                 text,
                 &execution.catalogue,
                 line.number as u64,
@@ -110,6 +114,6 @@ pub fn play_line(
             records.push_reserved(record);
             Ok(())
         }
-        Err(_) => refused(text, &execution.catalogue, line.number, Fault::OutOfMemory),
+        Err(_) => print_refusal(text, &execution.catalogue, line.number, Fault::OutOfMemory),
     }
 }

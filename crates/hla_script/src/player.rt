@@ -9,13 +9,11 @@ ghost use Rattle.hla_script.specs.Playing.{IsPlayed, IsPlayedFrom, StopsBy};
 
 use crate::execution::Execution;
 use crate::history::play_line;
-use crate::lines::{Script, ScriptFault};
-use crate::reader::parse;
-use crate::text::Text;
-use crate::writing::{WriteFailed, write_whole};
 use hla_base::{ExecutionName, Fault, List};
+use hla_commands::{Script, ScriptFault, parse};
 use hla_fed_file::{Catalogue, FedFault, read};
 use hla_machine::Record;
+use hla_transcript::{Text, WriteFailed, write_whole};
 use std::alloc::Global;
 use std::io::Write;
 
