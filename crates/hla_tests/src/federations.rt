@@ -1,29 +1,13 @@
 ghost use Rattle.hla_federation.specs.Steps.State.{IsBuiltService};
 
-use super::*;
+use crate::demo::FED;
 use hla_base::{Fault, List};
 use hla_fed_file::read;
+use hla_federation::Federation;
 use hla_machine::{Answer, Service, Step};
 use std::alloc::Global;
 use std::process::Abort;
 use std::test::Fail;
-
-const FED: &[u8] = b"(FED
- (objects
-  (class ObjectRoot
-   (attribute privilegeToDelete reliable timestamp)
-   (class Car
-    (attribute Pos reliable timestamp)
-    (attribute Paint reliable receive))))
- (interactions
-  (class InteractionRoot reliable receive
-   (class Note reliable receive
-    (parameter Text)
-    (class Memo reliable receive
-     (parameter Extra)))
-   (class Hit reliable timestamp
-    (parameter Force)))))
-";
 
 fn text(alloc: Global, bytes: &[u8]) -> Result<List<u8>, Fail> {
     Ok(List::from_vec(bytes.to_vec(alloc)?))
@@ -31,7 +15,7 @@ fn text(alloc: Global, bytes: &[u8]) -> Result<List<u8>, Fail> {
 
 /// A federation that two federates have joined.
 fn federation(rt: &impl Abort, alloc: Global) -> Result<Federation, Fail> {
-    let Ok(catalogue) = read(alloc, FED) else {
+    let Ok(catalogue) = read(alloc, FED.as_bytes()) else {
         panic!(rt; "the FED file is refused");
     };
     let mut federation = Federation::new(alloc, catalogue);

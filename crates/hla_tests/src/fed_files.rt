@@ -1,32 +1,12 @@
-use crate::{Catalogue, FedFault, FedFaultKind, Order, Transport, read};
+use crate::demo::FED;
 use hla_base::Plain;
+use hla_fed_file::{Catalogue, FedFault, FedFaultKind, Order, Transport, read};
 use std::alloc::{AllocError, Global};
 use std::test::Fail;
 
-/// A FED file with each kind of declaration.
-const TEXT: &[u8] = b"(FED
- (Federation Demo)
- (FEDversion v1.3)
- (spaces)
- (objects
-  (class ObjectRoot
-   (attribute privilegeToDelete reliable timestamp)
-   (class Car
-    (attribute Pos reliable timestamp)
-    (attribute Paint reliable receive))))
- (interactions
-  (class InteractionRoot reliable receive
-   (class Note reliable receive
-    (parameter Text)
-    (class Memo reliable receive
-     (parameter Extra)))
-   (class Hit reliable timestamp
-    (parameter Force)))))
-";
-
 #[test]
 fn reads_a_file(rt: HostRuntime) -> Result<(), Fail> {
-    let catalogue = read(rt.alloc(), TEXT)?;
+    let catalogue = read(rt.alloc(), FED.as_bytes())?;
     let car = catalogue.object_class(b"ObjectRoot.Car");
     assert_eq!(rt; car, Some(2));
     assert_eq!(rt; catalogue.object_class(b"Car"), Some(2));
@@ -339,9 +319,9 @@ fn counts_declarations(rt: HostRuntime) -> Result<(), Fail> {
 
 #[test]
 fn refuses_each_prefix(rt: HostRuntime) {
-    let last = TEXT.len() - 2;
+    let last = FED.as_bytes().len() - 2;
     for end in 0..last {
-        let (_, kind) = fault_of(rt.alloc(), &TEXT[..end]);
+        let (_, kind) = fault_of(rt.alloc(), &FED.as_bytes()[..end]);
         assert!(rt;
             matches!(
                 kind,
@@ -354,7 +334,7 @@ fn refuses_each_prefix(rt: HostRuntime) {
 
 #[test]
 fn answers_each_change_of_a_byte(rt: HostRuntime) -> Result<(), Fail> {
-    let mut text = TEXT.to_vec(rt.alloc())?;
+    let mut text = FED.as_bytes().to_vec(rt.alloc())?;
     for place in 0..text.len() {
         let before = text[place];
         for byte in [b'(', b'"', b';', 0, 0xff] {
@@ -372,9 +352,9 @@ fn answers_each_change_of_a_byte(rt: HostRuntime) -> Result<(), Fail> {
 
 #[test]
 fn copies_a_catalogue(rt: HostRuntime) -> Result<(), Fail> {
-    let catalogue = read(rt.alloc(), TEXT)?;
+    let catalogue = read(rt.alloc(), FED.as_bytes())?;
     assert!(rt; is_copied(&catalogue));
-    assert!(rt; is_read_as(rt.alloc(), TEXT, &catalogue));
+    assert!(rt; is_read_as(rt.alloc(), FED.as_bytes(), &catalogue));
     assert!(rt; !is_read_as(rt.alloc(), b"(FED)", &catalogue));
     Ok(())
 }
