@@ -5,6 +5,7 @@ use Rattle.std.specs.Str.{bytes_eq}
 use Rattle.std.specs.Str.Parse.{digits_value}
 use Rattle.std.specs.Char.{is_ascii_digit}
 use Rattle.bstr.specs.Text.{lines_of, without_terminator}
+use Rattle.hla_base.specs.Limits.{max_script, max_script_line}
 use Rattle.hla_commands.specs.declared.lines.Command.{Command}
 use Rattle.hla_commands.specs.declared.lines.Command.TheVariants as command
 use Rattle.hla_machine.specs.declared.service.ResignAction.{ResignAction}
@@ -92,10 +93,14 @@ abbrev pub action_in : List (List ℕ) → Reading ResignAction
 action_in [] = Err kind.MissingWord
 action_in (word ∷ words) = action_where (action_of word) words
 
+-- the largest number that a word may say, that of 64 bits
+abbrev pub max_number : ℕ
+max_number = 18446744073709551615
+
 -- the number that decimal digits say, if it is not above the largest
 unfoldable pub word_number : List ℕ → Result ℕ ScriptFaultKind
 word_number word =
-    if length word == 0 || not (list_all is_ascii_digit word) || nat_lt 18446744073709551615 (digits_value 10 word) then Err kind.BadNumber
+    if length word == 0 || not (list_all is_ascii_digit word) || nat_lt max_number (digits_value 10 word) then Err kind.BadNumber
     else Ok (digits_value 10 word)
 
 abbrev pub number_word : List (List ℕ) → Reading ℕ
@@ -193,7 +198,7 @@ is_plain b = b == 9 || (nat_le 32 b && nat_le b 126)
 -- what a line asks for; a blank line and one that begins with `#` ask for nothing
 unfoldable pub command_of : List ℕ → Result (Option Command) ScriptFaultKind
 command_of line =
-    if nat_lt 4096 (length line) then Err kind.TooLarge
+    if nat_lt max_script_line (length line) then Err kind.TooLarge
     else if not (list_all is_plain line) then Err kind.BadByte
     else if nat_lt 0 (length line) && slice_index line 0 == 35 then Ok None
     else command_in (words_of line)
@@ -212,7 +217,7 @@ script_from n (l ∷ ls) = line_then (command_of l) (n + 1) (script_from (n + 1)
 -- what a script asks for, or its first fault; a CR before a line's LF is no part of the line
 abbrev pub script_of : List ℕ → Result (List Line) ScriptFault
 script_of text =
-    if nat_lt 1048576 (length text) then Err (record { line = 1; kind = kind.TooLarge })
+    if nat_lt max_script (length text) then Err (record { line = 1; kind = kind.TooLarge })
     else script_from 0 (map without_terminator (lines_of text))
 
 abbrev pub IsFirstScriptFault : ℕ → ScriptFaultKind → Result (List Line) ScriptFault → Type 0

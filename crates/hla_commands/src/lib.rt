@@ -11,4 +11,4 @@ mod words;
 pub use lines::{
     Call, Command, Declaration, Line, NameValuePair, Script, ScriptFault, ScriptFaultKind,
 };
-pub use reader::{SCRIPT_LIMIT, parse};
+pub use reader::parse;

@@ -11,14 +11,8 @@ use crate::lines::{Command, Line, Script, ScriptFault, ScriptFaultKind};
 use crate::vocabulary::Opening;
 use crate::words::Words;
 use bstr::ByteSlice;
-use hla_base::List;
+use hla_base::{List, MAX_SCRIPT, MAX_SCRIPT_LINE};
 use std::alloc::Global;
-
-/// The most bytes of a script.
-pub const SCRIPT_LIMIT: usize = 1_048_576;
-
-/// The most bytes of a line, without its line end.
-const LINE_LIMIT: usize = 4096;
 
 /// A command by its first word.
 fn command_by(
@@ -82,7 +76,7 @@ fn are_plain(line: &[u8]) -> bool
 fn command(alloc: Global, line: &[u8]) -> Result<Option<Command>, ScriptFaultKind>
     ensures { Means result (command_of line.now) }
 {
-    if line.len() > LINE_LIMIT {
+    if line.len() > MAX_SCRIPT_LINE {
         Err(ScriptFaultKind::TooLarge)
     } else if !are_plain(line) {
         Err(ScriptFaultKind::BadByte)
@@ -99,7 +93,7 @@ fn command(alloc: Global, line: &[u8]) -> Result<Option<Command>, ScriptFaultKin
 pub fn parse(alloc: Global, text: &[u8]) -> Result<Script, ScriptFault>
     ensures { ParsesAs result (script_of text.now) }
 {
-    if text.len() > SCRIPT_LIMIT {
+    if text.len() > MAX_SCRIPT {
         return Err(ScriptFault {
             line: 1,
             kind: ScriptFaultKind::TooLarge,

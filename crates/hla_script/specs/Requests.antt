@@ -1,5 +1,6 @@
 -- What a line asks of the execution, or the fault with which it is answered where it makes no step
 use Rattle.std.specs.Prelude.{◌≡◌, ℕ, nat_lt, min, List, [], ◌∷◌, ◌++◌, length, Option, None, Some, Result, Ok, Err, if◌then◌else◌}
+use Rattle.hla_base.specs.Limits.{max_value}
 use Rattle.hla_base.specs.declared.fault.Fault.{Fault}
 use Rattle.hla_base.specs.declared.fault.Fault.TheVariants as fault
 use Rattle.hla_base.specs.declared.content.HandleValuePair.{HandleValuePair}
@@ -76,9 +77,9 @@ unfoldable pub named_handles : (List ℕ → Option ℕ) → List (List ℕ) →
 named_handles find [] = Ok []
 named_handles find (name ∷ names) = with_handle (find name) (named_handles find names)
 
--- a value of more than 1,024 bytes is refused
+-- a value that is too long is refused
 abbrev pub limited : {X : Type 0} → List ℕ → X → Result X Fault
-limited value x = if nat_lt 1024 (length value) then Err fault.LimitReached else Ok x
+limited value x = if nat_lt max_value (length value) then Err fault.LimitReached else Ok x
 
 abbrev pub with_pair : Option ℕ → List ℕ → Result (List HandleValuePair) Fault → Result (List HandleValuePair) Fault
 with_pair None value later = Err fault.NameNotFound
@@ -96,10 +97,13 @@ with_last_handle meant n = ask_then meant (λ ns. Ok (ns ++ n ∷ []))
 abbrev pub with_last_pair : Result (List HandleValuePair) Fault → ℕ → List ℕ → Result (List HandleValuePair) Fault
 with_last_pair meant n value = ask_then meant (λ ps. limited value (ps ++ record { handle = n; value = value } ∷ []))
 
--- the number of the object that a number word names: the word's own number, but the largest of 32 bits for all that are
--- above it. No object has that one, since an execution has at most 4,096
+-- the largest number of 32 bits. No object has it, since an execution has at most `max_objects`
+abbrev pub max_object_number : ℕ
+max_object_number = 4294967295
+
+-- the number of the object that a number word names: the word's own number, but the largest for all that are above it
 abbrev pub object_number : ℕ → ℕ
-object_number number = min number 4294967295
+object_number number = min number max_object_number
 
 abbrev pub declared_object : Declaration → ℕ → List ℕ → Service
 declared_object declaration.Publication class attributes = service.PublishObjectClass class attributes

@@ -9,14 +9,11 @@ ghost use Rattle.hla_script.specs.Keeping.{components_of, standing, IsStepped, I
 
 use crate::members::{Change, Member, note};
 use crate::steps::Request;
-use hla_base::{ExecutionName, Fault, Plain};
+use hla_base::{ExecutionName, Fault, MAX_CREATES, Plain};
 use hla_fed_file::Catalogue;
 use hla_federation::Federation;
 use hla_machine::{Act, Answer, Choice, Outcome, Record, Step};
 use std::alloc::Global;
-
-/// The most executions that a script may create, one after another.
-const CREATE_LIMIT: u32 = 64;
 
 /// The execution named `play`, which may not be there, with what its FED file says and the federates that have joined
 /// since it was last created.
@@ -134,7 +131,7 @@ impl Execution {
             ));
         }
         let held = self.catalogue.copy()?;
-        if self.creates >= CREATE_LIMIT {
+        if self.creates >= MAX_CREATES {
             return Ok(script_record(
                 self.name,
                 Act::Create {

@@ -1,6 +1,7 @@
 //! The records of what a script does.
 
 ghost use Rattle.std.specs.Prelude.{◌≡◌, ◌≢◌, ◌+◌, ◌++◌, ◌∷◌, ◌≤◌, ◌<◌, [], OnOk, OnErr, IfOk, IfErr, length, codes, vec_len, vec_capacity};
+ghost use Rattle.hla_base.specs.Limits.{max_history};
 ghost use Rattle.hla_script.specs.Playing.{IsAnswered, LineEnds, IsAdmitted, HasNoRoom};
 ghost use Rattle.hla_script.specs.Members.{members};
 ghost use Rattle.hla_transcript.specs.Printed.{line_text};
@@ -10,14 +11,11 @@ ghost use Rattle.hla_machine.specs.declared.step.Outcome.TheVariants as outcome;
 use crate::execution::Execution;
 use crate::lookups::AskFault;
 use crate::steps::Request;
-use hla_base::Fault;
+use hla_base::{Fault, MAX_HISTORY};
 use hla_commands::{Command, Line};
 use hla_fed_file::Catalogue;
 use hla_machine::{Outcome, Record};
 use hla_transcript::{Text, print_line};
-
-/// The most records of a history.
-pub const HISTORY_LIMIT: usize = 32_768;
 
 /// Prints a line that adds no record.
 fn print_refusal(
@@ -35,7 +33,7 @@ fn print_refusal(
 fn no_room(records: &[Record]) -> Fault
     ensures { HasNoRoom records.now result }
 {
-    if records.len() >= HISTORY_LIMIT {
+    if records.len() >= MAX_HISTORY {
         Fault::HistoryFull
     } else {
         Fault::OutOfMemory
@@ -44,12 +42,12 @@ fn no_room(records: &[Record]) -> Fault
 
 /// Reserves room for one more record.
 fn reserve_one(records: &mut Vec<Record>) -> Result<(), Fault>
-    ensures few { OnOk result (length records.old.items < 32768) }
+    ensures few { OnOk result (length records.old.items < max_history) }
     ensures room { OnOk result (vec_len records.new + 1 ≤ vec_capacity records.new) }
     ensures err { IfErr result (HasNoRoom records.old.items) }
     ensures records { records.new.items ≡ records.old.items }
 {
-    if records.len() < HISTORY_LIMIT && records.reserve(1).is_ok() {
+    if records.len() < MAX_HISTORY && records.reserve(1).is_ok() {
         Ok(())
     } else {
         Err(no_room(records.as_slice()))

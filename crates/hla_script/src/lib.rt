@@ -8,10 +8,8 @@ mod members;
 mod player;
 mod steps;
 
-pub use history::HISTORY_LIMIT;
 pub use hla_commands::{
-    Call, Command, Declaration, Line, NameValuePair, SCRIPT_LIMIT, Script, ScriptFault,
-    ScriptFaultKind, parse,
+    Call, Command, Declaration, Line, NameValuePair, Script, ScriptFault, ScriptFaultKind, parse,
 };
 pub use hla_transcript::{ListFault, list};
 pub use player::{PlayFault, play};

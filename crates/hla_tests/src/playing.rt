@@ -1,6 +1,6 @@
 use crate::demo::{FED, played};
-use hla_base::{List, Plain};
-use hla_script::{HISTORY_LIMIT, PlayFault, play};
+use hla_base::{List, MAX_HISTORY, Plain};
+use hla_script::{PlayFault, play};
 use std::io;
 use std::io::Write;
 use std::test::Fail;
@@ -253,7 +253,7 @@ fn refuses_values_of_1025_bytes(rt: HostRuntime) -> Result<(), Fail> {
 #[test]
 fn fills_the_history(rt: HostRuntime) -> Result<(), Fail> {
     let mut script = String::from_str(rt.alloc(), "create\n")?;
-    for _ in 0..HISTORY_LIMIT {
+    for _ in 0..MAX_HISTORY {
         script.push_str("join \x41\n")?;
     }
     script.push_str("B tick\nA send Wrong")?;

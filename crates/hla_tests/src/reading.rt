@@ -1,4 +1,5 @@
-use hla_commands::{SCRIPT_LIMIT, parse};
+use hla_base::MAX_SCRIPT;
+use hla_commands::parse;
 use std::process::Abort;
 use std::test::Fail;
 
@@ -83,8 +84,8 @@ fn reads_what_is_no_fault(rt: HostRuntime) -> Result<(), Fail> {
 
 #[test]
 fn limits_scripts_and_lines(rt: HostRuntime) -> Result<(), Fail> {
-    let mut text = vec![in rt.alloc(); b'#'; SCRIPT_LIMIT]?;
-    for i in (4096..SCRIPT_LIMIT).step_by(4097) {
+    let mut text = vec![in rt.alloc(); b'#'; MAX_SCRIPT]?;
+    for i in (4096..MAX_SCRIPT).step_by(4097) {
         if let Some(byte) = text.get_mut(i) {
             *byte = b'\n';
         }

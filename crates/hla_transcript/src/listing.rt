@@ -1,6 +1,7 @@
 //! The list of what a FED file declares.
 
 ghost use Rattle.std.specs.Prelude.{◌≡◌, ◌++◌, ◌≤◌, length, codes, OnOk, IfOk, IfErr};
+ghost use Rattle.hla_base.specs.Limits.{max_classes};
 ghost use Rattle.hla_transcript.specs.Listed.{transport_text, order_text, each_numbered, attribute_text, parameter_text, own_attribute_text, own_parameter_text, object_line, interaction_line, object_text, interaction_text, listing, IsListed, StopsListing};
 
 use crate::text::Text;
@@ -159,7 +160,7 @@ fn object_classes(
     classes: &[ObjectClass],
     attributes: &[Attribute],
 ) -> Result<(), Fault>
-    requires { length classes.now ≤ 512 }
+    requires { length classes.now ≤ max_classes }
     ensures ok { OnOk result (text.new ≡ text.old ++ each_numbered (object_text attributes.now) classes.now) }
     ensures err { IfErr result (λ e. e ≡ Fault.OutOfMemory) }
 {
@@ -175,7 +176,7 @@ fn interaction_classes(
     classes: &[InteractionClass],
     parameters: &[Parameter],
 ) -> Result<(), Fault>
-    requires { length classes.now ≤ 512 }
+    requires { length classes.now ≤ max_classes }
     ensures ok { OnOk result (text.new ≡ text.old ++ each_numbered (interaction_text parameters.now) classes.now) }
     ensures err { IfErr result (λ e. e ≡ Fault.OutOfMemory) }
 {
