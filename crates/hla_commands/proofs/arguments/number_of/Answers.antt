@@ -1,4 +1,4 @@
-use Rattle.std.proofs.Common.{◌≢◌, ◌<◌, length, sym, ◌∙◌, arith}
+use Rattle.std.proofs.Common.{◌≢◌, length, sym, ◌∙◌, arith}
 use Rattle.std.proofs.lemmas.Bool.Decides.{nat_tests}
 use Rattle.hla_commands.proofs.NumberLemmas.{empty_word, no_digits, large_word, number_word}
 use Rattle.hla_commands.proofs.arguments.number_of.Goals as goal
@@ -13,8 +13,7 @@ returns-then-is_empty c = elim c.then-is_empty.branch [
 pub returns-in-Some : goal.returns-in-Some
 returns-in-Some c =
     let some : length c.args.word.now ≢ 0 = grind (arith, nat_tests, c.is_empty.ensures, c.if-is_empty.false) in
-    let within : c.in-Some.number < 18446744073709551616 = omega (arith, c.in-Some.ensures.within) in
-    number_word c.args.word.now c.in-Some.number some (sym c.are_digits.ensures ∙ c.if-not-are_digits.false) within c.in-Some.ensures.value
+    number_word c.args.word.now c.in-Some.number some (sym c.are_digits.ensures ∙ c.if-not-are_digits.false) c.in-Some.ensures.within c.in-Some.ensures.value
 
 pub returns-in-None : goal.returns-in-None
 returns-in-None c = large_word c.args.word.now c.in-None.ensures.value
