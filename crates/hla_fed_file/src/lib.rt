@@ -16,6 +16,3 @@ pub use catalogue::Catalogue;
 pub use declared::{Attribute, InteractionClass, ObjectClass, Order, Parameter, Transport};
 pub use fault::{FedFault, FedFaultKind};
 pub use reading::read;
-
-#[cfg(test)]
-mod tests;

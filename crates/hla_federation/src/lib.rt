@@ -18,8 +18,6 @@ mod pairs;
 mod parts;
 mod refusals;
 mod registering;
-#[cfg(test)]
-mod scenarios;
 mod sending;
 
 pub use federation::Federation;

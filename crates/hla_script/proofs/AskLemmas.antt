@@ -4,10 +4,11 @@ use Rattle.std.proofs.lemmas.List.{take-append-drop, take_more}
 use Rattle.std.proofs.lemmas.Bool.Decides.{nat_tests}
 use Rattle.std.proofs.Math.Seq.{drop-cons}
 use Rattle.std.specs.Prelude.{nat_lt, if◌then◌else◌}
+use Rattle.hla_base.specs.Limits.{max_value}
 use Rattle.hla_base.specs.declared.fault.Fault.{Fault}
 use Rattle.hla_base.specs.declared.fault.Fault.TheVariants as fault
 use Rattle.hla_base.specs.declared.content.HandleValuePair.{HandleValuePair}
-use Rattle.hla_script.specs.declared.lines.NameValuePair.{NameValuePair}
+use Rattle.hla_commands.specs.declared.lines.NameValuePair.{NameValuePair}
 use Rattle.hla_script.specs.declared.lookups.AskFault.{AskFault}
 use Rattle.hla_script.specs.declared.lookups.AskFault.TheVariants as stop
 use Rattle.hla_script.specs.Requests.{Asks, ask_then, limited, with_handle, with_last_handle, named_handles, with_pair, with_last_pair, named_pairs}
@@ -49,7 +50,7 @@ tests_swap false false p q ps = refl
 
 pair_last : (found : Option ℕ) (value : List ℕ) (later : Result (List HandleValuePair) Fault) (n : ℕ) (last : List ℕ) → with_pair found value (with_last_pair later n last) ≡ with_last_pair (with_pair found value later) n last
 pair_last None value later n last = refl
-pair_last (Some m) value (Ok ps) n last = tests_swap (nat_lt 1024 (length value)) (nat_lt 1024 (length last)) _ _ ps
+pair_last (Some m) value (Ok ps) n last = tests_swap (nat_lt max_value (length value)) (nat_lt max_value (length last)) _ _ ps
 pair_last (Some m) value (Err e) n last = refl
 
 module _ (find : List ℕ → Option ℕ) where
@@ -103,12 +104,12 @@ handles_starved old ns n is meant asks =
     let e : meant ≡ Ok ns = subst (λ (r : Result (List ℕ) AskFault). Asks r meant) is asks in
     (ns ++ n ∷ [], rw e refl)
 
-limited_starved : {X : Type 0} (value : List ℕ) (x : X) → length value ≤ 1024 → Asks {X = X} (Err stop.Memory) (limited value x)
+limited_starved : {X : Type 0} (value : List ℕ) (x : X) → length value ≤ max_value → Asks {X = X} (Err stop.Memory) (limited value x)
 limited_starved value x short =
-    let small : nat_lt 1024 (length value) ≡ false = grind (arith, nat_tests) in
+    let small : nat_lt max_value (length value) ≡ false = grind (arith, nat_tests) in
     (x, rw small refl)
 
-pub pairs_starved : (old : Result (List HandleValuePair) AskFault) (ps : List HandleValuePair) (n : ℕ) (value : List ℕ) → old ≡ Ok ps → length value ≤ 1024 → (meant : Result (List HandleValuePair) Fault) → Asks old meant
+pub pairs_starved : (old : Result (List HandleValuePair) AskFault) (ps : List HandleValuePair) (n : ℕ) (value : List ℕ) → old ≡ Ok ps → length value ≤ max_value → (meant : Result (List HandleValuePair) Fault) → Asks old meant
     → Asks {X = List HandleValuePair} (Err stop.Memory) (with_last_pair meant n value)
 pairs_starved old ps n value is short meant asks =
     let e : meant ≡ Ok ps = subst (λ (r : Result (List HandleValuePair) AskFault). Asks r meant) is asks in

@@ -1,6 +1,7 @@
 -- What records lead to.
 use Rattle.std.proofs.Common.{◌≡◌, ℕ, ◌+◌, ◌<◌, ◌≤◌, ltb, cond, List, [], ◌∷◌, ◌++◌, Option, None, Some, true, false, is_some, option_map, refl, sym, ap, ◌∙◌, arith, codes, subst, inl, inr}
 use Rattle.std.proofs.lemmas.Bool.Decides.{nat_tests}
+use Rattle.hla_base.specs.Limits.{max_creates}
 use Rattle.hla_base.specs.declared.fault.Fault.{Fault}
 use Rattle.hla_base.specs.declared.fault.Fault.TheVariants as fault
 use Rattle.hla_fed_file.specs.CatalogueValue.{CatalogueValue}
@@ -49,18 +50,18 @@ abbrev pub creation : CatalogueValue → Record
 creation c = record { actor = 0; execution = codes "play"; act = act.Create (Some c); outcome = outcome.Done answer.Done; choice = choice.None }
 
 -- below the limit only the execution that is there refuses a create
-accepts : (c : CatalogueValue) (n : ℕ) (x : Federations) → n < 64 → Holds x (record { creates = n; here = None }) → create_fault (central_executions x) (codes "play") (Some c) ≡ None
+accepts : (c : CatalogueValue) (n : ℕ) (x : Federations) → n < max_creates → Holds x (record { creates = n; here = None }) → create_fault (central_executions x) (codes "play") (Some c) ≡ None
 accepts c n x few h =
-    let room : ltb n 64 ≡ true = grind (arith, nat_tests) in
+    let room : ltb n max_creates ≡ true = grind (arith, nat_tests) in
     rw (h.execution, h.present, h.creates, room) refl
 
-creates : (c : CatalogueValue) (n : ℕ) (new : Components) → n < 64 → new ≡ new_components c → Leads (creation c) (record { creates = n; here = None }) (record { creates = n + 1; here = Some new })
+creates : (c : CatalogueValue) (n : ℕ) (new : Components) → n < max_creates → new ≡ new_components c → Leads (creation c) (record { creates = n; here = None }) (record { creates = n + 1; here = Some new })
 creates c n new few e = record {
   next = λ x h. create_next (Some c) None x (accepts c n x few h) (outcome.Done answer.Done) refl;
   follows = λ x h. create_holds (Some c) None x (accepts c n x few h) (record { creates = n + 1; here = Some new }) (record { creates = omega (arith, h.creates); present = omega (arith, h.present); execution = ap (λ (d : Components). Some d) (sym e) });
 }
 
-pub creation_acts : (c : CatalogueValue) (n m : ℕ) (old : Option Components) (ms after : List Member) (new : Components) (r : Record) → n < 64 → m ≡ n + 1 → old ≡ None → new ≡ new_components c → r ≡ creation c → after ≡ []
+pub creation_acts : (c : CatalogueValue) (n m : ℕ) (old : Option Components) (ms after : List Member) (new : Components) (r : Record) → n < max_creates → m ≡ n + 1 → old ≡ None → new ≡ new_components c → r ≡ creation c → after ≡ []
     → IsActed (act.Create (created_with c r.outcome)) (record { creates = n; here = old }) ms r (record { creates = m; here = Some new }) after
 creation_acts c n m old ms after new r few next none is_new same cleared =
     let main : IsActed (act.Create (Some c)) (record { creates = n; here = None }) ms (creation c) (record { creates = n + 1; here = Some new }) [] =
@@ -71,18 +72,18 @@ creation_acts c n m old ms after new r few next none is_new same cleared =
 abbrev pub excess : CatalogueValue → Record
 excess c = record { actor = 0; execution = codes "play"; act = act.Create (Some c); outcome = outcome.Refused fault.LimitReached; choice = choice.None }
 
-refuses : (c : CatalogueValue) (n : ℕ) (x : Federations) → 64 ≤ n → Holds x (record { creates = n; here = None }) → create_fault (central_executions x) (codes "play") (Some c) ≡ Some fault.LimitReached
+refuses : (c : CatalogueValue) (n : ℕ) (x : Federations) → max_creates ≤ n → Holds x (record { creates = n; here = None }) → create_fault (central_executions x) (codes "play") (Some c) ≡ Some fault.LimitReached
 refuses c n x many h =
-    let full : ltb n 64 ≡ false = grind (arith, nat_tests) in
+    let full : ltb n max_creates ≡ false = grind (arith, nat_tests) in
     rw (h.execution, h.present, h.creates, full) refl
 
-exceeds : (c : CatalogueValue) (n : ℕ) → 64 ≤ n → Leads (excess c) (record { creates = n; here = None }) (record { creates = n; here = None })
+exceeds : (c : CatalogueValue) (n : ℕ) → max_creates ≤ n → Leads (excess c) (record { creates = n; here = None }) (record { creates = n; here = None })
 exceeds c n many = record {
   next = λ x h. create_next (Some c) (Some fault.LimitReached) x (refuses c n x many h) (outcome.Refused fault.LimitReached) refl;
   follows = λ x h. create_holds (Some c) (Some fault.LimitReached) x (refuses c n x many h) (record { creates = n; here = None }) h;
 }
 
-pub excess_acts : (c : CatalogueValue) (n : ℕ) (old : Option Components) (ms : List Member) (r : Record) → 64 ≤ n → old ≡ None → r ≡ excess c
+pub excess_acts : (c : CatalogueValue) (n : ℕ) (old : Option Components) (ms : List Member) (r : Record) → max_creates ≤ n → old ≡ None → r ≡ excess c
     → IsActed (act.Create (created_with c r.outcome)) (record { creates = n; here = old }) ms r (record { creates = n; here = old }) ms
 excess_acts c n old ms r many none same =
     let main : IsActed (act.Create (Some c)) (record { creates = n; here = None }) ms (excess c) (record { creates = n; here = None }) ms =

@@ -1,13 +1,3 @@
--- Where words begin and end.
-pub mod WordLemmas
--- One more line.
-pub mod LineLemmas
--- One more pair.
-pub mod PairLemmas
--- One more write.
-pub mod WriteLemmas
--- The number that decimal digits say.
-pub mod NumberLemmas
 -- One more member that a resignation has passed over.
 pub mod MemberLemmas
 -- What is built chooses nothing: no role in time changes yet.
@@ -18,5 +8,3 @@ pub mod KeepLemmas
 pub mod PlayLemmas
 -- One more name that is looked up
 pub mod AskLemmas
--- One more item of a list.
-pub mod ListLemmas

@@ -2,23 +2,24 @@
 use Rattle.std.proofs.Common.{◌≡◌, ◌≤◌, ◌<◌, ℕ, List, [], ◌∷◌, ◌++◌, length, Result, Ok, Err, Option, None, Some, refl, sym, ap, ◌∙◌, append_assoc, subst, inl, inr}
 use Rattle.std.proofs.lemmas.List.{append-nil}
 use Rattle.std.specs.Prelude.{OnOk}
+use Rattle.hla_base.specs.Limits.{max_history}
 use Rattle.hla_base.specs.declared.fault.Fault.{Fault}
 use Rattle.hla_base.specs.declared.fault.Fault.TheVariants as fault
-use Rattle.hla_script.specs.declared.lines.Command.{Command}
+use Rattle.hla_commands.specs.declared.lines.Command.{Command}
 use Rattle.hla_script.specs.declared.members.Member.{Member}
 use Rattle.hla_fed_file.specs.CatalogueValue.{CatalogueValue}
 use Rattle.hla_machine.specs.declared.step.Outcome.{Outcome}
 use Rattle.hla_machine.specs.declared.step.Outcome.TheVariants as outcome
 use Rattle.hla_machine.specs.declared.step.Record.{Record}
-use Rattle.hla_script.specs.declared.lines.Line.{Line}
+use Rattle.hla_commands.specs.declared.lines.Line.{Line}
 use Rattle.hla_script.specs.declared.lookups.AskFault.{AskFault}
 use Rattle.hla_script.specs.declared.lookups.AskFault.TheVariants as stop
 use Rattle.hla_script.specs.declared.steps.Request.{Request}
 use Rattle.hla_script.specs.Members.{members}
 use Rattle.hla_script.specs.Requests.{Asks, request_of}
 use Rattle.hla_script.specs.Playing.{LineEnds, WithoutStep, Full, OutOfMemory, Recorded, record_of, IsAdmitted, HasNoRoom, IsAnswered, IsPlayed, Plays, transcript}
-use Rattle.hla_script.specs.Printed.{line_text}
-use Rattle.hla_script.proofs.WriteLemmas.{appends_none, appends_more}
+use Rattle.hla_transcript.specs.Printed.{line_text}
+use Rattle.hla_transcript.proofs.WriteLemmas.{appends_none, appends_more}
 use Rattle.std.specs.Io.KnownBytes.{Appends}
 
 -- a line that adds no record
@@ -65,7 +66,7 @@ module _ (c : CatalogueValue) (command : Command) (before : List Record) (slice 
   pub ends_without_room : (asked : Request) (e : Fault) → HasNoRoom before e → Asks (Ok asked) (request_of c slice command) → LineEnds c before command (outcome.Refused e) []
   ends_without_room asked e none asks = ends_behind asked e none (meant (Ok asked) asks)
 
-  pub admits : (asked : Request) → length before < 32768 → Asks (Ok asked) (request_of c slice command) → IsAdmitted c before command asked
+  pub admits : (asked : Request) → length before < max_history → Asks (Ok asked) (request_of c slice command) → IsAdmitted c before command asked
   admits asked few asks = record { asks = meant (Ok asked) asks; room = few }
 
 plays_more : (ls : List Line) (os : List Outcome) (c : CatalogueValue) (before middle : List Record) (l : Line) (o : Outcome) (added : List Record) → Plays c before ls os middle → LineEnds c middle l.command o added

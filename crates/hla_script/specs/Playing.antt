@@ -1,6 +1,7 @@
 -- What the lines of a script do
 use Rattle.std.specs.Prelude.{◌≡◌, ◌≢◌, ◌<◌, ◌≤◌, ℕ, List, [], ◌∷◌, ◌++◌, ◌⊎◌, length, Option, None, Some, Ok, Err, codes}
 use Rattle.std.specs.Io.KnownBytes.{Appends}
+use Rattle.hla_base.specs.Limits.{max_history}
 use Rattle.hla_base.specs.declared.fault.Fault.{Fault}
 use Rattle.hla_base.specs.declared.fault.Fault.TheVariants as fault
 use Rattle.hla_fed_file.specs.CatalogueValue.{CatalogueValue}
@@ -12,15 +13,15 @@ use Rattle.hla_machine.specs.declared.step.Outcome.{Outcome}
 use Rattle.hla_machine.specs.declared.step.Outcome.TheVariants as outcome
 use Rattle.hla_machine.specs.declared.step.Choice.TheVariants as choice
 use Rattle.hla_machine.specs.declared.step.Record.{Record}
-use Rattle.hla_script.specs.declared.lines.Command.{Command}
-use Rattle.hla_script.specs.declared.lines.Line.{Line}
+use Rattle.hla_commands.specs.declared.lines.Command.{Command}
+use Rattle.hla_commands.specs.declared.lines.Line.{Line}
 use Rattle.hla_script.specs.declared.members.Member.{Member}
 use Rattle.hla_script.specs.declared.player.PlayFault.{PlayFault}
 use Rattle.hla_script.specs.declared.player.PlayFault.TheVariants as stop
 use Rattle.hla_script.specs.declared.steps.Request.{Request}
 use Rattle.hla_script.specs.declared.steps.Request.TheVariants as request
-use Rattle.hla_script.specs.Script.{script_of, ParsesAs}
-use Rattle.hla_script.specs.Printed.{line_text}
+use Rattle.hla_commands.specs.Script.{script_of, ParsesAs}
+use Rattle.hla_transcript.specs.Printed.{line_text}
 use Rattle.hla_script.specs.Members.{members}
 use Rattle.hla_script.specs.Requests.{request_of}
 
@@ -44,18 +45,18 @@ record_of c asked out = record { actor = 0; execution = codes "play"; act = act_
 -- a line asks for something behind some records, and there is room for its record
 pub record IsAdmitted (c : CatalogueValue) (before : List Record) (command : Command) (asked : Request) : Type 0 where
   pub asks : request_of c (members before) command ≡ Ok asked
-  pub room : length before < 32768
+  pub room : length before < max_history
 
 -- there is no room for one more record: the history is full, or memory ran out
 abbrev pub HasNoRoom : List Record → Fault → Type 0
-HasNoRoom before e = ((32768 ≤ length before) × (e ≡ fault.HistoryFull)) ⊎ ((length before < 32768) × (e ≡ fault.OutOfMemory))
+HasNoRoom before e = ((max_history ≤ length before) × (e ≡ fault.HistoryFull)) ⊎ ((length before < max_history) × (e ≡ fault.OutOfMemory))
 
 -- how a line comes out behind some records, and the record that it adds, if it does
 pub data LineEnds (c : CatalogueValue) (before : List Record) (command : Command) (out : Outcome) (added : List Record) : Type 0 where
   -- it makes no step
   WithoutStep : (e : Fault) → request_of c (members before) command ≡ Err e → out ≡ outcome.Refused e → added ≡ [] → LineEnds c before command out added
   -- the history is full
-  Full : (asked : Request) → request_of c (members before) command ≡ Ok asked → 32768 ≤ length before → out ≡ outcome.Refused fault.HistoryFull → added ≡ [] → LineEnds c before command out added
+  Full : (asked : Request) → request_of c (members before) command ≡ Ok asked → max_history ≤ length before → out ≡ outcome.Refused fault.HistoryFull → added ≡ [] → LineEnds c before command out added
   -- memory ran out
   OutOfMemory : (asked : Request) → IsAdmitted c before command asked → out ≡ outcome.Refused fault.OutOfMemory → added ≡ [] → LineEnds c before command out added
   -- its step is recorded

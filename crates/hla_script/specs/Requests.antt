@@ -1,5 +1,6 @@
 -- What a line asks of the execution, or the fault with which it is answered where it makes no step
 use Rattle.std.specs.Prelude.{◌≡◌, ℕ, nat_lt, min, List, [], ◌∷◌, ◌++◌, length, Option, None, Some, Result, Ok, Err, if◌then◌else◌}
+use Rattle.hla_base.specs.Limits.{max_value}
 use Rattle.hla_base.specs.declared.fault.Fault.{Fault}
 use Rattle.hla_base.specs.declared.fault.Fault.TheVariants as fault
 use Rattle.hla_base.specs.declared.content.HandleValuePair.{HandleValuePair}
@@ -9,13 +10,13 @@ use Rattle.hla_machine.specs.declared.service.Service.{Service}
 use Rattle.hla_machine.specs.declared.service.Service.TheVariants as service
 use Rattle.hla_machine.specs.declared.step.Step.{Step}
 use Rattle.hla_machine.specs.declared.step.Step.TheVariants as step
-use Rattle.hla_script.specs.declared.lines.Declaration.{Declaration}
-use Rattle.hla_script.specs.declared.lines.Declaration.TheVariants as declaration
-use Rattle.hla_script.specs.declared.lines.Command.{Command}
-use Rattle.hla_script.specs.declared.lines.Command.TheVariants as command
-use Rattle.hla_script.specs.declared.lines.Call.{Call}
-use Rattle.hla_script.specs.declared.lines.Call.TheVariants as call
-use Rattle.hla_script.specs.declared.lines.NameValuePair.{NameValuePair}
+use Rattle.hla_commands.specs.declared.lines.Declaration.{Declaration}
+use Rattle.hla_commands.specs.declared.lines.Declaration.TheVariants as declaration
+use Rattle.hla_commands.specs.declared.lines.Command.{Command}
+use Rattle.hla_commands.specs.declared.lines.Command.TheVariants as command
+use Rattle.hla_commands.specs.declared.lines.Call.{Call}
+use Rattle.hla_commands.specs.declared.lines.Call.TheVariants as call
+use Rattle.hla_commands.specs.declared.lines.NameValuePair.{NameValuePair}
 use Rattle.hla_script.specs.declared.members.Member.{Member}
 use Rattle.hla_script.specs.declared.lookups.AskFault.{AskFault}
 use Rattle.hla_script.specs.declared.lookups.AskFault.TheVariants as stop
@@ -43,24 +44,24 @@ Finds (Ok x) meant = meant ≡ Ok x
 Finds (Err stop.Memory) meant = ⊥
 Finds (Err (stop.Refused e)) meant = meant ≡ Err e
 
-abbrev pub found_or : Option ℕ → Fault → Result ℕ Fault
-found_or (Some n) e = Ok n
-found_or None e = Err e
+abbrev pub number_or : Option ℕ → Fault → Result ℕ Fault
+number_or (Some n) e = Ok n
+number_or None e = Err e
 
 -- ---- the numbers of names
 -- somebody has joined under the name since the last create that was accepted
 abbrev pub known_federate : List Member → List ℕ → Result ℕ Fault
-known_federate ms name = found_or (federate_named ms name) fault.FederateNotExecutionMember
+known_federate ms name = number_or (federate_named ms name) fault.FederateNotExecutionMember
 
 -- somebody is joined under the name
 abbrev pub joined_federate : List Member → List ℕ → Result ℕ Fault
-joined_federate ms name = found_or (joined_named ms name) fault.FederateNotExecutionMember
+joined_federate ms name = number_or (joined_named ms name) fault.FederateNotExecutionMember
 
 abbrev pub object_class_of : CatalogueValue → List ℕ → Result ℕ Fault
-object_class_of c name = found_or (object_class_named c name) fault.NameNotFound
+object_class_of c name = number_or (object_class_named c name) fault.NameNotFound
 
 abbrev pub interaction_class_of : CatalogueValue → List ℕ → Result ℕ Fault
-interaction_class_of c name = found_or (interaction_class_named c name) fault.NameNotFound
+interaction_class_of c name = number_or (interaction_class_named c name) fault.NameNotFound
 
 -- an attribute of an object class, or a parameter of an interaction class
 abbrev pub handle_named : CatalogueValue → Class → List ℕ → Option ℕ
@@ -76,9 +77,9 @@ unfoldable pub named_handles : (List ℕ → Option ℕ) → List (List ℕ) →
 named_handles find [] = Ok []
 named_handles find (name ∷ names) = with_handle (find name) (named_handles find names)
 
--- a value of more than 1,024 bytes is refused
+-- a value that is too long is refused
 abbrev pub limited : {X : Type 0} → List ℕ → X → Result X Fault
-limited value x = if nat_lt 1024 (length value) then Err fault.LimitReached else Ok x
+limited value x = if nat_lt max_value (length value) then Err fault.LimitReached else Ok x
 
 abbrev pub with_pair : Option ℕ → List ℕ → Result (List HandleValuePair) Fault → Result (List HandleValuePair) Fault
 with_pair None value later = Err fault.NameNotFound
@@ -96,10 +97,13 @@ with_last_handle meant n = ask_then meant (λ ns. Ok (ns ++ n ∷ []))
 abbrev pub with_last_pair : Result (List HandleValuePair) Fault → ℕ → List ℕ → Result (List HandleValuePair) Fault
 with_last_pair meant n value = ask_then meant (λ ps. limited value (ps ++ record { handle = n; value = value } ∷ []))
 
--- the number of the object that a number word names: the word's own number, but the largest of 32 bits for all that are
--- above it. No object has that one, since an execution has at most 4,096
+-- the largest number of 32 bits. No object has it, since an execution has at most `max_objects`
+abbrev pub max_object_number : ℕ
+max_object_number = 4294967295
+
+-- the number of the object that a number word names: the word's own number, but the largest for all that are above it
 abbrev pub object_number : ℕ → ℕ
-object_number number = min number 4294967295
+object_number number = min number max_object_number
 
 abbrev pub declared_object : Declaration → ℕ → List ℕ → Service
 declared_object declaration.Publication class attributes = service.PublishObjectClass class attributes

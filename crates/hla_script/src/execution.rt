@@ -9,14 +9,11 @@ ghost use Rattle.hla_script.specs.Keeping.{components_of, standing, IsStepped, I
 
 use crate::members::{Change, Member, note};
 use crate::steps::Request;
-use hla_base::{ExecutionName, Fault, Plain};
+use hla_base::{ExecutionName, Fault, MAX_CREATES, Plain};
 use hla_fed_file::Catalogue;
 use hla_federation::Federation;
 use hla_machine::{Act, Answer, Choice, Outcome, Record, Step};
 use std::alloc::Global;
-
-/// The most executions that a script may create, one after another.
-const CREATE_LIMIT: u32 = 64;
 
 /// The execution named `play`, which may not be there, with what its FED file says and the federates that have joined
 /// since it was last created.
@@ -32,7 +29,7 @@ pub struct Execution {
 }
 
 /// Does a step, and answers how it ended; where memory ran out it is not done.
-fn stepped(federation: &mut Option<Federation>, step: &Step) -> Result<Outcome, Fault>
+fn do_step(federation: &mut Option<Federation>, step: &Step) -> Result<Outcome, Fault>
     requires { IsBuilt step.now }
     ensures ok { IfOk result (λ out. IsStepped (option_map components_of federation.old) step.now out (option_map components_of federation.new)) }
     ensures err { OnErr result (federation.new ≡ federation.old) }
@@ -52,7 +49,7 @@ fn stepped(federation: &mut Option<Federation>, step: &Step) -> Result<Outcome, 
 }
 
 /// Destroys the execution where it is there and no federate is joined.
-fn destroyed(federation: &mut Option<Federation>) -> Outcome
+fn destroy_unless_joined(federation: &mut Option<Federation>) -> Outcome
     ensures { IsDestroyed (option_map components_of federation.old) result (option_map components_of federation.new) }
 {
     match federation {
@@ -67,7 +64,7 @@ fn destroyed(federation: &mut Option<Federation>) -> Outcome
     Outcome::Done(Answer::Done)
 }
 
-fn recorded(name: ExecutionName, act: Act, outcome: Outcome) -> Record
+fn script_record(name: ExecutionName, act: Act, outcome: Outcome) -> Record
     ensures { result ≡ record { actor = 0; execution = name; act = act; outcome = outcome; choice = choice.None } }
 {
     Record {
@@ -127,15 +124,15 @@ impl Execution {
         ensures name { self.new.name ≡ self.old.name }
     {
         if self.federation.is_some() {
-            return Ok(recorded(
+            return Ok(script_record(
                 self.name,
                 Act::Create { catalogue: None },
                 Outcome::Refused(Fault::FederationExecutionAlreadyExists),
             ));
         }
         let held = self.catalogue.copy()?;
-        if self.creates >= CREATE_LIMIT {
-            return Ok(recorded(
+        if self.creates >= MAX_CREATES {
+            return Ok(script_record(
                 self.name,
                 Act::Create {
                     catalogue: Some(held),
@@ -147,7 +144,7 @@ impl Execution {
         self.federation = Some(Federation::new(self.alloc, used));
         self.creates += 1;
         self.members.clear();
-        Ok(recorded(
+        Ok(script_record(
             self.name,
             Act::Create {
                 catalogue: Some(held),
@@ -163,8 +160,8 @@ impl Execution {
         ensures catalogue { self.new.catalogue ≡ self.old.catalogue }
         ensures name { self.new.name ≡ self.old.name }
     {
-        let outcome = destroyed(&mut self.federation);
-        recorded(self.name, Act::Destroy, outcome)
+        let outcome = destroy_unless_joined(&mut self.federation);
+        script_record(self.name, Act::Destroy, outcome)
     }
 
     /// Does a step of the execution.
@@ -182,8 +179,8 @@ impl Execution {
         if self.members.reserve(1).is_err() {
             return Err(Fault::OutOfMemory);
         }
-        let outcome = stepped(&mut self.federation, &step)?;
+        let outcome = do_step(&mut self.federation, &step)?;
         note(&mut self.members, change, &outcome);
-        Ok(recorded(self.name, Act::Step(step), outcome))
+        Ok(script_record(self.name, Act::Step(step), outcome))
     }
 }

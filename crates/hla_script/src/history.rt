@@ -1,37 +1,39 @@
 //! The records of what a script does.
 
 ghost use Rattle.std.specs.Prelude.{◌≡◌, ◌≢◌, ◌+◌, ◌++◌, ◌∷◌, ◌≤◌, ◌<◌, [], OnOk, OnErr, IfOk, IfErr, length, codes, vec_len, vec_capacity};
+ghost use Rattle.hla_base.specs.Limits.{max_history};
 ghost use Rattle.hla_script.specs.Playing.{IsAnswered, LineEnds, IsAdmitted, HasNoRoom};
 ghost use Rattle.hla_script.specs.Members.{members};
-ghost use Rattle.hla_script.specs.Printed.{line_text};
+ghost use Rattle.hla_transcript.specs.Printed.{line_text};
 ghost use Rattle.hla_script.specs.Keeping.{standing, IsKept, IsBuiltRequest};
 ghost use Rattle.hla_machine.specs.declared.step.Outcome.TheVariants as outcome;
 
 use crate::execution::Execution;
-use crate::lines::{Command, Line};
 use crate::lookups::AskFault;
-use crate::printing;
 use crate::steps::Request;
-use crate::text::Text;
-use hla_base::Fault;
+use hla_base::{Fault, MAX_HISTORY};
+use hla_commands::{Command, Line};
 use hla_fed_file::Catalogue;
 use hla_machine::{Outcome, Record};
-
-/// The most records of a history.
-pub const HISTORY_LIMIT: usize = 32_768;
+use hla_transcript::{Text, print_line};
 
 /// Prints a line that adds no record.
-fn refused(text: &mut Text, catalogue: &Catalogue, number: usize, fault: Fault) -> Result<(), Fault>
+fn print_refusal(
+    text: &mut Text,
+    catalogue: &Catalogue,
+    number: usize,
+    fault: Fault,
+) -> Result<(), Fault>
     ensures { OnOk result (text.new ≡ text.old ++ line_text catalogue.now number (outcome.Refused fault)) }
 {
-    printing::line(text, catalogue, number as u64, &Outcome::Refused(fault))
+    print_line(text, catalogue, number as u64, &Outcome::Refused(fault))
 }
 
 /// Why there is no room for one more record.
 fn no_room(records: &[Record]) -> Fault
     ensures { HasNoRoom records.now result }
 {
-    if records.len() >= HISTORY_LIMIT {
+    if records.len() >= MAX_HISTORY {
         Fault::HistoryFull
     } else {
         Fault::OutOfMemory
@@ -40,12 +42,12 @@ fn no_room(records: &[Record]) -> Fault
 
 /// Reserves room for one more record.
 fn reserve_one(records: &mut Vec<Record>) -> Result<(), Fault>
-    ensures few { OnOk result (length records.old.items < 32768) }
+    ensures few { OnOk result (length records.old.items < max_history) }
     ensures room { OnOk result (vec_len records.new + 1 ≤ vec_capacity records.new) }
     ensures err { IfErr result (HasNoRoom records.old.items) }
     ensures records { records.new.items ≡ records.old.items }
 {
-    if records.len() < HISTORY_LIMIT && records.reserve(1).is_ok() {
+    if records.len() < MAX_HISTORY && records.reserve(1).is_ok() {
         Ok(())
     } else {
         Err(no_room(records.as_slice()))
@@ -53,7 +55,7 @@ fn reserve_one(records: &mut Vec<Record>) -> Result<(), Fault>
 }
 
 /// What a line asks for, where the history has room for its record: room for one more record is then reserved.
-fn admitted(
+fn request_with_room(
     execution: &Execution,
     records: &mut Vec<Record>,
     command: &Command,
@@ -95,13 +97,13 @@ pub fn play_line(
     ensures kept { OnOk result (IsKept records.new.items (standing execution.new.creates execution.new.federation) execution.new.members.items) }
     ensures answered { OnOk result (IsAnswered execution.old.catalogue line.now records.old.items records.new.items text.old text.new) }
 {
-    let request = match admitted(execution, records, &line.command) {
+    let request = match request_with_room(execution, records, &line.command) {
         Ok(request) => request,
-        Err(fault) => return refused(text, &execution.catalogue, line.number, fault),
+        Err(fault) => return print_refusal(text, &execution.catalogue, line.number, fault),
     };
     match execution.act(request) {
         Ok(record) => {
-            printing::line(
+            print_line(
                 text,
                 &execution.catalogue,
                 line.number as u64,
@@ -110,6 +112,6 @@ pub fn play_line(
             records.push_reserved(record);
             Ok(())
         }
-        Err(_) => refused(text, &execution.catalogue, line.number, Fault::OutOfMemory),
+        Err(_) => print_refusal(text, &execution.catalogue, line.number, Fault::OutOfMemory),
     }
 }

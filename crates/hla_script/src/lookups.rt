@@ -3,11 +3,11 @@
 ghost use Rattle.std.specs.Prelude.{◌≡◌, ℕ, List, Result, min};
 ghost use Rattle.hla_base.specs.declared.fault.Fault.{Fault};
 ghost use Rattle.hla_base.specs.declared.content.HandleValuePair.{HandleValuePair};
-ghost use Rattle.hla_script.specs.Requests.{Asks, Finds, found_or, known_federate, joined_federate, object_class_of, interaction_class_of, handle_named, named_handles, named_pairs, with_last_handle, with_last_pair, object_number};
+ghost use Rattle.hla_script.specs.Requests.{Asks, Finds, number_or, known_federate, joined_federate, object_class_of, interaction_class_of, handle_named, named_handles, named_pairs, with_last_handle, with_last_pair, object_number};
 
-use crate::lines::NameValuePair;
 use crate::members::{Member, federate_named, joined_named};
 use hla_base::{AttributeNo, ClassNo, Fault, FederateNo, HandleValuePair, List, ObjectNo, Value};
+use hla_commands::NameValuePair;
 use hla_fed_file::Catalogue;
 use std::alloc::Global;
 
@@ -28,8 +28,8 @@ pub enum Class {
 }
 
 /// The number that a look-up found.
-fn found(number: Option<u32>, fault: Fault) -> Result<u32, AskFault>
-    ensures { Finds result (found_or number fault) }
+fn number_or(number: Option<u32>, fault: Fault) -> Result<u32, AskFault>
+    ensures { Finds result (number_or number fault) }
 {
     match number {
         Some(number) => Ok(number),
@@ -41,7 +41,7 @@ fn found(number: Option<u32>, fault: Fault) -> Result<u32, AskFault>
 pub fn known_federate(members: &[Member], name: &[u8]) -> Result<FederateNo, AskFault>
     ensures { Finds result (known_federate members.now name.now) }
 {
-    found(
+    number_or(
         federate_named(members, name),
         Fault::FederateNotExecutionMember,
     )
@@ -51,7 +51,7 @@ pub fn known_federate(members: &[Member], name: &[u8]) -> Result<FederateNo, Ask
 pub fn joined_federate(members: &[Member], name: &[u8]) -> Result<FederateNo, AskFault>
     ensures { Finds result (joined_federate members.now name.now) }
 {
-    found(
+    number_or(
         joined_named(members, name),
         Fault::FederateNotExecutionMember,
     )
@@ -61,14 +61,14 @@ pub fn joined_federate(members: &[Member], name: &[u8]) -> Result<FederateNo, As
 pub fn object_class(catalogue: &Catalogue, name: &[u8]) -> Result<ClassNo, AskFault>
     ensures { Finds result (object_class_of catalogue.now name.now) }
 {
-    found(catalogue.object_class(name), Fault::NameNotFound)
+    number_or(catalogue.object_class(name), Fault::NameNotFound)
 }
 
 /// The interaction class that a name finds; 34 where there is none.
 pub fn interaction_class(catalogue: &Catalogue, name: &[u8]) -> Result<ClassNo, AskFault>
     ensures { Finds result (interaction_class_of catalogue.now name.now) }
 {
-    found(catalogue.interaction_class(name), Fault::NameNotFound)
+    number_or(catalogue.interaction_class(name), Fault::NameNotFound)
 }
 
 /// The number of the object that a number word names; a number above the largest of an `ObjectNo` is that of no object.

@@ -9,13 +9,11 @@ ghost use Rattle.hla_script.specs.Playing.{IsPlayed, IsPlayedFrom, StopsBy};
 
 use crate::execution::Execution;
 use crate::history::play_line;
-use crate::lines::{Script, ScriptFault};
-use crate::reader::parse;
-use crate::text::Text;
-use crate::writing::{WriteFailed, write_whole};
 use hla_base::{ExecutionName, Fault, List};
+use hla_commands::{Script, ScriptFault, parse};
 use hla_fed_file::{Catalogue, FedFault, read};
 use hla_machine::Record;
+use hla_transcript::{Text, WriteFailed, write_whole};
 use std::alloc::Global;
 use std::io::Write;
 
@@ -68,8 +66,8 @@ fn play_lines<W: Write>(
 }
 
 /// Plays a script over a FED file: does what its lines ask for, one after another, in an execution named `play`, writes
-/// how each ended, and answers the records. The execution may be destroyed and created again, at most 64 times in all. The
-/// history holds at most 32,768 records, and a line finds it full then. The FED file is tested before the script, and both
+/// how each ended, and answers the records. The execution may be destroyed and created again, at most `MAX_CREATES` times in all.
+/// The history holds at most `MAX_HISTORY` records, and a line finds it full then. The FED file is tested before the script, and both
 /// before anything is done. A line that runs out of memory says so and makes no step; `Memory` is answered where there was
 /// none for the texts.
 pub fn play<W: Write>(

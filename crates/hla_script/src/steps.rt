@@ -5,13 +5,13 @@ ghost use Rattle.hla_federation.specs.Steps.State.{IsBuilt, IsBuiltService};
 ghost use Rattle.hla_script.specs.Keeping.{IsBuiltRequest};
 ghost use Rattle.hla_script.specs.Requests.{Asks, object_declaration, object_withdrawal, interaction_declaration, interaction_withdrawal, registration, update_of, interaction_of, service_of, request_of};
 
-use crate::lines::{Call, Command, Declaration, NameValuePair};
 use crate::lookups::{
     AskFault, Class, attributes, interaction_class, joined_federate, known_federate, object_class,
     object_number, pairs,
 };
 use crate::members::Member;
 use hla_base::{List, Plain};
+use hla_commands::{Call, Command, Declaration, NameValuePair};
 use hla_fed_file::Catalogue;
 use hla_machine::{Service, Step};
 use std::alloc::Global;
@@ -28,7 +28,7 @@ pub enum Request {
 }
 
 /// A copy, of which only want of memory can deprive.
-fn copied<T: Plain>(item: &T) -> Result<T, AskFault>
+fn plain_copy<T: Plain>(item: &T) -> Result<T, AskFault>
     ensures ok { IfOk result (λ copy. copy ≡ item.now) }
     ensures err { IfErr result (λ e. e ≡ AskFault.Memory) }
 {
@@ -113,7 +113,7 @@ fn register(
     ensures built { IfOk result IsBuiltService }
 {
     let class = object_class(catalogue, class.as_slice())?;
-    let name = copied(name)?;
+    let name = plain_copy(name)?;
     Ok(Service::RegisterObjectInstance { class, name })
 }
 
@@ -193,7 +193,7 @@ fn service(alloc: Global, catalogue: &Catalogue, call: &Call) -> Result<Option<S
             stamp: None,
         })),
         Call::ObjectHandle { name } => Ok(Some(Service::GetObjectInstanceHandle {
-            name: copied(name)?,
+            name: plain_copy(name)?,
         })),
         Call::ObjectName { object } => Ok(Some(Service::GetObjectInstanceName {
             object: object_number(*object),
@@ -216,7 +216,7 @@ impl Request {
             Command::Create => Ok(Request::Create),
             Command::Destroy => Ok(Request::Destroy),
             Command::Join { name } => Ok(Request::Step(Step::Join {
-                name: copied(name)?,
+                name: plain_copy(name)?,
             })),
             Command::Carry { from, to } => {
                 let from = known_federate(members, from.as_slice())?;

@@ -8,20 +8,20 @@ use Rattle.hla_script.proofs.history.play_line.Goals as goal
 
 pub returns-in-Err-clause-answered : goal.returns-in-Err-clause-answered
 returns-in-Err-clause-answered c =
-    rw c.admitted.ensures.records (adds_none c.args.execution.now.catalogue c.args.line.now c.args.records.now.items _ _ c.refused.result c.in-Err.fault c.in-Err.ensures.refused c.refused.ensures)
+    rw c.request_with_room.ensures.records (adds_none c.args.execution.now.catalogue c.args.line.now c.args.records.now.items _ _ c.print_refusal.result c.in-Err.fault c.in-Err.ensures.refused c.print_refusal.ensures)
 
-pub returns-in_ok-line-in-Ok-act-clause-kept : goal.returns-in_ok-line-in-Ok-act-clause-kept
-returns-in_ok-line-in-Ok-act-clause-kept c =
-    rw (c.push_reserved.ensures.items, c.admitted.ensures.records) (keeps_more _ c.args.records.now.items _ _ c.args.execution.now.members.items _ c.in-Ok-act.record c.requires.kept c.in-Ok-act.ensures.ok)
+pub returns-in_ok-print_line-in-Ok-act-clause-kept : goal.returns-in_ok-print_line-in-Ok-act-clause-kept
+returns-in_ok-print_line-in-Ok-act-clause-kept c =
+    rw (c.push_reserved.ensures.items, c.request_with_room.ensures.records) (keeps_more _ c.args.records.now.items _ _ c.args.execution.now.members.items _ c.in-Ok-act.record c.requires.kept c.in-Ok-act.ensures.ok)
 
-pub returns-in_ok-line-in-Ok-act-clause-answered : goal.returns-in_ok-line-in-Ok-act-clause-answered
-returns-in_ok-line-in-Ok-act-clause-answered c =
+pub returns-in_ok-print_line-in-Ok-act-clause-answered : goal.returns-in_ok-print_line-in-Ok-act-clause-answered
+returns-in_ok-print_line-in-Ok-act-clause-answered c =
     let acted = c.in-Ok-act.ensures.ok in
-    rw (c.push_reserved.ensures.items, c.admitted.ensures.records)
-    (adds_one c.args.execution.now.catalogue _ c.args.line.now c.args.records.now.items c.in-Ok.request c.in-Ok-act.record _ _ c.act.ensures.catalogue c.in-Ok.ensures.admitted acted.remembered acted.same c.in_ok-line-in-Ok-act.ensures.ok)
+    rw (c.push_reserved.ensures.items, c.request_with_room.ensures.records)
+    (adds_one c.args.execution.now.catalogue _ c.args.line.now c.args.records.now.items c.in-Ok.request c.in-Ok-act.record _ _ c.act.ensures.catalogue c.in-Ok.ensures.admitted acted.remembered acted.same c.in_ok-print_line-in-Ok-act.ensures.ok)
 
 pub returns-in-Err-act-clause-answered : goal.returns-in-Err-act-clause-answered
 returns-in-Err-act-clause-answered c =
-    rw c.admitted.ensures.records
-    (adds_none_in c.args.execution.now.catalogue _ c.args.line.now c.args.records.now.items _ _ c.refused-in-Err-act.result fault.OutOfMemory c.act.ensures.catalogue (OutOfMemory c.in-Ok.request c.in-Ok.ensures.admitted refl refl)
-    c.refused-in-Err-act.ensures)
+    rw c.request_with_room.ensures.records
+    (adds_none_in c.args.execution.now.catalogue _ c.args.line.now c.args.records.now.items _ _ c.print_refusal-in-Err-act.result fault.OutOfMemory c.act.ensures.catalogue (OutOfMemory c.in-Ok.request c.in-Ok.ensures.admitted refl refl)
+    c.print_refusal-in-Err-act.ensures)

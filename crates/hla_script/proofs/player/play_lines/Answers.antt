@@ -1,6 +1,6 @@
 use Rattle.std.proofs.Common.{◌≡◌, ◌++◌, ◌∷◌, [], ◌+◌, List, take, sym, ◌∙◌, ap, subst}
 use Rattle.std.proofs.lemmas.List.{take_more, take_all}
-use Rattle.hla_script.specs.declared.lines.Line.{Line}
+use Rattle.hla_commands.specs.declared.lines.Line.{Line}
 use Rattle.hla_script.specs.Playing.{IsPlayed}
 use Rattle.hla_script.proofs.PlayLemmas.{played_nothing, played_more}
 use Rattle.hla_script.proofs.KeepLemmas.{keeps_nothing}

@@ -1,17 +1,18 @@
 use Rattle.std.proofs.Common.{◌≡◌, ◌<◌, refl, sym, ◌∙◌, arith}
+use Rattle.hla_base.specs.Limits.{max_creates}
 use Rattle.hla_script.specs.Keeping.{components_of}
 use Rattle.hla_script.proofs.KeepLemmas.{creation, creation_acts, excess, excess_acts, none_left, opens}
 use Rattle.hla_script.proofs.execution.Execution.create.Goals as goal
 
-pub returns-then-self-ge-CREATE_LIMIT-clause-ok : goal.returns-then-self-ge-CREATE_LIMIT-clause-ok
-returns-then-self-ge-CREATE_LIMIT-clause-ok c =
+pub returns-then-self-ge-MAX_CREATES-clause-ok : goal.returns-then-self-ge-MAX_CREATES-clause-ok
+returns-then-self-ge-MAX_CREATES-clause-ok c =
     let none = none_left components_of c.args.self.now.federation (sym c.is_some.ensures ∙ c.if-is_some.false) in
-    let same : c.recorded-then-self-ge-CREATE_LIMIT.result ≡ excess c.args.self.now.catalogue = c.recorded-then-self-ge-CREATE_LIMIT.ensures ∙ rw (c.requires, c.in_ok-held.ensures.ok) refl in
-    excess_acts c.args.self.now.catalogue c.args.self.now.creates _ c.args.self.now.members.items c.recorded-then-self-ge-CREATE_LIMIT.result c.if-self-ge-CREATE_LIMIT.true none same
+    let same : c.script_record-then-self-ge-MAX_CREATES.result ≡ excess c.args.self.now.catalogue = c.script_record-then-self-ge-MAX_CREATES.ensures ∙ rw (c.requires, c.in_ok-held.ensures.ok) refl in
+    excess_acts c.args.self.now.catalogue c.args.self.now.creates _ c.args.self.now.members.items c.script_record-then-self-ge-MAX_CREATES.result c.if-self-ge-MAX_CREATES.true none same
 
 pub returns-clause-ok : goal.returns-clause-ok
 returns-clause-ok c =
     let none = none_left components_of c.args.self.now.federation (sym c.is_some.ensures ∙ c.if-is_some.false) in
-    let same : c.recorded-2.result ≡ creation c.args.self.now.catalogue = c.recorded-2.ensures ∙ rw (c.requires, c.in_ok-held.ensures.ok) refl in
-    let few : c.args.self.now.creates < 64 = omega (arith, c.if-self-ge-CREATE_LIMIT.false) in
-    creation_acts c.args.self.now.catalogue c.args.self.now.creates _ _ c.args.self.now.members.items _ _ c.recorded-2.result few refl none (opens _ _ (rw c.in_ok-used.ensures.ok at c.new.ensures)) same c.clear.ensures.items
+    let same : c.script_record-2.result ≡ creation c.args.self.now.catalogue = c.script_record-2.ensures ∙ rw (c.requires, c.in_ok-held.ensures.ok) refl in
+    let few : c.args.self.now.creates < max_creates = omega (arith, c.if-self-ge-MAX_CREATES.false) in
+    creation_acts c.args.self.now.catalogue c.args.self.now.creates _ _ c.args.self.now.members.items _ _ c.script_record-2.result few refl none (opens _ _ (rw c.in_ok-used.ensures.ok at c.new.ensures)) same c.clear.ensures.items

@@ -1,0 +1,172 @@
+//! The words of a command, one after another.
+
+ghost use Rattle.std.specs.Prelude.{◌≡◌, ◌==◌, ◌<◌, ◌≤◌, ◌++◌, ◌∷◌, [], length, not, true, nat_lt, IfOk, IfErr, OnOk, IfSome, MatchOption};
+ghost use Rattle.std.specs.List.{prefix_len, position_or_len, list_all};
+ghost use Rattle.std.specs.Char.{is_ascii_digit};
+ghost use Rattle.std.specs.Str.Parse.{digits_value};
+ghost use Rattle.hla_commands.specs.Reading.{Means, Reads};
+ghost use Rattle.hla_commands.specs.Script.{name_in, optional_in, names_in, federate_in, action_in, max_number, word_number, number_word, pair_of, pairs_of};
+
+use crate::lines::{NameValuePair, ScriptFaultKind};
+use crate::vocabulary::{Opening, action_of};
+use crate::words::Words;
+use hla_base::List;
+use hla_machine::ResignAction;
+use std::alloc::Global;
+
+/// The next word.
+pub fn word<'a>(words: &mut Words<'a>) -> Result<&'a [u8], ScriptFaultKind>
+    ensures found { IfOk result (λ w. words.old ≡ w.now ∷ words.new) }
+    ensures none { IfErr result (λ e. (e ≡ ScriptFaultKind.MissingWord) × (words.old ≡ [])) }
+{
+    match words.next() {
+        Some(word) => Ok(word),
+        None => Err(ScriptFaultKind::MissingWord),
+    }
+}
+
+/// The bytes of a word.
+pub fn word_bytes(alloc: Global, word: &[u8]) -> Result<List<u8>, ScriptFaultKind>
+    ensures ok { IfOk result (λ bytes. bytes ≡ word.now) }
+    ensures err { IfErr result (λ e. e ≡ ScriptFaultKind.OutOfMemory) }
+{
+    match Vec::from_slice(alloc, word) {
+        Ok(bytes) => Ok(List::from_vec(bytes)),
+        Err(_) => Err(ScriptFaultKind::OutOfMemory),
+    }
+}
+
+/// A name from the FED file.
+pub fn name(alloc: Global, words: &mut Words<'_>) -> Result<List<u8>, ScriptFaultKind>
+    ensures { Reads result words.new (name_in words.old) }
+{
+    let word = word(words)?;
+    word_bytes(alloc, word)
+}
+
+/// A name that may be left out.
+pub fn optional(alloc: Global, words: &mut Words<'_>) -> Result<Option<List<u8>>, ScriptFaultKind>
+    ensures { Reads result words.new (optional_in words.old) }
+{
+    match words.next() {
+        Some(word) => Ok(Some(word_bytes(alloc, word)?)),
+        None => Ok(None),
+    }
+}
+
+/// Names from the FED file up to the end of the line.
+pub fn names(alloc: Global, words: &mut Words<'_>) -> Result<List<List<u8>>, ScriptFaultKind>
+    ensures { Reads result words.new (names_in words.old) }
+{
+    let mut found = List::new(alloc);
+    while let Some(word) = words.next() {
+        let name = word_bytes(alloc, word)?;
+        if found.push(name).is_err() {
+            return Err(ScriptFaultKind::OutOfMemory);
+        }
+    }
+    Ok(found)
+}
+
+/// The action of a resignation.
+pub fn action(words: &mut Words<'_>) -> Result<ResignAction, ScriptFaultKind>
+    ensures { Reads result words.new (action_in words.old) }
+{
+    let word = word(words)?;
+    match action_of(word) {
+        Some(action) => Ok(action),
+        None => Err(ScriptFaultKind::BadWord),
+    }
+}
+
+fn are_digits(word: &[u8]) -> bool
+    ensures { result ≡ list_all is_ascii_digit word.now }
+{
+    word.iter().all(u8::is_ascii_digit)
+}
+
+/// The number that decimal digits say, if it is not above the largest.
+fn digits_value(digits: &[u8]) -> Option<u64>
+    requires { list_all is_ascii_digit digits.now ≡ true }
+    ensures value { MatchOption result (max_number < digits_value 10 digits.now) (λ n. n ≡ digits_value 10 digits.now) }
+    ensures within { IfSome result (λ n. n ≤ max_number) }
+{
+    let mut value: u64 = 0;
+    for digit in digits {
+        value = value
+            .checked_mul(10)?
+            .checked_add(u64::from(*digit - b'0'))?;
+    }
+    Some(value)
+}
+
+/// The number that a word of decimal digits says.
+fn number_of(word: &[u8]) -> Result<u64, ScriptFaultKind>
+    ensures { result ≡ word_number word.now }
+{
+    if word.is_empty() || !are_digits(word) {
+        return Err(ScriptFaultKind::BadNumber);
+    }
+    match digits_value(word) {
+        Some(number) => Ok(number),
+        None => Err(ScriptFaultKind::BadNumber),
+    }
+}
+
+/// A number.
+pub fn number(words: &mut Words<'_>) -> Result<u64, ScriptFaultKind>
+    ensures { Reads result words.new (number_word words.old) }
+{
+    let word = word(words)?;
+    number_of(word)
+}
+
+/// A federate's name.
+pub fn federate(alloc: Global, words: &mut Words<'_>) -> Result<List<u8>, ScriptFaultKind>
+    ensures { Reads result words.new (federate_in words.old) }
+{
+    let word = word(words)?;
+    match Opening::of(word) {
+        Opening::Federate => word_bytes(alloc, word),
+        _ => Err(ScriptFaultKind::BadWord),
+    }
+}
+
+/// How many bytes stand before the first `=`.
+fn name_len(word: &[u8]) -> usize
+    ensures count { result ≡ position_or_len (λ b. b == 61) word.now }
+    ensures within { result ≤ length word.now }
+{
+    word.iter().take_while(|b| **b != b'=').count()
+}
+
+/// A name and a value round the first `=`.
+#[tactic(auto, unfolding(crate::specs::Script::pair_of))]
+pub fn pair(alloc: Global, word: &[u8]) -> Result<NameValuePair, ScriptFaultKind>
+    ensures { Means result (pair_of word.now) }
+{
+    let len = name_len(word);
+    if len == 0 || len == word.len() {
+        return Err(ScriptFaultKind::BadWord);
+    }
+    Ok(NameValuePair {
+        name: word_bytes(alloc, &word[..len])?,
+        value: word_bytes(alloc, &word[len + 1..])?,
+    })
+}
+
+/// Pairs up to the end of the line.
+#[tactic(auto, using(crate::proofs::PairLemmas::pair_steps))]
+pub fn pairs(alloc: Global, words: &mut Words<'_>) -> Result<List<NameValuePair>, ScriptFaultKind>
+    ensures meant { Means result (pairs_of words.old) }
+    ensures all { OnOk result (words.new ≡ []) }
+{
+    let mut found = List::new(alloc);
+    while let Some(word) = words.next() {
+        let pair = pair(alloc, word)?;
+        if found.push(pair).is_err() {
+            return Err(ScriptFaultKind::OutOfMemory);
+        }
+    }
+    Ok(found)
+}

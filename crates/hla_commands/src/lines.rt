@@ -1,0 +1,164 @@
+//! What a script says.
+
+ghost use Rattle.std.specs.Prelude.{◌≡◌};
+ghost use Rattle.hla_commands.specs.FaultName.{kind_name};
+
+use hla_base::List;
+use hla_machine::ResignAction;
+use thiserror::Error;
+
+/// An attribute or a parameter by its name, with its value.
+#[derive(Debug, Drop)]
+pub struct NameValuePair {
+    pub name: List<u8>,
+    pub value: List<u8>,
+}
+
+/// What a federate declares of a class.
+#[derive(Clone, Copy, Debug, PartialEq, Eq)]
+pub enum Declaration {
+    /// That it publishes the class.
+    Publication,
+    /// That it subscribes to the class.
+    Subscription,
+}
+
+/// What a federate does. Classes, attributes and parameters are named as in the FED file; an object goes by its number,
+/// from 1, which may be larger than that of any object.
+#[derive(Debug, Drop)]
+pub enum Call {
+    /// Tick: it picks up a callback.
+    Tick,
+    /// Resign Federation Execution.
+    Resign {
+        action: ResignAction,
+    },
+    /// Publish Object Class, or Subscribe Object Class Attributes.
+    DeclareObject {
+        declaration: Declaration,
+        class: List<u8>,
+        attributes: List<List<u8>>,
+    },
+    /// Unpublish Object Class, or Unsubscribe Object Class.
+    WithdrawObject {
+        declaration: Declaration,
+        class: List<u8>,
+    },
+    /// Publish Interaction Class, or Subscribe Interaction Class.
+    DeclareInteraction {
+        declaration: Declaration,
+        class: List<u8>,
+    },
+    /// Unpublish Interaction Class, or Unsubscribe Interaction Class.
+    WithdrawInteraction {
+        declaration: Declaration,
+        class: List<u8>,
+    },
+    /// Register Object Instance, under a name or under that of its number.
+    Register {
+        class: List<u8>,
+        name: Option<List<u8>>,
+    },
+    /// Update Attribute Values, in receive order. The class is where the attributes are looked up.
+    Update {
+        object: u64,
+        class: List<u8>,
+        values: List<NameValuePair>,
+    },
+    /// Send Interaction, in receive order.
+    Send {
+        class: List<u8>,
+        values: List<NameValuePair>,
+    },
+    /// Delete Object Instance, in receive order.
+    Delete {
+        object: u64,
+    },
+    /// Get Object Instance Handle.
+    ObjectHandle {
+        name: List<u8>,
+    },
+    /// Get Object Instance Name.
+    ObjectName {
+        object: u64,
+    },
+}
+
+/// What a line asks for.
+#[derive(Debug, Drop)]
+pub enum Command {
+    /// Create Federation Execution.
+    Create,
+    /// Destroy Federation Execution.
+    Destroy,
+    /// Join Federation Execution, under a name.
+    Join { name: List<u8> },
+    /// The first message on the wire from one federate to another arrives.
+    Carry { from: List<u8>, to: List<u8> },
+    /// The federate of that name does something.
+    Federate { name: List<u8>, call: Call },
+}
+
+/// A line of a script, with its number, counted from 1 over all lines.
+#[derive(Debug, Drop)]
+pub struct Line {
+    pub number: usize,
+    pub command: Command,
+}
+
+/// The lines of a script that ask for something, in their order.
+pub type Script = List<Line>;
+
+/// What is wrong with a script.
+#[derive(Clone, Copy, Debug, PartialEq, Eq, Error)]
+pub enum ScriptFaultKind {
+    /// A byte that is no visible ASCII, space or tab.
+    #[error("BadByte")]
+    BadByte,
+    /// No command begins with this word.
+    #[error("UnknownWord")]
+    UnknownWord,
+    /// The command needs another word.
+    #[error("MissingWord")]
+    MissingWord,
+    /// The command ends before this word.
+    #[error("ExtraWord")]
+    ExtraWord,
+    /// A word that is no number, where one must stand.
+    #[error("BadNumber")]
+    BadNumber,
+    /// A word of another form than must stand there.
+    #[error("BadWord")]
+    BadWord,
+    /// The script or the line is too long.
+    #[error("TooLarge")]
+    TooLarge,
+    /// A growth was refused.
+    #[error("OutOfMemory")]
+    OutOfMemory,
+}
+
+impl ScriptFaultKind {
+    /// The name, as it is printed.
+    pub fn name(self) -> &'static str
+        ensures { result.now ≡ kind_name self }
+    {
+        match self {
+            ScriptFaultKind::BadByte => "BadByte",
+            ScriptFaultKind::UnknownWord => "UnknownWord",
+            ScriptFaultKind::MissingWord => "MissingWord",
+            ScriptFaultKind::ExtraWord => "ExtraWord",
+            ScriptFaultKind::BadNumber => "BadNumber",
+            ScriptFaultKind::BadWord => "BadWord",
+            ScriptFaultKind::TooLarge => "TooLarge",
+            ScriptFaultKind::OutOfMemory => "OutOfMemory",
+        }
+    }
+}
+
+/// The first fault of a script, and the line where it stands.
+#[derive(Clone, Copy, Debug, PartialEq, Eq)]
+pub struct ScriptFault {
+    pub line: usize,
+    pub kind: ScriptFaultKind,
+}

@@ -1,0 +1,121 @@
+//! Reading scripts.
+
+ghost use Rattle.std.specs.Prelude.{◌≡◌, ◌≤◌, length};
+ghost use Rattle.std.specs.List.{list_all};
+ghost use Rattle.hla_commands.specs.Reading.{Means, Reads};
+ghost use Rattle.hla_commands.specs.Script.{command_in, command_by, command_of, is_plain, script_of, ParsesAs};
+
+use crate::arguments::{federate, word_bytes};
+use crate::calls::call;
+use crate::lines::{Command, Line, Script, ScriptFault, ScriptFaultKind};
+use crate::vocabulary::Opening;
+use crate::words::Words;
+use bstr::ByteSlice;
+use hla_base::{List, MAX_SCRIPT, MAX_SCRIPT_LINE};
+use std::alloc::Global;
+
+/// A command by its first word.
+fn command_by(
+    alloc: Global,
+    first: &[u8],
+    words: &mut Words<'_>,
+    opening: Opening,
+) -> Result<Command, ScriptFaultKind>
+    ensures { Reads result words.new (command_by opening first.now words.old) }
+{
+    match opening {
+        Opening::Create => Ok(Command::Create),
+        Opening::Destroy => Ok(Command::Destroy),
+        Opening::Join => Ok(Command::Join {
+            name: federate(alloc, words)?,
+        }),
+        Opening::Carry => {
+            let from = federate(alloc, words)?;
+            let to = federate(alloc, words)?;
+            Ok(Command::Carry { from, to })
+        }
+        Opening::Unbuilt => Err(ScriptFaultKind::UnknownWord),
+        Opening::Federate => {
+            let call = call(alloc, words)?;
+            let name = word_bytes(alloc, first)?;
+            Ok(Command::Federate { name, call })
+        }
+    }
+}
+
+/// What the words of a line ask for.
+fn command_in(alloc: Global, mut words: Words<'_>) -> Result<Option<Command>, ScriptFaultKind>
+    ensures { Means result (command_in words.entry) }
+{
+    let Some(first) = words.next() else {
+        return Ok(None);
+    };
+    let command = command_by(alloc, first, &mut words, Opening::of(first))?;
+    match words.next() {
+        None => Ok(Some(command)),
+        Some(_) => Err(ScriptFaultKind::ExtraWord),
+    }
+}
+
+/// Whether a byte is a space, a tab or visible ASCII.
+#[tactic(auto, unfolding(crate::specs::Script::is_plain))]
+fn is_plain(byte: u8) -> bool
+    ensures { result ≡ is_plain byte }
+{
+    byte == b'\t' || (32 <= byte && byte <= 126)
+}
+
+fn are_plain(line: &[u8]) -> bool
+    ensures { result ≡ list_all is_plain line.now }
+{
+    line.iter().all(|b| is_plain(*b))
+}
+
+/// What a line asks for.
+#[tactic(auto, unfolding(crate::specs::Script::command_of))]
+fn command(alloc: Global, line: &[u8]) -> Result<Option<Command>, ScriptFaultKind>
+    ensures { Means result (command_of line.now) }
+{
+    if line.len() > MAX_SCRIPT_LINE {
+        Err(ScriptFaultKind::TooLarge)
+    } else if !are_plain(line) {
+        Err(ScriptFaultKind::BadByte)
+    } else if line.len() > 0 && line[0] == b'#' {
+        Ok(None)
+    } else {
+        command_in(alloc, Words::new(line))
+    }
+}
+
+/// Reads a script whole, or answers its first fault. Want of memory is answered only where a growth was refused; it may
+/// come before any other fault, and its line is left open.
+#[tactic(auto, using(crate::proofs::LineLemmas::steps))]
+pub fn parse(alloc: Global, text: &[u8]) -> Result<Script, ScriptFault>
+    ensures { ParsesAs result (script_of text.now) }
+{
+    if text.len() > MAX_SCRIPT {
+        return Err(ScriptFault {
+            line: 1,
+            kind: ScriptFaultKind::TooLarge,
+        });
+    }
+    let mut found = List::new(alloc);
+    let mut number = 0;
+    let mut lines = text.lines();
+    while let Some(line) = lines.next() {
+        number += 1;
+        match command(alloc, line) {
+            Ok(None) => {}
+            Ok(Some(command)) => {
+                let Ok(()) = found.push(Line { number, command }) else {
+                    return Err(ScriptFault {
+                        line: number,
+                        kind: ScriptFaultKind::OutOfMemory,
+                    });
+                };
+            }
+            Err(kind) => return Err(ScriptFault { line: number, kind }),
+        }
+    }
+    Ok(found)
+}

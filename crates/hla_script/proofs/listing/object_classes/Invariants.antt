@@ -1,7 +1,0 @@
-use Rattle.std.proofs.Common.{◌≡◌, ◌++◌, take}
-use Rattle.std.specs.List.{flat_map, enumerate_from}
-use Rattle.hla_script.specs.Listed.{object_text}
-use Rattle.hla_script.proofs.listing.object_classes.Given as goal
-
-abbrev pub invariant-loop-place : goal.invariant-loop-place
-invariant-loop-place l = l.text ≡ l.fn.text ++ flat_map (λ p. object_text l.attributes p.0 p.1) (take l.place (enumerate_from 1 l.classes))

@@ -1,0 +1,209 @@
+use crate::demo::FED;
+use hla_script::play;
+use std::alloc::{AllocError, Global};
+use std::ops::Range;
+use std::process::Abort;
+use std::test::Fail;
+
+/// Numbers that hang only on the first, by the xorshift generator of 64 bits.
+#[derive(Drop)]
+struct Numbers {
+    last: u64,
+}
+
+impl Numbers {
+    fn next(&mut self) -> u64 {
+        self.last ^= self.last << 13;
+        self.last ^= self.last >> 7;
+        self.last ^= self.last << 17;
+        self.last
+    }
+
+    /// One of some texts; the empty text where there are none.
+    fn pick(&mut self, texts: &'static [&'static str]) -> &'static str {
+        let drawn = self.next();
+        if texts.is_empty() {
+            return "";
+        }
+        texts[(drawn % texts.len() as u64) as usize]
+    }
+}
+
+/// The lines with which a script begins; a word in capitals stands for one of its texts.
+const OPENING: [&str; 3] = ["create", "join A", "join B"];
+
+/// Lines that let others succeed.
+const DECLARATIONS: &[&str] = &[
+    "FEDERATE publishObject Car OWNED",
+    "FEDERATE publishObject Car OWNED",
+    "FEDERATE subscribeObject Car SHOWN",
+    "FEDERATE subscribeObject ObjectRoot ROOT",
+    "FEDERATE publishInteraction INTERACTION",
+    "FEDERATE subscribeInteraction INTERACTION",
+    "FEDERATE register Car",
+    "FEDERATE register Car OBJECT",
+    "join C",
+];
+
+/// Lines of all kinds, with those that mostly succeed more than once.
+const LINES: &[&str] = &[
+    "FEDERATE tick",
+    "FEDERATE tick",
+    "FEDERATE tick",
+    "FEDERATE tick",
+    "carry WIRE",
+    "carry WIRE",
+    "carry WIRE",
+    "carry WIRE",
+    "carry WIRE",
+    "carry FEDERATE FEDERATE",
+    "FEDERATE update NUMBER Car VALUES",
+    "FEDERATE update NUMBER Car VALUES",
+    "FEDERATE update NUMBER Car VALUES",
+    "FEDERATE update NUMBER CLASS VALUES",
+    "FEDERATE send Hit Force=7",
+    "FEDERATE send Hit",
+    "FEDERATE send Note Text=a",
+    "FEDERATE send Memo Text=a Extra=b",
+    "FEDERATE register Car",
+    "FEDERATE register Car OBJECT",
+    "FEDERATE register CLASS OBJECT",
+    "FEDERATE delete NUMBER",
+    "FEDERATE objectHandle OBJECT",
+    "FEDERATE objectName NUMBER",
+    "FEDERATE publishObject Car OWNED",
+    "FEDERATE subscribeObject Car SHOWN",
+    "FEDERATE subscribeObject CLASS SHOWN",
+    "FEDERATE unpublishObject Car",
+    "FEDERATE unsubscribeObject CLASS",
+    "FEDERATE publishInteraction INTERACTION",
+    "FEDERATE subscribeInteraction INTERACTION",
+    "FEDERATE unpublishInteraction INTERACTION",
+    "FEDERATE unsubscribeInteraction INTERACTION",
+    "FEDERATE resign ACTION",
+    "join FEDERATE",
+    "destroy",
+    "create",
+];
+
+/// The last lines of every fourth script, which may end the execution and begin it again.
+const ENDING: [&str; 6] = [
+    "A resign DELETE_OBJECTS",
+    "B resign DELETE_OBJECTS",
+    "C resign DELETE_OBJECTS",
+    "destroy",
+    "create",
+    "join FEDERATE",
+];
+
+/// What a word of a line stands for; nothing for a word that stands for itself.
+fn texts_of(word: &str) -> &'static [&'static str] {
+    match word {
+        "FEDERATE" => &["A", "A", "B", "B", "C"],
+        "WIRE" => &["A B", "A B", "B A", "A C", "C A", "B C", "C B"],
+        "CLASS" => &["Car", "ObjectRoot.Car", "ObjectRoot", "Hit"],
+        "INTERACTION" => &["Hit", "Hit", "Note", "Memo", "InteractionRoot", "Car"],
+        "OWNED" => &["Pos Paint", "privilegeToDelete Pos Paint", "Pos", "Paint"],
+        "SHOWN" => &["Pos Paint", "Pos", "Paint", "privilegeToDelete", "Text"],
+        "ROOT" => &["privilegeToDelete"],
+        "VALUES" => &[
+            "Pos=1",
+            "Pos=1 Paint=red",
+            "Paint=b Paint=c",
+            "Text=a",
+            "privilegeToDelete=t",
+        ],
+        "NUMBER" => &["1", "1", "1", "2", "2", "3", "0", "4294967296"],
+        "OBJECT" => &["x", "y", "object-1", "object-2"],
+        "ACTION" => &["NO_ACTION", "DELETE_OBJECTS", "RELEASE_ATTRIBUTES"],
+        _ => &[],
+    }
+}
+
+/// Adds a line, with a text for each word that stands for some.
+fn add_line(script: &mut String, numbers: &mut Numbers, line: &str) -> Result<(), AllocError> {
+    for word in line.split(' ') {
+        let texts = texts_of(word);
+        if texts.is_empty() {
+            script.push_str(word)?;
+        } else {
+            script.push_str(numbers.pick(texts))?;
+        }
+        script.push_str(" ")?;
+    }
+    script.push_str("\n")
+}
+
+/// The script of a seed, of some thirty lines.
+fn script_of(alloc: Global, seed: u64) -> Result<String, AllocError> {
+    let mut numbers = Numbers {
+        last: seed.wrapping_mul(0x9E37_79B9_7F4A_7C15) | 1,
+    };
+    let mut script = String::new(alloc);
+    for line in OPENING {
+        add_line(&mut script, &mut numbers, line)?;
+    }
+    for _ in 0..9 {
+        let line = numbers.pick(DECLARATIONS);
+        add_line(&mut script, &mut numbers, line)?;
+    }
+    for _ in 0..16 {
+        let line = numbers.pick(LINES);
+        add_line(&mut script, &mut numbers, line)?;
+    }
+    if seed % 4 == 0 {
+        for line in ENDING {
+            add_line(&mut script, &mut numbers, line)?;
+        }
+    }
+    Ok(script)
+}
+
+/// What a script prints.
+fn transcript(alloc: Global, script: &[u8]) -> Result<Vec<u8>, Fail> {
+    let mut out = Vec::new(alloc);
+    let _ = play(alloc, FED.as_bytes(), script, &mut out)?;
+    Ok(out)
+}
+
+/// Plays a script twice, and then up to each of its lines.
+fn check_script(rt: &impl Abort, alloc: Global, script: &[u8]) -> Result<(), Fail> {
+    let whole = transcript(alloc, script)?;
+    let again = transcript(alloc, script)?;
+    assert!(rt; whole.as_slice() == again.as_slice());
+    for (at, byte) in script.iter().enumerate() {
+        if *byte == b'\n' {
+            let part = transcript(alloc, &script[..at + 1])?;
+            assert!(rt; whole.as_slice().starts_with(part.as_slice()));
+        }
+    }
+    Ok(())
+}
+
+fn check_scripts(rt: &impl Abort, alloc: Global, seeds: Range<u64>) -> Result<(), Fail> {
+    for seed in seeds {
+        let script = script_of(alloc, seed)?;
+        check_script(rt, alloc, script.as_bytes())?;
+    }
+    Ok(())
+}
+
+#[test]
+fn plays_prefixes_of_the_first_scripts(rt: HostRuntime) -> Result<(), Fail> {
+    check_scripts(&rt, rt.alloc(), 0..250)
+}
+
+#[test]
+fn plays_prefixes_of_the_second_scripts(rt: HostRuntime) -> Result<(), Fail> {
+    check_scripts(&rt, rt.alloc(), 250..500)
+}
+
+#[test]
+fn plays_prefixes_of_the_third_scripts(rt: HostRuntime) -> Result<(), Fail> {
+    check_scripts(&rt, rt.alloc(), 500..750)
+}
+
+#[test]
+fn plays_prefixes_of_the_fourth_scripts(rt: HostRuntime) -> Result<(), Fail> {
+    check_scripts(&rt, rt.alloc(), 750..1000)
+}

@@ -1,0 +1,4 @@
+-- How answers, callbacks and faults are printed
+pub mod Printed
+-- How a catalogue is listed
+pub mod Listed

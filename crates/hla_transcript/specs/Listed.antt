@@ -1,0 +1,75 @@
+-- How a catalogue is listed
+use Rattle.std.specs.Prelude.{ℕ, ◌==◌, List, [], ◌++◌, Option, Err, codes, decimal, if◌then◌else◌}
+use Rattle.std.specs.List.{flat_map, enumerate_from}
+use Rattle.std.specs.Io.KnownBytes.{Appends}
+use Rattle.hla_fed_file.specs.declared.declared.Attribute.{Attribute}
+use Rattle.hla_fed_file.specs.declared.declared.InteractionClass.{InteractionClass}
+use Rattle.hla_fed_file.specs.declared.declared.ObjectClass.{ObjectClass}
+use Rattle.hla_fed_file.specs.declared.declared.Order.{Order}
+use Rattle.hla_fed_file.specs.declared.declared.Order.TheVariants as order
+use Rattle.hla_fed_file.specs.declared.declared.Parameter.{Parameter}
+use Rattle.hla_fed_file.specs.declared.declared.Transport.{Transport}
+use Rattle.hla_fed_file.specs.declared.declared.Transport.TheVariants as transport
+use Rattle.hla_fed_file.specs.Grammar.{Describes}
+use Rattle.hla_fed_file.specs.Reading as reading
+use Rattle.hla_fed_file.specs.CatalogueValue.{CatalogueValue}
+use Rattle.hla_transcript.specs.declared.listing.ListFault.{ListFault}
+use Rattle.hla_transcript.specs.declared.listing.ListFault.TheVariants as stop
+
+abbrev pub transport_text : Transport → List ℕ
+transport_text transport.Reliable = codes "reliable"
+transport_text transport.BestEffort = codes "best_effort"
+
+abbrev pub order_text : Order → List ℕ
+order_text order.Receive = codes "receive"
+order_text order.Timestamp = codes "timestamp"
+
+-- the texts of items, each with its number; numbers count from 1
+abbrev pub each_numbered : {X : Type 0} → (ℕ → X → List ℕ) → List X → List ℕ
+each_numbered text xs = flat_map (λ p. text p.0 p.1) (enumerate_from 1 xs)
+
+-- the line of an attribute
+abbrev pub attribute_text : ℕ → Attribute → List ℕ
+attribute_text n a = codes "attribute " ++ decimal n ++ codes " " ++ a.name ++ codes " " ++ transport_text a.transport ++ codes " " ++ order_text a.order ++ codes "\n"
+
+-- the line of a parameter
+abbrev pub parameter_text : ℕ → Parameter → List ℕ
+parameter_text n p = codes "parameter " ++ decimal n ++ codes " " ++ p.name ++ codes "\n"
+
+-- an attribute's line, where the class declares it itself
+abbrev pub own_attribute_text : ℕ → ℕ → Attribute → List ℕ
+own_attribute_text class n a = if a.class == class then attribute_text n a else []
+
+-- a parameter's line, where the class declares it itself
+abbrev pub own_parameter_text : ℕ → ℕ → Parameter → List ℕ
+own_parameter_text class n p = if p.class == class then parameter_text n p else []
+
+-- the line of an object class
+abbrev pub object_line : ℕ → ObjectClass → List ℕ
+object_line n k = codes "object " ++ decimal n ++ codes " " ++ k.path ++ codes "\n"
+
+-- the line of an interaction class
+abbrev pub interaction_line : ℕ → InteractionClass → List ℕ
+interaction_line n k = codes "interaction " ++ decimal n ++ codes " " ++ k.path ++ codes " " ++ transport_text k.transport ++ codes " " ++ order_text k.order ++ codes "\n"
+
+-- an object class: its line, and those of its own attributes
+abbrev pub object_text : List Attribute → ℕ → ObjectClass → List ℕ
+object_text attributes n k = object_line n k ++ each_numbered (own_attribute_text n) attributes
+
+-- an interaction class: its line, and those of its own parameters
+abbrev pub interaction_text : List Parameter → ℕ → InteractionClass → List ℕ
+interaction_text parameters n k = interaction_line n k ++ each_numbered (own_parameter_text n) parameters
+
+-- the object classes in the order of their numbers, and then the interaction classes
+abbrev pub listing : CatalogueValue → List ℕ
+listing c = each_numbered (object_text c.attributes) c.object_classes ++ each_numbered (interaction_text c.parameters) c.interaction_classes
+
+-- the text describes a catalogue, and what was written is its listing
+abbrev pub IsListed : List ℕ → Option (List ℕ) → Option (List ℕ) → Type 0
+IsListed fed old new = (c : CatalogueValue) × Describes fed c × Appends old new (listing c)
+
+-- why nothing was listed to its end; a text at fault prints nothing
+abbrev pub StopsListing : List ℕ → Option (List ℕ) → Option (List ℕ) → ListFault → Type 0
+StopsListing fed old new (stop.Fed e) = reading.ReadsAs (Err e) (reading.read_of fed) × Appends old new []
+StopsListing fed old new stop.Write = (c : CatalogueValue) × Describes fed c
+StopsListing fed old new stop.Memory = ((c : CatalogueValue) × Describes fed c) × Appends old new []

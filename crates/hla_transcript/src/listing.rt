@@ -1,0 +1,230 @@
+//! The list of what a FED file declares.
+
+ghost use Rattle.std.specs.Prelude.{◌≡◌, ◌++◌, ◌≤◌, length, codes, OnOk, IfOk, IfErr};
+ghost use Rattle.hla_base.specs.Limits.{max_classes};
+ghost use Rattle.hla_transcript.specs.Listed.{transport_text, order_text, each_numbered, attribute_text, parameter_text, own_attribute_text, own_parameter_text, object_line, interaction_line, object_text, interaction_text, listing, IsListed, StopsListing};
+
+use crate::text::Text;
+use crate::writing::write_whole;
+use hla_base::{ClassNo, Fault};
+use hla_fed_file::{
+    Attribute, Catalogue, FedFault, InteractionClass, ObjectClass, Order, Parameter, Transport,
+    read,
+};
+use std::alloc::Global;
+use std::io::Write;
+
+/// Why a FED file was not listed.
+#[derive(Clone, Copy, Debug, PartialEq, Eq)]
+pub enum ListFault {
+    /// The FED file is refused.
+    Fed(FedFault),
+    /// A write failed.
+    Write,
+    /// A growth was refused once the FED file was read.
+    Memory,
+}
+
+/// A transport, as FED files name it.
+fn transport_name(transport: Transport) -> &'static str
+    ensures { result.now ≡ transport_text transport }
+{
+    match transport {
+        Transport::Reliable => "reliable",
+        Transport::BestEffort => "best_effort",
+    }
+}
+
+/// An order, as FED files name it.
+fn order_name(order: Order) -> &'static str
+    ensures { result.now ≡ order_text order }
+{
+    match order {
+        Order::Receive => "receive",
+        Order::Timestamp => "timestamp",
+    }
+}
+
+/// Adds a transport and an order, each behind a space.
+fn transport_and_order(text: &mut Text, transport: Transport, order: Order) -> Result<(), Fault>
+    ensures ok { OnOk result (text.new ≡ text.old ++ (codes " " ++ transport_text transport ++ codes " " ++ order_text order)) }
+    ensures err { IfErr result (λ e. e ≡ Fault.OutOfMemory) }
+{
+    text.word_and_bytes(" ", transport_name(transport).as_bytes())?;
+    text.word_and_bytes(" ", order_name(order).as_bytes())
+}
+
+/// Adds the line of an attribute.
+fn attribute_line(text: &mut Text, number: u64, attribute: &Attribute) -> Result<(), Fault>
+    ensures ok { OnOk result (text.new ≡ text.old ++ attribute_text number attribute.now) }
+    ensures err { IfErr result (λ e. e ≡ Fault.OutOfMemory) }
+{
+    text.word_and_number("attribute ", number)?;
+    text.word_and_bytes(" ", attribute.name.as_slice())?;
+    transport_and_order(text, attribute.transport, attribute.order)?;
+    text.word("\n")
+}
+
+/// Adds the line of a parameter.
+fn parameter_line(text: &mut Text, number: u64, parameter: &Parameter) -> Result<(), Fault>
+    ensures ok { OnOk result (text.new ≡ text.old ++ parameter_text number parameter.now) }
+    ensures err { IfErr result (λ e. e ≡ Fault.OutOfMemory) }
+{
+    text.word_and_number("parameter ", number)?;
+    text.word_and_bytes(" ", parameter.name.as_slice())?;
+    text.word("\n")
+}
+
+/// Adds the lines of the attributes that a class declares itself.
+fn own_attributes(text: &mut Text, class: ClassNo, attributes: &[Attribute]) -> Result<(), Fault>
+    ensures ok { OnOk result (text.new ≡ text.old ++ each_numbered (own_attribute_text class) attributes.now) }
+    ensures err { IfErr result (λ e. e ≡ Fault.OutOfMemory) }
+{
+    for (place, attribute) in attributes.iter().enumerate() {
+        if attribute.class == class {
+            attribute_line(text, place as u64 + 1, attribute)?;
+        }
+    }
+    Ok(())
+}
+
+/// Adds the lines of the parameters that a class declares itself.
+fn own_parameters(text: &mut Text, class: ClassNo, parameters: &[Parameter]) -> Result<(), Fault>
+    ensures ok { OnOk result (text.new ≡ text.old ++ each_numbered (own_parameter_text class) parameters.now) }
+    ensures err { IfErr result (λ e. e ≡ Fault.OutOfMemory) }
+{
+    for (place, parameter) in parameters.iter().enumerate() {
+        if parameter.class == class {
+            parameter_line(text, place as u64 + 1, parameter)?;
+        }
+    }
+    Ok(())
+}
+
+/// Adds the line of an object class.
+fn object_class_line(text: &mut Text, number: ClassNo, class: &ObjectClass) -> Result<(), Fault>
+    ensures ok { OnOk result (text.new ≡ text.old ++ object_line number class.now) }
+    ensures err { IfErr result (λ e. e ≡ Fault.OutOfMemory) }
+{
+    text.word_and_number("object ", u64::from(number))?;
+    text.word_and_bytes(" ", class.path.as_slice())?;
+    text.word("\n")
+}
+
+/// Adds the line of an interaction class.
+fn interaction_class_line(
+    text: &mut Text,
+    number: ClassNo,
+    class: &InteractionClass,
+) -> Result<(), Fault>
+    ensures ok { OnOk result (text.new ≡ text.old ++ interaction_line number class.now) }
+    ensures err { IfErr result (λ e. e ≡ Fault.OutOfMemory) }
+{
+    text.word_and_number("interaction ", u64::from(number))?;
+    text.word_and_bytes(" ", class.path.as_slice())?;
+    transport_and_order(text, class.transport, class.order)?;
+    text.word("\n")
+}
+
+/// Adds an object class and its own attributes.
+fn object_class(
+    text: &mut Text,
+    number: ClassNo,
+    class: &ObjectClass,
+    attributes: &[Attribute],
+) -> Result<(), Fault>
+    ensures ok { OnOk result (text.new ≡ text.old ++ object_text attributes.now number class.now) }
+    ensures err { IfErr result (λ e. e ≡ Fault.OutOfMemory) }
+{
+    object_class_line(text, number, class)?;
+    own_attributes(text, number, attributes)
+}
+
+/// Adds an interaction class and its own parameters.
+fn interaction_class(
+    text: &mut Text,
+    number: ClassNo,
+    class: &InteractionClass,
+    parameters: &[Parameter],
+) -> Result<(), Fault>
+    ensures ok { OnOk result (text.new ≡ text.old ++ interaction_text parameters.now number class.now) }
+    ensures err { IfErr result (λ e. e ≡ Fault.OutOfMemory) }
+{
+    interaction_class_line(text, number, class)?;
+    own_parameters(text, number, parameters)
+}
+
+/// Adds object classes with their own attributes.
+fn object_classes(
+    text: &mut Text,
+    classes: &[ObjectClass],
+    attributes: &[Attribute],
+) -> Result<(), Fault>
+    requires { length classes.now ≤ max_classes }
+    ensures ok { OnOk result (text.new ≡ text.old ++ each_numbered (object_text attributes.now) classes.now) }
+    ensures err { IfErr result (λ e. e ≡ Fault.OutOfMemory) }
+{
+    for (place, class) in classes.iter().enumerate() {
+        object_class(text, place as u32 + 1, class, attributes)?;
+    }
+    Ok(())
+}
+
+/// Adds interaction classes with their own parameters.
+fn interaction_classes(
+    text: &mut Text,
+    classes: &[InteractionClass],
+    parameters: &[Parameter],
+) -> Result<(), Fault>
+    requires { length classes.now ≤ max_classes }
+    ensures ok { OnOk result (text.new ≡ text.old ++ each_numbered (interaction_text parameters.now) classes.now) }
+    ensures err { IfErr result (λ e. e ≡ Fault.OutOfMemory) }
+{
+    for (place, class) in classes.iter().enumerate() {
+        interaction_class(text, place as u32 + 1, class, parameters)?;
+    }
+    Ok(())
+}
+
+/// The list of a catalogue: the object classes with their own attributes, and the interaction classes with their own
+/// parameters, each with its number, in the order of the numbers.
+fn listing_text(alloc: Global, catalogue: &Catalogue) -> Result<Text, Fault>
+    ensures ok { IfOk result (λ text. text ≡ listing catalogue.now) }
+    ensures err { IfErr result (λ e. e ≡ Fault.OutOfMemory) }
+{
+    let mut text = Text::new(alloc);
+    object_classes(
+        &mut text,
+        catalogue.object_classes(),
+        catalogue.attributes(),
+    )?;
+    interaction_classes(
+        &mut text,
+        catalogue.interaction_classes(),
+        catalogue.parameters(),
+    )?;
+    Ok(text)
+}
+
+/// Lists what a FED file declares: a line for each object class and behind it one for each attribute that it declares
+/// itself, then a line for each interaction class and behind it one for each parameter that it declares itself. Nothing is
+/// written before the list is whole.
+pub fn list<W: Write>(alloc: Global, fed: &[u8], out: &mut W) -> Result<(), ListFault>
+    // What was written is the list of the catalogue that the FED file describes.
+    ensures listed { OnOk result (IsListed fed.now (W.contents out.old) (W.contents out.new)) }
+
+    // The first fault of the FED file, with nothing written.
+    ensures stopped { IfErr result (StopsListing fed.now (W.contents out.old) (W.contents out.new)) }
+{
+    let catalogue = match read(alloc, fed) {
+        Ok(catalogue) => catalogue,
+        Err(fault) => return Err(ListFault::Fed(fault)),
+    };
+    let Ok(text) = listing_text(alloc, &catalogue) else {
+        return Err(ListFault::Memory);
+    };
+    match write_whole(out, text.as_slice()) {
+        Ok(()) => Ok(()),
+        Err(_) => Err(ListFault::Write),
+    }
+}
