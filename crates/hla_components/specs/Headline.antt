@@ -16,6 +16,7 @@ use Rattle.hla_machine.specs.Central.{reach}
 use Rattle.hla_machine.specs.History.{GivesCallback, SpeaksOf, Hears, HearsPlain, Picks, IsGranted, IsInNoFlush, IsInStrict, IsInOneAdvance, IsBefore, WaitsInOrder, IsPickedOrMoved}
 use Rattle.hla_machine.specs.Machine.{MayEnd, after}
 use Rattle.hla_machine.specs.Laws.{IsSafe, IsAhead}
+use Rattle.hla_machine.specs.Lawful.{IsLawful}
 use Rattle.hla_machine.specs.Runs.{Happening, IsMachineStep, IsRun}
 use Rattle.hla_components.specs.Components.{Components, new_components}
 use Rattle.hla_components.specs.Next.{Outcomes, next}
@@ -49,6 +50,16 @@ state_after s (step ∷ steps) = state_after (next s step).state steps
 abbrev pub EachListIsARun : Type 0
 EachListIsARun = (catalogue : CatalogueValue) (steps : List Step) →
     IsRun (central (new_components catalogue)) (happenings (new_components catalogue) steps) (central (state_after (new_components catalogue) steps))
+
+-- a list of steps leads from a new execution to s
+pub record IsReachable (s : Components) : Type 0 where
+  pub catalogue : CatalogueValue
+  pub steps : List Step
+  pub state : s ≡ state_after (new_components catalogue) steps
+
+-- whatever the steps, from whatever is reached, what the components answer keeps all laws of the machine
+abbrev pub EachListIsLawful : Type 0
+EachListIsLawful = (s : Components) (steps : List Step) → IsReachable s → IsLawful (central s) (happenings s steps)
 
 -- so whatever the steps, each constrained federate is safe
 abbrev pub EachFederationIsSafe : Type 0

@@ -1,7 +1,7 @@
 //! The theorem over definitions: whatever the steps, the components are a run of the central machine.
 
 ghost use Rattle.hla_components.specs.Executions.{EachNextIsARun};
-ghost use Rattle.hla_components.specs.Headline.{EachListIsARun, EachListKeepsTheInvariant, EachFederationIsSafe, PicksNeverFall, PicksRise, EachReceiverWaits, EachHearsOthers, EachHearsOnce, OnlyTheJoinedAreGiven, EachHearsInOrder, EachRegistrationDiffers, EachDiscoversBefore, EachEpochCounts, NothingIsGivenInThePast, ComponentsGrantAfterAllBefore};
+ghost use Rattle.hla_components.specs.Headline.{EachListIsARun, EachListIsLawful, EachListKeepsTheInvariant, EachFederationIsSafe, PicksNeverFall, PicksRise, EachReceiverWaits, EachHearsOthers, EachHearsOnce, OnlyTheJoinedAreGiven, EachHearsInOrder, EachRegistrationDiffers, EachDiscoversBefore, EachEpochCounts, NothingIsGivenInThePast, ComponentsGrantAfterAllBefore};
 
 /// Each list of steps of the components, with what they answer and choose, is a run of the central machine.
 pub fn headline()
@@ -12,6 +12,12 @@ pub fn headline()
 /// of the central machine from no executions.
 pub fn each_next_is_a_run()
     ensures { EachNextIsARun }
+{}
+
+/// What the components answer and choose, whatever the steps, and from whatever state was reached, is lawful: each law of the
+/// machine holds of it, as a named field of `IsLawful`.
+pub fn each_list_is_lawful()
+    ensures { EachListIsLawful }
 {}
 
 /// After each list of steps the components' invariant holds.

@@ -18,6 +18,8 @@ pub mod History
 pub mod CentralInvariant
 -- What every run keeps, in a federate's words
 pub mod Laws
+-- The same of the happenings of one run
+pub mod Lawful
 -- `==` of services tells them apart: a service at a time, since the search over all pairs of services is too long
 pub mod Services
 -- `==` of steps, outcomes, acts and records tells them apart, part by part
