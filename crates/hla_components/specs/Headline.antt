@@ -14,6 +14,7 @@ use Rattle.hla_machine.specs.declared.step.Answer.TheVariants as answer
 use Rattle.hla_machine.specs.declared.step.Outcome.TheVariants as outcome
 use Rattle.hla_machine.specs.Central.{reach}
 use Rattle.hla_machine.specs.History.{GivesCallback, SpeaksOf, Hears, HearsPlain, Picks, IsGranted, IsInNoFlush, IsInStrict, IsInOneAdvance, IsBefore, WaitsInOrder, IsPickedOrMoved}
+use Rattle.hla_machine.specs.Discovered.{Discovers, IsDiscoveredAmong, IsDiscoveredInTurn}
 use Rattle.hla_machine.specs.Machine.{MayEnd, after}
 use Rattle.hla_machine.specs.Laws.{IsSafe, IsAhead}
 use Rattle.hla_machine.specs.Lawful.{IsLawful}
@@ -145,6 +146,23 @@ abbrev pub EachDiscoversBefore : Type 0
 EachDiscoversBefore = (catalogue : CatalogueValue) (before : List Step) (step : Step) (f : ℕ) (k : Callback) (object : ℕ) →
     let now = state_after (new_components catalogue) before in
     GivesCallback step (next now step).outcome f k → SpeaksOf k object → (g : ℕ) → All (λ (d : Discovery). d.object ≢ object) ((central now).discoveries g f)
+
+-- whatever the steps, from whatever is reached, each object is discovered first, and once
+abbrev pub EachListDiscoversInTurn : Type 0
+EachListDiscoversInTurn = (s : Components) (steps : List Step) → IsReachable s → IsDiscoveredInTurn (central s) (happenings s steps)
+
+-- when a federate is given an update or the removal of an object, it was given the discovery of that object before
+abbrev pub EachDiscoversFirst : Type 0
+EachDiscoversFirst = (catalogue : CatalogueValue) (before : List Step) (step : Step) (f : ℕ) (k : Callback) (object : ℕ) →
+    let now = state_after (new_components catalogue) before in
+    GivesCallback step (next now step).outcome f k → SpeaksOf k object → IsDiscoveredAmong (happenings (new_components catalogue) before) f object
+
+-- and it is given that once
+abbrev pub EachDiscoversOnce : Type 0
+EachDiscoversOnce = (catalogue : CatalogueValue) (before : List Step) (step : Step) (between : List Step) (later : Step) (f object : ℕ) →
+    let now = state_after (new_components catalogue) before in
+    let then = state_after (next now step).state between in
+    Discovers (happening step (next now step)) f object → Discovers (happening later (next then later)) f object → ⊥
 
 -- ---- epochs
 -- the epoch of each joined federate is how often it has enabled time regulation

@@ -29,7 +29,7 @@ pub later_reached : (c : Central) (hs : List Happening) (d : Central) → IsReac
 later_reached c hs d is run = record { catalogue = is.catalogue; before = is.before ++ hs; run = joined_run (new_central is.catalogue) is.before c hs d is.run run }
 
 module _ (c : Central) (happenings : List Happening) (end : Central) (is : IsReached c) (run : IsRun c happenings end) where
-  occurs_happens : (now : Central) (h : Happening) → Occurs c happenings now h → Happens now h
+  pub occurs_happens : (now : Central) (h : Happening) → Occurs c happenings now h → Happens now h
   occurs_happens now h o =
       let all = subst (λ (hs : List Happening). IsRun c hs end) o.whole run in
       let rest = rest_run c o.before (h ∷ o.rest) end all in

@@ -14,6 +14,8 @@ pub mod Machine
 pub mod Runs
 -- What is said of several moments of a run
 pub mod History
+-- That each object is discovered first, and once
+pub mod Discovered
 -- What the state keeps by itself
 pub mod CentralInvariant
 -- What every run keeps, in a federate's words

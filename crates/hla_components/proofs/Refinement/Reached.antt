@@ -2,7 +2,6 @@
 use Rattle.std.proofs.Common.{◌≡◌, refl, sym, subst, ap, ◌∙◌, List, [], ◌∷◌, ◌++◌}
 use Rattle.hla_fed_file.specs.CatalogueValue.{CatalogueValue}
 use Rattle.hla_machine.specs.declared.step.Step.{Step}
-use Rattle.hla_machine.specs.Central.{Central}
 use Rattle.hla_machine.specs.History.{IsReached}
 use Rattle.hla_machine.specs.Lawful.{IsLawful}
 use Rattle.hla_machine.proofs.Lawful.{each_lawful}
