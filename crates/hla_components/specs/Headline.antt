@@ -22,7 +22,7 @@ use Rattle.hla_machine.specs.Runs.{Happening, IsMachineStep, IsRun}
 use Rattle.hla_components.specs.Components.{Components, new_components}
 use Rattle.hla_components.specs.Next.{Outcomes, next}
 use Rattle.hla_components.specs.CentralOf.{central}
-use Rattle.hla_components.specs.Invariant.{Kept, Inv}
+use Rattle.hla_components.specs.Invariant.{Kept, Inv, CountsEnablings}
 
 abbrev pub happening : Step → Outcomes → Happening
 happening step o = record { step = step; outcome = o.outcome; choice = o.choice }
@@ -166,8 +166,5 @@ EachDiscoversOnce = (catalogue : CatalogueValue) (before : List Step) (step : St
 
 -- ---- epochs
 -- the epoch of each joined federate is how often it has enabled time regulation
-abbrev pub CountsEnablings : Components → Type 0
-CountsEnablings s = (f : ℕ) → s.directory.joined f ≡ true → s.epoch f ≡ (s.row f).enablings
-
 abbrev pub EachEpochCounts : Type 0
 EachEpochCounts = (catalogue : CatalogueValue) (steps : List Step) → CountsEnablings (state_after (new_components catalogue) steps)
