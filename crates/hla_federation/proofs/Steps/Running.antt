@@ -10,6 +10,7 @@ use Rattle.std.proofs.Math.Seq.{take-length}
 use Rattle.hla_machine.specs.declared.step.Outcome.TheVariants as outcome
 use Rattle.hla_machine.specs.Refusals.{refusal}
 use Rattle.hla_machine.specs.Runs.{IsRun}
+use Rattle.hla_machine.specs.Discovered.{IsDiscoveredInTurn}
 use Rattle.hla_machine.specs.Lawful.{IsLawful}
 use Rattle.hla_components.specs.CentralOf.{central}
 use Rattle.hla_components.specs.Components.{Components}
@@ -21,6 +22,7 @@ use Rattle.hla_federation.specs.Steps.Memory.{IsRefusedWith, takes_memory}
 use Rattle.hla_federation.specs.Steps.Soundness.{AreSteps, remembered, is_out_of_memory}
 use Rattle.hla_components.proofs.Refinement.Runs.{is_run}
 use Rattle.hla_components.proofs.Refinement.Reached.{list_lawful}
+use Rattle.hla_components.proofs.Discovered.Runs.{list_discovers_in_turn}
 
 -- a step more at the end
 pub steps_more : (s t u : Components) (steps : List Step) (rs : List (Result Answer Fault)) (step : Step) (r : Result Answer Fault) → AreSteps s steps rs t
@@ -72,3 +74,6 @@ are_run s t steps rs inv are = subst (λ (u : Components). IsRun (central s) (ha
 
 pub are_lawful : (s : Components) (steps : List Step) (rs : List (Result Answer Fault)) → IsReachable s → IsLawful (central s) (happenings s (remembered steps rs))
 are_lawful s steps rs reached = list_lawful s (remembered steps rs) reached
+
+pub are_discovered_in_turn : (s : Components) (steps : List Step) (rs : List (Result Answer Fault)) → IsReachable s → IsDiscoveredInTurn (central s) (happenings s (remembered steps rs))
+are_discovered_in_turn s steps rs reached = list_discovers_in_turn s (remembered steps rs) reached

@@ -4,7 +4,7 @@ use Rattle.hla_components.specs.Invariant.{Inv}
 use Rattle.hla_components.specs.Headline.{IsReachable}
 use Rattle.hla_federation.specs.Steps.State.{state_of}
 use Rattle.hla_federation.proofs.Tables.Rooms.{on_err}
-use Rattle.hla_federation.proofs.Steps.Running.{steps_more, one_step, take_item, take_all, are_run, are_lawful}
+use Rattle.hla_federation.proofs.Steps.Running.{steps_more, one_step, take_item, take_all, are_run, are_lawful, are_discovered_in_turn}
 use Rattle.hla_federation.proofs.federation.Federation.run.Goals as goal
 
 pub loop-step-preserved : goal.loop-step-preserved
@@ -29,3 +29,8 @@ pub returns-clause-laws : goal.returns-clause-laws
 returns-clause-laws c =
     let reached = subst (λ (v : FederationValue). IsReachable (state_of v)) c.self.view_is c.self.invariant.reached in
     are_lawful _ c.args.steps.now c.loop-step.answers.items reached
+
+pub returns-clause-discoveries : goal.returns-clause-discoveries
+returns-clause-discoveries c =
+    let reached = subst (λ (v : FederationValue). IsReachable (state_of v)) c.self.view_is c.self.invariant.reached in
+    are_discovered_in_turn _ c.args.steps.now c.loop-step.answers.items reached
