@@ -10,3 +10,5 @@ pub mod Services
 pub mod Refinement
 -- The examples, by computation
 pub mod Computed
+-- Each object is discovered first, and once
+pub mod Discovered

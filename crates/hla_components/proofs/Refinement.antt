@@ -8,3 +8,5 @@ pub mod Runs
 pub mod Executions
 -- Epochs count enablings
 pub mod Counts
+-- What is reached, and what happens from there, is lawful
+pub mod Reached

@@ -14,13 +14,15 @@ use Rattle.hla_machine.specs.declared.step.Answer.TheVariants as answer
 use Rattle.hla_machine.specs.declared.step.Outcome.TheVariants as outcome
 use Rattle.hla_machine.specs.Central.{reach}
 use Rattle.hla_machine.specs.History.{GivesCallback, SpeaksOf, Hears, HearsPlain, Picks, IsGranted, IsInNoFlush, IsInStrict, IsInOneAdvance, IsBefore, WaitsInOrder, IsPickedOrMoved}
+use Rattle.hla_machine.specs.Discovered.{Discovers, IsDiscoveredAmong, IsDiscoveredInTurn}
 use Rattle.hla_machine.specs.Machine.{MayEnd, after}
 use Rattle.hla_machine.specs.Laws.{IsSafe, IsAhead}
+use Rattle.hla_machine.specs.Lawful.{IsLawful}
 use Rattle.hla_machine.specs.Runs.{Happening, IsMachineStep, IsRun}
 use Rattle.hla_components.specs.Components.{Components, new_components}
 use Rattle.hla_components.specs.Next.{Outcomes, next}
 use Rattle.hla_components.specs.CentralOf.{central}
-use Rattle.hla_components.specs.Invariant.{Kept, Inv}
+use Rattle.hla_components.specs.Invariant.{Kept, Inv, CountsEnablings}
 
 abbrev pub happening : Step → Outcomes → Happening
 happening step o = record { step = step; outcome = o.outcome; choice = o.choice }
@@ -49,6 +51,16 @@ state_after s (step ∷ steps) = state_after (next s step).state steps
 abbrev pub EachListIsARun : Type 0
 EachListIsARun = (catalogue : CatalogueValue) (steps : List Step) →
     IsRun (central (new_components catalogue)) (happenings (new_components catalogue) steps) (central (state_after (new_components catalogue) steps))
+
+-- a list of steps leads from a new execution to s
+pub record IsReachable (s : Components) : Type 0 where
+  pub catalogue : CatalogueValue
+  pub steps : List Step
+  pub state : s ≡ state_after (new_components catalogue) steps
+
+-- whatever the steps, from whatever is reached, what the components answer keeps all laws of the machine
+abbrev pub EachListIsLawful : Type 0
+EachListIsLawful = (s : Components) (steps : List Step) → IsReachable s → IsLawful (central s) (happenings s steps)
 
 -- so whatever the steps, each constrained federate is safe
 abbrev pub EachFederationIsSafe : Type 0
@@ -135,10 +147,24 @@ EachDiscoversBefore = (catalogue : CatalogueValue) (before : List Step) (step : 
     let now = state_after (new_components catalogue) before in
     GivesCallback step (next now step).outcome f k → SpeaksOf k object → (g : ℕ) → All (λ (d : Discovery). d.object ≢ object) ((central now).discoveries g f)
 
+-- whatever the steps, from whatever is reached, each object is discovered first, and once
+abbrev pub EachListDiscoversInTurn : Type 0
+EachListDiscoversInTurn = (s : Components) (steps : List Step) → IsReachable s → IsDiscoveredInTurn (central s) (happenings s steps)
+
+-- when a federate is given an update or the removal of an object, it was given the discovery of that object before
+abbrev pub EachDiscoversFirst : Type 0
+EachDiscoversFirst = (catalogue : CatalogueValue) (before : List Step) (step : Step) (f : ℕ) (k : Callback) (object : ℕ) →
+    let now = state_after (new_components catalogue) before in
+    GivesCallback step (next now step).outcome f k → SpeaksOf k object → IsDiscoveredAmong (happenings (new_components catalogue) before) f object
+
+-- and it is given that once
+abbrev pub EachDiscoversOnce : Type 0
+EachDiscoversOnce = (catalogue : CatalogueValue) (before : List Step) (step : Step) (between : List Step) (later : Step) (f object : ℕ) →
+    let now = state_after (new_components catalogue) before in
+    let then = state_after (next now step).state between in
+    Discovers (happening step (next now step)) f object → Discovers (happening later (next then later)) f object → ⊥
+
 -- ---- epochs
 -- the epoch of each joined federate is how often it has enabled time regulation
-abbrev pub CountsEnablings : Components → Type 0
-CountsEnablings s = (f : ℕ) → s.directory.joined f ≡ true → s.epoch f ≡ (s.row f).enablings
-
 abbrev pub EachEpochCounts : Type 0
 EachEpochCounts = (catalogue : CatalogueValue) (steps : List Step) → CountsEnablings (state_after (new_components catalogue) steps)

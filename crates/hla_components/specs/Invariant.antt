@@ -159,6 +159,16 @@ pub record ObjectInv (d : Directory) (wire : ℕ → ℕ → List Message) (tso 
   pub plain : (f : ℕ) → EachOf (IsWaiting d wire f) (ro f)
   pub due : (f : ℕ) → EachOf (IsControl d f) (controls f)
 
+-- ---- epochs
+-- the epoch of each joined federate is how often it has enabled time regulation
+abbrev pub CountsEnablings : Components → Type 0
+CountsEnablings s = (f : ℕ) → s.directory.joined f ≡ true → s.epoch f ≡ (s.row f).enablings
+
+pub record EpochInv (s : Components) : Type 0 where
+  pub counted : CountsEnablings s
+  -- who has never joined is in the epoch 0
+  pub unheard : (f : ℕ) → s.directory.next_federate ≤ f → s.epoch f ≡ 0
+
 -- ---- all of it
 pub record Kept (s : Components) : Type 0 where
   pub directory : DirectoryInv s.directory
@@ -172,3 +182,5 @@ pub record Inv (s : Components) : Type 0 where
   pub laws : CentralInv (central s)
   -- no number of a row is beyond its limit
   pub numbers : (f : ℕ) → RowNumbers (s.row f)
+  -- no epoch is beyond the limit of enablings
+  pub epochs : EpochInv s

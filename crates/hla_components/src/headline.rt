@@ -1,7 +1,7 @@
 //! The theorem over definitions: whatever the steps, the components are a run of the central machine.
 
 ghost use Rattle.hla_components.specs.Executions.{EachNextIsARun};
-ghost use Rattle.hla_components.specs.Headline.{EachListIsARun, EachListKeepsTheInvariant, EachFederationIsSafe, PicksNeverFall, PicksRise, EachReceiverWaits, EachHearsOthers, EachHearsOnce, OnlyTheJoinedAreGiven, EachHearsInOrder, EachRegistrationDiffers, EachDiscoversBefore, EachEpochCounts, NothingIsGivenInThePast, ComponentsGrantAfterAllBefore};
+ghost use Rattle.hla_components.specs.Headline.{EachListIsARun, EachListIsLawful, EachListKeepsTheInvariant, EachFederationIsSafe, PicksNeverFall, PicksRise, EachReceiverWaits, EachHearsOthers, EachHearsOnce, OnlyTheJoinedAreGiven, EachHearsInOrder, EachRegistrationDiffers, EachDiscoversBefore, EachListDiscoversInTurn, EachDiscoversFirst, EachDiscoversOnce, EachEpochCounts, NothingIsGivenInThePast, ComponentsGrantAfterAllBefore};
 
 /// Each list of steps of the components, with what they answer and choose, is a run of the central machine.
 pub fn headline()
@@ -12,6 +12,12 @@ pub fn headline()
 /// of the central machine from no executions.
 pub fn each_next_is_a_run()
     ensures { EachNextIsARun }
+{}
+
+/// What the components answer and choose, whatever the steps, and from whatever state was reached, is lawful: each law of the
+/// machine holds of it, as a named field of `IsLawful`.
+pub fn each_list_is_lawful()
+    ensures { EachListIsLawful }
 {}
 
 /// After each list of steps the components' invariant holds.
@@ -89,4 +95,21 @@ pub fn each_epoch_counts()
 /// an object, no discovery of that object waits for it any more.
 pub fn each_discovers_before()
     ensures { EachDiscoversBefore }
+{}
+
+/// Each object is discovered first, and once: when a federate is given an update or the removal of an object, it was given the
+/// discovery of that object before, among these steps or before them; and it is never given that discovery twice.
+pub fn each_list_discovers_in_turn()
+    ensures { EachListDiscoversInTurn }
+{}
+
+/// From a new execution on: when a federate is given an update or the removal of an object, it was given the discovery of that
+/// object at an earlier step.
+pub fn each_discovers_first()
+    ensures { EachDiscoversFirst }
+{}
+
+/// From a new execution on: no federate is given the discovery of an object twice.
+pub fn each_discovers_once()
+    ensures { EachDiscoversOnce }
 {}

@@ -30,6 +30,8 @@ impl Federation {
     ghost use Rattle.std.specs.Prelude.{◌≡◌, OnErr, OnOk, IfOk, IfErr};
     ghost use Rattle.hla_machine.specs.declared.step.Outcome.TheVariants as outcome;
     ghost use Rattle.hla_base.specs.declared.fault.Fault.TheVariants.{OutOfMemory};
+    ghost use Rattle.hla_machine.specs.Discovered.{IsDiscoveredInTurn};
+    ghost use Rattle.hla_machine.specs.Lawful.{IsLawful};
     ghost use Rattle.hla_machine.specs.Runs.{IsMachineStep, IsRun, is_joined_by_any};
     ghost use Rattle.hla_components.specs.Components.{new_components};
     ghost use Rattle.hla_components.specs.Next.{next};
@@ -37,7 +39,7 @@ impl Federation {
     ghost use Rattle.hla_federation.specs.Steps.State.{state_of, IsBuilt, AreBuilt};
     ghost use Rattle.hla_federation.specs.Steps.Memory.{IsRefusedWith};
     ghost use Rattle.hla_components.specs.Headline.{happening, happenings};
-    ghost use Rattle.hla_federation.specs.Steps.Soundness.{AreSteps, remembered};
+    ghost use Rattle.hla_federation.specs.Steps.Soundness.{IsSound, AreSteps, remembered};
 
     /// An execution that no federate has joined yet; it takes no memory.
     pub fn new(alloc: Global, catalogue: Catalogue) -> Federation
@@ -46,6 +48,14 @@ impl Federation {
         Federation {
             parts: Parts::new(alloc, catalogue),
         }
+    }
+
+    /// What each federation keeps, for a caller's own proofs: its lists are whole, the components' invariant holds of the
+    /// state that they stand for, and a list of steps leads to that state from a new execution. It does nothing.
+    pub fn keeps(&self)
+        ensures { IsSound self.now }
+    {
+        let _parts = &self.parts;
     }
 
     /// Whether any federate is joined; then the execution may not be destroyed.
@@ -70,12 +80,16 @@ impl Federation {
     }
 
     /// One step after another, with what each answers. The answers are those of the components' next-state function, and
-    /// but for those that were refused for want of memory they are a run of the central machine. The room for the answers
-    /// is taken first; `OutOfMemory`, and nothing done, where that was refused.
+    /// but for those that were refused for want of memory they are a run of the central machine, and lawful: each law of
+    /// the machine is a field of `IsLawful`, said of the moments of this run. Each federate is given the discovery of an
+    /// object before anything is said of it, in this run or before it, and once. The room for the answers is taken first;
+    /// `OutOfMemory`, and nothing done, where that was refused.
     pub fn run(&mut self, steps: &[Step]) -> Result<Vec<Result<Answer, Fault>>, Fault>
         requires { AreBuilt steps.now }
         ensures steps { IfOk result (λ answers. AreSteps (state_of self.old) steps.now answers.items (state_of self.new)) }
         ensures machine { IfOk result (λ answers. IsRun (central (state_of self.old)) (happenings (state_of self.old) (remembered steps.now answers.items)) (central (state_of self.new))) }
+        ensures laws { IfOk result (λ answers. IsLawful (central (state_of self.old)) (happenings (state_of self.old) (remembered steps.now answers.items))) }
+        ensures discoveries { IfOk result (λ answers. IsDiscoveredInTurn (central (state_of self.old)) (happenings (state_of self.old) (remembered steps.now answers.items))) }
         ensures err { IfErr result (λ e. e ≡ Fault.OutOfMemory) }
         ensures unchanged { OnErr result (self.new ≡ self.old) }
     {

@@ -38,3 +38,5 @@ pub mod Deliveries
 pub mod Registrations
 -- Records of all executions, cut to one of them
 pub mod Projections
+-- Each run is lawful
+pub mod Lawful

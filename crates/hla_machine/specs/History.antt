@@ -1,5 +1,5 @@
 -- What a federate is given over a run
-use Rattle.std.specs.Prelude.{ℕ, ◌≡◌, ◌<◌, ◌⊎◌, true, false, Some, List, [], ◌∷◌}
+use Rattle.std.specs.Prelude.{ℕ, ◌≡◌, ◌<◌, ◌⊎◌, true, false, Some, List, [], ◌∷◌, ◌++◌}
 use Rattle.hla_base.specs.declared.number.EventHandle.{EventHandle}
 use Rattle.hla_base.specs.declared.row.AdvanceRequest.{AdvanceRequest}
 use Rattle.hla_base.specs.declared.row.TimeRow.{TimeRow}
@@ -127,3 +127,38 @@ pub record HappensLater (c : Central) (between : List Happening) (d : Central) (
   pub start : IsRun (new_central catalogue) before c
   pub run : IsRun c between d
   pub allowed : Allowed d h.step h.outcome h.choice
+
+-- ---- one list of happenings
+-- a run leads from a new execution to c
+pub record IsReached (c : Central) : Type 0 where
+  pub catalogue : CatalogueValue
+  pub before : List Happening
+  pub run : IsRun (new_central catalogue) before c
+
+-- the state after happenings from c
+abbrev pub central_after : Central → List Happening → Central
+central_after c [] = c
+central_after c (h ∷ hs) = central_after (next_state c h) hs
+
+-- among the happenings from c is h, in the state now
+pub record Occurs (c : Central) (happenings : List Happening) (now : Central) (h : Happening) : Type 0 where
+  pub before : List Happening
+  pub rest : List Happening
+  pub whole : happenings ≡ before ++ (h ∷ rest)
+  pub state : now ≡ central_after c before
+
+-- among them is h, in the state now, then comes what is between, and then i, in the state then
+pub record OccurAfter (c : Central) (happenings : List Happening) (now : Central) (h : Happening) (between : List Happening) (then : Central) (i : Happening) : Type 0 where
+  pub before : List Happening
+  pub rest : List Happening
+  pub whole : happenings ≡ before ++ (h ∷ (between ++ (i ∷ rest)))
+  pub state : now ≡ central_after c before
+  pub later : then ≡ central_after (next_state now h) between
+
+-- among them is what is between, from the state now on, and then h, in the state then
+pub record OccursLater (c : Central) (happenings : List Happening) (now : Central) (between : List Happening) (then : Central) (h : Happening) : Type 0 where
+  pub before : List Happening
+  pub rest : List Happening
+  pub whole : happenings ≡ before ++ (between ++ (h ∷ rest))
+  pub state : now ≡ central_after c before
+  pub later : then ≡ central_after now between

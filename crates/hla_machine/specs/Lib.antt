@@ -14,10 +14,14 @@ pub mod Machine
 pub mod Runs
 -- What is said of several moments of a run
 pub mod History
+-- That each object is discovered first, and once
+pub mod Discovered
 -- What the state keeps by itself
 pub mod CentralInvariant
 -- What every run keeps, in a federate's words
 pub mod Laws
+-- The same of the happenings of one run
+pub mod Lawful
 -- `==` of services tells them apart: a service at a time, since the search over all pairs of services is too long
 pub mod Services
 -- `==` of steps, outcomes, acts and records tells them apart, part by part

@@ -1,6 +1,7 @@
 //! What the machine guarantees, over definitions alone.
 
 ghost use Rattle.hla_machine.specs.Projection.{EachExecutionIsARun};
+ghost use Rattle.hla_machine.specs.Lawful.{EachRunIsLawful};
 ghost use Rattle.hla_machine.specs.Laws.{EachRunIsSafe, NothingIsInThePast, StampsNeverFall, KeysRise, ReceiversWait, NobodyHearsItself, EachMessageOnce, GivenToTheJoined, SendersOrder, RegistrationsDiffer, DiscoveredBefore, GrantedAfterAllBefore};
 
 /// In each run of the machine each constrained federate is safe: its time is at most its bar, its bar at most its
@@ -74,4 +75,10 @@ pub fn each_execution_is_a_run()
 /// discovery of that object waits for it any more.
 pub fn discovered_before()
     ensures { DiscoveredBefore }
+{}
+
+/// The happenings of each run, from a state to which a run leads from a new execution, are lawful: all the laws above at once,
+/// each a named field, of the moments of that one run.
+pub fn each_run_is_lawful()
+    ensures { EachRunIsLawful }
 {}

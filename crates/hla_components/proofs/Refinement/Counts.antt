@@ -24,15 +24,8 @@ use Rattle.hla_machine.specs.Refusals.{refusal}
 use Rattle.hla_machine.proofs.Tests.{caller_joined}
 use Rattle.hla_components.specs.Components.{Components, new_components}
 use Rattle.hla_components.specs.Component.{promise, regulation_entry, local_bound, pick, Pick, NoPick, PickControl, PickRo, PickRegulates, PickConstrains, PickTso, PickGrant}
-use Rattle.hla_components.specs.Next.{Outcomes, answer_outcome, with_message_sent, with_messages_sent, with_regulation_enabled, with_null_announced, with_federate_gone, call_outcome, carry_outcome, pick_outcome, step_outcome, components_seen, unless_refused, next}
-use Rattle.hla_components.specs.Invariant.{Inv}
-use Rattle.hla_components.specs.Headline.{CountsEnablings, state_after}
-use Rattle.hla_components.proofs.Refinement.Runs.{each_step, inv_start}
-
--- besides, who has never joined is in the epoch 0
-record Counts (s : Components) : Type 0 where
-  pub counted : CountsEnablings s
-  pub unheard : (f : ℕ) → s.directory.next_federate ≤ f → s.epoch f ≡ 0
+use Rattle.hla_components.specs.Next.{Outcomes, answer_outcome, with_message_sent, with_messages_sent, with_regulation_enabled, with_null_announced, with_federate_gone, call_outcome, carry_outcome, pick_outcome, step_outcome, components_seen}
+use Rattle.hla_components.specs.Invariant.{Kept, EpochInv}
 
 -- epochs, members and enablings as they were
 record IsSame (s t : Components) : Type 0 where
@@ -41,7 +34,7 @@ record IsSame (s t : Components) : Type 0 where
   pub joined : t.directory.joined ≡ s.directory.joined
   pub enablings : (f : ℕ) → (t.row f).enablings ≡ (s.row f).enablings
 
-same_counts : (s t : Components) → IsSame s t → Counts s → Counts t
+same_counts : (s t : Components) → IsSame s t → EpochInv s → EpochInv t
 same_counts s t same k = record {
   counted = λ f j. ap (λ (e : ℕ → ℕ). e f) same.epoch ∙ k.counted f (ap (λ (m : ℕ → Bool). m f) (sym same.joined) ∙ j) ∙ sym (same.enablings f);
   unheard = λ f high. ap (λ (e : ℕ → ℕ). e f) same.epoch ∙ k.unheard f (omega (arith, high, same.next));
@@ -58,7 +51,7 @@ sent_same : (s : Components) (f : ℕ) (stamp : Option ℕ) (outs : List Outgoin
 sent_same s f stamp [] = is_same s
 sent_same s f stamp (out ∷ outs) = let rest = sent_same (with_message_sent s f stamp out) f stamp outs in record { epoch = rest.epoch; next = rest.next; joined = rest.joined; enablings = rest.enablings }
 
-gone_counts : (s : Components) (f : ℕ) → Counts s → Counts (with_federate_gone s f)
+gone_counts : (s : Components) (f : ℕ) → EpochInv s → EpochInv (with_federate_gone s f)
 gone_counts s f k = record {
   counted = by_number f _
       (λ j. let no : false ≡ true = sym (upd_same s.directory.joined f false) ∙ j in absurd (cc))
@@ -66,7 +59,7 @@ gone_counts s f k = record {
   unheard = k.unheard;
 }
 
-join_counts : (s : Components) (name : List ℕ) → Counts s → Counts (step_outcome s (Join name)).state
+join_counts : (s : Components) (name : List ℕ) → EpochInv s → EpochInv (step_outcome s (Join name)).state
 join_counts s name k = let n = s.directory.next_federate in record {
   counted = by_number n _
       (λ j. k.unheard n (omega arith) ∙ ap (λ (r : TimeRow). r.enablings) (sym (upd_same s.row n new_row)))
@@ -74,7 +67,7 @@ join_counts s name k = let n = s.directory.next_federate in record {
   unheard = λ f high. k.unheard f (omega (arith, high));
 }
 
-enter_counts : (s : Components) (f lookahead e : ℕ) → s.directory.joined f ≡ true → f < s.directory.next_federate → Counts s → Counts (with_regulation_enabled s f lookahead e)
+enter_counts : (s : Components) (f lookahead e : ℕ) → s.directory.joined f ≡ true → f < s.directory.next_federate → EpochInv s → EpochInv (with_regulation_enabled s f lookahead e)
 enter_counts s f lookahead e member low k = record {
   counted = by_number f _
       (λ j. upd_same s.epoch f (s.epoch f + 1) ∙ ap (λ (n : ℕ). n + 1) (k.counted f member) ∙ ap (λ (r : TimeRow). r.enablings) (sym (upd_same s.row f (regulating_from (s.row f) lookahead e))))
@@ -82,7 +75,7 @@ enter_counts s f lookahead e member low k = record {
   unheard = λ g high. let ne : f ≢ g = λ same. absurd (omega (arith, same, high, low)) in upd_other s.epoch f (s.epoch f + 1) g ne ∙ k.unheard g high;
 }
 
-row_counts : (s t : Components) (f : ℕ) (r : TimeRow) → t.epoch ≡ s.epoch → t.directory ≡ s.directory → t.row ≡ upd s.row f r → r.enablings ≡ (s.row f).enablings → Counts s → Counts t
+row_counts : (s t : Components) (f : ℕ) (r : TimeRow) → t.epoch ≡ s.epoch → t.directory ≡ s.directory → t.row ≡ upd s.row f r → r.enablings ≡ (s.row f).enablings → EpochInv s → EpochInv t
 row_counts s t f r epoch directory row e k = same_counts s t (record {
   epoch = epoch;
   next = ap (λ d. d.next_federate) directory;
@@ -90,42 +83,42 @@ row_counts s t f r epoch directory row e k = same_counts s t (record {
   enablings = λ g. ap (λ (row : ℕ → TimeRow). (row g).enablings) row ∙ row_same s.row f r e g;
 }) k
 
-call_counts : (s : Components) (f : ℕ) (x : Service) → Inv s → refusal (components_seen s) (Call f x) ≡ None → Counts s → Counts (call_outcome s f x).state
-call_counts s f (service.Resign DeleteObjects) inv none k = let outs = deletions_sent (objects_of s.directory f) in gone_counts (with_messages_sent s f None outs) f (same_counts s _ (sent_same s f None outs) k)
-call_counts s f (service.Resign NoAction) inv none k = gone_counts s f k
-call_counts s f (service.UpdateAttributeValues object values stamp) inv none k = same_counts s _ (sent_same s f stamp (update_sent s.directory object values)) k
-call_counts s f (service.SendInteraction class values stamp) inv none k = same_counts s _ (sent_same s f stamp (interaction_sent s.directory class values)) k
-call_counts s f (service.DeleteObjectInstance object stamp) inv none k = let same = sent_same s f stamp (deletion_sent s.directory object) in
+call_counts : (s : Components) (f : ℕ) (x : Service) → Kept s → refusal (components_seen s) (Call f x) ≡ None → EpochInv s → EpochInv (call_outcome s f x).state
+call_counts s f (service.Resign DeleteObjects) kept none k = let outs = deletions_sent (objects_of s.directory f) in gone_counts (with_messages_sent s f None outs) f (same_counts s _ (sent_same s f None outs) k)
+call_counts s f (service.Resign NoAction) kept none k = gone_counts s f k
+call_counts s f (service.UpdateAttributeValues object values stamp) kept none k = same_counts s _ (sent_same s f stamp (update_sent s.directory object values)) k
+call_counts s f (service.SendInteraction class values stamp) kept none k = same_counts s _ (sent_same s f stamp (interaction_sent s.directory class values)) k
+call_counts s f (service.DeleteObjectInstance object stamp) kept none k = let same = sent_same s f stamp (deletion_sent s.directory object) in
     same_counts s _ (record { epoch = same.epoch; next = same.next; joined = same.joined; enablings = same.enablings }) k
-call_counts s f (service.EnableTimeRegulation time lookahead) inv none k =
+call_counts s f (service.EnableTimeRegulation time lookahead) kept none k =
     let member = caller_joined (components_seen s) f (service.EnableTimeRegulation time lookahead) none in
-    enter_counts s f lookahead (regulation_entry s f (time + lookahead)) member (inv.kept.directory.members f member) k
-call_counts s f service.DisableTimeRegulation inv none k = row_counts s _ f _ refl refl refl refl k
-call_counts s f service.EnableTimeConstrained inv none k = row_counts s _ f _ refl refl refl refl k
-call_counts s f service.DisableTimeConstrained inv none k = row_counts s _ f _ refl refl refl refl k
-call_counts s f (service.TimeAdvanceRequest time) inv none k = row_counts s _ f _ refl refl refl refl k
-call_counts s f (service.TimeAdvanceRequestAvailable time) inv none k = row_counts s _ f _ refl refl refl refl k
-call_counts s f (service.NextEventRequest time) inv none k = row_counts s _ f _ refl refl refl refl k
-call_counts s f (service.NextEventRequestAvailable time) inv none k = row_counts s _ f _ refl refl refl refl k
-call_counts s f (service.FlushQueueRequest time) inv none k = row_counts s _ f _ refl refl refl refl k
-call_counts s f (service.ModifyLookahead lookahead) inv none k = row_counts s _ f _ refl refl refl refl k
-call_counts s f service.EnableAsynchronousDelivery inv none k = row_counts s _ f _ refl refl refl refl k
-call_counts s f service.DisableAsynchronousDelivery inv none k = row_counts s _ f _ refl refl refl refl k
-call_counts s f x inv none k = record { counted = k.counted; unheard = k.unheard }
+    enter_counts s f lookahead (regulation_entry s f (time + lookahead)) member (kept.directory.members f member) k
+call_counts s f service.DisableTimeRegulation kept none k = row_counts s _ f _ refl refl refl refl k
+call_counts s f service.EnableTimeConstrained kept none k = row_counts s _ f _ refl refl refl refl k
+call_counts s f service.DisableTimeConstrained kept none k = row_counts s _ f _ refl refl refl refl k
+call_counts s f (service.TimeAdvanceRequest time) kept none k = row_counts s _ f _ refl refl refl refl k
+call_counts s f (service.TimeAdvanceRequestAvailable time) kept none k = row_counts s _ f _ refl refl refl refl k
+call_counts s f (service.NextEventRequest time) kept none k = row_counts s _ f _ refl refl refl refl k
+call_counts s f (service.NextEventRequestAvailable time) kept none k = row_counts s _ f _ refl refl refl refl k
+call_counts s f (service.FlushQueueRequest time) kept none k = row_counts s _ f _ refl refl refl refl k
+call_counts s f (service.ModifyLookahead lookahead) kept none k = row_counts s _ f _ refl refl refl refl k
+call_counts s f service.EnableAsynchronousDelivery kept none k = row_counts s _ f _ refl refl refl refl k
+call_counts s f service.DisableAsynchronousDelivery kept none k = row_counts s _ f _ refl refl refl refl k
+call_counts s f x kept none k = record { counted = k.counted; unheard = k.unheard }
 
-carry_counts : (s : Components) (g f : ℕ) (ms : List Message) → Counts s → Counts (carry_outcome s g f ms).state
+carry_counts : (s : Components) (g f : ℕ) (ms : List Message) → EpochInv s → EpochInv (carry_outcome s g f ms).state
 carry_counts s g f [] k = k
 carry_counts s g f (message.Event e ∷ ms) k = record { counted = k.counted; unheard = k.unheard }
 carry_counts s g f (message.Null j v ∷ ms) k = record { counted = k.counted; unheard = k.unheard }
 carry_counts s g f (message.Retraction m ∷ ms) k = record { counted = k.counted; unheard = k.unheard }
 carry_counts s g f (message.Discovery d ∷ ms) k = record { counted = k.counted; unheard = k.unheard }
 
-announce_counts : (s : Components) (f : ℕ) → Counts s → Counts (step_outcome s (Announce f)).state
+announce_counts : (s : Components) (f : ℕ) → EpochInv s → EpochInv (step_outcome s (Announce f)).state
 announce_counts s f k = cond_both (is_regulator (s.row f) && ltb (s.last_announced f) (promise s f))
     (answer_outcome (answer.Announced (Some (promise s f))) (with_null_announced s f (promise s f))) (answer_outcome (answer.Announced None) s)
-    (λ (o : Outcomes). Counts o.state) (λ _. record { counted = k.counted; unheard = k.unheard }) (λ _. k)
+    (λ (o : Outcomes). EpochInv o.state) (λ _. record { counted = k.counted; unheard = k.unheard }) (λ _. k)
 
-pick_counts : (s : Components) (f : ℕ) (p : Pick) → Counts s → Counts (pick_outcome s f p).state
+pick_counts : (s : Components) (f : ℕ) (p : Pick) → EpochInv s → EpochInv (pick_outcome s f p).state
 pick_counts s f NoPick k = k
 pick_counts s f (PickControl (ToDiscover from d) rest) k = record { counted = k.counted; unheard = k.unheard }
 pick_counts s f (PickControl (ToRetract e) rest) k = record { counted = k.counted; unheard = k.unheard }
@@ -135,20 +128,12 @@ pick_counts s f PickConstrains k = row_counts s _ f _ refl refl refl refl k
 pick_counts s f (PickTso q e rest) k = row_counts s _ f _ refl refl refl refl k
 pick_counts s f (PickGrant q t) k = row_counts s _ f _ refl refl refl refl k
 
-done_counts : (s : Components) (step : Step) → Inv s → refusal (components_seen s) step ≡ None → Counts s → Counts (step_outcome s step).state
-done_counts s (Join name) inv none k = join_counts s name k
-done_counts s (Call f x) inv none k = call_counts s f x inv none k
-done_counts s (Carry g f) inv none k = carry_counts s g f (s.wire g f) k
-done_counts s (Announce f) inv none k = announce_counts s f k
-done_counts s (Tick f) inv none k = pick_counts s f (pick (s.controls f) (s.row f) (s.ro f) (s.tso f) (local_bound s f)) k
+pub done_counts : (s : Components) (step : Step) → Kept s → refusal (components_seen s) step ≡ None → EpochInv s → EpochInv (step_outcome s step).state
+done_counts s (Join name) kept none k = join_counts s name k
+done_counts s (Call f x) kept none k = call_counts s f x kept none k
+done_counts s (Carry g f) kept none k = carry_counts s g f (s.wire g f) k
+done_counts s (Announce f) kept none k = announce_counts s f k
+done_counts s (Tick f) kept none k = pick_counts s f (pick (s.controls f) (s.row f) (s.ro f) (s.tso f) (local_bound s f)) k
 
-refused_counts : (s : Components) (step : Step) (o : Option Fault) → refusal (components_seen s) step ≡ o → Inv s → Counts s → Counts (unless_refused o s (step_outcome s step)).state
-refused_counts s step None is inv k = done_counts s step inv is k
-refused_counts s step (Some e) is inv k = k
-
-counts_after : (s : Components) (steps : List Step) → Inv s → Counts s → Counts (state_after s steps)
-counts_after s [] inv k = k
-counts_after s (step ∷ steps) inv k = counts_after (next s step).state steps (each_step s step inv).kept (refused_counts s step (refusal (components_seen s) step) refl inv k)
-
-pub each_counts : (catalogue : CatalogueValue) (steps : List Step) → CountsEnablings (state_after (new_components catalogue) steps)
-each_counts catalogue steps = (counts_after (new_components catalogue) steps (inv_start catalogue) (record { counted = λ f j. refl; unheard = λ f high. refl })).counted
+pub counts_start : (catalogue : CatalogueValue) → EpochInv (new_components catalogue)
+counts_start catalogue = record { counted = λ f j. refl; unheard = λ f high. refl }

@@ -25,12 +25,13 @@ use Rattle.hla_components.specs.Components.{Components, new_components}
 use Rattle.hla_components.specs.Component.{local_bound, Pick, NoPick, PickControl, PickRo, PickRegulates, PickConstrains, PickTso, PickGrant}
 use Rattle.hla_components.specs.Next.{Outcomes, unless_refused, components_seen, step_outcome, carry_outcome, pick_outcome, next}
 use Rattle.hla_components.specs.CentralOf.{central}
-use Rattle.hla_components.specs.Invariant.{Kept, Inv}
+use Rattle.hla_components.specs.Invariant.{Kept, Inv, CountsEnablings, EpochInv}
 use Rattle.hla_machine.specs.CentralInvariant.{CentralInv}
 use Rattle.hla_components.specs.Headline.{IsStep, IsKeptStep, happening, happenings, state_after}
 use Rattle.hla_components.proofs.Upkeep.Directories.{directory_start}
 use Rattle.hla_machine.proofs.Bags.{bag_ext, central_ext}
 use Rattle.hla_machine.proofs.CentralInvariant.{laws_after}
+use Rattle.hla_components.proofs.Refinement.Counts.{done_counts, counts_start}
 use Rattle.hla_components.proofs.Refinement.Choices.{step_choice, refused_choice}
 use Rattle.hla_components.proofs.Refinement.Picks.{PickFacts, pick_tells}
 use Rattle.hla_components.proofs.Services.Steps.{step_publish_class, step_unpublish_class, step_unsubscribe_class, step_publish_interaction, step_unpublish_interaction, step_subscribe_interaction, step_unsubscribe_interaction, step_send_interaction, step_event, step_null, step_nothing}
@@ -113,18 +114,19 @@ done_step s (Tick f) inv none = pick_step s f _ inv none (pick_tells (s.controls
 
 -- ---- any step
 -- the laws of the machine are kept by each of its steps
-with_laws : (s : Components) (step : Step) (o : Outcomes) → Inv s → IsChoice step o.outcome o.choice → IsKeptStep s step o → IsStep s step o
-with_laws s step o inv chosen k = record {
+with_laws : (s : Components) (step : Step) (o : Outcomes) → Inv s → IsChoice step o.outcome o.choice → EpochInv o.state → IsKeptStep s step o → IsStep s step o
+with_laws s step o inv chosen epochs k = record {
   kept = record {
     kept = k.kept;
     laws = subst CentralInv (sym k.follows) (laws_after (central s) step o.outcome o.choice k.allowed inv.laws);
     numbers = subst (λ (c : Central). AllNumbers c.row) (sym k.follows) (numbers_after (central s) step o.outcome o.choice k.allowed inv.numbers);
+    epochs = epochs;
   };
   machine = record { allowed = (k.allowed, chosen); follows = k.follows };
 }
 
 refused_or : (s : Components) (step : Step) (o : Option Fault) → refusal (components_seen s) step ≡ o → Inv s → IsStep s step (unless_refused o s (step_outcome s step))
-refused_or s step None is inv = with_laws s step (step_outcome s step) inv (step_choice s step inv.kept) (done_step s step inv is)
+refused_or s step None is inv = with_laws s step (step_outcome s step) inv (step_choice s step inv.kept) (done_counts s step inv.kept is inv.epochs) (done_step s step inv is)
 refused_or s step (Some e) is inv = record { kept = inv; machine = record { allowed = (is, refused_choice step e); follows = refl } }
 
 pub each_step : (s : Components) (step : Step) → Inv s → IsStep s step (next s step)
@@ -168,6 +170,7 @@ inv_start catalogue = record {
     unused = λ _ _ _ _ e. absurd (cc);
   };
   numbers = λ _. numbers_new;
+  epochs = counts_start catalogue;
 }
 
 -- it is the beginning of the machine
@@ -187,6 +190,9 @@ inv_after s (step ∷ steps) inv = inv_after (next s step).state steps (each_ste
 
 pub each_inv : (catalogue : CatalogueValue) (steps : List Step) → Inv (state_after (new_components catalogue) steps)
 each_inv catalogue steps = inv_after (new_components catalogue) steps (inv_start catalogue)
+
+pub each_counts : (catalogue : CatalogueValue) (steps : List Step) → CountsEnablings (state_after (new_components catalogue) steps)
+each_counts catalogue steps = (each_inv catalogue steps).epochs.counted
 
 pub each_happens : (catalogue : CatalogueValue) (steps : List Step) (step : Step) → (let now = state_after (new_components catalogue) steps in Happens (central now) (happening step (next now step)))
 each_happens catalogue steps step = record {

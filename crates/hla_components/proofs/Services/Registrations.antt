@@ -16,7 +16,7 @@ use Rattle.hla_order_queues.specs.Controls.{discoveries_from}
 use Rattle.hla_components.specs.Components.{Components}
 use Rattle.hla_components.specs.Next.{components_seen, step_outcome, put_discoveries, with_object_registered}
 use Rattle.hla_components.specs.CentralOf.{central}
-use Rattle.hla_components.specs.Invariant.{EachOf, Tells, IsTold, IsBehind, IsKnownOf, Kept}
+use Rattle.hla_components.specs.Invariant.{EachOf, DirectoryInv, Tells, IsTold, IsBehind, IsKnownOf, Kept}
 use Rattle.hla_components.specs.Headline.{IsKeptStep}
 use Rattle.hla_base.proofs.Tables.{by_number, upd_other, upd2_each, upd_row_each, upd_row_here, upd_row_self, upd_row_other}
 use Rattle.hla_components.proofs.Wiring.Wires.{events-put_discoveries, discoveries-put_discoveries, retractions-put_discoveries}
@@ -31,6 +31,21 @@ use Rattle.hla_components.proofs.Services.Discoveries.{discovery_tells, each_dis
 use Rattle.hla_machine.proofs.Tests.{caller_joined}
 use Rattle.hla_components.proofs.Services.Steps.{wired_row}
 
+-- what is known stays known
+pub still_known : (d : Directory) (f class : ℕ) (name : List ℕ) (h k : ℕ) → (with_object d f class name).known h k ≡ false → d.known h k ≡ false
+still_known d f class name h k n = ⊎_elim
+    (λ (y : d.known h k ≡ true). absurd (let z : (with_object d f class name).known h k ≡ true = upd2_each d.known d.next_object f true (λ h k x. d.known h k ≡ true → x ≡ true) (λ _. refl) (λ _ _ e. e) h k y in cc))
+    (λ n. n)
+    (cases_Bool (d.known h k))
+
+-- only the new object is to be discovered
+pub is_new : (d : Directory) (f class : ℕ) (name : List ℕ) → DirectoryInv d → (h k : ℕ) → d.joined k ≡ true → ((with_object d f class name).object h).exists ≡ true → ((with_object d f class name).object h).owner ≢ k
+    → (with_object d f class name).known h k ≡ false → is_some (served_object (with_object d f class name) k ((with_object d f class name).object h).class) ≡ true → d.next_object ≡ h
+is_new d f class name inv h k j = ⊎_elim
+    (λ (e : d.next_object ≡ h) _ _ _ _. e)
+    (λ (ne : d.next_object ≢ h). rw upd_other (λ exists other n served. absurd (let y : d.known h k ≡ true = inv.served k h j exists other served in let m = still_known d f class name h k n in cc)))
+    (cases_eq d.next_object h)
+
 module _ (s : Components) (f class : ℕ) (name : List ℕ) (kept : Kept s) (member : s.directory.joined f ≡ true) where
   abbrev d : Directory
   d = with_object s.directory f class name
@@ -44,27 +59,13 @@ module _ (s : Components) (f class : ℕ) (name : List ℕ) (kept : Kept s) (mem
   abbrev wire : ℕ → ℕ → List Message
   wire = upd_row s.wire s.directory.joined f put_for
 
-  -- what is known stays known
-  still_known : (h k : ℕ) → d.known h k ≡ false → s.directory.known h k ≡ false
-  still_known h k n = ⊎_elim
-      (λ (y : s.directory.known h k ≡ true). absurd (let z : d.known h k ≡ true = upd2_each s.directory.known s.directory.next_object f true (λ h k x. s.directory.known h k ≡ true → x ≡ true) (λ _. refl) (λ _ _ e. e) h k y in cc))
-      (λ n. n)
-      (cases_Bool (s.directory.known h k))
-
-  -- only the new object is to be discovered
-  is_new : (h k : ℕ) → s.directory.joined k ≡ true → (d.object h).exists ≡ true → (d.object h).owner ≢ k → d.known h k ≡ false → is_some (served_object d k (d.object h).class) ≡ true → s.directory.next_object ≡ h
-  is_new h k j = ⊎_elim
-      (λ (e : s.directory.next_object ≡ h) _ _ _ _. e)
-      (λ (ne : s.directory.next_object ≢ h). rw upd_other (λ exists other n served. absurd (let y : s.directory.known h k ≡ true = kept.directory.served k h j exists other served in let m = still_known h k n in cc)))
-      (cases_eq s.directory.next_object h)
-
   new_for : (k : ℕ) → AreNew s.directory k (discoveries_of d f k)
-  new_for k = each_discovery d f k (λ x. s.directory.known x.object k ≡ false) (λ h x owner is. let t = discovery_tells d k h x is in subst (λ h. s.directory.known h k ≡ false) (sym t.0) (still_known h k t.3))
+  new_for k = each_discovery d f k (λ x. s.directory.known x.object k ≡ false) (λ h x owner is. let t = discovery_tells d k h x is in subst (λ h. s.directory.known h k ≡ false) (sym t.0) (still_known s.directory f class name h k t.3))
 
   known_for : (k : ℕ) → s.directory.joined k ≡ true → EachOf (λ (x : Discovery). IsKnownOf later f k x.object) (discoveries_of d f k)
   known_for k j = each_discovery d f k (λ x. IsKnownOf later f k x.object) (λ h x owner is.
       let t = discovery_tells d k h x is in
-      let new : s.directory.next_object ≡ h = is_new h k j t.1 t.2 t.3 t.4 in
+      let new : s.directory.next_object ≡ h = is_new s.directory f class name kept.directory h k j t.1 t.2 t.3 t.4 in
       let some : is_some (discovery_of d k s.directory.next_object) ≡ true = subst (λ h. is_some (discovery_of d k h) ≡ true) (sym new) (rw is refl) in
       let now : (eqb s.directory.next_object h && s.directory.joined k && is_some (discovery_of d k s.directory.next_object)) ≡ true = and_from _ _ (and_from _ _ (eq-eqb s.directory.next_object h new) j) some in
       subst (λ h. IsKnownOf later f k h) (sym t.0) (record { owner = owner; known = rw now refl; registered = omega arith }))

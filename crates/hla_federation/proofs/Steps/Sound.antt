@@ -14,7 +14,7 @@ use Rattle.hla_machine.specs.Runs.{IsMachineStep}
 use Rattle.hla_components.specs.CentralOf.{central}
 use Rattle.hla_components.specs.Components.{new_components}
 use Rattle.hla_federation.specs.Tables.FederationValue.{FederationValue}
-use Rattle.hla_components.specs.Headline.{IsStep, happening}
+use Rattle.hla_components.specs.Headline.{IsStep, IsReachable, happening}
 use Rattle.hla_components.specs.Invariant.{Inv}
 use Rattle.hla_federation.specs.Tables.MemberValue.{item, MemberValue}
 use Rattle.hla_federation.specs.Tables.Members.{no_member, members_of}
@@ -23,6 +23,7 @@ use Rattle.hla_federation.specs.Steps.Memory.{IsRefusedWith}
 use Rattle.hla_federation.specs.Steps.Soundness.{IsSound}
 use Rattle.hla_federation.specs.Steps.State.{state_of, state_from, IsWhole, nothing_declared, Ends}
 use Rattle.hla_components.proofs.Refinement.Runs.{each_step, inv_start}
+use Rattle.hla_components.proofs.Refinement.Reached.{reachable_start, reachable_next}
 
 -- a step that was done keeps what always holds, and is one of the machine
 pub sound : (old new : FederationValue) (step : Step) (a : Answer) → Inv (state_of old)
@@ -32,7 +33,11 @@ sound old new step a inv does = subst (IsStep (state_of old) step) does (each_st
 -- ---- the same, however a step ended
 module _ (old : FederationValue) (step : Step) (is : IsSound old) where
   pub ends_sound : (r : Result Answer Fault) (new : FederationValue) → IsWhole new → Ends old step r new → IsSound new
-  ends_sound (Ok a) new whole ends = record { whole = whole; kept = (sound old new step a is.kept ends).kept }
+  ends_sound (Ok a) new whole ends = record {
+    whole = whole;
+    kept = (sound old new step a is.kept ends).kept;
+    reached = subst (λ (o : Outcomes). IsReachable o.state) ends (reachable_next (state_of old) step is.reached);
+  }
   ends_sound (Err e) new whole ends = subst IsSound (sym ends.1) is
 
   pub ends_outcome : (r : Result Answer Fault) (new : FederationValue) → Ends old step r new → IfOk r (λ a. (next (state_of old) step).outcome ≡ outcome.Done a)
@@ -95,4 +100,5 @@ module _ (c : CatalogueValue) (v : FederationValue) (catalogue : v.catalogue ≡
       named = λ g y. let no = not_joined g in absurd (cc);
     };
     kept = subst Inv (sym state_new) (inv_start c);
+    reached = subst IsReachable (sym state_new) (reachable_start c);
   }

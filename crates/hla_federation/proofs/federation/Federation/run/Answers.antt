@@ -1,9 +1,10 @@
 use Rattle.std.proofs.Common.{subst, ap, arith}
 use Rattle.hla_federation.specs.Tables.FederationValue.{FederationValue}
 use Rattle.hla_components.specs.Invariant.{Inv}
+use Rattle.hla_components.specs.Headline.{IsReachable}
 use Rattle.hla_federation.specs.Steps.State.{state_of}
 use Rattle.hla_federation.proofs.Tables.Rooms.{on_err}
-use Rattle.hla_federation.proofs.Steps.Running.{steps_more, one_step, take_item, take_all, are_run}
+use Rattle.hla_federation.proofs.Steps.Running.{steps_more, one_step, take_item, take_all, are_run, are_lawful, are_discovered_in_turn}
 use Rattle.hla_federation.proofs.federation.Federation.run.Goals as goal
 
 pub loop-step-preserved : goal.loop-step-preserved
@@ -23,3 +24,13 @@ returns-clause-machine c =
     let all = take_all c.args.steps.now c.loop-step.step-index (omega (arith, c.loop-step-test.false, c.loop-step.auto.step-index-end)) in
     let kept = subst (λ (v : FederationValue). Inv (state_of v)) c.self.view_is c.self.invariant.kept in
     are_run _ _ c.args.steps.now c.loop-step.answers.items kept (rw all at c.loop-step.invariant.steps)
+
+pub returns-clause-laws : goal.returns-clause-laws
+returns-clause-laws c =
+    let reached = subst (λ (v : FederationValue). IsReachable (state_of v)) c.self.view_is c.self.invariant.reached in
+    are_lawful _ c.args.steps.now c.loop-step.answers.items reached
+
+pub returns-clause-discoveries : goal.returns-clause-discoveries
+returns-clause-discoveries c =
+    let reached = subst (λ (v : FederationValue). IsReachable (state_of v)) c.self.view_is c.self.invariant.reached in
+    are_discovered_in_turn _ c.args.steps.now c.loop-step.answers.items reached

@@ -1,0 +1,5 @@
+use Rattle.hla_machine.proofs.Lawful.{each_lawful}
+use Rattle.hla_machine.proofs.laws.each_run_is_lawful.Goals as goal
+
+pub returns : goal.returns
+returns c = λ start happenings end is run. each_lawful start happenings end is run

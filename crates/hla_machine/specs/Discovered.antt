@@ -1,0 +1,37 @@
+-- That each object is discovered first, and once
+use Rattle.std.specs.Prelude.{ℕ, ◌≡◌, ◌≢◌, ◌⊎◌, true, List, [], ◌∷◌, ◌++◌}
+use Rattle.std.specs.List.{All}
+use Rattle.hla_base.specs.declared.content.Discovery.{Discovery}
+use Rattle.hla_callbacks.specs.declared.callback.Callback.{Callback}
+use Rattle.hla_callbacks.specs.declared.callback.Callback.TheVariants as callback
+use Rattle.hla_machine.specs.Central.{Central}
+use Rattle.hla_machine.specs.Runs.{Happening}
+use Rattle.hla_machine.specs.History.{GivesCallback, SpeaksOf}
+
+-- f is given the discovery of an object
+pub record Discovers (h : Happening) (f object : ℕ) : Type 0 where
+  pub class : ℕ
+  pub name : List ℕ
+  pub gives : GivesCallback h.step h.outcome f (callback.DiscoverObjectInstance object class name)
+
+-- at one of the happenings it is
+abbrev pub IsDiscoveredAmong : List Happening → ℕ → ℕ → Type 0
+IsDiscoveredAmong [] f object = ⊥
+IsDiscoveredAmong (h ∷ hs) f object = Discovers h f object ⊎ IsDiscoveredAmong hs f object
+
+-- f has discovered an object: it knows it, and no discovery of it waits
+pub record HasDiscovered (c : Central) (f object : ℕ) : Type 0 where
+  pub known : c.directory.known object f ≡ true
+  pub given : (g : ℕ) → All (λ (d : Discovery). d.object ≢ object) (c.discoveries g f)
+
+-- of the happenings from c on
+pub record IsDiscoveredInTurn (c : Central) (happenings : List Happening) : Type 0 where
+  -- before a federate is given an update or the removal of an object, it is given the discovery of that object, or had discovered it before
+  pub first : (before : List Happening) (h : Happening) (rest : List Happening) (f : ℕ) (k : Callback) (object : ℕ) → happenings ≡ before ++ (h ∷ rest) →
+      GivesCallback h.step h.outcome f k → SpeaksOf k object → HasDiscovered c f object ⊎ IsDiscoveredAmong before f object
+  -- no federate is given the discovery of an object twice
+  pub once : (before : List Happening) (h : Happening) (between : List Happening) (i : Happening) (rest : List Happening) (f object : ℕ) → happenings ≡ before ++ (h ∷ (between ++ (i ∷ rest))) →
+      Discovers h f object → Discovers i f object → ⊥
+  -- nor one that it had discovered before
+  pub never_again : (before : List Happening) (h : Happening) (rest : List Happening) (f object : ℕ) → happenings ≡ before ++ (h ∷ rest) →
+      HasDiscovered c f object → Discovers h f object → ⊥

@@ -1,0 +1,54 @@
+-- What every run keeps, of the happenings of one run: each law a field
+use Rattle.std.specs.Prelude.{ℕ, ◌≡◌, ◌≢◌, ◌≤◌, ◌<◌, ◌⊎◌, true, Some, List, ◌++◌}
+use Rattle.std.specs.List.{All}
+use Rattle.hla_base.specs.declared.content.Discovery.{Discovery}
+use Rattle.hla_base.specs.declared.number.EventHandle.{EventHandle}
+use Rattle.hla_base.specs.declared.row.AdvanceRequest.{AdvanceRequest}
+use Rattle.hla_base.specs.Rows.{is_constrained}
+use Rattle.hla_callbacks.specs.declared.callback.Callback.{Callback}
+use Rattle.hla_machine.specs.declared.step.Answer.TheVariants as answer
+use Rattle.hla_machine.specs.declared.step.Outcome.TheVariants as outcome
+use Rattle.hla_machine.specs.Central.{Central, reach}
+use Rattle.hla_machine.specs.Runs.{Happening, IsRun}
+use Rattle.hla_machine.specs.History.{GivesCallback, SpeaksOf, Hears, HearsPlain, Picks, IsGranted, IsInNoFlush, IsInStrict, IsInOneAdvance, IsBefore, next_state, WaitsInOrder, IsPickedOrMoved, IsReached, central_after, Occurs, OccurAfter, OccursLater}
+use Rattle.hla_machine.specs.Laws.{IsSafe, IsAhead}
+
+pub record IsLawful (c : Central) (happenings : List Happening) : Type 0 where
+  -- ---- who is given what
+  -- a federate is given messages of others alone
+  pub others : (now : Central) (h : Happening) (f : ℕ) (e : EventHandle) → Occurs c happenings now h → Hears h f e → e.sender ≢ f
+  -- each message is given to a federate at most once
+  pub once : (now : Central) (h : Happening) (between : List Happening) (then : Central) (i : Happening) (f : ℕ) (e : EventHandle) →
+      OccurAfter c happenings now h between then i → Hears h f e → Hears i f e → ⊥
+  -- nothing is given to a federate that is not joined
+  pub joined : (now : Central) (h : Happening) (f : ℕ) (k : Callback) → Occurs c happenings now h → GivesCallback h.step h.outcome f k → now.directory.joined f ≡ true
+  -- what one federate sent in receive order is given in the order in which it was sent
+  pub in_order : (now : Central) (h : Happening) (between : List Happening) (then : Central) (i : Happening) (f : ℕ) (e x : EventHandle) →
+      OccurAfter c happenings now h between then i → HearsPlain h f e → HearsPlain i f x → e.sender ≡ x.sender → e.serial < x.serial
+  -- ---- objects
+  -- two registrations give different numbers and different names
+  pub differ : (now : Central) (h : Happening) (between : List Happening) (then : Central) (i : Happening) (a b : ℕ) (n p : List ℕ) →
+      OccurAfter c happenings now h between then i → h.outcome ≡ outcome.Done (answer.Registered a n) → i.outcome ≡ outcome.Done (answer.Registered b p) → (a ≢ b) × (n ≢ p)
+  -- nothing is said of an object while its discovery waits
+  pub discovered : (now : Central) (h : Happening) (f : ℕ) (k : Callback) (object : ℕ) → Occurs c happenings now h → GivesCallback h.step h.outcome f k → SpeaksOf k object →
+      (g : ℕ) → All (λ (d : Discovery). d.object ≢ object) (now.discoveries g f)
+  -- ---- time
+  -- in each state each constrained federate has its time, its bar and its bound in order, and nothing before its time waits
+  pub safe : (before rest : List Happening) → happenings ≡ before ++ rest → IsSafe (central_after c before)
+  -- nothing is given to a federate in its past, and its time never falls
+  pub ahead : (now : Central) (h : Happening) (f : ℕ) → Occurs c happenings now h → IsAhead now h f
+  -- the stamp of a pick outside flushes is at most that of each later pick
+  pub stamps : (now : Central) (h : Happening) (between : List Happening) (then : Central) (i : Happening) (f : ℕ) (e x : EventHandle) (s t : ℕ) →
+      OccurAfter c happenings now h between then i → IsInNoFlush (now.row f) → Picks h f e s → Picks i f x t → s ≤ t
+  -- within one strict request the keys of the picks rise
+  pub keys : (now : Central) (h : Happening) (between : List Happening) (then : Central) (i : Happening) (f : ℕ) (e x : EventHandle) (s t : ℕ) →
+      OccurAfter c happenings now h between then i → IsInStrict (now.row f) → IsInOneAdvance (next_state now h) between f → Picks h f e s → Picks i f x t → IsBefore e s x t
+  -- when a constrained federate is granted t, each event that was sent to it in time-stamp order, with a stamp below t
+  -- (for a strict request at most t), is retracted, or the federate has picked it up, or it was moved to receive order
+  pub granted : (now : Central) (between : List Happening) (then : Central) (h : Happening) (f t : ℕ) (q : AdvanceRequest) (e : EventHandle) (s : ℕ) →
+      OccursLater c happenings now between then h → IsGranted h f t → is_constrained (then.row f) ≡ true → (then.row f).advance ≡ Some q →
+      WaitsInOrder now f e s → s < reach q.kind t → ((then.sent e.sender e.serial).retracted ≡ true) ⊎ IsPickedOrMoved now between f e s
+
+-- the happenings of each run from a state that is reached are so
+abbrev pub EachRunIsLawful : Type 0
+EachRunIsLawful = (c : Central) (happenings : List Happening) (d : Central) → IsReached c → IsRun c happenings d → IsLawful c happenings
