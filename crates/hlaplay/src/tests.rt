@@ -1,5 +1,6 @@
 use crate::input::{LoadFault, load};
 use crate::parts::parts;
+use crate::watched::Watched;
 use crate::words::{Task, parse};
 use std::io;
 use std::io::Read;
@@ -25,48 +26,31 @@ impl Read for Endless {
 
 #[test]
 fn loads_up_to_the_limit(rt: HostRuntime) -> Result<(), Fail> {
-    let mut whole: &[u8] = b"(FED)";
+    let mut whole = Watched::new(b"(FED)".as_slice());
     assert_eq!(rt;
         load(rt.alloc(), &mut whole, 9)?.as_slice(),
         b"(FED)".as_slice()
     );
-    let mut cut: &[u8] = b"(FED)";
+    let mut cut = Watched::new(b"(FED)".as_slice());
     assert_eq!(rt;
         load(rt.alloc(), &mut cut, 3)?.as_slice(),
         b"(FE".as_slice()
     );
-    let mut endless = Endless {
+    let mut endless = Watched::new(Endless {
         given: 0,
         fails_at: 2000,
-    };
+    });
     assert_eq!(rt; load(rt.alloc(), &mut endless, 1999)?.len(), 1999);
     Ok(())
 }
 
 #[test]
 fn tells_a_failed_read(rt: HostRuntime) {
-    let mut failing = Endless {
+    let mut failing = Watched::new(Endless {
         given: 0,
         fails_at: 2000,
-    };
+    });
     assert!(rt; matches!(&load(rt.alloc(), &mut failing, 5000), Err(LoadFault::Read)));
-    let mut slow = Slow;
-    assert!(rt;
-        matches!(
-            &load(rt.alloc(), &mut slow, 5_000_000),
-            Err(LoadFault::Read)
-        )
-    );
-}
-
-/// A reader that gives one byte at a time, and never ends.
-#[derive(Drop)]
-struct Slow;
-
-impl Read for Slow {
-    fn read(&mut self, buffer: &mut [u8]) -> io::Result<usize> {
-        Ok(buffer.len().min(1))
-    }
 }
 
 #[test]

@@ -1,0 +1,123 @@
+//! The runs of the program, over any readers and writers.
+
+ghost use Rattle.hlaplay.specs.Streams.{stream};
+ghost use Rattle.hlaplay.specs.Program.{EndsPlaying, EndsListing, EndsPlayingShared, EndsPlayingFiles, EndsListingFile};
+
+use crate::input::{FILE_LIMIT, SHARED_LIMIT, load};
+use crate::parts::parts;
+use crate::telling::{DONE, tell_list_stop, tell_load_stop, tell_play_stop};
+use crate::watched::Watched;
+use hla_script::{ListFault, PlayFault, list, play};
+use std::alloc::Global;
+use std::io::{Read, Write};
+
+/// Plays a script over a FED file, and answers the status: 0 once the transcript is on `out` and nothing on `errors`; 1 with one
+/// line on `errors` for the first fault of the FED file, or else for that of the script, with nothing on `out`, and for a failed
+/// write or want of memory.
+fn play_bytes<W: Write, E: Write>(
+    alloc: Global,
+    fed: &[u8],
+    script: &[u8],
+    out: &mut Watched<W>,
+    errors: &mut Watched<E>,
+) -> u8
+    ensures { EndsPlaying fed.now script.now
+        (stream W.contents out.old) (stream W.contents out.new)
+        (stream E.contents errors.old) (stream E.contents errors.new) result }
+{
+    match play(alloc, fed, script, out) {
+        Err(fault) => tell_play_stop(alloc, errors, fault),
+        Ok(_) => match out.flush() {
+            Ok(()) => DONE,
+            Err(_) => tell_play_stop(alloc, errors, PlayFault::Write),
+        },
+    }
+}
+
+/// Lists what a FED file declares, and answers the status: 0 once the list is on `out` and nothing on `errors`; 1 with one line on
+/// `errors` for the first fault of the FED file, with nothing on `out`, and for a failed write or want of memory.
+fn list_bytes<W: Write, E: Write>(
+    alloc: Global,
+    fed: &[u8],
+    out: &mut Watched<W>,
+    errors: &mut Watched<E>,
+) -> u8
+    ensures { EndsListing fed.now
+        (stream W.contents out.old) (stream W.contents out.new)
+        (stream E.contents errors.old) (stream E.contents errors.new) result }
+{
+    match list(alloc, fed, out) {
+        Err(fault) => tell_list_stop(alloc, errors, fault),
+        Ok(()) => match out.flush() {
+            Ok(()) => DONE,
+            Err(_) => tell_list_stop(alloc, errors, ListFault::Write),
+        },
+    }
+}
+
+/// Plays a script over a FED file, both from one input: the FED file is what stands before its first line that is exactly `%%`, and
+/// the script what stands behind it. Answers as `play_bytes` does, and 1 with one line on `errors`, and nothing on `out`, where the
+/// input cannot be read.
+pub fn play_shared<R: Read, W: Write, E: Write>(
+    alloc: Global,
+    input: &mut Watched<R>,
+    out: &mut Watched<W>,
+    errors: &mut Watched<E>,
+) -> u8
+    ensures { EndsPlayingShared (stream R.remaining input.old) (stream R.remaining input.new)
+        (stream W.contents out.old) (stream W.contents out.new)
+        (stream E.contents errors.old) (stream E.contents errors.new) result }
+{
+    match load(alloc, input, SHARED_LIMIT) {
+        Ok(bytes) => {
+            let (fed, script) = parts(bytes.as_slice());
+            play_bytes(alloc, fed, script, out, errors)
+        }
+        Err(fault) => tell_load_stop(alloc, errors, "-", fault),
+    }
+}
+
+/// Plays a script over a FED file. Both are read before either is tested, the FED file first. Answers as `play_bytes` does, and 1
+/// with one line on `errors`, and nothing on `out`, where one of them cannot be read.
+pub fn play_files<R: Read, S: Read, W: Write, E: Write>(
+    alloc: Global,
+    fed_name: &str,
+    fed: &mut Watched<R>,
+    script_name: &str,
+    script: &mut Watched<S>,
+    out: &mut Watched<W>,
+    errors: &mut Watched<E>,
+) -> u8
+    ensures { EndsPlayingFiles fed_name.now (stream R.remaining fed.old) (stream R.remaining fed.new)
+        script_name.now (stream S.remaining script.old) (stream S.remaining script.new)
+        (stream W.contents out.old) (stream W.contents out.new)
+        (stream E.contents errors.old) (stream E.contents errors.new) result }
+{
+    let fed_bytes = match load(alloc, fed, FILE_LIMIT) {
+        Ok(bytes) => bytes,
+        Err(fault) => return tell_load_stop(alloc, errors, fed_name, fault),
+    };
+    match load(alloc, script, FILE_LIMIT) {
+        Ok(bytes) => play_bytes(alloc, fed_bytes.as_slice(), bytes.as_slice(), out, errors),
+        Err(fault) => tell_load_stop(alloc, errors, script_name, fault),
+    }
+}
+
+/// Lists what a FED file declares. Answers as `list_bytes` does, and 1 with one line on `errors`, and nothing on `out`, where the file
+/// cannot be read.
+pub fn list_file<R: Read, W: Write, E: Write>(
+    alloc: Global,
+    name: &str,
+    file: &mut Watched<R>,
+    out: &mut Watched<W>,
+    errors: &mut Watched<E>,
+) -> u8
+    ensures { EndsListingFile name.now (stream R.remaining file.old) (stream R.remaining file.new)
+        (stream W.contents out.old) (stream W.contents out.new)
+        (stream E.contents errors.old) (stream E.contents errors.new) result }
+{
+    match load(alloc, file, FILE_LIMIT) {
+        Ok(bytes) => list_bytes(alloc, bytes.as_slice(), out, errors),
+        Err(fault) => tell_load_stop(alloc, errors, name, fault),
+    }
+}

@@ -1,0 +1,74 @@
+//! Readers and writers that keep in mind whether they failed.
+
+ghost use Rattle.std.specs.Prelude.{◌≡◌, ◌||◌, not, is_ok, false};
+ghost use Rattle.std.specs.Io.{ReadsAtMost, WritesAtMost};
+ghost use Rattle.std.specs.Io.KnownBytes.{ReadConsumes, WriteAppends, Keeps};
+ghost use Rattle.hlaplay.specs.Streams.{is_failed_write};
+
+use std::io;
+use std::io::{Read, Write};
+
+/// A reader or a writer, and whether one of its calls has failed. Only a failed call sets the mark, and none takes it away: so
+/// where it is set, a failure of the reader or the writer itself was the cause.
+#[derive(Drop)]
+pub struct Watched<T> {
+    inner: T,
+    has_failed: bool,
+}
+
+impl<T> Watched<T> {
+    /// A reader or a writer that has not failed.
+    pub fn new(inner: T) -> Watched<T>
+        ensures inner { result.inner ≡ inner }
+        ensures sound { result.has_failed ≡ false }
+    {
+        Watched {
+            inner,
+            has_failed: false,
+        }
+    }
+}
+
+impl<R: Read> Read for Watched<R> {
+    ghost remaining = { λ w. R.remaining w.inner };
+
+    /// Reads once. An error is a failure.
+    fn read(&mut self, buffer: &mut [u8]) -> io::Result<usize>
+        ensures bound { ReadsAtMost result buffer.new }
+        ensures bytes { ReadConsumes (R.remaining self.old.inner) (R.remaining self.new.inner) result buffer.new }
+        ensures failure { self.new.has_failed ≡ (self.old.has_failed || not (is_ok result)) }
+    {
+        let result = self.inner.read(buffer);
+        self.has_failed = self.has_failed || result.is_err();
+        result
+    }
+}
+
+impl<W: Write> Write for Watched<W> {
+    ghost contents = { λ w. W.contents w.inner };
+
+    /// Writes once. An error is a failure, and so is a write that takes none of some bytes.
+    fn write(&mut self, bytes: &[u8]) -> io::Result<usize>
+        ensures bound { WritesAtMost result bytes.now }
+        ensures bytes { WriteAppends (W.contents self.old.inner) (W.contents self.new.inner) result bytes.now }
+        ensures failure { self.new.has_failed ≡ (self.old.has_failed || is_failed_write result bytes.now) }
+    {
+        let result = self.inner.write(bytes);
+        let fails = match &result {
+            Ok(taken) => *taken == 0 && !bytes.is_empty(),
+            Err(_) => true,
+        };
+        self.has_failed = self.has_failed || fails;
+        result
+    }
+
+    /// Hands on what is held back. An error is a failure.
+    fn flush(&mut self) -> io::Result<()>
+        ensures bytes { Keeps (W.contents self.old.inner) (W.contents self.new.inner) }
+        ensures failure { self.new.has_failed ≡ (self.old.has_failed || not (is_ok result)) }
+    {
+        let result = self.inner.flush();
+        self.has_failed = self.has_failed || result.is_err();
+        result
+    }
+}
