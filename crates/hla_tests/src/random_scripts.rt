@@ -1,3 +1,4 @@
+use crate::books::Books;
 use crate::demo::FED;
 use hla_script::play;
 use std::alloc::{AllocError, Global};
@@ -28,6 +29,9 @@ impl Numbers {
         texts[(drawn % texts.len() as u64) as usize]
     }
 }
+
+/// The least callbacks that the scripts of a test tell.
+const LEAST_TOLD: u32 = 100000;
 
 /// The lines with which a script begins; a word in capitals stands for one of its texts.
 const OPENING: [&str; 3] = ["create", "join A", "join B"];
@@ -166,25 +170,61 @@ fn transcript(alloc: Global, script: &[u8]) -> Result<Vec<u8>, Fail> {
     Ok(out)
 }
 
-/// Plays a script twice, and then up to each of its lines.
-fn check_script(rt: &impl Abort, alloc: Global, script: &[u8]) -> Result<(), Fail> {
+/// Reads a transcript beside its script: a line for each line, with its number, and each answer as the books have it.
+/// Answers how many callbacks were told.
+fn check_books(
+    rt: &impl Abort,
+    alloc: Global,
+    script: &str,
+    transcript: &str,
+) -> Result<u32, Fail> {
+    let mut books = Books::new(alloc);
+    let mut answers = transcript.lines();
+    let mut number = 0u64;
+    for line in script.lines() {
+        number = number.saturating_add(1);
+        let answer = match answers.next() {
+            Some(answer) => answer,
+            None => panic!(rt; "a line without an answer: {line}"),
+        };
+        let said = match answer.split_once(' ') {
+            Some((at, said)) if at.parse::<u64>() == Ok(number) => said,
+            _ => panic!(rt; "an answer to another line: {answer}"),
+        };
+        if !books.note(line, said)? {
+            panic!(rt; "not by the books: {line} => {answer}");
+        }
+    }
+    assert!(rt; answers.next().is_none());
+    Ok(books.told())
+}
+
+/// Plays a script twice, and then up to each of its lines. Answers how many callbacks it told.
+fn check_script(rt: &impl Abort, alloc: Global, script: &[u8]) -> Result<u32, Fail> {
     let whole = transcript(alloc, script)?;
     let again = transcript(alloc, script)?;
     assert!(rt; whole.as_slice() == again.as_slice());
+    let told = match (str::from_utf8(script), str::from_utf8(whole.as_slice())) {
+        (Ok(script), Ok(whole)) => check_books(rt, alloc, script, whole)?,
+        _ => panic!(rt; "no text"),
+    };
     for (at, byte) in script.iter().enumerate() {
         if *byte == b'\n' {
             let part = transcript(alloc, &script[..at + 1])?;
             assert!(rt; whole.as_slice().starts_with(part.as_slice()));
         }
     }
-    Ok(())
+    Ok(told)
 }
 
+/// Checks the scripts of some seeds, in which the federates must be told of something often enough for the books to be tried.
 fn check_scripts(rt: &impl Abort, alloc: Global, seeds: Range<u64>) -> Result<(), Fail> {
+    let mut told = 0u32;
     for seed in seeds {
         let script = script_of(alloc, seed)?;
-        check_script(rt, alloc, script.as_bytes())?;
+        told = told.saturating_add(check_script(rt, alloc, script.as_bytes())?);
     }
+    assert!(rt; told >= LEAST_TOLD, "only {told} callbacks");
     Ok(())
 }
 
