@@ -1,10 +1,10 @@
 ghost use Rattle.hla_federation.specs.Steps.State.{IsBuiltService};
 
-use crate::demo::FED;
 use hla_base::{Fault, List};
 use hla_fed_file::read;
 use hla_federation::Federation;
 use hla_machine::{Answer, Service, Step};
+use hla_text_tests::FED;
 use std::alloc::Global;
 use std::process::Abort;
 use std::test::Fail;

@@ -1,13 +1,25 @@
-use crate::demo::{FED, played};
 use hla_base::{List, MAX_HISTORY, Plain};
 use hla_script::{PlayFault, play};
+use hla_text_tests::FED;
+use std::alloc::Global;
 use std::io;
 use std::io::Write;
+use std::process::Abort;
 use std::test::Fail;
+
+/// What a script prints over `FED`.
+pub fn transcript_of(rt: &impl Abort, alloc: Global, script: &str) -> Result<String, Fail> {
+    let mut out = Vec::new(alloc);
+    let _ = play(alloc, FED.as_bytes(), script.as_bytes(), &mut out)?;
+    match String::from_utf8(out) {
+        Ok(text) => Ok(text),
+        Err(_) => panic!(rt; "the transcript is no text"),
+    }
+}
 
 #[test]
 fn receives_at_the_subscribed_ancestor(rt: HostRuntime) -> Result<(), Fail> {
-    let text = played(
+    let text = transcript_of(
         &rt,
         rt.alloc(),
         "create
@@ -54,7 +66,7 @@ fn copies_its_records(rt: HostRuntime) -> Result<(), Fail> {
 
 #[test]
 fn gives_nothing_back_to_the_sender(rt: HostRuntime) -> Result<(), Fail> {
-    let text = played(
+    let text = transcript_of(
         &rt,
         rt.alloc(),
         "create
@@ -90,7 +102,7 @@ B tick
 
 #[test]
 fn refuses_by_number_and_name(rt: HostRuntime) -> Result<(), Fail> {
-    let text = played(
+    let text = transcript_of(
         &rt,
         rt.alloc(),
         "# a comment
@@ -138,7 +150,7 @@ carry\tA  A
 
 #[test]
 fn tests_names_before_the_step(rt: HostRuntime) -> Result<(), Fail> {
-    let text = played(
+    let text = transcript_of(
         &rt,
         rt.alloc(),
         "create
@@ -171,7 +183,7 @@ B update 1 Car Text=a
 
 #[test]
 fn creates_and_destroys(rt: HostRuntime) -> Result<(), Fail> {
-    let text = played(
+    let text = transcript_of(
         &rt,
         rt.alloc(),
         "destroy
@@ -214,7 +226,7 @@ fn creates_sixty_four_times(rt: HostRuntime) -> Result<(), Fail> {
         script.push_str("create\ncreate\ndestroy\n")?;
     }
     script.push_str("create\njoin A\n")?;
-    let text = played(&rt, rt.alloc(), script.as_str())?;
+    let text = transcript_of(&rt, rt.alloc(), script.as_str())?;
     assert!(rt;
         text.as_str().ends_with(
             "190 ok
@@ -244,7 +256,7 @@ fn refuses_values_of_1025_bytes(rt: HostRuntime) -> Result<(), Fail> {
         for _ in 0..len {
             script.push_str("x")?;
         }
-        let text = played(&rt, rt.alloc(), script.as_str())?;
+        let text = transcript_of(&rt, rt.alloc(), script.as_str())?;
         assert!(rt; text.as_str().ends_with(want), "{line} at {len}");
     }
     Ok(())
@@ -257,7 +269,7 @@ fn fills_the_history(rt: HostRuntime) -> Result<(), Fail> {
         script.push_str("join \x41\n")?;
     }
     script.push_str("B tick\nA send Wrong")?;
-    let text = played(&rt, rt.alloc(), script.as_str())?;
+    let text = transcript_of(&rt, rt.alloc(), script.as_str())?;
     assert!(rt;
         text.as_str()
             .starts_with("1 ok\n2 ok 1\n3 error 5 FederateAlreadyExecutionMember\n")

@@ -1,6 +1,6 @@
 use crate::books::Books;
-use crate::demo::FED;
 use hla_script::play;
+use hla_text_tests::FED;
 use std::alloc::{AllocError, Global};
 use std::ops::Range;
 use std::process::Abort;

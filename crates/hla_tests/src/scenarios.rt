@@ -1,9 +1,9 @@
-use crate::demo::played;
+use crate::playing::transcript_of;
 use std::test::Fail;
 
 #[test]
 fn refusals(rt: HostRuntime) -> Result<(), Fail> {
-    let text = played(
+    let text = transcript_of(
         &rt,
         rt.alloc(),
         "create
@@ -43,7 +43,7 @@ join A
 
 #[test]
 fn late_subscriber(rt: HostRuntime) -> Result<(), Fail> {
-    let text = played(
+    let text = transcript_of(
         &rt,
         rt.alloc(),
         "create
@@ -101,7 +101,7 @@ B unsubscribeInteraction Note
 
 #[test]
 fn sender_is_given_nothing_of_its_own(rt: HostRuntime) -> Result<(), Fail> {
-    let text = played(
+    let text = transcript_of(
         &rt,
         rt.alloc(),
         "create
@@ -135,7 +135,7 @@ B tick
 
 #[test]
 fn nearest_subscribed_ancestor(rt: HostRuntime) -> Result<(), Fail> {
-    let text = played(
+    let text = transcript_of(
         &rt,
         rt.alloc(),
         "create
@@ -183,7 +183,7 @@ A send Memo
 
 #[test]
 fn update_and_removal(rt: HostRuntime) -> Result<(), Fail> {
-    let text = played(
+    let text = transcript_of(
         &rt,
         rt.alloc(),
         "create
@@ -261,7 +261,7 @@ A register Car x
 
 #[test]
 fn names_are_used_once(rt: HostRuntime) -> Result<(), Fail> {
-    let text = played(
+    let text = transcript_of(
         &rt,
         rt.alloc(),
         "create
@@ -301,7 +301,7 @@ A objectName 004
 
 #[test]
 fn objects_that_are_not_known(rt: HostRuntime) -> Result<(), Fail> {
-    let text = played(
+    let text = transcript_of(
         &rt,
         rt.alloc(),
         "create
@@ -357,7 +357,7 @@ A unsubscribeObject Car
 
 #[test]
 fn names_of_those_that_resigned(rt: HostRuntime) -> Result<(), Fail> {
-    let text = played(
+    let text = transcript_of(
         &rt,
         rt.alloc(),
         "create

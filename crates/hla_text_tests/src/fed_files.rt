@@ -1,4 +1,4 @@
-use crate::demo::FED;
+use crate::FED;
 use hla_base::Plain;
 use hla_fed_file::{Catalogue, FedFault, FedFaultKind, Order, Transport, read};
 use std::alloc::{AllocError, Global};

@@ -1,9 +1,15 @@
-//! The FED file that most tests read, and what scripts print over it.
+//! Tests of what is read, listed and printed, by public functions alone, and the FED file that they read. They stand apart so
+//! that no crate below is proved a second time for its tests.
+#![tactic(auto)]
 
-use hla_script::play;
-use std::alloc::Global;
-use std::process::Abort;
-use std::test::Fail;
+#[cfg(test)]
+mod fed_files;
+#[cfg(test)]
+mod listing;
+#[cfg(test)]
+mod printing;
+#[cfg(test)]
+mod reading;
 
 /// A FED file with each kind of declaration.
 pub const FED: &str = "(FED
@@ -25,13 +31,3 @@ pub const FED: &str = "(FED
    (class Hit reliable timestamp
     (parameter Force)))))
 ";
-
-/// What a script prints over `FED`.
-pub fn played(rt: &impl Abort, alloc: Global, script: &str) -> Result<String, Fail> {
-    let mut out = Vec::new(alloc);
-    let _ = play(alloc, FED.as_bytes(), script.as_bytes(), &mut out)?;
-    match String::from_utf8(out) {
-        Ok(text) => Ok(text),
-        Err(_) => panic!(rt; "the transcript is no text"),
-    }
-}

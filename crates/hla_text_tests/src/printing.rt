@@ -1,4 +1,4 @@
-use crate::demo::FED;
+use crate::FED;
 use hla_base::{EventHandle, FOREVER, Fault, HandleValuePair, List, Value};
 use hla_callbacks::{Callback, Delivery};
 use hla_fed_file::read;
@@ -8,7 +8,7 @@ use std::alloc::Global;
 use std::test::Fail;
 
 /// How an outcome is printed over `FED`.
-fn printed(alloc: Global, outcome: &Outcome) -> Result<Text, Fail> {
+fn printed_line(alloc: Global, outcome: &Outcome) -> Result<Text, Fail> {
     let catalogue = read(alloc, FED.as_bytes())?;
     let mut text = Text::new(alloc);
     print_line(&mut text, &catalogue, 7, outcome)?;
@@ -70,7 +70,7 @@ fn prints_answers(rt: HostRuntime) -> Result<(), Fail> {
             "7 error 35 FederateInternalError\n",
         ),
     ] {
-        assert_eq!(rt; printed(alloc, &outcome)?.as_slice(), want.as_bytes());
+        assert_eq!(rt; printed_line(alloc, &outcome)?.as_slice(), want.as_bytes());
     }
     Ok(())
 }
@@ -83,12 +83,12 @@ fn prints_names(rt: HostRuntime) -> Result<(), Fail> {
         name: List::from_vec(b"object-1".to_vec(alloc)?),
     });
     assert_eq!(rt;
-        printed(alloc, &registered)?.as_slice(),
+        printed_line(alloc, &registered)?.as_slice(),
         b"7 ok 1 object-1\n".as_slice()
     );
     let named = Outcome::Done(Answer::Name(List::from_vec(b"object-1".to_vec(alloc)?)));
     assert_eq!(rt;
-        printed(alloc, &named)?.as_slice(),
+        printed_line(alloc, &named)?.as_slice(),
         b"7 ok object-1\n".as_slice()
     );
     Ok(())
@@ -164,7 +164,7 @@ fn prints_callbacks(rt: HostRuntime) -> Result<(), Fail> {
             "7 ok requestRetraction 1.2\n",
         ),
     ] {
-        assert_eq!(rt; printed(alloc, &outcome)?.as_slice(), want.as_bytes());
+        assert_eq!(rt; printed_line(alloc, &outcome)?.as_slice(), want.as_bytes());
     }
     Ok(())
 }
