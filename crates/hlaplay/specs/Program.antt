@@ -69,12 +69,12 @@ Complains old new line = Tells old new line ⊎ Tells old new memory_line
 
 -- a script is played over a FED file
 pub data EndsPlaying (fed script : List ℕ) (out out' err err' : Stream) (status : ℕ) : Type 0 where
-  Played : (records : _) → IsPlayedFrom fed script out.bytes out'.bytes records → err' ≡ err → status ≡ 0 → EndsPlaying fed script out out' err err' status
+  Played : (records : _) → IsPlayedFrom fed script out.bytes out'.bytes records → out'.has_failed ≡ false → err' ≡ err → status ≡ 0 → EndsPlaying fed script out out' err err' status
   PlayStopped : (why : PlayFault) → StopsBy fed script out.bytes out'.bytes why → Complains err err' (play_stop_line why) → status ≡ 1 → EndsPlaying fed script out out' err err' status
 
 -- a FED file is listed
 pub data EndsListing (fed : List ℕ) (out out' err err' : Stream) (status : ℕ) : Type 0 where
-  Listed : IsListed fed out.bytes out'.bytes → err' ≡ err → status ≡ 0 → EndsListing fed out out' err err' status
+  Listed : IsListed fed out.bytes out'.bytes → out'.has_failed ≡ false → err' ≡ err → status ≡ 0 → EndsListing fed out out' err err' status
   ListStopped : (why : ListFault) → StopsListing fed out.bytes out'.bytes why → Complains err err' (list_stop_line why) → status ≡ 1 → EndsListing fed out out' err err' status
 
 -- ---- given readers; of a file at most 1,048,577 bytes are taken, so that one of more than 1,048,576 is too large
@@ -102,6 +102,6 @@ opened bytes = record { bytes = bytes; has_failed = false }
 abbrev pub EndsTask : (List ℕ → Option (List ℕ)) → Asked → Stream → Stream → Stream → Stream → ℕ → Type 0
 EndsTask bytes_of (Play fed script) out out' err err' status =
     MatchBool (bytes_eq fed (codes "-") && bytes_eq script (codes "-"))
-      ((input' : Stream) × EndsPlayingShared (opened (bytes_of (codes "-"))) input' out out' err err' status)
-      ((fed' : Stream) × ((script' : Stream) × EndsPlayingFiles fed (opened (bytes_of fed)) fed' script (opened (bytes_of script)) script' out out' err err' status))
+    ((input' : Stream) × EndsPlayingShared (opened (bytes_of (codes "-"))) input' out out' err err' status)
+    ((fed' : Stream) × ((script' : Stream) × EndsPlayingFiles fed (opened (bytes_of fed)) fed' script (opened (bytes_of script)) script' out out' err err' status))
 EndsTask bytes_of (Listing fed) out out' err err' status = (file' : Stream) × EndsListingFile fed (opened (bytes_of fed)) file' out out' err err' status

@@ -31,13 +31,15 @@ fn play_bytes<W: Write, E: Write>(
         (stream W.contents out.old) (stream W.contents out.new)
         (stream E.contents errors.old) (stream E.contents errors.new) result }
 {
-    match play(alloc, fed, script, out) {
-        Err(fault) => tell_play_stop(alloc, errors, fault),
-        Ok(_) => match out.flush() {
-            Ok(()) => DONE,
-            Err(_) => tell_play_stop(alloc, errors, PlayFault::Write),
-        },
+    let _records = match play(alloc, fed, script, out) {
+        Ok(records) => records,
+        Err(fault) => return tell_play_stop(alloc, errors, fault),
+    };
+    let _ = out.flush();
+    if out.has_failed() {
+        return tell_play_stop(alloc, errors, PlayFault::Write);
     }
+    DONE
 }
 
 /// Lists what a FED file declares, and answers the status: 0 once the list is on `out` and nothing on `errors`; 1 with one line on
@@ -53,12 +55,14 @@ fn list_bytes<W: Write, E: Write>(
         (stream E.contents errors.old) (stream E.contents errors.new) result }
 {
     match list(alloc, fed, out) {
-        Err(fault) => tell_list_stop(alloc, errors, fault),
-        Ok(()) => match out.flush() {
-            Ok(()) => DONE,
-            Err(_) => tell_list_stop(alloc, errors, ListFault::Write),
-        },
+        Ok(()) => {}
+        Err(fault) => return tell_list_stop(alloc, errors, fault),
     }
+    let _ = out.flush();
+    if out.has_failed() {
+        return tell_list_stop(alloc, errors, ListFault::Write);
+    }
+    DONE
 }
 
 /// Plays a script over a FED file, both from one input: the FED file is what stands before its first line that is exactly `%%`, and
