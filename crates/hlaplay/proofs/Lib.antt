@@ -4,3 +4,5 @@ pub mod PartLemmas
 pub mod WriteLemmas
 -- A line that is told, and bytes that are kept.
 pub mod EndLemmas
+-- A task is done where the run on its opened files ends as it must.
+pub mod TaskLemmas

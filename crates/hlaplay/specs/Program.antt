@@ -1,5 +1,6 @@
 -- How a run of the program ends
-use Rattle.std.specs.Prelude.{◌≡◌, ℕ, true, ◌⊎◌, List, ◌++◌, take, codes, decimal}
+use Rattle.std.specs.Prelude.{◌≡◌, ℕ, true, false, ◌&&◌, ◌⊎◌, List, ◌++◌, take, Option, MatchBool, codes, decimal}
+use Rattle.std.specs.Str.{bytes_eq}
 use Rattle.std.specs.Io.KnownBytes.{Appends}
 use Rattle.hla_fed_file.specs.Fault.{kind_name_of}
 use Rattle.hla_fed_file.specs.declared.fault.FedFault.{FedFault}
@@ -11,6 +12,7 @@ use Rattle.hla_script.specs.declared.listing.ListFault.{ListFault}
 use Rattle.hla_script.specs.declared.listing.ListFault.TheVariants as unlisted
 use Rattle.hla_script.specs.declared.player.PlayFault.{PlayFault}
 use Rattle.hla_script.specs.declared.player.PlayFault.TheVariants as unplayed
+use Rattle.hlaplay.specs.Asked.{Asked, Play, Listing}
 use Rattle.hlaplay.specs.Parts.{first_part, second_part}
 use Rattle.hlaplay.specs.Streams.{Stream, IsTaken, LoadStops}
 use Rattle.hlaplay.specs.declared.input.LoadFault.{LoadFault}
@@ -67,12 +69,12 @@ Complains old new line = Tells old new line ⊎ Tells old new memory_line
 
 -- a script is played over a FED file
 pub data EndsPlaying (fed script : List ℕ) (out out' err err' : Stream) (status : ℕ) : Type 0 where
-  Played : (records : _) → IsPlayedFrom fed script out.bytes out'.bytes records → err' ≡ err → status ≡ 0 → EndsPlaying fed script out out' err err' status
+  Played : (records : _) → IsPlayedFrom fed script out.bytes out'.bytes records → out'.has_failed ≡ false → err' ≡ err → status ≡ 0 → EndsPlaying fed script out out' err err' status
   PlayStopped : (why : PlayFault) → StopsBy fed script out.bytes out'.bytes why → Complains err err' (play_stop_line why) → status ≡ 1 → EndsPlaying fed script out out' err err' status
 
 -- a FED file is listed
 pub data EndsListing (fed : List ℕ) (out out' err err' : Stream) (status : ℕ) : Type 0 where
-  Listed : IsListed fed out.bytes out'.bytes → err' ≡ err → status ≡ 0 → EndsListing fed out out' err err' status
+  Listed : IsListed fed out.bytes out'.bytes → out'.has_failed ≡ false → err' ≡ err → status ≡ 0 → EndsListing fed out out' err err' status
   ListStopped : (why : ListFault) → StopsListing fed out.bytes out'.bytes why → Complains err err' (list_stop_line why) → status ≡ 1 → EndsListing fed out out' err err' status
 
 -- ---- given readers; of a file at most 1,048,577 bytes are taken, so that one of more than 1,048,576 is too large
@@ -90,3 +92,16 @@ pub data EndsPlayingFiles (fed_name : List ℕ) (fed fed' : Stream) (script_name
 pub data EndsListingFile (name : List ℕ) (file file' out out' err err' : Stream) (status : ℕ) : Type 0 where
   FileRead : (bytes : List ℕ) → IsTaken 1048577 file file' bytes → EndsListing bytes out out' err err' status → EndsListingFile name file file' out out' err err' status
   FileUnread : (why : LoadFault) → LoadStops file file' why → out' ≡ out → Complains err err' (load_stop_line name why) → status ≡ 1 → EndsListingFile name file file' out out' err err' status
+
+-- ---- given the bytes of each file by its name
+-- a file that was just opened
+abbrev pub opened : Option (List ℕ) → Stream
+opened bytes = record { bytes = bytes; has_failed = false }
+
+-- what is asked for is done with the files that it names; `-` is the standard input, which holds both files where both names are `-`
+abbrev pub EndsTask : (List ℕ → Option (List ℕ)) → Asked → Stream → Stream → Stream → Stream → ℕ → Type 0
+EndsTask bytes_of (Play fed script) out out' err err' status =
+    MatchBool (bytes_eq fed (codes "-") && bytes_eq script (codes "-"))
+    ((input' : Stream) × EndsPlayingShared (opened (bytes_of (codes "-"))) input' out out' err err' status)
+    ((fed' : Stream) × ((script' : Stream) × EndsPlayingFiles fed (opened (bytes_of fed)) fed' script (opened (bytes_of script)) script' out out' err err' status))
+EndsTask bytes_of (Listing fed) out out' err err' status = (file' : Stream) × EndsListingFile fed (opened (bytes_of fed)) file' out out' err err' status

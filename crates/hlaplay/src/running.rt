@@ -1,12 +1,18 @@
 //! The runs of the program, over any readers and writers.
 
 ghost use Rattle.hlaplay.specs.Streams.{stream};
-ghost use Rattle.hlaplay.specs.Program.{EndsPlaying, EndsListing, EndsPlayingShared, EndsPlayingFiles, EndsListingFile};
+ghost use Rattle.std.specs.Prelude.{◌≡◌, ◌&&◌, codes};
+ghost use Rattle.std.specs.Str.{bytes_eq};
+ghost use Rattle.hlaplay.specs.Asked as asked;
+ghost use Rattle.hlaplay.specs.Asked.{asked_by};
+ghost use Rattle.hlaplay.specs.Program.{EndsPlaying, EndsListing, EndsPlayingShared, EndsPlayingFiles, EndsListingFile, EndsTask};
 
 use crate::input::{FILE_LIMIT, SHARED_LIMIT, load};
 use crate::parts::parts;
+use crate::source::Opener;
 use crate::telling::{DONE, tell_list_stop, tell_load_stop, tell_play_stop};
 use crate::watched::Watched;
+use crate::words::Task;
 use hla_script::{ListFault, PlayFault, list, play};
 use std::alloc::Global;
 use std::io::{Read, Write};
@@ -25,13 +31,15 @@ fn play_bytes<W: Write, E: Write>(
         (stream W.contents out.old) (stream W.contents out.new)
         (stream E.contents errors.old) (stream E.contents errors.new) result }
 {
-    match play(alloc, fed, script, out) {
-        Err(fault) => tell_play_stop(alloc, errors, fault),
-        Ok(_) => match out.flush() {
-            Ok(()) => DONE,
-            Err(_) => tell_play_stop(alloc, errors, PlayFault::Write),
-        },
+    let _records = match play(alloc, fed, script, out) {
+        Ok(records) => records,
+        Err(fault) => return tell_play_stop(alloc, errors, fault),
+    };
+    let _ = out.flush();
+    if out.has_failed() {
+        return tell_play_stop(alloc, errors, PlayFault::Write);
     }
+    DONE
 }
 
 /// Lists what a FED file declares, and answers the status: 0 once the list is on `out` and nothing on `errors`; 1 with one line on
@@ -47,18 +55,20 @@ fn list_bytes<W: Write, E: Write>(
         (stream E.contents errors.old) (stream E.contents errors.new) result }
 {
     match list(alloc, fed, out) {
-        Err(fault) => tell_list_stop(alloc, errors, fault),
-        Ok(()) => match out.flush() {
-            Ok(()) => DONE,
-            Err(_) => tell_list_stop(alloc, errors, ListFault::Write),
-        },
+        Ok(()) => {}
+        Err(fault) => return tell_list_stop(alloc, errors, fault),
     }
+    let _ = out.flush();
+    if out.has_failed() {
+        return tell_list_stop(alloc, errors, ListFault::Write);
+    }
+    DONE
 }
 
 /// Plays a script over a FED file, both from one input: the FED file is what stands before its first line that is exactly `%%`, and
 /// the script what stands behind it. Answers as `play_bytes` does, and 1 with one line on `errors`, and nothing on `out`, where the
 /// input cannot be read.
-pub fn play_shared<R: Read, W: Write, E: Write>(
+fn play_shared<R: Read, W: Write, E: Write>(
     alloc: Global,
     input: &mut Watched<R>,
     out: &mut Watched<W>,
@@ -79,7 +89,7 @@ pub fn play_shared<R: Read, W: Write, E: Write>(
 
 /// Plays a script over a FED file. Both are read before either is tested, the FED file first. Answers as `play_bytes` does, and 1
 /// with one line on `errors`, and nothing on `out`, where one of them cannot be read.
-pub fn play_files<R: Read, S: Read, W: Write, E: Write>(
+fn play_files<R: Read, S: Read, W: Write, E: Write>(
     alloc: Global,
     fed_name: &str,
     fed: &mut Watched<R>,
@@ -105,7 +115,7 @@ pub fn play_files<R: Read, S: Read, W: Write, E: Write>(
 
 /// Lists what a FED file declares. Answers as `list_bytes` does, and 1 with one line on `errors`, and nothing on `out`, where the file
 /// cannot be read.
-pub fn list_file<R: Read, W: Write, E: Write>(
+fn list_file<R: Read, W: Write, E: Write>(
     alloc: Global,
     name: &str,
     file: &mut Watched<R>,
@@ -119,5 +129,63 @@ pub fn list_file<R: Read, W: Write, E: Write>(
     match load(alloc, file, FILE_LIMIT) {
         Ok(bytes) => list_bytes(alloc, bytes.as_slice(), out, errors),
         Err(fault) => tell_load_stop(alloc, errors, name, fault),
+    }
+}
+
+/// Whether both files stand in the standard input.
+fn share_input(fed_name: &str, script_name: &str) -> bool
+    ensures { result ≡ (bytes_eq fed_name.now (codes "-") && bytes_eq script_name.now (codes "-")) }
+{
+    fed_name == "-" && script_name == "-"
+}
+
+/// Plays the script of a name over the FED file of a name; both from one input where both names are `-`.
+fn play_named<O: Opener, W: Write, E: Write>(
+    alloc: Global,
+    opener: &O,
+    fed_name: &str,
+    script_name: &str,
+    out: &mut Watched<W>,
+    errors: &mut Watched<E>,
+) -> u8
+    ensures { EndsTask (O.bytes_of opener.now) (asked.Play fed_name.now script_name.now)
+        (stream W.contents out.old) (stream W.contents out.new)
+        (stream E.contents errors.old) (stream E.contents errors.new) result }
+{
+    if share_input(fed_name, script_name) {
+        let mut input = opener.open("-");
+        return play_shared(alloc, &mut input, out, errors);
+    }
+    let mut fed = opener.open(fed_name);
+    let mut script = opener.open(script_name);
+    play_files(
+        alloc,
+        fed_name,
+        &mut fed,
+        script_name,
+        &mut script,
+        out,
+        errors,
+    )
+}
+
+/// Does what is asked for with the files that it names, and answers the status.
+pub fn do_task<O: Opener, W: Write, E: Write>(
+    alloc: Global,
+    opener: &O,
+    task: Task<'_>,
+    out: &mut Watched<W>,
+    errors: &mut Watched<E>,
+) -> u8
+    ensures { EndsTask (O.bytes_of opener.now) (asked_by task.entry)
+        (stream W.contents out.old) (stream W.contents out.new)
+        (stream E.contents errors.old) (stream E.contents errors.new) result }
+{
+    match task {
+        Task::Play { fed, script } => play_named(alloc, opener, fed, script, out, errors),
+        Task::List { fed } => {
+            let mut file = opener.open(fed);
+            list_file(alloc, fed, &mut file, out, errors)
+        }
     }
 }

@@ -1,11 +1,28 @@
 //! What the names on the command line stand for.
 
+ghost use Rattle.std.specs.Prelude.{◌≡◌, ℕ, List, None, false};
+ghost use Rattle.std.specs.declared.option.Option.{Option};
+
 use crate::watched::Watched;
 use std::io::Read;
 use std::rt::Runtime;
 use std::{fs, io};
 
-/// What a name stands for.
+/// What gives the file of a name; the name `-` is that of the standard input.
+pub trait Opener {
+    /// What is read.
+    type Input: Read + Drop;
+
+    // The bytes of the file of a name, where they are known.
+    ghost bytes_of: { Self → List ℕ → Option (List ℕ) };
+
+    /// The file of this name, from its start on. Reads of a file that cannot be opened fail.
+    fn open(&self, name: &str) -> Watched<Self::Input>
+        ensures bytes { Self.Input.remaining result.inner ≡ bytes_of self.now name.now }
+        ensures sound { result.has_failed ≡ false };
+}
+
+/// What a name of the system stands for.
 #[derive(Drop)]
 pub enum Source<F, S> {
     /// A file that was opened.
@@ -26,13 +43,31 @@ impl<F: Read, S: Read> Read for Source<F, S> {
     }
 }
 
-/// The file of this name, or the standard input where the name is a dash.
-pub fn open_source<R: Runtime>(rt: &R, name: &str) -> Watched<Source<R::File, R::Reader>> {
-    if name == "-" {
-        return Watched::new(Source::Standard(rt.reader()));
+/// The files of the system and its standard input. No contract can say what they hold.
+#[derive(Drop)]
+pub struct System<'a, R> {
+    rt: &'a R,
+}
+
+impl<'a, R> System<'a, R> {
+    /// The files and the standard input of this run.
+    pub fn new(rt: &'a R) -> System<'a, R> {
+        System { rt }
     }
-    match fs::open(rt, name) {
-        Ok(file) => Watched::new(Source::File(file)),
-        Err(_) => Watched::new(Source::Unopened),
+}
+
+impl<R: Runtime> Opener for System<'_, R> {
+    type Input = Source<R::File, R::Reader>;
+
+    ghost bytes_of = { λ _ _. None };
+
+    fn open(&self, name: &str) -> Watched<Source<R::File, R::Reader>> {
+        if name == "-" {
+            return Watched::new(Source::Standard(self.rt.reader()));
+        }
+        match fs::open(self.rt, name) {
+            Ok(file) => Watched::new(Source::File(file)),
+            Err(_) => Watched::new(Source::Unopened),
+        }
     }
 }

@@ -27,6 +27,13 @@ impl<T> Watched<T> {
             has_failed: false,
         }
     }
+
+    /// Whether a call has failed.
+    pub fn has_failed(&self) -> bool
+        ensures { result ≡ self.now.has_failed }
+    {
+        self.has_failed
+    }
 }
 
 impl<R: Read> Read for Watched<R> {

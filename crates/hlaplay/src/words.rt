@@ -1,5 +1,9 @@
 //! The command line.
 
+ghost use Rattle.std.specs.Prelude.{◌≡◌, option_map};
+ghost use Rattle.clap.specs.Matches.{found_of};
+ghost use Rattle.hlaplay.specs.Asked.{asked_by, asked_with};
+
 use clap::{Arg, ArgMatches, Command, Error};
 use std::alloc::{AllocError, Global};
 
@@ -32,7 +36,9 @@ fn command<'a>(alloc: Global) -> Result<Command<'a>, AllocError> {
 }
 
 /// What a subcommand asks for.
-fn asked<'a>(name: &str, found: &ArgMatches<'a>) -> Option<Task<'a>> {
+fn asked<'a>(name: &str, found: &ArgMatches<'a>) -> Option<Task<'a>>
+    ensures { option_map asked_by result ≡ asked_with name.now (found_of found.now) }
+{
     if name == "fed" {
         return Some(Task::List {
             fed: found.get_str("FILE")?,

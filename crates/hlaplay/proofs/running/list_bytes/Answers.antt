@@ -1,4 +1,4 @@
-use Rattle.std.proofs.Common.{refl}
+use Rattle.std.proofs.Common.{refl, sym, ◌∙◌}
 use Rattle.hlaplay.specs.Program.{Listed, ListStopped}
 use Rattle.hlaplay.proofs.EndLemmas.{listed_kept}
 use Rattle.hla_script.specs.declared.listing.ListFault.TheVariants as stop
@@ -7,8 +7,8 @@ use Rattle.hlaplay.proofs.running.list_bytes.Goals as goal
 pub returns-in-Err : goal.returns-in-Err
 returns-in-Err g c = ListStopped c.in-Err.fault c.in-Err.ensures.stopped c.tell_list_stop.ensures.line c.tell_list_stop.ensures.status
 
-pub returns-in-Err-flush : goal.returns-in-Err-flush
-returns-in-Err-flush g c = let is = c.in-Ok.ensures.listed in ListStopped stop.Write (is.0, is.1) c.tell_list_stop-in-Err-flush.ensures.line c.tell_list_stop-in-Err-flush.ensures.status
+pub returns-then-has_failed : goal.returns-then-has_failed
+returns-then-has_failed g c = let is = c.in-Ok.ensures.listed in ListStopped stop.Write (is.0, is.1) c.tell_list_stop-then-has_failed.ensures.line c.tell_list_stop-then-has_failed.ensures.status
 
-pub returns-in-Ok-flush : goal.returns-in-Ok-flush
-returns-in-Ok-flush g c = Listed (listed_kept c.args.fed.now _ _ _ c.in-Ok.ensures.listed c.in-Ok-flush.ensures.bytes) refl refl
+pub returns : goal.returns
+returns g c = Listed (listed_kept c.args.fed.now _ _ _ c.in-Ok.ensures.listed c.flush.ensures.bytes) (sym c.has_failed.ensures ∙ c.if-has_failed.false) refl refl
