@@ -1,7 +1,7 @@
 -- A line that is told, and bytes that are kept.
 use Rattle.std.proofs.Common.{◌≡◌, ℕ, Bool, true, false, ◌||◌, not, List, take, Option, None, Some, Result, Ok, Err, IfOk, OnOk, OnErr, is_ok, refl, subst, inl, inr, ◌∙◌}
 use Rattle.std.specs.Io.KnownBytes.{Appends, Keeps}
-use Rattle.hla_script.specs.Listed.{IsListed}
+use Rattle.hla_transcript.specs.Listed.{IsListed}
 use Rattle.hla_script.specs.Playing.{IsPlayedFrom}
 use Rattle.hlaplay.specs.Streams.{Stream}
 use Rattle.hlaplay.specs.Program.{Tells, Whole, Cut, Complains, memory_line}

@@ -4,12 +4,12 @@ use Rattle.std.specs.Str.{bytes_eq}
 use Rattle.std.specs.Io.KnownBytes.{Appends}
 use Rattle.hla_fed_file.specs.Fault.{kind_name_of}
 use Rattle.hla_fed_file.specs.declared.fault.FedFault.{FedFault}
-use Rattle.hla_script.specs.FaultName.{kind_name}
-use Rattle.hla_script.specs.Listed.{IsListed, StopsListing}
+use Rattle.hla_commands.specs.FaultName.{kind_name}
+use Rattle.hla_transcript.specs.Listed.{IsListed, StopsListing}
 use Rattle.hla_script.specs.Playing.{IsPlayedFrom, StopsBy}
-use Rattle.hla_script.specs.declared.lines.ScriptFault.{ScriptFault}
-use Rattle.hla_script.specs.declared.listing.ListFault.{ListFault}
-use Rattle.hla_script.specs.declared.listing.ListFault.TheVariants as unlisted
+use Rattle.hla_commands.specs.declared.lines.ScriptFault.{ScriptFault}
+use Rattle.hla_transcript.specs.declared.listing.ListFault.{ListFault}
+use Rattle.hla_transcript.specs.declared.listing.ListFault.TheVariants as unlisted
 use Rattle.hla_script.specs.declared.player.PlayFault.{PlayFault}
 use Rattle.hla_script.specs.declared.player.PlayFault.TheVariants as unplayed
 use Rattle.hlaplay.specs.Asked.{Asked, Play, Listing}

@@ -1,7 +1,7 @@
 use Rattle.std.proofs.Common.{refl, sym, ◌∙◌}
 use Rattle.hlaplay.specs.Program.{Listed, ListStopped}
 use Rattle.hlaplay.proofs.EndLemmas.{listed_kept}
-use Rattle.hla_script.specs.declared.listing.ListFault.TheVariants as stop
+use Rattle.hla_transcript.specs.declared.listing.ListFault.TheVariants as stop
 use Rattle.hlaplay.proofs.running.list_bytes.Goals as goal
 
 pub returns-in-Err : goal.returns-in-Err
