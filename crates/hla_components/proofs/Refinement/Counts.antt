@@ -7,7 +7,7 @@ use Rattle.hla_base.specs.declared.row.TimeRow.{TimeRow}
 use Rattle.hla_base.specs.declared.row.AdvanceKind.{AdvanceKind}
 use Rattle.hla_base.specs.declared.row.AdvanceKind.TheVariants as kind
 use Rattle.hla_base.specs.Tables.{upd}
-use Rattle.hla_base.specs.Rows.{new_row, requested, regulates, constrains, picked, granted, regulating_from, is_regulator}
+use Rattle.hla_base.specs.Rows.{new_row, row_after_request, regulates, constrains, row_after_pick, row_after_grant, regulating_from, is_regulator}
 use Rattle.hla_base.proofs.Tables.{upd_each, upd_same, upd_other, by_number}
 use Rattle.hla_fed_file.specs.CatalogueValue.{CatalogueValue}
 use Rattle.hla_null_message.specs.declared.message.Message.{Message}
