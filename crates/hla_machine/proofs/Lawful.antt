@@ -1,12 +1,22 @@
 -- The happenings of each run keep all laws
-use Rattle.std.proofs.Common.{List, [], ◌∷◌, ◌++◌, refl, sym, subst}
+use Rattle.std.proofs.Common.{◌≡◌, ℕ, true, Some, List, [], ◌∷◌, ◌++◌, refl, sym, subst}
+use Rattle.hla_base.specs.declared.number.EventHandle.{EventHandle}
+use Rattle.hla_machine.specs.declared.service.Service.{Service}
+use Rattle.hla_machine.specs.declared.step.Step.{Step}
+use Rattle.hla_machine.specs.declared.step.Step.TheVariants.{Call}
+use Rattle.hla_machine.specs.declared.step.Answer.TheVariants as answer
+use Rattle.hla_machine.specs.declared.step.Outcome.{Outcome}
+use Rattle.hla_machine.specs.declared.step.Outcome.TheVariants as outcome
+use Rattle.hla_machine.specs.declared.step.Choice.{Choice}
 use Rattle.hla_machine.specs.Central.{Central, new_central}
+use Rattle.hla_machine.specs.Machine.{MayEnd, after}
 use Rattle.hla_machine.specs.Runs.{Happening, IsRun}
-use Rattle.hla_machine.specs.History.{Happens, HappenAfter, HappensLater, next_state, IsReached, central_after, Occurs, OccurAfter, OccursLater}
+use Rattle.hla_machine.specs.History.{Happens, HappenAfter, HappensLater, next_state, WaitsInOrder, IsReached, central_after, Occurs, OccurAfter, OccursLater}
 use Rattle.hla_machine.specs.Lawful.{IsLawful}
 use Rattle.hla_machine.proofs.Runs.{run_safe}
 use Rattle.hla_machine.proofs.Ahead.{run_ahead}
 use Rattle.hla_machine.proofs.Orders.{stamps_never_fall, keys_rise}
+use Rattle.hla_machine.proofs.Sending.{sent_waits}
 use Rattle.hla_machine.proofs.Grants.{grant_after_all}
 use Rattle.hla_machine.proofs.Deliveries.{heard_from_another, heard_once, given_to_a_member, heard_in_order, discovered_before}
 use Rattle.hla_machine.proofs.Registrations.{registered_apart}
@@ -27,6 +37,14 @@ joined_run c (h ∷ xs) d ys e first rest = (first.0, joined_run (next_state c h
 -- what is reached from a state that is reached is reached
 pub later_reached : (c : Central) (hs : List Happening) (d : Central) → IsReached c → IsRun c hs d → IsReached d
 later_reached c hs d is run = record { catalogue = is.catalogue; before = is.before ++ hs; run = joined_run (new_central is.catalogue) is.before c hs d is.run run }
+
+-- what was sent by a call waits
+sent_at : (c : Central) (step : Step) (out : Outcome) (o : Choice) (f : ℕ) (service : Service) (e : EventHandle) (g : ℕ) → step ≡ Call f service → out ≡ outcome.Done (answer.Sent (Some e)) → MayEnd c step out o
+    → (let d = after c step out o in (d.sent e.sender e.serial).receivers g ≡ true → WaitsInOrder d g e (d.sent e.sender e.serial).stamp)
+sent_at c step out o f service e g is_call is_sent =
+    subst (λ (step : Step). MayEnd c step out o → (let d = after c step out o in (d.sent e.sender e.serial).receivers g ≡ true → WaitsInOrder d g e (d.sent e.sender e.serial).stamp)) (sym is_call)
+    (subst (λ (out : Outcome). MayEnd c (Call f service) out o → (let d = after c (Call f service) out o in (d.sent e.sender e.serial).receivers g ≡ true → WaitsInOrder d g e (d.sent e.sender e.serial).stamp)) (sym is_sent)
+    (λ may told. sent_waits c f service e o g may.1 told))
 
 module _ (c : Central) (happenings : List Happening) (end : Central) (is : IsReached c) (run : IsRun c happenings end) where
   pub occurs_happens : (now : Central) (h : Happening) → Occurs c happenings now h → Happens now h
@@ -76,5 +94,6 @@ module _ (c : Central) (happenings : List Happening) (end : Central) (is : IsRea
     ahead = λ now h f o. run_ahead now h f (occurs_happens now h o);
     stamps = λ now h between then i f e x s t o calm first second. stamps_never_fall now h between then i f e x s t (occur_after now h between then i o) calm first second;
     keys = λ now h between then i f e x s t o strict one first second. keys_rise now h between then i f e x s t (occur_after now h between then i o) strict one first second;
+    waits = λ now h f service e g o is_call is_sent told. sent_at now h.step h.outcome h.choice f service e g is_call is_sent (occurs_happens now h o).allowed.0 told;
     granted = λ now between then h f t q e s o grants con asks waits low. grant_after_all now between then h f t q e s (occurs_later now between then h o) grants con asks waits low;
   }
