@@ -12,7 +12,7 @@ use Rattle.hla_machine.specs.declared.step.Answer.TheVariants as answer
 use Rattle.hla_machine.specs.declared.step.Outcome.TheVariants as outcome
 use Rattle.hla_machine.specs.Central.{Central, reach}
 use Rattle.hla_machine.specs.Runs.{Happening, IsRun}
-use Rattle.hla_machine.specs.History.{GivesCallback, SpeaksOf, Hears, HearsPlain, Picks, IsGranted, IsInNoFlush, IsInStrict, IsInOneAdvance, IsBefore, next_state, WaitsInOrder, IsPickedOrMoved, IsReached, central_after, Occurs, OccurAfter, OccursLater}
+use Rattle.hla_machine.specs.History.{GivesCallback, SpeaksOf, Hears, HearsPlain, Picks, IsGranted, IsInNoFlush, IsInStrict, IsInOneAdvance, IsBefore, next_state, WaitsInOrder, IsPickedOrMoved, HasHistory, central_after, Occurs, OccurAfter, OccursLater}
 use Rattle.hla_machine.specs.Laws.{IsSafe, IsAhead}
 
 pub record IsLawful (c : Central) (happenings : List Happening) : Type 0 where
@@ -54,6 +54,6 @@ pub record IsLawful (c : Central) (happenings : List Happening) : Type 0 where
       OccursLater c happenings now between then h → IsGranted h f t → is_constrained (then.row f) ≡ true → (then.row f).advance ≡ Some q →
       WaitsInOrder now f e s → s < reach q.kind t → ((then.sent e.sender e.serial).retracted ≡ true) ⊎ IsPickedOrMoved now between f e s
 
--- the happenings of each run from a state that is reached are so
+-- the happenings of each run from a state with a history are so
 abbrev pub EachRunIsLawful : Type 0
-EachRunIsLawful = (c : Central) (happenings : List Happening) (d : Central) → IsReached c → IsRun c happenings d → IsLawful c happenings
+EachRunIsLawful = (c : Central) (happenings : List Happening) (d : Central) → HasHistory c → IsRun c happenings d → IsLawful c happenings
