@@ -102,8 +102,8 @@ next_request r = when (is_constrained r) (keep_if (λ q. is_next q.kind) r.advan
 
 -- ---- the row after a service
 -- Time Advance Request and its kin. Only the floor of a constrained federate's next-event or flush request waits for the grant
-abbrev pub requested : TimeRow → AdvanceKind → ℕ → TimeRow
-requested r kind a = record r {
+abbrev pub row_after_request : TimeRow → AdvanceKind → ℕ → TimeRow
+row_after_request r kind a = record r {
   advance = Some (record { kind = kind; asked = a });
   first_pick = None;
   flushed = None;
@@ -136,8 +136,8 @@ least_of s None = s
 least_of s (Some t) = min s t
 
 -- a pick in stamp order, at s; the picks of a flush leave the bar
-abbrev pub picked : TimeRow → AdvanceRequest → ℕ → TimeRow
-picked r q s = record r {
+abbrev pub row_after_pick : TimeRow → AdvanceRequest → ℕ → TimeRow
+row_after_pick r q s = record r {
   first_pick = cond (is_flush q.kind) r.first_pick (or_else r.first_pick (Some s));
   flushed = cond (is_flush q.kind) (Some (least_of s r.flushed)) r.flushed;
   bar = cond (is_flush q.kind) r.bar (bar_after r q.kind s);
@@ -151,8 +151,9 @@ first_or (Some p) a = p
 abbrev pub grant_time : TimeRow → AdvanceRequest → ℕ
 grant_time r q = cond (is_next q.kind && is_constrained r) (first_or r.first_pick q.asked) q.asked
 
-abbrev pub granted : TimeRow → AdvanceRequest → ℕ → TimeRow
-granted r q t = record r {
+-- a grant at t ends the advance, and raises floor and bar
+abbrev pub row_after_grant : TimeRow → AdvanceRequest → ℕ → TimeRow
+row_after_grant r q t = record r {
   time = t;
   advance = None;
   first_pick = None;

@@ -8,5 +8,5 @@ pub mod Runs
 pub mod Executions
 -- Epochs count enablings
 pub mod Counts
--- What is reached, and what happens from there, is lawful
-pub mod Reached
+-- What a list of steps leads to, and that what happens from there is lawful
+pub mod LedTo

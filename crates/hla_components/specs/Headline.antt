@@ -53,14 +53,14 @@ EachListIsARun = (catalogue : CatalogueValue) (steps : List Step) →
     IsRun (central (new_components catalogue)) (happenings (new_components catalogue) steps) (central (state_after (new_components catalogue) steps))
 
 -- a list of steps leads from a new execution to s
-pub record IsReachable (s : Components) : Type 0 where
+pub record IsLedTo (s : Components) : Type 0 where
   pub catalogue : CatalogueValue
   pub steps : List Step
   pub state : s ≡ state_after (new_components catalogue) steps
 
--- whatever the steps, from whatever is reached, what the components answer keeps all laws of the machine
+-- whatever the steps, from whatever other steps led to, what the components answer keeps all laws of the machine
 abbrev pub EachListIsLawful : Type 0
-EachListIsLawful = (s : Components) (steps : List Step) → IsReachable s → IsLawful (central s) (happenings s steps)
+EachListIsLawful = (s : Components) (steps : List Step) → IsLedTo s → IsLawful (central s) (happenings s steps)
 
 -- so whatever the steps, each constrained federate is safe
 abbrev pub EachFederationIsSafe : Type 0
@@ -147,9 +147,9 @@ EachDiscoversBefore = (catalogue : CatalogueValue) (before : List Step) (step : 
     let now = state_after (new_components catalogue) before in
     GivesCallback step (next now step).outcome f k → SpeaksOf k object → (g : ℕ) → All (λ (d : Discovery). d.object ≢ object) ((central now).discoveries g f)
 
--- whatever the steps, from whatever is reached, each object is discovered first, and once
+-- whatever the steps, from whatever other steps led to, each object is discovered first, and once
 abbrev pub EachListDiscoversInTurn : Type 0
-EachListDiscoversInTurn = (s : Components) (steps : List Step) → IsReachable s → IsDiscoveredInTurn (central s) (happenings s steps)
+EachListDiscoversInTurn = (s : Components) (steps : List Step) → IsLedTo s → IsDiscoveredInTurn (central s) (happenings s steps)
 
 -- when a federate is given an update or the removal of an object, it was given the discovery of that object before
 abbrev pub EachDiscoversFirst : Type 0

@@ -14,7 +14,7 @@ use Rattle.hla_base.specs.declared.row.TimeRow.{TimeRow}
 use Rattle.hla_null_message.specs.declared.message.Message.{Message}
 use Rattle.hla_null_message.specs.declared.message.Message.TheVariants as message
 use Rattle.hla_base.specs.Tables.{forever, upd, upd2, upd_row, upd_column, upd_new, clear, or_else, numbers_below}
-use Rattle.hla_base.specs.Rows.{is_regulator, is_disabled, is_none_of, requested, regulating_from, regulates, constrains, picked, granted, new_row}
+use Rattle.hla_base.specs.Rows.{is_regulator, is_disabled, is_none_of, row_after_request, regulating_from, regulates, constrains, row_after_pick, row_after_grant, new_row}
 use Rattle.hla_lbts.specs.Peers.{null_bound}
 use Rattle.hla_fed_file.specs.Lookup.{object_class_named, interaction_class_named, attribute_named, parameter_named}
 use Rattle.hla_callbacks.specs.declared.callback.Callback.{Callback}
@@ -175,7 +175,7 @@ with_event_retracted s f m = record s {
 
 -- ---- services
 abbrev pub request_outcome : Components → ℕ → AdvanceKind → ℕ → Outcomes
-request_outcome s f k a = done_outcome (with_row s f (requested (s.row f) k a))
+request_outcome s f k a = done_outcome (with_row s f (row_after_request (s.row f) k a))
 
 abbrev pub handle_outcome : Option ℕ → Components → Outcomes
 handle_outcome found s = answer_outcome (answer.Handle (unwrap_or found 0)) s
@@ -304,8 +304,8 @@ pick_outcome s f (PickControl k rest) = control_outcome s f k rest
 pick_outcome s f (PickRo e rest) = callback_outcome (event_callback (delivery_of e) e) (record s { ro = upd s.ro f rest })
 pick_outcome s f PickRegulates = callback_outcome (callback.TimeRegulationEnabled (s.row f).regulation_time) (with_row s f (regulates (s.row f)))
 pick_outcome s f PickConstrains = constrain_outcome s f
-pick_outcome s f (PickTso q e rest) = callback_outcome (event_callback (delivery.TimeStamp e.stamp) e) (record s { row = upd s.row f (picked (s.row f) q e.stamp); tso = upd s.tso f rest })
-pick_outcome s f (PickGrant q t) = callback_outcome (callback.TimeAdvanceGrant t) (with_row s f (granted (s.row f) q t))
+pick_outcome s f (PickTso q e rest) = callback_outcome (event_callback (delivery.TimeStamp e.stamp) e) (record s { row = upd s.row f (row_after_pick (s.row f) q e.stamp); tso = upd s.tso f rest })
+pick_outcome s f (PickGrant q t) = callback_outcome (callback.TimeAdvanceGrant t) (with_row s f (row_after_grant (s.row f) q t))
 
 abbrev pub tick_outcome : Components → ℕ → Outcomes
 tick_outcome s f = pick_outcome s f (pick (s.controls f) (s.row f) (s.ro f) (s.tso f) (local_bound s f))

@@ -14,7 +14,7 @@ pub fn each_next_is_a_run()
     ensures { EachNextIsARun }
 {}
 
-/// What the components answer and choose, whatever the steps, and from whatever state was reached, is lawful: each law of the
+/// What the components answer and choose, whatever the steps, and from whatever state other steps led to, is lawful: each law of the
 /// machine holds of it, as a named field of `IsLawful`.
 pub fn each_list_is_lawful()
     ensures { EachListIsLawful }

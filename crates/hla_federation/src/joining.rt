@@ -11,7 +11,7 @@ ghost use Rattle.hla_federation.specs.Steps.Soundness.{IsSound, MayCall};
 ghost use Rattle.hla_federation.specs.Steps.State.{state_of, IsWhole, Ends};
 
 use crate::member::Member;
-use crate::naming::{copied, default_name};
+use crate::naming::{default_name, name_copy};
 use crate::outbox::Outbox;
 use crate::parts::Parts;
 use hla_base::{Fault, FederateNo, ObjectNo, Serial};
@@ -28,7 +28,7 @@ impl Parts {
             return Err(fault);
         }
         let federate = self.members.next_federate();
-        let member = Member::new(self.alloc, copied(self.alloc, name)?)?;
+        let member = Member::new(self.alloc, name_copy(self.alloc, name)?)?;
         let next_name = default_name(self.alloc, self.registry.next_object())?;
         self.members.reserve_one()?;
         self.declarations.admit()?;

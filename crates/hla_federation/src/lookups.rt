@@ -5,7 +5,7 @@ ghost use Rattle.hla_machine.specs.declared.step.Step.TheVariants as step;
 ghost use Rattle.hla_federation.specs.Steps.Soundness.{MayCall};
 ghost use Rattle.hla_federation.specs.Steps.State.{Answers};
 
-use crate::naming::copied;
+use crate::naming::name_copy;
 use crate::parts::Parts;
 use hla_base::{ClassNo, Fault, FederateNo, ObjectNo};
 use hla_machine::Answer;
@@ -106,6 +106,6 @@ impl Parts {
         if let Some(fault) = self.object_name_fault(federate, object) {
             return Err(fault);
         }
-        Ok(Answer::Name(copied(self.alloc, self.registry.name_of(object))?))
+        Ok(Answer::Name(name_copy(self.alloc, self.registry.name_of(object))?))
     }
 }

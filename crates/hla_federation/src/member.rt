@@ -12,7 +12,7 @@ ghost use Rattle.hla_federation.specs.Steps.Memory.{arrival_takes_memory};
 ghost use Rattle.hla_federation.specs.Steps.Picking.{picked_at, left_at};
 
 use crate::incoming::Incoming;
-use crate::messages::{carried_event, given};
+use crate::messages::{callback_of, carried_event};
 use hla_base::{Fault, FederateNo, List, Serial};
 use hla_callbacks::Callback;
 use hla_machine::Carried;
@@ -187,7 +187,7 @@ impl Member {
             }),
             Some(Control::ToRetract { event }) => Some(Callback::RequestRetraction { event }),
             None => match self.received.take_first() {
-                Some(event) => Some(given(event)),
+                Some(event) => Some(callback_of(event)),
                 None => None,
             },
         }

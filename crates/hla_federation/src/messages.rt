@@ -22,7 +22,7 @@ pub fn carried_event(event: &Event) -> Carried
 }
 
 /// The callback of an event that is given in receive order.
-pub fn given(event: Event) -> Callback
+pub fn callback_of(event: Event) -> Callback
     ensures { result ≡ event_callback (delivery_of event) event }
 {
     let delivery = if event.ordered {

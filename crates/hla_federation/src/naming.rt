@@ -21,7 +21,7 @@ pub fn default_name(alloc: Global, object: ObjectNo) -> Result<List<u8>, Fault>
 }
 
 /// A copy of a name.
-pub fn copied(alloc: Global, name: &[u8]) -> Result<List<u8>, Fault>
+pub fn name_copy(alloc: Global, name: &[u8]) -> Result<List<u8>, Fault>
     ensures ok { IfOk result (λ copy. copy ≡ name.now) }
     ensures err { IfErr result (λ e. e ≡ Fault.OutOfMemory) }
 {

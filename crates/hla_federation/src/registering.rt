@@ -17,7 +17,7 @@ ghost use Rattle.hla_federation.specs.Steps.Soundness.{IsSound, MayCall};
 ghost use Rattle.hla_federation.specs.Steps.State.{state_of, IsWhole, Ends};
 
 use crate::direction::Direction;
-use crate::naming::{copied, default_name};
+use crate::naming::{default_name, name_copy};
 use crate::outbox::Outbox;
 use crate::parts::Parts;
 use hla_base::{AttributeNo, ClassNo, Discovery, Fault, FederateNo, List, ObjectNo, Plain};
@@ -58,7 +58,7 @@ impl Parts {
             let discovery = Discovery {
                 object,
                 class: receiver.class,
-                name: copied(self.alloc, name)?,
+                name: name_copy(self.alloc, name)?,
             };
             outbox.put(receiver.federate, Message::Discovery(discovery))?;
         }
@@ -119,7 +119,7 @@ impl Parts {
     }
 
     /// At which class a federate is served once it subscribes another class too, if it is.
-    fn served_with(
+    fn serving_class_with(
         &self,
         federate: FederateNo,
         subscribed: ClassNo,
@@ -133,7 +133,7 @@ impl Parts {
     }
 
     /// At which class a federate is to discover an object once it subscribes a class too, if it is to.
-    fn discovered_at(
+    fn discovery_class(
         &self,
         federate: FederateNo,
         class: ClassNo,
@@ -147,7 +147,7 @@ impl Parts {
         {
             return None;
         }
-        self.served_with(federate, class, self.registry.class_of(object))
+        self.serving_class_with(federate, class, self.registry.class_of(object))
     }
 
     /// Adds the discovery of each object that a federate is to discover once it subscribes a class too, for the wire from
@@ -164,11 +164,11 @@ impl Parts {
     {
         let end = self.registry.next_object();
         for object in 1..end {
-            if let Some(class) = self.discovered_at(federate, class, object) {
+            if let Some(class) = self.discovery_class(federate, class, object) {
                 let discovery = Discovery {
                     object,
                     class,
-                    name: copied(self.alloc, self.registry.name_of(object))?,
+                    name: name_copy(self.alloc, self.registry.name_of(object))?,
                 };
                 outbox.put(self.registry.owner(object), Message::Discovery(discovery))?;
             }
@@ -185,7 +185,7 @@ impl Parts {
     {
         let end = self.registry.next_object();
         for object in 1..end {
-            if self.discovered_at(federate, class, object).is_some() {
+            if self.discovery_class(federate, class, object).is_some() {
                 self.registry.make_known(object, federate);
             }
         }

@@ -7,7 +7,7 @@ use Rattle.hla_base.specs.declared.content.Content.TheVariants as content
 use Rattle.hla_base.specs.declared.row.AdvanceRequest.{AdvanceRequest}
 use Rattle.hla_base.specs.declared.row.TimeRow.{TimeRow}
 use Rattle.hla_base.specs.Tables.{or_else}
-use Rattle.hla_base.specs.Rows.{is_next, is_flush, is_constrained, is_pending, new_row, regulating_from, regulates, granted, first_or}
+use Rattle.hla_base.specs.Rows.{is_next, is_flush, is_constrained, is_pending, new_row, regulating_from, regulates, row_after_grant, first_or}
 use Rattle.hla_callbacks.specs.declared.callback.Callback.{Callback}
 use Rattle.hla_callbacks.specs.declared.callback.Callback.TheVariants as callback
 use Rattle.hla_callbacks.specs.declared.callback.Delivery.{Delivery}
@@ -145,7 +145,7 @@ module _ (c : Central) (k : IsKept c) (f : ℕ) (t : Timely (c.row f)) where
           (λ (y : is_flush q.kind ≡ true). may.0 y)
           (λ (n : is_flush q.kind ≡ false). let m = may.1 n in k.ahead f con e.sender e.serial (record { order = Tso; stamp = s; content = x }) copy m.unretracted refl)
           (cases_Bool (is_flush q.kind))
-  timely_turn r m (Granted q v asks may is) = subst Timely (sym is) (timely_idle (granted (c.row f) q v) refl (λ p. let e = (k.rows f).idle p in absurd (cc)))
+  timely_turn r m (Granted q v asks may is) = subst Timely (sym is) (timely_idle (row_after_grant (c.row f) q v) refl (λ p. let e = (k.rows f).idle p in absurd (cc)))
 
   time_turn : (r : TimeRow) (m : Bool) → Turn c f r m → c.directory.joined f ≡ true → m ≡ true → (c.row f).time ≤ r.time
   time_turn r m (Fresh is left) was now = absurd (let e = left was in cc)

@@ -1,12 +1,22 @@
 -- The happenings of each run keep all laws
-use Rattle.std.proofs.Common.{List, [], ◌∷◌, ◌++◌, refl, sym, subst}
+use Rattle.std.proofs.Common.{◌≡◌, ℕ, true, Some, List, [], ◌∷◌, ◌++◌, refl, sym, subst}
+use Rattle.hla_base.specs.declared.number.EventHandle.{EventHandle}
+use Rattle.hla_machine.specs.declared.service.Service.{Service}
+use Rattle.hla_machine.specs.declared.step.Step.{Step}
+use Rattle.hla_machine.specs.declared.step.Step.TheVariants.{Call}
+use Rattle.hla_machine.specs.declared.step.Answer.TheVariants as answer
+use Rattle.hla_machine.specs.declared.step.Outcome.{Outcome}
+use Rattle.hla_machine.specs.declared.step.Outcome.TheVariants as outcome
+use Rattle.hla_machine.specs.declared.step.Choice.{Choice}
 use Rattle.hla_machine.specs.Central.{Central, new_central}
+use Rattle.hla_machine.specs.Machine.{MayEnd, after}
 use Rattle.hla_machine.specs.Runs.{Happening, IsRun}
-use Rattle.hla_machine.specs.History.{Happens, HappenAfter, HappensLater, next_state, IsReached, central_after, Occurs, OccurAfter, OccursLater}
+use Rattle.hla_machine.specs.History.{Happens, HappenAfter, HappensLater, next_state, WaitsInOrder, HasHistory, central_after, Occurs, OccurAfter, OccursLater}
 use Rattle.hla_machine.specs.Lawful.{IsLawful}
 use Rattle.hla_machine.proofs.Runs.{run_safe}
 use Rattle.hla_machine.proofs.Ahead.{run_ahead}
 use Rattle.hla_machine.proofs.Orders.{stamps_never_fall, keys_rise}
+use Rattle.hla_machine.proofs.Sending.{sent_waits}
 use Rattle.hla_machine.proofs.Grants.{grant_after_all}
 use Rattle.hla_machine.proofs.Deliveries.{heard_from_another, heard_once, given_to_a_member, heard_in_order, discovered_before}
 use Rattle.hla_machine.proofs.Registrations.{registered_apart}
@@ -24,16 +34,24 @@ pub joined_run : (c : Central) (xs : List Happening) (d : Central) (ys : List Ha
 joined_run c [] d ys e first rest = subst (λ (x : Central). IsRun x ys e) (sym first) rest
 joined_run c (h ∷ xs) d ys e first rest = (first.0, joined_run (next_state c h) xs d ys e first.1 rest)
 
--- what is reached from a state that is reached is reached
-pub later_reached : (c : Central) (hs : List Happening) (d : Central) → IsReached c → IsRun c hs d → IsReached d
-later_reached c hs d is run = record { catalogue = is.catalogue; before = is.before ++ hs; run = joined_run (new_central is.catalogue) is.before c hs d is.run run }
+-- what is led to from a state with a history has a history
+pub later_history : (c : Central) (hs : List Happening) (d : Central) → HasHistory c → IsRun c hs d → HasHistory d
+later_history c hs d is run = record { catalogue = is.catalogue; before = is.before ++ hs; run = joined_run (new_central is.catalogue) is.before c hs d is.run run }
 
-module _ (c : Central) (happenings : List Happening) (end : Central) (is : IsReached c) (run : IsRun c happenings end) where
+-- what was sent by a call waits
+sent_at : (c : Central) (step : Step) (out : Outcome) (o : Choice) (f : ℕ) (service : Service) (e : EventHandle) (g : ℕ) → step ≡ Call f service → out ≡ outcome.Done (answer.Sent (Some e)) → MayEnd c step out o
+    → (let d = after c step out o in (d.sent e.sender e.serial).receivers g ≡ true → WaitsInOrder d g e (d.sent e.sender e.serial).stamp)
+sent_at c step out o f service e g is_call is_sent =
+    subst (λ (step : Step). MayEnd c step out o → (let d = after c step out o in (d.sent e.sender e.serial).receivers g ≡ true → WaitsInOrder d g e (d.sent e.sender e.serial).stamp)) (sym is_call)
+    (subst (λ (out : Outcome). MayEnd c (Call f service) out o → (let d = after c (Call f service) out o in (d.sent e.sender e.serial).receivers g ≡ true → WaitsInOrder d g e (d.sent e.sender e.serial).stamp)) (sym is_sent)
+    (λ may told. sent_waits c f service e o g may.1 told))
+
+module _ (c : Central) (happenings : List Happening) (end : Central) (is : HasHistory c) (run : IsRun c happenings end) where
   pub occurs_happens : (now : Central) (h : Happening) → Occurs c happenings now h → Happens now h
   occurs_happens now h o =
       let all = subst (λ (hs : List Happening). IsRun c hs end) o.whole run in
       let rest = rest_run c o.before (h ∷ o.rest) end all in
-      let start = later_reached c o.before (central_after c o.before) is (first_run c o.before (h ∷ o.rest) end all) in
+      let start = later_history c o.before (central_after c o.before) is (first_run c o.before (h ∷ o.rest) end all) in
       subst (λ (d : Central). Happens d h) (sym o.state) (record { catalogue = start.catalogue; before = start.before; run = start.run; allowed = rest.0 })
 
   occur_after : (now : Central) (h : Happening) (between : List Happening) (then : Central) (i : Happening) → OccurAfter c happenings now h between then i → HappenAfter now h between then i
@@ -51,7 +69,7 @@ module _ (c : Central) (happenings : List Happening) (end : Central) (is : IsRea
   occurs_later : (now : Central) (between : List Happening) (then : Central) (h : Happening) → OccursLater c happenings now between then h → HappensLater now between then h
   occurs_later now between then h o =
       let all = subst (λ (hs : List Happening). IsRun c hs end) o.whole run in
-      let start = subst IsReached (sym o.state) (later_reached c o.before (central_after c o.before) is (first_run c o.before (between ++ (h ∷ o.rest)) end all)) in
+      let start = subst HasHistory (sym o.state) (later_history c o.before (central_after c o.before) is (first_run c o.before (between ++ (h ∷ o.rest)) end all)) in
       let rest = subst (λ (d : Central). IsRun d (between ++ (h ∷ o.rest)) end) (sym o.state) (rest_run c o.before (between ++ (h ∷ o.rest)) end all) in
       let then_is = sym o.later in
       record {
@@ -71,10 +89,11 @@ module _ (c : Central) (happenings : List Happening) (end : Central) (is : IsRea
     differ = λ now h between then i a b n p o first second. registered_apart now h between then i a b n p (occur_after now h between then i o) first second;
     discovered = λ now h f k object o gives speaks g. discovered_before now h f k object (occurs_happens now h o) gives speaks g;
     safe = λ before rest whole.
-        let start = later_reached c before (central_after c before) is (first_run c before rest end (subst (λ (hs : List Happening). IsRun c hs end) whole run)) in
+        let start = later_history c before (central_after c before) is (first_run c before rest end (subst (λ (hs : List Happening). IsRun c hs end) whole run)) in
         run_safe start.catalogue start.before (central_after c before) start.run;
     ahead = λ now h f o. run_ahead now h f (occurs_happens now h o);
     stamps = λ now h between then i f e x s t o calm first second. stamps_never_fall now h between then i f e x s t (occur_after now h between then i o) calm first second;
     keys = λ now h between then i f e x s t o strict one first second. keys_rise now h between then i f e x s t (occur_after now h between then i o) strict one first second;
+    waits = λ now h f service e g o is_call is_sent told. sent_at now h.step h.outcome h.choice f service e g is_call is_sent (occurs_happens now h o).allowed.0 told;
     granted = λ now between then h f t q e s o grants con asks waits low. grant_after_all now between then h f t q e s (occurs_later now between then h o) grants con asks waits low;
   }

@@ -13,7 +13,7 @@ use Rattle.hla_base.specs.declared.content.Content.TheVariants as content
 use Rattle.hla_base.specs.declared.number.EventHandle.{EventHandle}
 use Rattle.hla_base.specs.Limits.{max_time, max_enablings}
 use Rattle.hla_base.specs.Tables.{upd, or_else, greatest, when}
-use Rattle.hla_base.specs.Rows.{is_strict, is_next, is_flush, is_constrained, new_row, width, requested, regulating_from, regulates, constrains, picked, first_or, grant_time, granted, bar_after, keep_if, RowNumbers}
+use Rattle.hla_base.specs.Rows.{is_strict, is_next, is_flush, is_constrained, new_row, width, row_after_request, regulating_from, regulates, constrains, row_after_pick, first_or, grant_time, row_after_grant, bar_after, keep_if, RowNumbers}
 use Rattle.hla_callbacks.specs.declared.callback.Callback.{Callback}
 use Rattle.hla_callbacks.specs.declared.callback.Callback.TheVariants as callback
 use Rattle.hla_callbacks.specs.declared.callback.Delivery.{Delivery}
@@ -89,7 +89,7 @@ looked_ahead r lookahead low n = record {
 width_low : (lookahead : ℕ) (kind : AdvanceKind) → lookahead ≤ max_time → width lookahead kind ≤ max_time
 width_low lookahead kind low = cond_both (is_strict kind) (max lookahead 1) lookahead (λ w. w ≤ max_time) (λ _. grind (arith, nat_tests)) (λ _. low)
 
-requested_low : (r : TimeRow) (kind : AdvanceKind) (a : ℕ) → a ≤ max_time → RowNumbers r → RowNumbers (requested r kind a)
+requested_low : (r : TimeRow) (kind : AdvanceKind) (a : ℕ) → a ≤ max_time → RowNumbers r → RowNumbers (row_after_request r kind a)
 requested_low r kind a low n =
     let w = width_low r.lookahead kind n.lookahead in
     let high : a + width r.lookahead kind ≤ 2 * max_time = omega (arith, low, w) in
@@ -157,7 +157,7 @@ first_low (Some y) false s x old new p is = old p is
 first_low None true s x old new p is = absurd (cc)
 first_low None false s x old new p is = let e : s ≡ p = cc in subst (λ (n : ℕ). n ≤ x) e (new refl)
 
-picked_low : (r : TimeRow) (q : AdvanceRequest) (s : ℕ) → r.advance ≡ Some q → (is_flush q.kind ≡ false → s ≤ q.asked) → RowNumbers r → RowNumbers (picked r q s)
+picked_low : (r : TimeRow) (q : AdvanceRequest) (s : ℕ) → r.advance ≡ Some q → (is_flush q.kind ≡ false → s ≤ q.asked) → RowNumbers r → RowNumbers (row_after_pick r q s)
 picked_low r q s asks low n = record {
   time = n.time;
   lookahead = n.lookahead;
@@ -169,7 +169,7 @@ picked_low r q s asks low n = record {
   first = λ y p ask is. let same : q ≡ y = cc in subst (λ (y : AdvanceRequest). p ≤ y.asked) same (first_low r.first_pick (is_flush q.kind) s q.asked (λ p i. n.first q p asks i) low p is);
 }
 
-granted_low : (r : TimeRow) (q : AdvanceRequest) (t : ℕ) → t ≤ max_time → RowNumbers r → RowNumbers (granted r q t)
+granted_low : (r : TimeRow) (q : AdvanceRequest) (t : ℕ) → t ≤ max_time → RowNumbers r → RowNumbers (row_after_grant r q t)
 granted_low r q t low n =
     let w = width_low r.lookahead q.kind n.lookahead in
     let floor = n.floor in
@@ -273,7 +273,7 @@ enter_numbers c f time lookahead (choice.Entry e) all clear may =
 enter_numbers c f time lookahead o all clear may = absurd may
 
 -- ---- services
-ask_numbers : (c : Central) (f : ℕ) (x : AdvanceKind) (a : ℕ) → AllNumbers c.row → AllClear (request_tests (c.row f) a) → AllNumbers (upd c.row f (requested (c.row f) x a))
+ask_numbers : (c : Central) (f : ℕ) (x : AdvanceKind) (a : ℕ) → AllNumbers c.row → AllClear (request_tests (c.row f) a) → AllNumbers (upd c.row f (row_after_request (c.row f) x a))
 ask_numbers c f x a all clear = set_numbers c f _ all (requested_low (c.row f) x a (ltb-false max_time a clear.1.1.1.0) (all f))
 
 sent_numbers : (c : Central) (row : ℕ → TimeRow) → row ≡ c.row → AllNumbers c.row → AllNumbers row
@@ -322,7 +322,7 @@ module _ (c : Central) (all : AllNumbers c.row) (f : ℕ) where
   deliver_numbers x e (delivery.Demoted s) may = all
   deliver_numbers x e (delivery.TimeStamp s) may =
       let w = may.3 in
-      let is = row_after_is (c.row f) (c.row f).advance w.0 (λ q. picked (c.row f) q s) w.1 in
+      let is = row_after_is (c.row f) (c.row f).advance w.0 (λ q. row_after_pick (c.row f) q s) w.1 in
       subst (λ (r : TimeRow). AllNumbers (upd c.row f r)) (sym is)
       (set_numbers c f _ all (picked_low (c.row f) w.0 s w.1 (λ no. (w.2.1 no).asked) (all f)))
 
@@ -339,7 +339,7 @@ module _ (c : Central) (all : AllNumbers c.row) (f : ℕ) where
   pick_numbers (callback.TimeRegulationEnabled time) o may = set_numbers c f _ all (regulates_low (c.row f) (all f))
   pick_numbers (callback.TimeConstrainedEnabled time) o may = constrain_numbers o
   pick_numbers (callback.TimeAdvanceGrant time) o may =
-      let is = row_after_is (c.row f) (c.row f).advance may.0 (λ q. granted (c.row f) q time) may.1 in
+      let is = row_after_is (c.row f) (c.row f).advance may.0 (λ q. row_after_grant (c.row f) q time) may.1 in
       subst (λ (r : TimeRow). AllNumbers (upd c.row f r)) (sym is)
       (set_numbers c f _ all (granted_low (c.row f) may.0 time (le_trans (grant_low c f may.0 time (all f) may.1 may.2) ((all f).asked may.0 may.1)) (all f)))
   pick_numbers (callback.RequestRetraction event) o may = all

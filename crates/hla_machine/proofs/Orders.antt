@@ -6,7 +6,7 @@ use Rattle.hla_base.specs.declared.row.AdvanceKind.{AdvanceKind}
 use Rattle.hla_base.specs.declared.row.AdvanceKind.TheVariants.{TimeAdvance, TimeAdvanceAvailable, NextEvent, NextEventAvailable, FlushQueue}
 use Rattle.hla_base.specs.declared.row.AdvanceRequest.{AdvanceRequest}
 use Rattle.hla_base.specs.Tables.{or_else}
-use Rattle.hla_base.specs.Rows.{is_strict, is_next, is_flush, is_constrained, is_advancing, is_none_of, picked, bar_after, first_or}
+use Rattle.hla_base.specs.Rows.{is_strict, is_next, is_flush, is_constrained, is_advancing, is_none_of, row_after_pick, bar_after, first_or}
 use Rattle.hla_machine.specs.Central.{Central, Copy, Tso, reach, at_key, KeyLe}
 use Rattle.hla_machine.specs.Callbacks.{MayPick, row_after}
 use Rattle.hla_machine.specs.Machine.{MayEnd}
@@ -22,9 +22,9 @@ use Rattle.hla_machine.proofs.News.{Change, step_change}
 use Rattle.hla_machine.proofs.Ahead.{Taken, taken, pick_ahead, Reachable, reachable, reachable_step, reachable_run, time_grows}
 
 -- the state after a pick
-picked_row : (c d : Central) (f : ℕ) (e : EventHandle) (s : ℕ) (t : Taken c d f e s) → d.row f ≡ picked (c.row f) t.request s
-picked_row c d f e s t = subst (λ (d : Central). d.row f ≡ picked (c.row f) t.request s) (sym t.follows)
-    (upd_same c.row f (row_after (c.row f) (c.row f).advance (λ q. picked (c.row f) q s)) ∙ row_after_is (c.row f) (c.row f).advance t.request (λ q. picked (c.row f) q s) t.asks)
+picked_row : (c d : Central) (f : ℕ) (e : EventHandle) (s : ℕ) (t : Taken c d f e s) → d.row f ≡ row_after_pick (c.row f) t.request s
+picked_row c d f e s t = subst (λ (d : Central). d.row f ≡ row_after_pick (c.row f) t.request s) (sym t.follows)
+    (upd_same c.row f (row_after (c.row f) (c.row f).advance (λ q. row_after_pick (c.row f) q s)) ∙ row_after_is (c.row f) (c.row f).advance t.request (λ q. row_after_pick (c.row f) q s) t.asks)
 
 -- P holds of each waiting key and stamp, and of all from v on
 module _ (f s v : ℕ) (P : ℕ → ℕ → ℕ → Type 0) (from : (g m x : ℕ) → v ≤ x → P g m x) (least : (g m x : ℕ) → P g m x → s ≤ x) where

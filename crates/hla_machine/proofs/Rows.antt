@@ -7,7 +7,7 @@ use Rattle.hla_base.specs.declared.row.AdvanceRequest.{AdvanceRequest}
 use Rattle.hla_base.specs.declared.row.Role.TheVariants.{Disabled, Pending}
 use Rattle.hla_base.specs.declared.row.TimeRow.{TimeRow}
 use Rattle.hla_base.specs.Tables.{when, or_else}
-use Rattle.hla_base.specs.Rows.{is_strict, is_next, is_flush, is_regulator, is_constrained, is_pending, next_request, keep_if, width, new_row, least_stamp, least_stamp_in, requested, regulating_from, regulates, constrains, picked, granted, bar_after, first_or}
+use Rattle.hla_base.specs.Rows.{is_strict, is_next, is_flush, is_regulator, is_constrained, is_pending, next_request, keep_if, width, new_row, least_stamp, least_stamp_in, row_after_request, regulating_from, regulates, constrains, row_after_pick, row_after_grant, bar_after, first_or}
 use Rattle.hla_machine.specs.Central.{BelowWake, BelowRequest, BelowOut, reach}
 
 -- up to where the picks of an advance may have raised the bar of a regulator
@@ -116,13 +116,13 @@ law_new = record {
 asked_is : (k : AdvanceKind) (a : ℕ) (q : AdvanceRequest) → Some (record { kind = k; asked = a }) ≡ Some q → record { kind = k; asked = a } ≡ q
 asked_is k a q e = cc
 
-requested_floor : (r : TimeRow) (k : AdvanceKind) (a : ℕ) → r.floor ≤ (requested r k a).floor
+requested_floor : (r : TimeRow) (k : AdvanceKind) (a : ℕ) → r.floor ≤ (row_after_request r k a).floor
 requested_floor r k a = cond_both ((is_next k || is_flush k) && is_constrained r) r.floor (max r.floor (a + width r.lookahead k)) (λ x. r.floor ≤ x) (λ _. omega arith) (λ _. omega arith)
 
-requested_covers : (r : TimeRow) (k : AdvanceKind) (a : ℕ) → (is_next k || is_flush k) ≡ false → a + width r.lookahead k ≤ (requested r k a).floor
+requested_covers : (r : TimeRow) (k : AdvanceKind) (a : ℕ) → (is_next k || is_flush k) ≡ false → a + width r.lookahead k ≤ (row_after_request r k a).floor
 requested_covers r k a n = rw n (omega arith)
 
-pub law_requested : (r : TimeRow) (k : AdvanceKind) (a : ℕ) → RowLaw r → r.advance ≡ None → is_pending r.regulating ≡ false → is_pending r.constrained ≡ false → RowLaw (requested r k a)
+pub law_requested : (r : TimeRow) (k : AdvanceKind) (a : ℕ) → RowLaw r → r.advance ≡ None → is_pending r.regulating ≡ false → is_pending r.constrained ≡ false → RowLaw (row_after_request r k a)
 law_requested r k a law idle rest free = record {
   idle = λ e. absurd (cc);
   resting = λ e. absurd (cc);
@@ -131,7 +131,7 @@ law_requested r k a law idle rest free = record {
   steady = law.steady;
   floored = λ g. le_trans (law.floored g) (requested_floor r k a);
   entered = λ e. absurd (cc);
-  asked = λ q e. subst (λ (q : AdvanceRequest). (is_next q.kind || is_flush q.kind) ≡ false → q.asked + width r.lookahead q.kind ≤ (requested r k a).floor) (asked_is k a q e) (requested_covers r k a);
+  asked = λ q e. subst (λ (q : AdvanceRequest). (is_next q.kind || is_flush q.kind) ≡ false → q.asked + width r.lookahead q.kind ≤ (row_after_request r k a).floor) (asked_is k a q e) (requested_covers r k a);
   covers = λ c g. le_trans (idle_covered r law idle c g) (requested_floor r k a);
 }
 
@@ -268,7 +268,7 @@ picked_covers r q s first low asked at ahead = ⊎_elim
 same_request : (q k : AdvanceRequest) → Some q ≡ Some k → q ≡ k
 same_request q k e = cc
 
-pub law_picked : (r : TimeRow) (q : AdvanceRequest) (s : ℕ) → RowLaw r → r.advance ≡ Some q → (is_flush q.kind ≡ false → s ≤ q.asked) → (is_flush q.kind ≡ false → is_next q.kind ≡ true → (p : ℕ) → r.first_pick ≡ Some p → s ≡ p) → RowLaw (picked r q s)
+pub law_picked : (r : TimeRow) (q : AdvanceRequest) (s : ℕ) → RowLaw r → r.advance ≡ Some q → (is_flush q.kind ≡ false → s ≤ q.asked) → (is_flush q.kind ≡ false → is_next q.kind ≡ true → (p : ℕ) → r.first_pick ≡ Some p → s ≡ p) → RowLaw (row_after_pick r q s)
 law_picked r q s law asks within at = record {
   idle = law.idle;
   resting = law.resting;
@@ -286,7 +286,7 @@ covered_grant : (floor lookahead : ℕ) (q : AdvanceRequest) (first : Option ℕ
 covered_grant floor lookahead q None t h = omega arith
 covered_grant floor lookahead q (Some p) t h = cond_both (is_next q.kind) (max floor (p + width lookahead q.kind)) floor (λ x. x ≤ max floor (t + width lookahead q.kind)) (λ y. omega (arith, h y p refl)) (λ _. omega arith)
 
-pub law_granted : (r : TimeRow) (q : AdvanceRequest) (t : ℕ) → RowLaw r → r.advance ≡ Some q → (is_constrained r ≡ true → is_next q.kind ≡ true → (p : ℕ) → r.first_pick ≡ Some p → p ≤ t) → RowLaw (granted r q t)
+pub law_granted : (r : TimeRow) (q : AdvanceRequest) (t : ℕ) → RowLaw r → r.advance ≡ Some q → (is_constrained r ≡ true → is_next q.kind ≡ true → (p : ℕ) → r.first_pick ≡ Some p → p ≤ t) → RowLaw (row_after_grant r q t)
 law_granted r q t law asks first = record {
   idle = λ _. refl;
   resting = λ _. refl;
@@ -336,11 +336,11 @@ pick_wake below to q k first s x low high h = cond_both (is_flush k.kind) first 
     second n None h = high n h.1
     second n (Some p) h = h
 
-pick_request : (below to : ℕ → Type 0) (r : TimeRow) (q : AdvanceRequest) (o : Option AdvanceRequest) (s v : ℕ) → ((x : ℕ) → below x → to x) → (is_flush q.kind ≡ false → (x : ℕ) → below x → x ≤ s) → BelowRequest below r o v → BelowRequest to (picked r q s) o v
+pick_request : (below to : ℕ → Type 0) (r : TimeRow) (q : AdvanceRequest) (o : Option AdvanceRequest) (s v : ℕ) → ((x : ℕ) → below x → to x) → (is_flush q.kind ≡ false → (x : ℕ) → below x → x ≤ s) → BelowRequest below r o v → BelowRequest to (row_after_pick r q s) o v
 pick_request below to r q None s v low high h = h
 pick_request below to r q (Some k) s v low high h = (h.0, h.1, pick_wake below to k q r.first_pick s h.0 (low h.0) (λ n. high n h.0) h.2)
 
-pub out_picked : (below to : ℕ → Type 0) (r : TimeRow) (q : AdvanceRequest) (s v : ℕ) → ((x : ℕ) → below x → to x) → (is_flush q.kind ≡ false → (x : ℕ) → below x → x ≤ s) → BelowOut below r v → BelowOut to (picked r q s) v
+pub out_picked : (below to : ℕ → Type 0) (r : TimeRow) (q : AdvanceRequest) (s v : ℕ) → ((x : ℕ) → below x → to x) → (is_flush q.kind ≡ false → (x : ℕ) → below x → x ≤ s) → BelowOut below r v → BelowOut to (row_after_pick r q s) v
 out_picked below to r q s v low high (inl l) = inl l
 out_picked below to r q s v low high (inr h) = inr (pick_request below to r q (next_request r) s v low high h)
 
@@ -356,6 +356,6 @@ grant_request below r q true t v first h = ⊎_elim
     (λ (n : is_next q.kind ≡ false). absurd (rw n at h))
     (cases_Bool (is_next q.kind))
 
-pub out_granted : (below to : ℕ → Type 0) (r : TimeRow) (q : AdvanceRequest) (t v : ℕ) → r.advance ≡ Some q → (is_constrained r ≡ true → is_next q.kind ≡ true → first_or r.first_pick q.asked ≤ t) → BelowOut below r v → BelowOut to (granted r q t) v
+pub out_granted : (below to : ℕ → Type 0) (r : TimeRow) (q : AdvanceRequest) (t v : ℕ) → r.advance ≡ Some q → (is_constrained r ≡ true → is_next q.kind ≡ true → first_or r.first_pick q.asked ≤ t) → BelowOut below r v → BelowOut to (row_after_grant r q t) v
 out_granted below to r q t v asks first (inl l) = inl (omega arith)
 out_granted below to r q t v asks first (inr h) = inl (omega (arith, grant_request below r q (is_constrained r) t v first (rw asks at h)))

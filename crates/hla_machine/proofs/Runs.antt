@@ -11,7 +11,7 @@ use Rattle.hla_base.specs.declared.row.Role.{Role}
 use Rattle.hla_base.specs.declared.row.Role.TheVariants.{Disabled, Pending, Enabled}
 use Rattle.hla_base.specs.declared.row.TimeRow.{TimeRow}
 use Rattle.hla_base.specs.Tables.{upd}
-use Rattle.hla_base.specs.Rows.{is_next, is_flush, is_constrained, is_disabled, is_pending, regulates, constrains, picked, granted, bar_after, first_or}
+use Rattle.hla_base.specs.Rows.{is_next, is_flush, is_constrained, is_disabled, is_pending, regulates, constrains, row_after_pick, row_after_grant, bar_after, first_or}
 use Rattle.hla_fed_file.specs.CatalogueValue.{CatalogueValue}
 use Rattle.hla_callbacks.specs.declared.callback.Callback.{Callback}
 use Rattle.hla_callbacks.specs.declared.callback.Callback.TheVariants as callback
@@ -98,11 +98,11 @@ module _ (c : Central) (k : IsKept c) where
   -- ---- ticks
   module _ (f : ℕ) (member : c.directory.joined f ≡ true) where
     tso_keeps : (q : AdvanceRequest) (e : EventHandle) (s : ℕ) (x : Content) → (c.row f).advance ≡ Some q → is_constrained (c.row f) ≡ true → IsCopy c f e (record { order = Tso; stamp = s; content = x }) → MayPickIn c f q e s
-        → IsKept (record c { row = upd c.row f (picked (c.row f) q s); bag = at_key c.bag e.sender e.serial f None })
+        → IsKept (record c { row = upd c.row f (row_after_pick (c.row f) q s); bag = at_key c.bag e.sender e.serial f None })
     tso_keeps q e s x asks con copy may =
         let to = at_key c.bag e.sender e.serial f None in
         let fewer = fewer_removed c.bag e.sender e.serial f in
-        keeps_row c.directory.next_federate c.directory.joined c.row c.serial c.bag to c.sent f (picked (c.row f) q s) k (record {
+        keeps_row c.directory.next_federate c.directory.joined c.row c.serial c.bag to c.sent f (row_after_pick (c.row f) q s) k (record {
           fewer = fewer;
           member = member;
           law = law_picked (c.row f) q s (k.rows f) asks (λ n. (may.1 n).asked) (λ n y p is. subst (λ o. IfSome o (λ p. s ≡ p)) is ((may.1 n).at_first_pick y));
@@ -123,7 +123,7 @@ module _ (c : Central) (k : IsKept c) where
     deliver_keeps x e (delivery.Demoted s) may = fewer_keeps (at_key c.bag e.sender e.serial f None) (fewer_removed c.bag e.sender e.serial f)
     deliver_keeps x e (delivery.TimeStamp s) may =
         let w = may.3 in
-        subst (λ (r : TimeRow). IsKept (record c { row = upd c.row f r; bag = at_key c.bag e.sender e.serial f None })) (sym (row_after_is (c.row f) (c.row f).advance w.0 (λ q. picked (c.row f) q s) w.1)) (tso_keeps w.0 e s x w.1 may.0 may.2 w.2)
+        subst (λ (r : TimeRow). IsKept (record c { row = upd c.row f r; bag = at_key c.bag e.sender e.serial f None })) (sym (row_after_is (c.row f) (c.row f).advance w.0 (λ q. row_after_pick (c.row f) q s) w.1)) (tso_keeps w.0 e s x w.1 may.0 may.2 w.2)
 
     regulate_keeps : is_pending (c.row f).regulating ≡ true → IsKept (with_central_row c f (regulates (c.row f)))
     regulate_keeps was =
@@ -163,9 +163,9 @@ module _ (c : Central) (k : IsKept c) where
         })
     constrain_keeps t o may = absurd may
 
-    grant_keeps : (q : AdvanceRequest) (t : ℕ) → (c.row f).advance ≡ Some q → MayGrant c f t q → IsKept (with_central_row c f (granted (c.row f) q t))
+    grant_keeps : (q : AdvanceRequest) (t : ℕ) → (c.row f).advance ≡ Some q → MayGrant c f t q → IsKept (with_central_row c f (row_after_grant (c.row f) q t))
     grant_keeps q t asks may =
-        keeps_row c.directory.next_federate c.directory.joined c.row c.serial c.bag c.bag c.sent f (granted (c.row f) q t) k (record {
+        keeps_row c.directory.next_federate c.directory.joined c.row c.serial c.bag c.bag c.sent f (row_after_grant (c.row f) q t) k (record {
           fewer = same_bag c.bag;
           member = member;
           law = law_granted (c.row f) q t (k.rows f) asks (λ con y p is. let l = first con y in let l2 : first_or (Some p) q.asked ≤ t = subst (λ o. first_or o q.asked ≤ t) is l in l2);
@@ -192,7 +192,7 @@ module _ (c : Central) (k : IsKept c) where
     pick_keeps (callback.RemoveObjectInstance object event d) o may = deliver_keeps (content.Removal object) event d may
     pick_keeps (callback.TimeRegulationEnabled time) o may = regulate_keeps may.0
     pick_keeps (callback.TimeConstrainedEnabled time) o may = constrain_keeps time o may
-    pick_keeps (callback.TimeAdvanceGrant time) o may = subst (λ (r : TimeRow). IsKept (with_central_row c f r)) (sym (row_after_is (c.row f) (c.row f).advance may.0 (λ q. granted (c.row f) q time) may.1)) (grant_keeps may.0 time may.1 may.2)
+    pick_keeps (callback.TimeAdvanceGrant time) o may = subst (λ (r : TimeRow). IsKept (with_central_row c f r)) (sym (row_after_is (c.row f) (c.row f).advance may.0 (λ q. row_after_grant (c.row f) q time) may.1)) (grant_keeps may.0 time may.1 may.2)
     pick_keeps (callback.RequestRetraction event) o may = k
 
 -- ---- any step

@@ -6,7 +6,7 @@ use Rattle.hla_base.specs.declared.row.AdvanceRequest.{AdvanceRequest}
 use Rattle.hla_base.specs.declared.row.Role.TheVariants.{Disabled}
 use Rattle.hla_base.specs.declared.row.TimeRow.{TimeRow}
 use Rattle.hla_base.specs.Tables.{upd}
-use Rattle.hla_base.specs.Rows.{is_next, is_flush, is_regulator, is_constrained, is_none_of, least_stamp, requested, regulating_from, new_row}
+use Rattle.hla_base.specs.Rows.{is_next, is_flush, is_regulator, is_constrained, is_none_of, least_stamp, row_after_request, regulating_from, new_row}
 use Rattle.hla_fed_file.specs.declared.declared.Order.TheVariants.{Timestamp}
 use Rattle.hla_machine.specs.declared.service.Service.TheVariants as service
 use Rattle.hla_machine.specs.declared.service.ResignAction.{ResignAction}
@@ -109,10 +109,10 @@ module _ (c : Central) (f : ℕ) (k : IsKept c) (member : c.directory.joined f �
       → (is_constrained r ≡ true → (is_constrained (c.row f) ≡ true) × (r.bar ≡ (c.row f).bar) × (r.time ≡ (c.row f).time)) → IsKept (with_central_row c f r)
   rest r law idle up role con = keeps_rest c.directory.next_federate c.directory.joined c.row c.serial c.bag c.bag c.sent f r k (same_bag c.bag) member law idle up role con
 
-  pub ask_keeps : (x : AdvanceKind) (a : ℕ) → AllClear (request_tests (c.row f) a) → IsKept (with_central_row c f (requested (c.row f) x a))
+  pub ask_keeps : (x : AdvanceKind) (a : ℕ) → AllClear (request_tests (c.row f) a) → IsKept (with_central_row c f (row_after_request (c.row f) x a))
   ask_keeps x a clear =
       let idle = none_from (c.row f).advance clear.0 in let c1 = clear.1 in let c2 = c1.1 in
-      rest (requested (c.row f) x a) (law_requested (c.row f) x a (k.rows f) idle c1.0 c2.0) idle
+      rest (row_after_request (c.row f) x a) (law_requested (c.row f) x a (k.rows f) idle c1.0 c2.0) idle
       (cond_both ((is_next x || is_flush x) && is_constrained (c.row f)) (c.row f).floor _ (λ y. (c.row f).floor ≤ y) (λ _. omega arith) (λ _. omega arith)) (λ e. e) (λ e. (e, refl, refl))
 
   pub stop_keeps : IsKept (with_central_row c f (record (c.row f) { regulating = Disabled }))

@@ -10,7 +10,7 @@ use Rattle.hla_base.specs.declared.row.AdvanceKind.TheVariants as kind
 use Rattle.hla_base.specs.declared.row.AdvanceRequest.{AdvanceRequest}
 use Rattle.hla_base.specs.declared.row.TimeRow.{TimeRow}
 use Rattle.hla_base.specs.Tables.{upd}
-use Rattle.hla_base.specs.Rows.{is_constrained, is_pending, new_row, requested, regulating_from, regulates, picked, granted}
+use Rattle.hla_base.specs.Rows.{is_constrained, is_pending, new_row, row_after_request, regulating_from, regulates, row_after_pick, row_after_grant}
 use Rattle.hla_callbacks.specs.declared.callback.Callback.{Callback}
 use Rattle.hla_callbacks.specs.declared.callback.Callback.TheVariants as callback
 use Rattle.hla_callbacks.specs.declared.callback.Delivery.{Delivery}
@@ -56,13 +56,13 @@ same r = record { time = refl; advance = refl; first = refl; bar = refl; constra
 pub data Turn (c : Central) (f : ℕ) (r : TimeRow) (member : Bool) : Type 0 where
   Fresh : r ≡ new_row → (c.directory.joined f ≡ true → member ≡ false) → Turn c f r member
   Calm : Same (c.row f) r → Turn c f r member
-  Asked : (kind : AdvanceKind) (a : ℕ) → (c.row f).advance ≡ None → is_pending (c.row f).regulating ≡ false → (c.row f).time ≤ a → r ≡ requested (c.row f) kind a → Turn c f r member
+  Asked : (kind : AdvanceKind) (a : ℕ) → (c.row f).advance ≡ None → is_pending (c.row f).regulating ≡ false → (c.row f).time ≤ a → r ≡ row_after_request (c.row f) kind a → Turn c f r member
   Entered : (lookahead e : ℕ) → (c.row f).advance ≡ None → (c.row f).time + lookahead ≤ e → r ≡ regulating_from (c.row f) lookahead e → Turn c f r member
   Regulated : is_pending (c.row f).regulating ≡ true → r ≡ regulates (c.row f) → Turn c f r member
   Rested : (c.row f).advance ≡ None → r.advance ≡ None → r.time ≡ (c.row f).time → r.regulating ≡ (c.row f).regulating → r.regulation_time ≡ (c.row f).regulation_time → Turn c f r member
   Picked : (q : AdvanceRequest) (e : EventHandle) (s : ℕ) (x : Content) → (c.row f).advance ≡ Some q → is_constrained (c.row f) ≡ true → IsCopy c f e (record { order = Tso; stamp = s; content = x }) → MayPickIn c f q e s
-      → r ≡ picked (c.row f) q s → Turn c f r member
-  Granted : (q : AdvanceRequest) (t : ℕ) → (c.row f).advance ≡ Some q → MayGrant c f t q → r ≡ granted (c.row f) q t → Turn c f r member
+      → r ≡ row_after_pick (c.row f) q s → Turn c f r member
+  Granted : (q : AdvanceRequest) (t : ℕ) → (c.row f).advance ≡ Some q → MayGrant c f t q → r ≡ row_after_grant (c.row f) q t → Turn c f r member
 
 row_turn : (c : Central) (g : ℕ) (r : TimeRow) → Turn c g r (c.directory.joined g) → (f : ℕ) → Turn c f (upd c.row g r f) (c.directory.joined f)
 row_turn c g r here = upd_each c.row g r (λ i y. Turn c i y (c.directory.joined i)) here (λ j ne. Calm (same (c.row j)))
@@ -96,7 +96,7 @@ cease_turn : (c : Central) (f : ℕ) (o : Choice) → (c.row f).advance ≡ None
 cease_turn c f (choice.Moved events) idle = row_turn c f _ (Rested idle idle refl refl refl)
 cease_turn c f o idle = λ i. Calm (same (c.row i))
 
-ask_turn : (c : Central) (f : ℕ) (x : AdvanceKind) (a : ℕ) → AllClear (request_tests (c.row f) a) → (i : ℕ) → Turn c i (upd c.row f (requested (c.row f) x a) i) (c.directory.joined i)
+ask_turn : (c : Central) (f : ℕ) (x : AdvanceKind) (a : ℕ) → AllClear (request_tests (c.row f) a) → (i : ℕ) → Turn c i (upd c.row f (row_after_request (c.row f) x a) i) (c.directory.joined i)
 ask_turn c f x a clear = let c1 = clear.1 in let c2 = c1.1 in let c3 = c2.1 in let c4 = c3.1 in row_turn c f _ (Asked x a (none_from (c.row f).advance clear.0) c1.0 (ltb-false a (c.row f).time c4.0) refl)
 
 call_turn : (c : Central) (f : ℕ) (s : Service) (a : Answer) (o : Choice) → refusal (central_seen c) (Call f s) ≡ None → MayAnswer c f s a o → (i : ℕ) → Turn c i ((after_call c f s o).row i) ((after_call c f s o).directory.joined i)
@@ -140,7 +140,7 @@ module _ (c : Central) (k : IsKept c) (f : ℕ) where
   deliver_turn : (x : Content) (e : EventHandle) (d : Delivery) → MayDeliver c f x e d → (i : ℕ) → Turn c i ((after_delivery c f e d).row i) ((after_delivery c f e d).directory.joined i)
   deliver_turn x e delivery.Receive may = λ i. Calm (same (c.row i))
   deliver_turn x e (delivery.Demoted s) may = λ i. Calm (same (c.row i))
-  deliver_turn x e (delivery.TimeStamp s) may = let w = may.3 in row_turn c f _ (Picked w.0 e s x w.1 may.0 may.2 w.2 (row_after_is (c.row f) (c.row f).advance w.0 (λ q. picked (c.row f) q s) w.1))
+  deliver_turn x e (delivery.TimeStamp s) may = let w = may.3 in row_turn c f _ (Picked w.0 e s x w.1 may.0 may.2 w.2 (row_after_is (c.row f) (c.row f).advance w.0 (λ q. row_after_pick (c.row f) q s) w.1))
 
   constrain_turn : (t : ℕ) (o : Choice) → MayConstrain c f t o → (i : ℕ) → Turn c i ((after_constraint c f o).row i) ((after_constraint c f o).directory.joined i)
   constrain_turn t (choice.Moved events) may = let idle = (k.rows f).resting may.1 in row_turn c f _ (Rested idle idle refl refl refl)
@@ -153,7 +153,7 @@ module _ (c : Central) (k : IsKept c) (f : ℕ) where
   pick_turn (callback.RemoveObjectInstance object event d) o may = deliver_turn (content.Removal object) event d may
   pick_turn (callback.TimeRegulationEnabled time) o may = row_turn c f _ (Regulated may.0 refl)
   pick_turn (callback.TimeConstrainedEnabled time) o may = constrain_turn time o may
-  pick_turn (callback.TimeAdvanceGrant time) o may = row_turn c f _ (Granted may.0 time may.1 may.2 (row_after_is (c.row f) (c.row f).advance may.0 (λ q. granted (c.row f) q time) may.1))
+  pick_turn (callback.TimeAdvanceGrant time) o may = row_turn c f _ (Granted may.0 time may.1 may.2 (row_after_is (c.row f) (c.row f).advance may.0 (λ q. row_after_grant (c.row f) q time) may.1))
   pick_turn (callback.RequestRetraction event) o may = λ i. Calm (same (c.row i))
 
 done_turn : (c : Central) (step : Step) (a : Answer) (o : Choice) → refusal (central_seen c) step ≡ None → MayDo c step a o → IsKept c → (i : ℕ) → Turn c i ((after_done c step a o).row i) ((after_done c step a o).directory.joined i)

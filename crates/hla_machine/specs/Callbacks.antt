@@ -8,7 +8,7 @@ use Rattle.hla_base.specs.declared.content.Discovery.{Discovery}
 use Rattle.hla_base.specs.declared.row.AdvanceRequest.{AdvanceRequest}
 use Rattle.hla_base.specs.declared.row.TimeRow.{TimeRow}
 use Rattle.hla_base.specs.Tables.{upd, upd2}
-use Rattle.hla_base.specs.Rows.{is_strict, is_next, is_flush, is_constrained, is_pending, is_none_of, is_advancing, regulates, constrains, picked, grant_time, granted}
+use Rattle.hla_base.specs.Rows.{is_strict, is_next, is_flush, is_constrained, is_pending, is_none_of, is_advancing, regulates, constrains, row_after_pick, grant_time, row_after_grant}
 use Rattle.hla_callbacks.specs.declared.callback.Callback.{Callback}
 use Rattle.hla_callbacks.specs.declared.callback.Callback.TheVariants as callback
 use Rattle.hla_callbacks.specs.declared.callback.Delivery.{Delivery}
@@ -140,7 +140,7 @@ abbrev pub after_delivery : Central → ℕ → EventHandle → Delivery → Cen
 after_delivery c f e delivery.Receive = record c { bag = at_key c.bag e.sender e.serial f None }
 after_delivery c f e (delivery.Demoted s) = record c { bag = at_key c.bag e.sender e.serial f None }
 after_delivery c f e (delivery.TimeStamp s) = record c {
-  row = upd c.row f (row_after (c.row f) (c.row f).advance (λ q. picked (c.row f) q s));
+  row = upd c.row f (row_after (c.row f) (c.row f).advance (λ q. row_after_pick (c.row f) q s));
   bag = at_key c.bag e.sender e.serial f None;
 }
 
@@ -156,5 +156,5 @@ after_pick c f (callback.ReceiveInteraction class values event d) o = after_deli
 after_pick c f (callback.RemoveObjectInstance object event d) o = after_delivery c f event d
 after_pick c f (callback.TimeRegulationEnabled time) o = with_central_row c f (regulates (c.row f))
 after_pick c f (callback.TimeConstrainedEnabled time) o = after_constraint c f o
-after_pick c f (callback.TimeAdvanceGrant time) o = with_central_row c f (row_after (c.row f) (c.row f).advance (λ q. granted (c.row f) q time))
+after_pick c f (callback.TimeAdvanceGrant time) o = with_central_row c f (row_after (c.row f) (c.row f).advance (λ q. row_after_grant (c.row f) q time))
 after_pick c f (callback.RequestRetraction event) o = record c { due = at3 c.due event.sender event.serial f (c.due event.sender event.serial f - 1) }

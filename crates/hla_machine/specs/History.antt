@@ -130,7 +130,7 @@ pub record HappensLater (c : Central) (between : List Happening) (d : Central) (
 
 -- ---- one list of happenings
 -- a run leads from a new execution to c
-pub record IsReached (c : Central) : Type 0 where
+pub record HasHistory (c : Central) : Type 0 where
   pub catalogue : CatalogueValue
   pub before : List Happening
   pub run : IsRun (new_central catalogue) before c

@@ -6,11 +6,13 @@ use Rattle.hla_base.specs.declared.number.EventHandle.{EventHandle}
 use Rattle.hla_base.specs.declared.row.AdvanceRequest.{AdvanceRequest}
 use Rattle.hla_base.specs.Rows.{is_constrained}
 use Rattle.hla_callbacks.specs.declared.callback.Callback.{Callback}
+use Rattle.hla_machine.specs.declared.service.Service.{Service}
+use Rattle.hla_machine.specs.declared.step.Step.TheVariants.{Call}
 use Rattle.hla_machine.specs.declared.step.Answer.TheVariants as answer
 use Rattle.hla_machine.specs.declared.step.Outcome.TheVariants as outcome
 use Rattle.hla_machine.specs.Central.{Central, reach}
 use Rattle.hla_machine.specs.Runs.{Happening, IsRun}
-use Rattle.hla_machine.specs.History.{GivesCallback, SpeaksOf, Hears, HearsPlain, Picks, IsGranted, IsInNoFlush, IsInStrict, IsInOneAdvance, IsBefore, next_state, WaitsInOrder, IsPickedOrMoved, IsReached, central_after, Occurs, OccurAfter, OccursLater}
+use Rattle.hla_machine.specs.History.{GivesCallback, SpeaksOf, Hears, HearsPlain, Picks, IsGranted, IsInNoFlush, IsInStrict, IsInOneAdvance, IsBefore, next_state, WaitsInOrder, IsPickedOrMoved, HasHistory, central_after, Occurs, OccurAfter, OccursLater}
 use Rattle.hla_machine.specs.Laws.{IsSafe, IsAhead}
 
 pub record IsLawful (c : Central) (happenings : List Happening) : Type 0 where
@@ -43,12 +45,15 @@ pub record IsLawful (c : Central) (happenings : List Happening) : Type 0 where
   -- within one strict request the keys of the picks rise
   pub keys : (now : Central) (h : Happening) (between : List Happening) (then : Central) (i : Happening) (f : ℕ) (e x : EventHandle) (s t : ℕ) →
       OccurAfter c happenings now h between then i → IsInStrict (now.row f) → IsInOneAdvance (next_state now h) between f → Picks h f e s → Picks i f x t → IsBefore e s x t
+  -- after a call that answers an event handle, each receiver of that event waits for it in time-stamp order, with its stamp
+  pub waits : (now : Central) (h : Happening) (f : ℕ) (service : Service) (e : EventHandle) (g : ℕ) → Occurs c happenings now h → h.step ≡ Call f service → h.outcome ≡ outcome.Done (answer.Sent (Some e)) →
+      ((next_state now h).sent e.sender e.serial).receivers g ≡ true → WaitsInOrder (next_state now h) g e ((next_state now h).sent e.sender e.serial).stamp
   -- when a constrained federate is granted t, each event that was sent to it in time-stamp order, with a stamp below t
   -- (for a strict request at most t), is retracted, or the federate has picked it up, or it was moved to receive order
   pub granted : (now : Central) (between : List Happening) (then : Central) (h : Happening) (f t : ℕ) (q : AdvanceRequest) (e : EventHandle) (s : ℕ) →
       OccursLater c happenings now between then h → IsGranted h f t → is_constrained (then.row f) ≡ true → (then.row f).advance ≡ Some q →
       WaitsInOrder now f e s → s < reach q.kind t → ((then.sent e.sender e.serial).retracted ≡ true) ⊎ IsPickedOrMoved now between f e s
 
--- the happenings of each run from a state that is reached are so
+-- the happenings of each run from a state with a history are so
 abbrev pub EachRunIsLawful : Type 0
-EachRunIsLawful = (c : Central) (happenings : List Happening) (d : Central) → IsReached c → IsRun c happenings d → IsLawful c happenings
+EachRunIsLawful = (c : Central) (happenings : List Happening) (d : Central) → HasHistory c → IsRun c happenings d → IsLawful c happenings

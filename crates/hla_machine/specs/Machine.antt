@@ -10,7 +10,7 @@ use Rattle.hla_base.specs.declared.row.AdvanceKind.{AdvanceKind}
 use Rattle.hla_base.specs.declared.row.AdvanceKind.TheVariants as kind
 use Rattle.hla_base.specs.declared.row.TimeRow.{TimeRow}
 use Rattle.hla_base.specs.Tables.{upd, upd2, upd_row, one_if}
-use Rattle.hla_base.specs.Rows.{is_constrained, is_disabled, is_none_of, is_regulator, new_row, requested, regulating_from}
+use Rattle.hla_base.specs.Rows.{is_constrained, is_disabled, is_none_of, is_regulator, new_row, row_after_request, regulating_from}
 use Rattle.hla_fed_file.specs.Lookup.{object_class_named, interaction_class_named, attribute_named, parameter_named}
 use Rattle.hla_callbacks.specs.declared.callback.Callback.{Callback}
 use Rattle.hla_callbacks.specs.declared.callback.Callback.TheVariants as callback
@@ -191,7 +191,7 @@ abbrev pub with_central_directory : Central → Directory → Central
 with_central_directory c d = record c { directory = d }
 
 abbrev pub ask : Central → ℕ → AdvanceKind → ℕ → Central
-ask c f k a = with_central_row c f (requested (c.row f) k a)
+ask c f k a = with_central_row c f (row_after_request (c.row f) k a)
 
 -- a federate leaves: what is for it goes, and what it sent stays
 abbrev pub after_leaving : Central → ℕ → Central

@@ -36,6 +36,16 @@ const LEAST_TOLD: u32 = 100000;
 /// The lines with which a script begins; a word in capitals stands for one of its texts.
 const OPENING: [&str; 3] = ["create", "join A", "join B"];
 
+/// How every second script goes on, so that most of what follows succeeds.
+const SETTING: [&str; 6] = [
+    "A publishObject Car Pos Paint",
+    "B subscribeObject Car SHOWN",
+    "B publishInteraction HEARD",
+    "A subscribeInteraction HEARD",
+    "A register Car",
+    "carry A B",
+];
+
 /// Lines that let others succeed.
 const DECLARATIONS: &[&str] = &[
     "FEDERATE publishObject Car OWNED",
@@ -55,6 +65,22 @@ const LINES: &[&str] = &[
     "FEDERATE tick",
     "FEDERATE tick",
     "FEDERATE tick",
+    "A tick",
+    "A tick",
+    "A tick",
+    "B tick",
+    "B tick",
+    "B tick",
+    "carry A B",
+    "carry A B",
+    "carry A B",
+    "carry B A",
+    "carry B A",
+    "carry B A",
+    "A update 1 Car VALUES",
+    "A update 1 Car VALUES",
+    "B send Hit Force=7",
+    "B send Memo Text=a Extra=b",
     "carry WIRE",
     "carry WIRE",
     "carry WIRE",
@@ -107,6 +133,7 @@ fn texts_of(word: &str) -> &'static [&'static str] {
         "WIRE" => &["A B", "A B", "B A", "A C", "C A", "B C", "C B"],
         "CLASS" => &["Car", "ObjectRoot.Car", "ObjectRoot", "Hit"],
         "INTERACTION" => &["Hit", "Hit", "Note", "Memo", "InteractionRoot", "Car"],
+        "HEARD" => &["Hit", "Memo", "Memo", "Note"],
         "OWNED" => &["Pos Paint", "privilegeToDelete Pos Paint", "Pos", "Paint"],
         "SHOWN" => &["Pos Paint", "Pos", "Paint", "privilegeToDelete", "Text"],
         "ROOT" => &["privilegeToDelete"],
@@ -147,11 +174,16 @@ fn script_of(alloc: Global, seed: u64) -> Result<String, AllocError> {
     for line in OPENING {
         add_line(&mut script, &mut numbers, line)?;
     }
+    if seed % 2 == 1 {
+        for line in SETTING {
+            add_line(&mut script, &mut numbers, line)?;
+        }
+    }
     for _ in 0..9 {
         let line = numbers.pick(DECLARATIONS);
         add_line(&mut script, &mut numbers, line)?;
     }
-    for _ in 0..16 {
+    for _ in 0..24 {
         let line = numbers.pick(LINES);
         add_line(&mut script, &mut numbers, line)?;
     }

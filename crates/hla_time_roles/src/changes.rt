@@ -4,7 +4,7 @@ ghost use Rattle.std.specs.Prelude.{◌≡◌, ◌≤◌, ◌<◌, ◌+◌, ◌*
 ghost use Rattle.hla_base.specs.Limits.{max_time, max_enablings};
 ghost use Rattle.hla_base.specs.declared.row.Role.TheVariants.{Disabled, Pending};
 ghost use Rattle.hla_base.specs.declared.row.AdvanceRequest.{AdvanceRequest};
-ghost use Rattle.hla_base.specs.Rows.{is_flush, requested, regulating_from, regulates, constrains, picked, granted, bar_after};
+ghost use Rattle.hla_base.specs.Rows.{is_flush, row_after_request, regulating_from, regulates, constrains, row_after_pick, row_after_grant, bar_after};
 
 use crate::state::TimeState;
 use hla_base::{AdvanceKind, AdvanceRequest, Role, Ticks};
@@ -14,7 +14,7 @@ impl TimeState {
     /// Asks for an advance (Time Advance Request and its kin), where `request_fault` says nothing against it.
     pub fn request(&mut self, kind: AdvanceKind, asked: Ticks)
         requires { asked ≤ max_time }
-        ensures { self.new ≡ requested self.old kind asked }
+        ensures { self.new ≡ row_after_request self.old kind asked }
     {
         let is_constrained = self.is_constrained();
         self.floor.on_request(kind, asked, is_constrained);
@@ -101,7 +101,7 @@ impl TimeState {
     pub fn pick(&mut self, request: AdvanceRequest, stamp: Ticks)
         requires waits { self.old.advance ≡ Some request }
         requires within { is_flush request.kind ≡ false → stamp ≤ request.asked }
-        ensures { self.new ≡ picked self.old request stamp }
+        ensures { self.new ≡ row_after_pick self.old request stamp }
     {
         if request.kind == AdvanceKind::FlushQueue {
             self.flushed = match self.flushed {
@@ -119,7 +119,7 @@ impl TimeState {
     /// The request in which the federate waits is granted at a time (Time Advance Grant).
     pub fn grant(&mut self, request: AdvanceRequest, time: Ticks)
         requires within { time ≤ max_time }
-        ensures { self.new ≡ granted self.old request time }
+        ensures { self.new ≡ row_after_grant self.old request time }
     {
         self.time = time;
         self.advance = None;

@@ -14,7 +14,7 @@ use Rattle.hla_machine.specs.declared.step.Choice.{Choice}
 use Rattle.hla_machine.specs.Central.{Central, new_central}
 use Rattle.hla_machine.specs.Callbacks.{MayDeliver, MayPickUp, IsNextDiscovery}
 use Rattle.hla_machine.specs.Runs.{Happening, IsRun}
-use Rattle.hla_machine.specs.History.{GivesCallback, SpeaksOf, Names, next_state, central_after, Happens, IsReached}
+use Rattle.hla_machine.specs.History.{GivesCallback, SpeaksOf, Names, next_state, central_after, Happens, HasHistory}
 use Rattle.hla_machine.specs.Discovered.{Discovers, IsDiscoveredAmong, HasDiscovered, IsDiscoveredInTurn}
 use Rattle.hla_machine.proofs.Ahead.{given}
 use Rattle.hla_machine.proofs.Deliveries.{heard_from_another, discovered_before}
@@ -23,9 +23,9 @@ use Rattle.hla_components.specs.Components.{Components, new_components}
 use Rattle.hla_components.specs.CentralOf.{central}
 use Rattle.hla_components.specs.Invariant.{IsKnownOf, IsTold, Inv}
 use Rattle.hla_components.specs.Next.{next}
-use Rattle.hla_components.specs.Headline.{IsReachable, happening, happenings, state_after}
+use Rattle.hla_components.specs.Headline.{IsLedTo, happening, happenings, state_after}
 use Rattle.hla_components.proofs.Refinement.Runs.{each_step, is_run, inv_start, central_start}
-use Rattle.hla_components.proofs.Refinement.Reached.{reachable_start, reachable_inv, reachable_reached}
+use Rattle.hla_components.proofs.Refinement.LedTo.{led_start, led_inv, led_history}
 use Rattle.hla_components.proofs.Discovered.Lists.{Among, not_both, each_from_all, all_from_each}
 use Rattle.hla_components.proofs.Discovered.Told.{Informed, kept_informed}
 use Rattle.hla_components.proofs.Discovered.Changes.{Discovering, in_other_words}
@@ -95,8 +95,8 @@ start_discovers catalogue = record {
   unknown = λ f o high. refl;
 }
 
-reached_discovers : (s : Components) → IsReachable s → Discovering (HasDiscovered (central s)) (central s)
-reached_discovers s is =
+led_discovers : (s : Components) → IsLedTo s → Discovering (HasDiscovered (central s)) (central s)
+led_discovers s is =
     let start = new_components is.catalogue in
     let run = is_run start is.steps (inv_start is.catalogue) in
     let k = run_discovers (λ _ _. ⊥) (central start) (happenings start is.steps) (central (state_after start is.steps)) run (each_informed start is.steps (inv_start is.catalogue))
@@ -140,7 +140,7 @@ discovery_waited c h f object is y =
     let g = (c.directory.object object).owner in
     (g, first_among (c.discoveries g f) (record { object = object; class = y.class; name = y.name }) w.may)
 
-module _ (c : Central) (hs : List Happening) (end : Central) (reached : IsReached c) (run : IsRun c hs end) (informed : AreInformed c hs) (k : Discovering (HasDiscovered c) c) where
+module _ (c : Central) (hs : List Happening) (end : Central) (history : HasHistory c) (run : IsRun c hs end) (informed : AreInformed c hs) (k : Discovering (HasDiscovered c) c) where
   -- the state where h happens, and what was discovered until then
   record Moment (before : List Happening) (h : Happening) (rest : List Happening) : Type 0 where
     pub happens : Happens (central_after c before) h
@@ -152,7 +152,7 @@ module _ (c : Central) (hs : List Happening) (end : Central) (reached : IsReache
       let all = subst (λ (hs : List Happening). IsRun c hs end) whole run in
       let told = subst (AreInformed c) whole informed in
       record {
-        happens = occurs_happens c hs end reached run (central_after c before) h (record { before = before; rest = rest; whole = whole; state = refl });
+        happens = occurs_happens c hs end history run (central_after c before) h (record { before = before; rest = rest; whole = whole; state = refl });
         told = rest_informed c before (h ∷ rest) told;
         found = run_discovers (HasDiscovered c) c before (central_after c before) (first_run c before (h ∷ rest) end all) (first_informed c before (h ∷ rest) told) k;
       }
@@ -198,10 +198,10 @@ module _ (c : Central) (hs : List Happening) (end : Central) (reached : IsReache
     never_again = λ before h rest f object whole has y. never_again before h rest f object whole has y;
   }
 
-pub list_discovers_in_turn : (s : Components) (steps : List Step) → IsReachable s → IsDiscoveredInTurn (central s) (happenings s steps)
+pub list_discovers_in_turn : (s : Components) (steps : List Step) → IsLedTo s → IsDiscoveredInTurn (central s) (happenings s steps)
 list_discovers_in_turn s steps is =
-    let inv = reachable_inv s is in
-    in_turn (central s) (happenings s steps) (central (state_after s steps)) (reachable_reached s is) (is_run s steps inv) (each_informed s steps inv) (reached_discovers s is)
+    let inv = led_inv s is in
+    in_turn (central s) (happenings s steps) (central (state_after s steps)) (led_history s is) (is_run s steps inv) (each_informed s steps inv) (led_discovers s is)
 
 -- ---- from a new execution on
 happenings_appended : (s : Components) (xs ys : List Step) → happenings s (xs ++ ys) ≡ happenings s xs ++ happenings (state_after s xs) ys
@@ -213,7 +213,7 @@ pub discovers_first : (catalogue : CatalogueValue) (before : List Step) (step : 
 discovers_first catalogue before step f k object gives speaks =
     let s = new_components catalogue in
     let now = state_after s before in
-    let all = list_discovers_in_turn s (before ++ (step ∷ [])) (reachable_start catalogue) in
+    let all = list_discovers_in_turn s (before ++ (step ∷ [])) (led_start catalogue) in
     ⊎_elim
     (λ (has : HasDiscovered (central s) f object). absurd (let known = has.known in let none : false ≡ true = known in cc))
     (λ (a : IsDiscoveredAmong (happenings s before) f object). a)
@@ -226,7 +226,7 @@ discovers_once catalogue before step between later f object first second =
     let s = new_components catalogue in
     let now = state_after s before in
     let then = state_after (next now step).state between in
-    let all = list_discovers_in_turn s (before ++ (step ∷ (between ++ (later ∷ [])))) (reachable_start catalogue) in
+    let all = list_discovers_in_turn s (before ++ (step ∷ (between ++ (later ∷ [])))) (led_start catalogue) in
     all.once (happenings s before) (happening step (next now step)) (happenings (next now step).state between) (happening later (next then later)) [] f object
     (happenings_appended s before (step ∷ (between ++ (later ∷ [])))
     ∙ ap (λ (hs : List Happening). happenings s before ++ (happening step (next now step) ∷ hs)) (happenings_appended (next now step).state between (later ∷ [])))

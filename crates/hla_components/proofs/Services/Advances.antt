@@ -9,7 +9,7 @@ use Rattle.hla_base.specs.declared.row.Role.{Role}
 use Rattle.hla_base.specs.declared.row.Role.TheVariants.{Disabled, Pending, Enabled}
 use Rattle.hla_base.specs.declared.row.TimeRow.{TimeRow}
 use Rattle.hla_base.specs.Tables.{upd, or_else, when}
-use Rattle.hla_base.specs.Rows.{is_strict, is_next, is_flush, is_constrained, is_disabled, is_pending, next_request, width, keep_if, regulates, picked, granted, bar_after, least_of, first_or, grant_time}
+use Rattle.hla_base.specs.Rows.{is_strict, is_next, is_flush, is_constrained, is_disabled, is_pending, next_request, width, keep_if, regulates, row_after_pick, row_after_grant, bar_after, least_of, first_or, grant_time}
 use Rattle.hla_callbacks.specs.declared.callback.Delivery.TheVariants as delivery
 use Rattle.hla_machine.specs.declared.step.Step.TheVariants.{Tick}
 use Rattle.hla_machine.specs.declared.step.Choice.TheVariants as choice
@@ -153,7 +153,7 @@ module _ (s : Components) (f : ℕ) (q : AdvanceRequest) (t : ℕ) (kept : Kept 
 
   pub step_grant : s.directory.joined f ≡ true → refusal (components_seen s) (Tick f) ≡ None → IsKeptStep s (Tick f) (pick_outcome s f (PickGrant q t))
   step_grant member none =
-      let r = granted (s.row f) q t in
+      let r = row_after_grant (s.row f) q t in
       let old = kept.time.rows f in
       record {
         kept = kept_row s f r kept (record {
@@ -174,11 +174,11 @@ module _ (s : Components) (f : ℕ) (q : AdvanceRequest) (t : ℕ) (kept : Kept 
           };
         });
         allowed = (none, (q, facts.asks, may_grant (central s) f q t (grant_flush member) (grant_plain member) facts.free));
-        follows = ap (λ (r : TimeRow). machine.with_central_row (central s) f r) (sym (row_after_is (s.row f) (s.row f).advance q (λ q. granted (s.row f) q t) facts.asks));
+        follows = ap (λ (r : TimeRow). machine.with_central_row (central s) f r) (sym (row_after_is (s.row f) (s.row f).advance q (λ q. row_after_grant (s.row f) q t) facts.asks));
       }
 
 -- ---- a message in time-stamp order
-pick_fresh : (r : TimeRow) (k : AdvanceRequest) (o : Option AdvanceRequest) (s p bound : ℕ) → min s bound ≤ p → promise_in r o s bound ≤ promise_in (picked r k s) o p bound
+pick_fresh : (r : TimeRow) (k : AdvanceRequest) (o : Option AdvanceRequest) (s p bound : ℕ) → min s bound ≤ p → promise_in r o s bound ≤ promise_in (row_after_pick r k s) o p bound
 pick_fresh r k None s p bound h = omega arith
 pick_fresh r k (Some x) s p bound h = cond_both (is_flush k.kind) r.first_pick (or_else r.first_pick (Some s))
     (λ first. max r.floor (min (first_or r.first_pick x.asked) (min x.asked (min s bound)) + width r.lookahead x.kind) ≤ max r.floor (min (first_or first x.asked) (min x.asked (min p bound)) + width r.lookahead x.kind))
@@ -260,7 +260,7 @@ module _ (s : Components) (f : ℕ) (q : AdvanceRequest) (e : Event) (rest : Lis
         least_key = strict_key fits.1;
       }
 
-  tso_row : KeepsRow s f (picked (s.row f) q e.stamp) rest
+  tso_row : KeepsRow s f (row_after_pick (s.row f) q e.stamp) rest
   tso_row =
       let old = kept.time.rows f in
       record {
@@ -285,11 +285,11 @@ module _ (s : Components) (f : ℕ) (q : AdvanceRequest) (e : Event) (rest : Lis
   told : IsWaiting s.directory s.wire f e
   told = let at : EachOf (IsWaiting s.directory s.wire f) (e ∷ rest) = rw facts.front at (kept.objects.ordered f) in at.0
 
-  tso_kept : Kept (record s { row = upd s.row f (picked (s.row f) q e.stamp); tso = upd s.tso f rest })
+  tso_kept : Kept (record s { row = upd s.row f (row_after_pick (s.row f) q e.stamp); tso = upd s.tso f rest })
   tso_kept = record {
     directory = kept.directory;
     wired = kept.wired;
-    time = time_local s f (picked (s.row f) q e.stamp) rest kept.time tso_row;
+    time = time_local s f (row_after_pick (s.row f) q e.stamp) rest kept.time tso_row;
     copies = subst (λ (o : ℕ → List Event). CopyInv s.serial s.wire (upd s.tso f rest) o) (upd_self s.ro f) (copies_local s f rest (s.ro f) kept.copies (λ g m. rw (facts.front, occurs-cons) (omega arith)) (λ g. kept.copies.serials g f));
     objects = subst (λ (o : ℕ → List Event). ObjectInv s.directory s.wire (upd s.tso f rest) o s.controls) (upd_self s.ro f) (objects_queues s.directory s.wire s.tso s.ro s.controls f rest (s.ro f)
         (let at : EachOf (IsWaiting s.directory s.wire f) (e ∷ rest) = rw facts.front at (kept.objects.ordered f) in at.1) (kept.objects.plain f) kept.objects);
@@ -300,7 +300,7 @@ module _ (s : Components) (f : ℕ) (q : AdvanceRequest) (e : Event) (rest : Lis
     kept = tso_kept;
     allowed = (none, may_give (central s) f (delivery.TimeStamp e.stamp) (handle_of e) e.content choice.None (facts.constrained, discovered s f kept free e told, copy_here, (q, facts.asks, ((λ _. ahead.0), picks_plain laws member))));
     follows = central_ext _ (after_delivery (central s) f (handle_of e) (delivery.TimeStamp e.stamp)) refl
-        (ap (λ (r : TimeRow). upd s.row f r) (sym (row_after_is (s.row f) (s.row f).advance q (λ q. picked (s.row f) q e.stamp) facts.asks))) refl refl
+        (ap (λ (r : TimeRow). upd s.row f r) (sym (row_after_is (s.row f) (s.row f).advance q (λ q. row_after_pick (s.row f) q e.stamp) facts.asks))) refl refl
         (subst (λ (o : ℕ → List Event). bag_of (record s { tso = upd s.tso f rest; ro = o }) ≡ at_key (bag_of s) e.sender e.serial f None) (upd_self s.ro f) (bag_tso_picked s f e rest kept.copies facts.front))
         (λ _ _. refl) (λ _ _ _. refl) (λ _ _ _. refl)
         ∙ after_give (central s) f (delivery.TimeStamp e.stamp) (handle_of e) e.content choice.None;

@@ -9,7 +9,7 @@ use Rattle.hla_base.specs.declared.row.Role.TheVariants.{Disabled, Pending}
 use Rattle.hla_base.specs.declared.row.TimeRow.{TimeRow}
 use Rattle.hla_null_message.specs.declared.message.Message.TheVariants as message
 use Rattle.hla_base.specs.Tables.{forever, upd, upd_row}
-use Rattle.hla_base.specs.Rows.{is_next, is_flush, is_regulator, is_constrained, is_pending, is_none_of, is_advancing, width, requested}
+use Rattle.hla_base.specs.Rows.{is_next, is_flush, is_regulator, is_constrained, is_pending, is_none_of, is_advancing, width, row_after_request}
 use Rattle.hla_machine.specs.declared.service.Service.TheVariants as service
 use Rattle.hla_machine.specs.declared.step.Step.TheVariants.{Call, Announce}
 use Rattle.hla_machine.specs.declared.step.Answer.TheVariants as answer
@@ -69,19 +69,19 @@ idle_last s f kept idle r = subst (λ x. s.last_announced f ≤ x) (idle_fresh (
 asked_is : (k : AdvanceKind) (a : ℕ) (q : AdvanceRequest) → Some (record { kind = k; asked = a }) ≡ Some q → a ≡ q.asked
 asked_is k a q e = cc
 
-pub kept_asks : (s : Components) (f : ℕ) (k : AdvanceKind) (a : ℕ) → Kept s → AllClear (request_tests (s.row f) a) → Kept (with_row s f (requested (s.row f) k a))
+pub kept_asks : (s : Components) (f : ℕ) (k : AdvanceKind) (a : ℕ) → Kept s → AllClear (request_tests (s.row f) a) → Kept (with_row s f (row_after_request (s.row f) k a))
 kept_asks s f k a kept clear =
     let idle : (s.row f).advance ≡ None = at_rest (s.row f) clear.0 in
     let c1 = clear.1 in let c2 = c1.1 in let c3 = c2.1 in let c4 = c3.1 in
     let later : (s.row f).time ≤ a = ltb-false a (s.row f).time c4.0 in
-    kept_row s f (requested (s.row f) k a) kept (record {
+    kept_row s f (row_after_request (s.row f) k a) kept (record {
       queue = kept.time.queues f;
       in_order = kept.time.ordered f;
       ahead = kept.time.ahead f;
       same_role = λ e. e;
       promised = λ r. le_trans (idle_last s f kept idle r)
           (le_trans (cond_both ((is_next k || is_flush k) && is_constrained (s.row f)) (s.row f).floor (max (s.row f).floor (a + width (s.row f).lookahead k)) (λ x. (s.row f).floor ≤ x) (λ _. omega arith) (λ _. omega arith))
-          (floor_le (requested (s.row f) k a) _ _ _));
+          (floor_le (row_after_request (s.row f) k a) _ _ _));
       barred = kept.time.bars f;
       row = record {
         idle = λ e. let n : is_pending (s.row f).regulating ≡ false = c1.0 in absurd (cc);

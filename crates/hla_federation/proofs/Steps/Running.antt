@@ -14,14 +14,14 @@ use Rattle.hla_machine.specs.Discovered.{IsDiscoveredInTurn}
 use Rattle.hla_machine.specs.Lawful.{IsLawful}
 use Rattle.hla_components.specs.CentralOf.{central}
 use Rattle.hla_components.specs.Components.{Components}
-use Rattle.hla_components.specs.Headline.{IsReachable, happenings, state_after}
+use Rattle.hla_components.specs.Headline.{IsLedTo, happenings, state_after}
 use Rattle.hla_components.specs.Invariant.{Inv}
 use Rattle.hla_components.specs.Next.{Outcomes, next, components_seen, unless_refused}
 use Rattle.hla_components.specs.Next as components
 use Rattle.hla_federation.specs.Steps.Memory.{IsRefusedWith, takes_memory}
 use Rattle.hla_federation.specs.Steps.Soundness.{AreSteps, remembered, is_out_of_memory}
 use Rattle.hla_components.proofs.Refinement.Runs.{is_run}
-use Rattle.hla_components.proofs.Refinement.Reached.{list_lawful}
+use Rattle.hla_components.proofs.Refinement.LedTo.{list_lawful}
 use Rattle.hla_components.proofs.Discovered.Runs.{list_discovers_in_turn}
 
 -- a step more at the end
@@ -72,8 +72,8 @@ pub are_run : (s t : Components) (steps : List Step) (rs : List (Result Answer F
     → IsRun (central s) (happenings s (remembered steps rs)) (central t)
 are_run s t steps rs inv are = subst (λ (u : Components). IsRun (central s) (happenings s (remembered steps rs)) (central u)) (end_state s t steps rs are) (is_run s (remembered steps rs) inv)
 
-pub are_lawful : (s : Components) (steps : List Step) (rs : List (Result Answer Fault)) → IsReachable s → IsLawful (central s) (happenings s (remembered steps rs))
-are_lawful s steps rs reached = list_lawful s (remembered steps rs) reached
+pub are_lawful : (s : Components) (steps : List Step) (rs : List (Result Answer Fault)) → IsLedTo s → IsLawful (central s) (happenings s (remembered steps rs))
+are_lawful s steps rs led = list_lawful s (remembered steps rs) led
 
-pub are_discovered_in_turn : (s : Components) (steps : List Step) (rs : List (Result Answer Fault)) → IsReachable s → IsDiscoveredInTurn (central s) (happenings s (remembered steps rs))
-are_discovered_in_turn s steps rs reached = list_discovers_in_turn s (remembered steps rs) reached
+pub are_discovered_in_turn : (s : Components) (steps : List Step) (rs : List (Result Answer Fault)) → IsLedTo s → IsDiscoveredInTurn (central s) (happenings s (remembered steps rs))
+are_discovered_in_turn s steps rs led = list_discovers_in_turn s (remembered steps rs) led

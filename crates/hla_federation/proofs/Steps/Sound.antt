@@ -14,7 +14,7 @@ use Rattle.hla_machine.specs.Runs.{IsMachineStep}
 use Rattle.hla_components.specs.CentralOf.{central}
 use Rattle.hla_components.specs.Components.{new_components}
 use Rattle.hla_federation.specs.Tables.FederationValue.{FederationValue}
-use Rattle.hla_components.specs.Headline.{IsStep, IsReachable, happening}
+use Rattle.hla_components.specs.Headline.{IsStep, IsLedTo, happening}
 use Rattle.hla_components.specs.Invariant.{Inv}
 use Rattle.hla_federation.specs.Tables.MemberValue.{item, MemberValue}
 use Rattle.hla_federation.specs.Tables.Members.{no_member, members_of}
@@ -23,7 +23,7 @@ use Rattle.hla_federation.specs.Steps.Memory.{IsRefusedWith}
 use Rattle.hla_federation.specs.Steps.Soundness.{IsSound}
 use Rattle.hla_federation.specs.Steps.State.{state_of, state_from, IsWhole, nothing_declared, Ends}
 use Rattle.hla_components.proofs.Refinement.Runs.{each_step, inv_start}
-use Rattle.hla_components.proofs.Refinement.Reached.{reachable_start, reachable_next}
+use Rattle.hla_components.proofs.Refinement.LedTo.{led_start, led_next}
 
 -- a step that was done keeps what always holds, and is one of the machine
 pub sound : (old new : FederationValue) (step : Step) (a : Answer) → Inv (state_of old)
@@ -36,7 +36,7 @@ module _ (old : FederationValue) (step : Step) (is : IsSound old) where
   ends_sound (Ok a) new whole ends = record {
     whole = whole;
     kept = (sound old new step a is.kept ends).kept;
-    reached = subst (λ (o : Outcomes). IsReachable o.state) ends (reachable_next (state_of old) step is.reached);
+    led = subst (λ (o : Outcomes). IsLedTo o.state) ends (led_next (state_of old) step is.led);
   }
   ends_sound (Err e) new whole ends = subst IsSound (sym ends.1) is
 
@@ -100,5 +100,5 @@ module _ (c : CatalogueValue) (v : FederationValue) (catalogue : v.catalogue ≡
       named = λ g y. let no = not_joined g in absurd (cc);
     };
     kept = subst Inv (sym state_new) (inv_start c);
-    reached = subst IsReachable (sym state_new) (reachable_start c);
+    led = subst IsLedTo (sym state_new) (led_start c);
   }

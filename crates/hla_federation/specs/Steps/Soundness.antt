@@ -8,7 +8,7 @@ use Rattle.hla_machine.specs.declared.step.Outcome.TheVariants as outcome
 use Rattle.hla_components.specs.Components.{Components}
 use Rattle.hla_components.specs.Next.{next}
 use Rattle.hla_components.specs.Invariant.{Inv}
-use Rattle.hla_components.specs.Headline.{IsReachable}
+use Rattle.hla_components.specs.Headline.{IsLedTo}
 use Rattle.hla_federation.specs.Tables.FederationValue.{FederationValue}
 use Rattle.hla_federation.specs.Steps.Memory.{IsRefusedWith}
 use Rattle.hla_federation.specs.Steps.State.{state_of, IsWhole}
@@ -17,7 +17,7 @@ use Rattle.hla_federation.specs.Steps.State.{state_of, IsWhole}
 pub record IsSound (v : FederationValue) : Type 0 where
   pub whole : IsWhole v
   pub kept : Inv (state_of v)
-  pub reached : IsReachable (state_of v)
+  pub led : IsLedTo (state_of v)
 
 -- what a service relies on: that, and that its caller is joined
 pub record MayCall (v : FederationValue) (f : ℕ) : Type 0 where

@@ -1,7 +1,7 @@
 use Rattle.std.proofs.Common.{subst, ap, arith}
 use Rattle.hla_federation.specs.Tables.FederationValue.{FederationValue}
 use Rattle.hla_components.specs.Invariant.{Inv}
-use Rattle.hla_components.specs.Headline.{IsReachable}
+use Rattle.hla_components.specs.Headline.{IsLedTo}
 use Rattle.hla_federation.specs.Steps.State.{state_of}
 use Rattle.hla_federation.proofs.Tables.Rooms.{on_err}
 use Rattle.hla_federation.proofs.Steps.Running.{steps_more, one_step, take_item, take_all, are_run, are_lawful, are_discovered_in_turn}
@@ -27,10 +27,10 @@ returns-clause-machine c =
 
 pub returns-clause-laws : goal.returns-clause-laws
 returns-clause-laws c =
-    let reached = subst (λ (v : FederationValue). IsReachable (state_of v)) c.self.view_is c.self.invariant.reached in
-    are_lawful _ c.args.steps.now c.loop-step.answers.items reached
+    let led = subst (λ (v : FederationValue). IsLedTo (state_of v)) c.self.view_is c.self.invariant.led in
+    are_lawful _ c.args.steps.now c.loop-step.answers.items led
 
 pub returns-clause-discoveries : goal.returns-clause-discoveries
 returns-clause-discoveries c =
-    let reached = subst (λ (v : FederationValue). IsReachable (state_of v)) c.self.view_is c.self.invariant.reached in
-    are_discovered_in_turn _ c.args.steps.now c.loop-step.answers.items reached
+    let led = subst (λ (v : FederationValue). IsLedTo (state_of v)) c.self.view_is c.self.invariant.led in
+    are_discovered_in_turn _ c.args.steps.now c.loop-step.answers.items led

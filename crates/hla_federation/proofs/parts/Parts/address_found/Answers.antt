@@ -13,7 +13,7 @@ use Rattle.hla_federation.specs.Steps.State.{state_of}
 use Rattle.hla_components.proofs.Services.Discoveries.{discovery_tells}
 use Rattle.hla_federation.proofs.Steps.FoundObjects.{made_below, made_first, put_one, found_some, found_none, when_none, last_made, none_made}
 use Rattle.hla_federation.proofs.parts.Parts.address_found.Goals as goal
-use Rattle.hla_federation.proofs.parts.Parts.address_found.Goals.{in-Some+in_ok-copied+in_ok-put, in_default}
+use Rattle.hla_federation.proofs.parts.Parts.address_found.Goals.{in-Some+in_ok-name_copy+in_ok-put, in_default}
 
 -- what is made of an object for the wire from a federate
 abbrev made_of : FederationValue → ℕ → ℕ → List ℕ → ℕ → ℕ → Option Discovery
@@ -34,7 +34,7 @@ put-requires-clause-within c =
     let v = c.args.self.now in
     let h = c.loop-object.object in
     let d : Directory = with_subscribed (state_of c.args.self.now).directory c.args.federate c.args.class (Some []) in
-    let found = found_some d c.args.federate h c.in-Some.class (sym c.in-Some.is ∙ c.discovered_at.ensures []) in
+    let found = found_some d c.args.federate h c.in-Some.class (sym c.in-Some.is ∙ c.discovery_class.ensures []) in
     let tells = discovery_tells d c.args.federate h _ found in
     let owner : c.owner.result ≡ ((registry_of c.args.self.now.objects).object h).owner = c.owner.ensures ∙ ap (λ (v : FederationValue). ((registry_of v.objects).object h).owner) c.self.view_is in
     let below = (c.requires.kept.kept.directory.owners h tells.1).0 in
@@ -49,12 +49,12 @@ loop-object-preserved c = λ a g.
     let d : Directory = with_subscribed (state_of c.args.self.now).directory c.args.federate c.args.class (Some a) in
     let first = item [] c.args.outbox.now g in
     let before = map message.Discovery (filter_map (made_of c.args.self.now c.args.federate c.args.class a g) (numbers_below c.loop-object.object)) in
-    elim c.match-discovered_at.branch [
-      | in-Some+in_ok-copied+in_ok-put w ↦
+    elim c.match-discovery_class.branch [
+      | in-Some+in_ok-name_copy+in_ok-put w ↦
           let k = w.in-Some.class in
-          let found = found_some d f n k (sym w.in-Some.is ∙ c.discovered_at.ensures a) in
+          let found = found_some d f n k (sym w.in-Some.is ∙ c.discovery_class.ensures a) in
           let owner : w.owner.result ≡ (d.object n).owner = w.owner.ensures ∙ ap (λ (v : FederationValue). ((registry_of v.objects).object n).owner) c.self.view_is in
-          let name : w.in_ok-copied.field-0 ≡ (d.object n).name = w.in_ok-copied.ensures.ok ∙ w.name_of.ensures ∙ ap (λ (v : FederationValue). ((registry_of v.objects).object n).name) c.self.view_is in
+          let name : w.in_ok-name_copy.field-0 ≡ (d.object n).name = w.in_ok-name_copy.ensures.ok ∙ w.name_of.ensures ∙ ap (λ (v : FederationValue). ((registry_of v.objects).object n).name) c.self.view_is in
           ap (λ (o : List (List Message)). item [] o g) w.outbox-is
           ∙ ap (λ (t : ℕ → List Message). t g) w.in_ok-put.ensures.ok
           ∙ (λ i. upd old (owner i) (old (owner i) ++ message.Discovery (record { object = n; class = k; name = name i }) ∷ []) g)
@@ -63,7 +63,7 @@ loop-object-preserved c = λ a g.
           ∙ append_assoc first before _
           ∙ ap (λ (ms : List Message). first ++ ms) (sym (made_below message.Discovery made n))
       | in_default w ↦
-          let none = found_none d f n (sym w.in_default.is ∙ c.discovered_at.ensures a) in
+          let none = found_none d f n (sym w.in_default.is ∙ c.discovery_class.ensures a) in
           ap (λ (o : List (List Message)). item [] o g) w.outbox-is
           ∙ sym (append-nil (old g))
           ∙ (λ i. c.loop-object.invariant a g i ++ none_made message.Discovery (eqb (d.object n).owner g) (discovery_of d f n) none i)

@@ -18,7 +18,7 @@ pub returns-clause-whole : goal.returns-clause-whole
 returns-clause-whole c =
     let whole = rw (← c.self.view_is) at c.requires.whole in
     let fault_is = rw (← c.self.view_is) at c.join_fault.ensures in
-    let name : c.in_ok-member.member.shown.name ≡ c.args.name.now = ap (λ m. m.name) c.in_ok-member.ensures.ok ∙ c.in_ok-copied.ensures.ok in
+    let name : c.in_ok-member.member.shown.name ≡ c.args.name.now = ap (λ m. m.name) c.in_ok-member.ensures.ok ∙ c.in_ok-name_copy.ensures.ok in
     let members = rw (c.in_ok-reserve_one.ensures.same, name) at c.admit-2.ensures in
     let few = few_joined _ _ _ (sym fault_is ∙ c.in_default.is) in
     record {
@@ -30,7 +30,7 @@ pub returns-clause-done : goal.returns-clause-done
 returns-clause-done c =
     let sound = rw (← c.self.view_is) at c.requires in
     let fault_is = rw (← c.self.view_is) at c.join_fault.ensures in
-    let name : c.in_ok-member.member.shown.name ≡ c.args.name.now = ap (λ m. m.name) c.in_ok-member.ensures.ok ∙ c.in_ok-copied.ensures.ok in
+    let name : c.in_ok-member.member.shown.name ≡ c.args.name.now = ap (λ m. m.name) c.in_ok-member.ensures.ok ∙ c.in_ok-name_copy.ensures.ok in
     let members = rw (c.in_ok-reserve_one.ensures.same, name) at c.admit-2.ensures in
     let old = members_of c.self.inside.members.shown in
     let new = with_member_admitted old c.args.name.now in

@@ -35,11 +35,11 @@ loop-object-preserved c =
     let r0 = registry_of c.args.self.now.objects in
     let d : FederationValue → RegistryValue → List ℕ → Directory = λ v r a. with_subscribed (directory_from v.catalogue (declared.declarations_of v.declarations) r (members_of v.members)) f c.args.class (Some a) in
     let found : List ℕ → ℕ → Bool = λ a h. is_some (discovery_of (d old r0 a) f h) in
-    let now : (a : List ℕ) → found a n ≡ is_some c.discovered_at.result = λ a.
+    let now : (a : List ℕ) → found a n ≡ is_some c.discovery_class.result = λ a.
     ap is_some (sym (ap (λ (v : FederationValue). discovery_of (d v (registry_of c.loop-object.self.objects) a) f n) c.loop-object.invariant.same
     ∙ ap (λ (r : RegistryValue). discovery_of (d old r a) f n) (c.loop-object.invariant.known a)
     ∙ still_found (d old r0 a) f n (found a)))
-    ∙ is_found c.discovered_at.result _ (c.discovered_at.ensures a) in
+    ∙ is_found c.discovery_class.result _ (c.discovery_class.ensures a) in
     let before : (v : FederationValue) → v ≡ c.loop-object.self → (a : List ℕ) → registry_of v.objects ≡ record r0 { known = known_below (found a) r0.known f n } =
     λ v is a. ap (λ (v : FederationValue). registry_of v.objects) is ∙ c.loop-object.invariant.known a in
     elim c.if-is_some.branch [
