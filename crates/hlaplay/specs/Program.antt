@@ -105,3 +105,9 @@ EndsTask bytes_of (Play fed script) out out' err err' status =
     ((input' : Stream) × EndsPlayingShared (opened (bytes_of (codes "-"))) input' out out' err err' status)
     ((fed' : Stream) × ((script' : Stream) × EndsPlayingFiles fed (opened (bytes_of fed)) fed' script (opened (bytes_of script)) script' out out' err err' status))
 EndsTask bytes_of (Listing fed) out out' err err' status = (file' : Stream) × EndsListingFile fed (opened (bytes_of fed)) file' out out' err err' status
+
+-- ---- given the words of a command line: what they ask for is done; or they are refused, with nothing on the standard output
+pub data EndsRun (bytes_of : List ℕ → Option (List ℕ)) (out out' err err' : Stream) (status : ℕ) : Type 0 where
+  TaskDone : (asked : Asked) → EndsTask bytes_of asked out out' err err' status → EndsRun bytes_of out out' err err' status
+  Misused : out' ≡ out → status ≡ 2 → EndsRun bytes_of out out' err err' status
+  NoMemory : out' ≡ out → Tells err err' memory_line → status ≡ 1 → EndsRun bytes_of out out' err err' status

@@ -10,20 +10,15 @@ mod watched;
 mod words;
 mod writing;
 
-use crate::running::do_task;
+use crate::running::do_words;
 use crate::source::System;
 use crate::telling::tell_out_of_memory;
 use crate::watched::Watched;
-use crate::words::parse;
-use clap::error::ErrorKind;
 use std::alloc::Global;
 use std::io::{BufWriter, Write};
 use std::process::ExitCode;
 use std::rt::Runtime;
 use std::{env, io};
-
-/// The status of a refused command line.
-const MISUSED: u8 = 2;
 
 /// The words of the command line.
 fn command_words<R: Runtime + AllocGlobal>(rt: &R) -> io::Result<Vec<String>> {
@@ -43,22 +38,14 @@ fn texts_of(alloc: Global, words: &[String]) -> io::Result<Vec<&str>> {
     Ok(texts)
 }
 
-/// Does what the command line asks for, and answers the status.
+/// Hands the words of the command line, the files of the system and its standard output on, and answers the status.
 fn run<R: Runtime + AllocGlobal, E: Write>(rt: &R, errors: &mut Watched<E>) -> io::Result<u8> {
     let alloc: Global = rt.alloc();
     let words = command_words(rt)?;
     let texts = texts_of(alloc, words.as_slice())?;
-    match parse(alloc, texts.as_slice()) {
-        Ok(task) => {
-            let mut out = Watched::new(BufWriter::new(alloc, io::writer(rt))?);
-            Ok(do_task(alloc, &System::new(rt), task, &mut out, errors))
-        }
-        Err(Some(error)) if error.kind() != ErrorKind::OutOfMemory => {
-            let _ = eprint!(rt; "{error}");
-            Ok(MISUSED)
-        }
-        Err(_) => Ok(tell_out_of_memory(errors)),
-    }
+    let mut out = Watched::new(BufWriter::new(alloc, io::writer(rt))?);
+    let system = System::new(rt);
+    Ok(do_words(alloc, &system, texts.as_slice(), &mut out, errors))
 }
 
 fn main(rt: HostRuntime) -> ExitCode {

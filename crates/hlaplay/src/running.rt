@@ -5,21 +5,24 @@ ghost use Rattle.std.specs.Prelude.{◌≡◌, ◌&&◌, codes};
 ghost use Rattle.std.specs.Str.{bytes_eq};
 ghost use Rattle.hlaplay.specs.Asked as asked;
 ghost use Rattle.hlaplay.specs.Asked.{asked_by};
-ghost use Rattle.hlaplay.specs.Program.{EndsPlaying, EndsListing, EndsPlayingShared, EndsPlayingFiles, EndsListingFile, EndsTask};
+ghost use Rattle.hlaplay.specs.Program.{EndsPlaying, EndsListing, EndsPlayingShared, EndsPlayingFiles, EndsListingFile, EndsTask, EndsRun};
 
 use crate::input::{FILE_LIMIT, SHARED_LIMIT, load};
 use crate::parts::parts;
 use crate::source::Opener;
-use crate::telling::{DONE, tell_list_stop, tell_load_stop, tell_play_stop};
+use crate::telling::{
+    DONE, MISUSED, tell_list_stop, tell_load_stop, tell_out_of_memory, tell_play_stop,
+};
 use crate::watched::Watched;
-use crate::words::Task;
+use crate::words::{Task, parse};
+use clap::error::ErrorKind;
 use hla_script::{ListFault, PlayFault, list, play};
 use std::alloc::Global;
 use std::io::{Read, Write};
 
-/// Plays a script over a FED file, and answers the status: 0 once the transcript is on `out` and nothing on `errors`; 1 with one
-/// line on `errors` for the first fault of the FED file, or else for that of the script, with nothing on `out`, and for a failed
-/// write or want of memory.
+/// Plays a script over a FED file, and answers the status: 0 once the transcript is on `out` and nothing on `errors`; 1 with
+/// one line on `errors` for the first fault of the FED file, or else for that of the script, with nothing on `out`, and for
+/// a failed write or want of memory.
 fn play_bytes<W: Write, E: Write>(
     alloc: Global,
     fed: &[u8],
@@ -42,8 +45,8 @@ fn play_bytes<W: Write, E: Write>(
     DONE
 }
 
-/// Lists what a FED file declares, and answers the status: 0 once the list is on `out` and nothing on `errors`; 1 with one line on
-/// `errors` for the first fault of the FED file, with nothing on `out`, and for a failed write or want of memory.
+/// Lists what a FED file declares, and answers the status: 0 once the list is on `out` and nothing on `errors`; 1 with one
+/// line on `errors` for the first fault of the FED file, with nothing on `out`, and for a failed write or want of memory.
 fn list_bytes<W: Write, E: Write>(
     alloc: Global,
     fed: &[u8],
@@ -65,9 +68,9 @@ fn list_bytes<W: Write, E: Write>(
     DONE
 }
 
-/// Plays a script over a FED file, both from one input: the FED file is what stands before its first line that is exactly `%%`, and
-/// the script what stands behind it. Answers as `play_bytes` does, and 1 with one line on `errors`, and nothing on `out`, where the
-/// input cannot be read.
+/// Plays a script over a FED file, both from one input: the FED file is what stands before its first line that is exactly
+/// `%%`, and the script what stands behind it. Answers as `play_bytes` does, and 1 with one line on `errors`, and nothing on
+/// `out`, where the input cannot be read.
 fn play_shared<R: Read, W: Write, E: Write>(
     alloc: Global,
     input: &mut Watched<R>,
@@ -87,8 +90,8 @@ fn play_shared<R: Read, W: Write, E: Write>(
     }
 }
 
-/// Plays a script over a FED file. Both are read before either is tested, the FED file first. Answers as `play_bytes` does, and 1
-/// with one line on `errors`, and nothing on `out`, where one of them cannot be read.
+/// Plays a script over a FED file. Both are read before either is tested, the FED file first. Answers as `play_bytes` does,
+/// and 1 with one line on `errors`, and nothing on `out`, where one of them cannot be read.
 fn play_files<R: Read, S: Read, W: Write, E: Write>(
     alloc: Global,
     fed_name: &str,
@@ -113,8 +116,8 @@ fn play_files<R: Read, S: Read, W: Write, E: Write>(
     }
 }
 
-/// Lists what a FED file declares. Answers as `list_bytes` does, and 1 with one line on `errors`, and nothing on `out`, where the file
-/// cannot be read.
+/// Lists what a FED file declares. Answers as `list_bytes` does, and 1 with one line on `errors`, and nothing on `out`,
+/// where the file cannot be read.
 fn list_file<R: Read, W: Write, E: Write>(
     alloc: Global,
     name: &str,
@@ -169,7 +172,10 @@ fn play_named<O: Opener, W: Write, E: Write>(
     )
 }
 
-/// Does what is asked for with the files that it names, and answers the status.
+/// Does what is asked for with the files that it names, and answers the status. 0: what was asked for is on `out`, all of it
+/// handed on, and nothing on `errors`. 1, with one line on `errors`: a FED file or a script is refused, or a file cannot be
+/// read, with nothing on `out`; or a write failed, or memory ran out. What a failed write to `errors` left out is lost, and
+/// the status stays.
 pub fn do_task<O: Opener, W: Write, E: Write>(
     alloc: Global,
     opener: &O,
@@ -187,5 +193,28 @@ pub fn do_task<O: Opener, W: Write, E: Write>(
             let mut file = opener.open(fed);
             list_file(alloc, fed, &mut file, out, errors)
         }
+    }
+}
+
+/// Does what the words of the command line ask for, the program's name in front, as `do_task` does it. Where they ask for nothing that
+/// there is, or for help, the status is 2, with a text on `errors` and nothing on `out`.
+pub fn do_words<O: Opener, W: Write, E: Write>(
+    alloc: Global,
+    opener: &O,
+    words: &[&str],
+    out: &mut Watched<W>,
+    errors: &mut Watched<E>,
+) -> u8
+    ensures { EndsRun (O.bytes_of opener.now)
+        (stream W.contents out.old) (stream W.contents out.new)
+        (stream E.contents errors.old) (stream E.contents errors.new) result }
+{
+    match parse(alloc, words) {
+        Ok(task) => do_task(alloc, opener, task, out, errors),
+        Err(Some(error)) if error.kind() != ErrorKind::OutOfMemory => {
+            let _ = write!(errors, "{error}");
+            MISUSED
+        }
+        Err(_) => tell_out_of_memory(errors),
     }
 }

@@ -18,6 +18,9 @@ pub const DONE: u8 = 0;
 /// The status of input that is refused or cannot be read, of output that cannot be written, and of want of memory.
 pub const REFUSED: u8 = 1;
 
+/// The status of a refused command line, and of a request for help.
+pub const MISUSED: u8 = 2;
+
 /// The line of a fault in a file.
 fn fault_line(alloc: Global, file: &str, line: usize, kind: &str) -> Result<String, AllocError>
     ensures { IfOk result (λ text. string_bytes text ≡ fault_line file.now line kind.now) }

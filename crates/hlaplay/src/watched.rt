@@ -8,8 +8,8 @@ ghost use Rattle.hlaplay.specs.Streams.{is_failed_write};
 use std::io;
 use std::io::{Read, Write};
 
-/// A reader or a writer, and whether one of its calls has failed. Only a failed call sets the mark, and none takes it away: so
-/// where it is set, a failure of the reader or the writer itself was the cause.
+/// A reader or a writer, and whether one of its calls has failed. Only a failed call sets the mark, and none takes it away:
+/// so where it is set, a failure of the reader or the writer itself was the cause.
 #[derive(Drop)]
 pub struct Watched<T> {
     inner: T,
