@@ -1,5 +1,5 @@
 -- What the lines of a script do
-use Rattle.std.specs.Prelude.{◌≡◌, ◌≢◌, ◌<◌, ◌≤◌, ℕ, List, [], ◌∷◌, ◌++◌, ◌⊎◌, length, Option, None, Some, Ok, Err, codes}
+use Rattle.std.specs.Prelude.{◌≡◌, ◌≢◌, ◌<◌, ◌≤◌, ℕ, List, [], ◌∷◌, ◌++◌, ◌⊎◌, length, Option, None, Some, Ok, Err, codes, Bool, true, false, Result}
 use Rattle.std.specs.Io.KnownBytes.{Appends}
 use Rattle.hla_base.specs.Limits.{max_history}
 use Rattle.hla_base.specs.declared.fault.Fault.{Fault}
@@ -15,7 +15,8 @@ use Rattle.hla_machine.specs.declared.step.Choice.TheVariants as choice
 use Rattle.hla_machine.specs.declared.step.Record.{Record}
 use Rattle.hla_commands.specs.declared.lines.Command.{Command}
 use Rattle.hla_commands.specs.declared.lines.Line.{Line}
-use Rattle.hla_script.specs.declared.members.Member.{Member}
+use Rattle.hla_script.specs.declared.player.StopFault.{StopFault}
+use Rattle.hla_script.specs.declared.player.StopFault.TheVariants as cut
 use Rattle.hla_script.specs.declared.player.PlayFault.{PlayFault}
 use Rattle.hla_script.specs.declared.player.PlayFault.TheVariants as stop
 use Rattle.hla_script.specs.declared.steps.Request.{Request}
@@ -104,3 +105,16 @@ StopsBy fed script old new (stop.Fed e) = reading.ReadsAs (Err e) (reading.read_
 StopsBy fed script old new (stop.Script e) = ((c : CatalogueValue) × Describes fed c) × ParsesAs (Err e) (script_of script) × Appends old new []
 StopsBy fed script old new stop.Write = Unit {0}
 StopsBy fed script old new stop.Memory = Unit {0}
+
+-- a write of the transcript failed
+abbrev pub is_cut_off : {X : Type 0} → Result X StopFault → Bool
+is_cut_off (Ok x) = false
+is_cut_off (Err cut.Write) = true
+is_cut_off (Err cut.Memory) = false
+
+abbrev pub is_unwritten_transcript : {X : Type 0} → Result X PlayFault → Bool
+is_unwritten_transcript (Ok x) = false
+is_unwritten_transcript (Err (stop.Fed e)) = false
+is_unwritten_transcript (Err (stop.Script e)) = false
+is_unwritten_transcript (Err stop.Write) = true
+is_unwritten_transcript (Err stop.Memory) = false

@@ -11,5 +11,5 @@ mod steps;
 pub use hla_commands::{
     Call, Command, Declaration, Line, NameValuePair, Script, ScriptFault, ScriptFaultKind, parse,
 };
-pub use hla_transcript::{ListFault, list};
+pub use hla_transcript::{ListFault, Watched, list};
 pub use player::{PlayFault, play};

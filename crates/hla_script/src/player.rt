@@ -1,11 +1,11 @@
 //! Playing a script.
 
-ghost use Rattle.std.specs.Prelude.{◌≡◌, IfOk, IfErr};
+ghost use Rattle.std.specs.Prelude.{◌≡◌, ◌||◌, IfOk, IfErr};
 ghost use Rattle.std.specs.Io.KnownBytes.{Appends};
 ghost use Rattle.hla_machine.specs.Runs as machine;
 ghost use Rattle.hla_machine.specs.Runs.{AreRun};
 ghost use Rattle.hla_components.specs.Executions.{Federations, no_federations, AreNext};
-ghost use Rattle.hla_script.specs.Playing.{IsPlayed, IsPlayedFrom, StopsBy};
+ghost use Rattle.hla_script.specs.Playing.{IsPlayed, IsPlayedFrom, StopsBy, is_unwritten_transcript, is_cut_off};
 
 use crate::execution::Execution;
 use crate::history::play_line;
@@ -13,7 +13,7 @@ use hla_base::{ExecutionName, Fault, List};
 use hla_commands::{Script, ScriptFault, parse};
 use hla_fed_file::{Catalogue, FedFault, read};
 use hla_machine::Record;
-use hla_transcript::{Text, WriteFailed, write_whole};
+use hla_transcript::{Text, Watched, WriteFailed, write_whole};
 use std::alloc::Global;
 use std::io::Write;
 
@@ -42,10 +42,11 @@ fn play_lines<W: Write>(
     alloc: Global,
     catalogue: Catalogue,
     script: &Script,
-    out: &mut W,
+    out: &mut Watched<W>,
 ) -> Result<List<Record>, StopFault>
-    ensures played { IfOk result (λ records. IsPlayed catalogue script.now (W.contents out.old) (W.contents out.new) records) }
+    ensures played { IfOk result (λ records. IsPlayed catalogue script.now (W.contents out.old.inner) (W.contents out.new.inner) records) }
     ensures next { IfOk result (λ records. (x : Federations) × AreNext no_federations records x) }
+    ensures failure { out.new.has_failed ≡ (out.old.has_failed || is_cut_off result) }
 {
     let Ok(name) = ExecutionName::new(b"play") else {
         return Err(StopFault::Memory);
@@ -69,16 +70,16 @@ fn play_lines<W: Write>(
 /// how each ended, and answers the records. The execution may be destroyed and created again, at most `MAX_CREATES` times in all.
 /// The history holds at most `MAX_HISTORY` records, and a line finds it full then. The FED file is tested before the script, and both
 /// before anything is done. A line that runs out of memory says so and makes no step; `Memory` is answered where there was
-/// none for the texts.
+/// none for the texts, and `Write` only where the writer has failed.
 pub fn play<W: Write>(
     alloc: Global,
     fed: &[u8],
     script: &[u8],
-    out: &mut W,
+    out: &mut Watched<W>,
 ) -> Result<List<Record>, PlayFault>
     // Each line has one outcome: that of the record of its step, or that of a line that makes no step. What was written
     // is these outcomes, and the records are just those of the steps, in order.
-    ensures played { IfOk result (IsPlayedFrom fed.now script.now (W.contents out.old) (W.contents out.new)) }
+    ensures played { IfOk result (IsPlayedFrom fed.now script.now (W.contents out.old.inner) (W.contents out.new.inner)) }
 
     // The records are, one after another, those of the components' next-state function from no executions: each line that
     // makes a step is answered as that function says, with what it carries and delivers.
@@ -88,7 +89,10 @@ pub fn play<W: Write>(
     ensures run { IfOk result (λ records. (y : machine.Executions) × AreRun machine.no_executions records y) }
 
     // The first fault of the FED file, or else that of the script, with nothing written.
-    ensures stopped { IfErr result (StopsBy fed.now script.now (W.contents out.old) (W.contents out.new)) }
+    ensures stopped { IfErr result (StopsBy fed.now script.now (W.contents out.old.inner) (W.contents out.new.inner)) }
+
+    // A write has failed where that is answered, and nowhere else.
+    ensures failure { out.new.has_failed ≡ (out.old.has_failed || is_unwritten_transcript result) }
 {
     let catalogue = match read(alloc, fed) {
         Ok(catalogue) => catalogue,

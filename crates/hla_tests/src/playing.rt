@@ -1,5 +1,5 @@
 use hla_base::{List, MAX_HISTORY, Plain};
-use hla_script::{PlayFault, play};
+use hla_script::{PlayFault, Watched, play};
 use hla_text_tests::FED;
 use std::alloc::Global;
 use std::io;
@@ -10,7 +10,7 @@ use std::test::Fail;
 /// What a script prints over `FED`.
 pub fn transcript_of(rt: &impl Abort, alloc: Global, script: &str) -> Result<String, Fail> {
     let mut out = Vec::new(alloc);
-    let _ = play(alloc, FED.as_bytes(), script.as_bytes(), &mut out)?;
+    let _ = play(alloc, FED.as_bytes(), script.as_bytes(), &mut Watched::new(&mut out))?;
     match String::from_utf8(out) {
         Ok(text) => Ok(text),
         Err(_) => panic!(rt; "the transcript is no text"),
@@ -54,7 +54,7 @@ fn copies_its_records(rt: HostRuntime) -> Result<(), Fail> {
         rt.alloc(),
         FED.as_bytes(),
         b"create\ncreate\njoin A\njoin B\nA publishInteraction Hit\nB subscribeInteraction Hit\nA send Hit Force=7\ncarry A B\nB tick\n",
-        &mut out,
+        &mut Watched::new(&mut out),
     )?;
     assert_eq!(rt; records.len(), 9);
     let copy = records.copy()?;
@@ -289,7 +289,7 @@ fn fills_the_history(rt: HostRuntime) -> Result<(), Fail> {
 #[test]
 fn plays_nothing(rt: HostRuntime) -> Result<(), Fail> {
     let mut out = Vec::new(rt.alloc());
-    let records = play(rt.alloc(), b"(FED)", b"", &mut out)?;
+    let records = play(rt.alloc(), b"(FED)", b"", &mut Watched::new(&mut out))?;
     assert_eq!(rt; records.len(), 0);
     assert_eq!(rt; out.len(), 0);
     Ok(())
@@ -302,7 +302,7 @@ fn tests_the_fed_file_first(rt: HostRuntime) -> Result<(), Fail> {
         rt.alloc(),
         b"(FED\n(objects\n(class Ob",
         b"frobnicate",
-        &mut out,
+        &mut Watched::new(&mut out),
     ) {
         Err(PlayFault::Fed(fault)) => {
             assert_eq!(rt; fault.line, 3);
@@ -310,7 +310,7 @@ fn tests_the_fed_file_first(rt: HostRuntime) -> Result<(), Fail> {
         }
         _ => panic!(rt; "the FED file is not refused"),
     }
-    match play(rt.alloc(), b"(FED)", b"create\ntick", &mut out) {
+    match play(rt.alloc(), b"(FED)", b"create\ntick", &mut Watched::new(&mut out)) {
         Err(PlayFault::Script(fault)) => assert_eq!(rt; fault.line, 2),
         _ => panic!(rt; "the script is not refused"),
     }
@@ -347,14 +347,14 @@ fn writes_all_or_says_so(rt: HostRuntime) -> Result<(), Fail> {
         taken: 0,
         room: 1000,
     };
-    let records = play(rt.alloc(), FED.as_bytes(), script.as_slice(), &mut out)?;
+    let records = play(rt.alloc(), FED.as_bytes(), script.as_slice(), &mut Watched::new(&mut out))?;
     assert_eq!(rt; records.len(), 3);
     assert_eq!(rt;
         out.taken,
         "1 ok\n2 ok 1\n3 error 1 FederationExecutionAlreadyExists\n".len()
     );
     let mut full = Narrow { taken: 0, room: 8 };
-    match play(rt.alloc(), FED.as_bytes(), script.as_slice(), &mut full) {
+    match play(rt.alloc(), FED.as_bytes(), script.as_slice(), &mut Watched::new(&mut full)) {
         Err(PlayFault::Write) => Ok(()),
         _ => panic!(rt; "the failed write is not told"),
     }

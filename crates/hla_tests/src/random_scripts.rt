@@ -1,5 +1,5 @@
 use crate::books::Books;
-use hla_script::play;
+use hla_script::{Watched, play};
 use hla_text_tests::FED;
 use std::alloc::{AllocError, Global};
 use std::ops::Range;
@@ -198,7 +198,7 @@ fn script_of(alloc: Global, seed: u64) -> Result<String, AllocError> {
 /// What a script prints.
 fn transcript(alloc: Global, script: &[u8]) -> Result<Vec<u8>, Fail> {
     let mut out = Vec::new(alloc);
-    let _ = play(alloc, FED.as_bytes(), script, &mut out)?;
+    let _ = play(alloc, FED.as_bytes(), script, &mut Watched::new(&mut out))?;
     Ok(out)
 }
 

@@ -1,5 +1,5 @@
 use hla_fed_file::{FedFault, FedFaultKind};
-use hla_transcript::{ListFault, list};
+use hla_transcript::{ListFault, Watched, list};
 use std::alloc::Global;
 use std::process::Abort;
 use std::test::Fail;
@@ -7,7 +7,7 @@ use std::test::Fail;
 /// The list of a FED file.
 fn listing_of(rt: &impl Abort, alloc: Global, fed: &str) -> Result<String, Fail> {
     let mut out = Vec::new(alloc);
-    list(alloc, fed.as_bytes(), &mut out)?;
+    list(alloc, fed.as_bytes(), &mut Watched::new(&mut out))?;
     match String::from_utf8(out) {
         Ok(text) => Ok(text),
         Err(_) => panic!(rt; "the list is no text"),
@@ -64,7 +64,7 @@ fn writes_nothing_of_a_refused_file(rt: HostRuntime) {
         kind: FedFaultKind::UnexpectedEnd,
     };
     assert_eq!(rt;
-        list(rt.alloc(), b"(FED\n(objects\n(class Ob", &mut out),
+        list(rt.alloc(), b"(FED\n(objects\n(class Ob", &mut Watched::new(&mut out)),
         Err(ListFault::Fed(fault))
     );
     assert_eq!(rt; out.len(), 0);

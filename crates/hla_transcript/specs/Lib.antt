@@ -2,3 +2,5 @@
 pub mod Printed
 -- How a catalogue is listed
 pub mod Listed
+-- Readers and writers that keep in mind whether they failed
+pub mod Watching

@@ -1,5 +1,5 @@
 -- How a catalogue is listed
-use Rattle.std.specs.Prelude.{ℕ, ◌==◌, List, [], ◌++◌, Option, Err, codes, decimal, if◌then◌else◌}
+use Rattle.std.specs.Prelude.{ℕ, ◌==◌, Bool, true, false, List, [], ◌++◌, Option, Result, Ok, Err, codes, decimal, if◌then◌else◌}
 use Rattle.std.specs.List.{flat_map, enumerate_from}
 use Rattle.std.specs.Io.KnownBytes.{Appends}
 use Rattle.hla_fed_file.specs.declared.declared.Attribute.{Attribute}
@@ -73,3 +73,10 @@ abbrev pub StopsListing : List ℕ → Option (List ℕ) → Option (List ℕ) �
 StopsListing fed old new (stop.Fed e) = reading.ReadsAs (Err e) (reading.read_of fed) × Appends old new []
 StopsListing fed old new stop.Write = (c : CatalogueValue) × Describes fed c
 StopsListing fed old new stop.Memory = ((c : CatalogueValue) × Describes fed c) × Appends old new []
+
+-- the listing was not written
+abbrev pub is_unwritten : {X : Type 0} → Result X ListFault → Bool
+is_unwritten (Ok x) = false
+is_unwritten (Err (stop.Fed e)) = false
+is_unwritten (Err stop.Write) = true
+is_unwritten (Err stop.Memory) = false

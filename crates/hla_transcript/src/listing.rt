@@ -1,10 +1,11 @@
 //! The list of what a FED file declares.
 
-ghost use Rattle.std.specs.Prelude.{◌≡◌, ◌++◌, ◌≤◌, length, codes, OnOk, IfOk, IfErr};
+ghost use Rattle.std.specs.Prelude.{◌≡◌, ◌||◌, ◌++◌, ◌≤◌, length, codes, OnOk, IfOk, IfErr};
 ghost use Rattle.hla_base.specs.Limits.{max_classes};
-ghost use Rattle.hla_transcript.specs.Listed.{transport_text, order_text, each_numbered, attribute_text, parameter_text, own_attribute_text, own_parameter_text, object_line, interaction_line, object_text, interaction_text, listing, IsListed, StopsListing};
+ghost use Rattle.hla_transcript.specs.Listed.{transport_text, order_text, each_numbered, attribute_text, parameter_text, own_attribute_text, own_parameter_text, object_line, interaction_line, object_text, interaction_text, listing, IsListed, StopsListing, is_unwritten};
 
 use crate::text::Text;
+use crate::watched::Watched;
 use crate::writing::write_whole;
 use hla_base::{ClassNo, Fault};
 use hla_fed_file::{
@@ -208,13 +209,16 @@ fn listing_text(alloc: Global, catalogue: &Catalogue) -> Result<Text, Fault>
 
 /// Lists what a FED file declares: a line for each object class and behind it one for each attribute that it declares
 /// itself, then a line for each interaction class and behind it one for each parameter that it declares itself. Nothing is
-/// written before the list is whole.
-pub fn list<W: Write>(alloc: Global, fed: &[u8], out: &mut W) -> Result<(), ListFault>
+/// written before the list is whole. `Write` is answered only where the writer has failed.
+pub fn list<W: Write>(alloc: Global, fed: &[u8], out: &mut Watched<W>) -> Result<(), ListFault>
     // What was written is the list of the catalogue that the FED file describes.
-    ensures listed { OnOk result (IsListed fed.now (W.contents out.old) (W.contents out.new)) }
+    ensures listed { OnOk result (IsListed fed.now (W.contents out.old.inner) (W.contents out.new.inner)) }
 
     // The first fault of the FED file, with nothing written.
-    ensures stopped { IfErr result (StopsListing fed.now (W.contents out.old) (W.contents out.new)) }
+    ensures stopped { IfErr result (StopsListing fed.now (W.contents out.old.inner) (W.contents out.new.inner)) }
+
+    // A write has failed where that is answered, and nowhere else.
+    ensures failure { out.new.has_failed ≡ (out.old.has_failed || is_unwritten result) }
 {
     let catalogue = match read(alloc, fed) {
         Ok(catalogue) => catalogue,

@@ -1,25 +1,31 @@
 //! Writing all of a text.
 
-ghost use Rattle.std.specs.Prelude.{◌≡◌, ◌≤◌, ℕ, OnOk, OnErr, take, length};
+ghost use Rattle.std.specs.Prelude.{◌≡◌, ◌||◌, ℕ, OnOk, OnErr, take, not, is_ok};
 ghost use Rattle.std.specs.Io.KnownBytes.{Appends};
 
+use crate::watched::Watched;
 use std::io::Write;
 
 /// A write that failed, or that took nothing.
 #[derive(Clone, Copy, Debug, PartialEq, Eq)]
 pub struct WriteFailed;
 
-/// Writes all bytes, by as many writes as it takes; where one fails, a part of the bytes was written.
-pub fn write_whole<W: Write>(out: &mut W, bytes: &[u8]) -> Result<(), WriteFailed>
-    ensures ok { OnOk result (Appends (W.contents out.old) (W.contents out.new) bytes.now) }
-    ensures err { OnErr result ((n : ℕ) × Appends (W.contents out.old) (W.contents out.new) (take n bytes.now)) }
+/// Writes all bytes, by as many writes as it takes; where one fails, a part of the bytes was written. It fails only where the
+/// writer does.
+pub fn write_whole<W: Write>(out: &mut Watched<W>, bytes: &[u8]) -> Result<(), WriteFailed>
+    ensures ok { OnOk result (Appends (W.contents out.old.inner) (W.contents out.new.inner) bytes.now) }
+    ensures err { OnErr result ((n : ℕ) × Appends (W.contents out.old.inner) (W.contents out.new.inner) (take n bytes.now)) }
+    ensures failure { out.new.has_failed ≡ (out.old.has_failed || not (is_ok result)) }
 {
     let mut at = 0;
     while at < bytes.len() {
-        match out.write(&bytes[at..]) {
-            Ok(0) | Err(_) => return Err(WriteFailed),
-            Ok(n) => at += n,
+        let Ok(taken) = out.write(&bytes[at..]) else {
+            return Err(WriteFailed);
+        };
+        if taken == 0 {
+            return Err(WriteFailed);
         }
+        at += taken;
     }
     Ok(())
 }

@@ -3,7 +3,7 @@ use Rattle.std.proofs.Common.{◌≡◌, ℕ, Bool, true, false, ◌||◌, not, 
 use Rattle.std.specs.Io.KnownBytes.{Appends, Keeps}
 use Rattle.hla_transcript.specs.Listed.{IsListed}
 use Rattle.hla_script.specs.Playing.{IsPlayedFrom}
-use Rattle.hlaplay.specs.Streams.{Stream}
+use Rattle.hla_transcript.specs.Watching.{Stream}
 use Rattle.hlaplay.specs.Program.{Tells, Whole, Cut, Complains, memory_line}
 
 or-false : (b : Bool) → (b || false) ≡ b

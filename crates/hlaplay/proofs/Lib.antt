@@ -1,7 +1,5 @@
 -- Cutting one more line off.
 pub mod PartLemmas
--- One more write.
-pub mod WriteLemmas
 -- A line that is told, and bytes that are kept.
 pub mod EndLemmas
 -- A task is done where the run on its opened files ends as it must.

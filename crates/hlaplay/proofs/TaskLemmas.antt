@@ -2,7 +2,7 @@
 use Rattle.std.proofs.Common.{◌≡◌, ℕ, Bool, true, false, ◌&&◌, List, Option, codes, ap, ◌∙◌, subst}
 use Rattle.std.specs.Str.{bytes_eq}
 use Rattle.hlaplay.specs.Asked.{Play, Listing}
-use Rattle.hlaplay.specs.Streams.{Stream}
+use Rattle.hla_transcript.specs.Watching.{Stream}
 use Rattle.hlaplay.specs.Program.{opened, EndsPlayingShared, EndsPlayingFiles, EndsListingFile, EndsTask}
 
 abbrev pub stream_of : Option (List ℕ) → Bool → Stream

@@ -14,7 +14,8 @@ use Rattle.hla_script.specs.declared.player.PlayFault.{PlayFault}
 use Rattle.hla_script.specs.declared.player.PlayFault.TheVariants as unplayed
 use Rattle.hlaplay.specs.Asked.{Asked, Play, Listing}
 use Rattle.hlaplay.specs.Parts.{first_part, second_part}
-use Rattle.hlaplay.specs.Streams.{Stream, IsTaken, LoadStops}
+use Rattle.hla_transcript.specs.Watching.{Stream}
+use Rattle.hlaplay.specs.Streams.{IsTaken, LoadStops}
 use Rattle.hlaplay.specs.declared.input.LoadFault.{LoadFault}
 use Rattle.hlaplay.specs.declared.input.LoadFault.TheVariants as unread
 

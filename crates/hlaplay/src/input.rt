@@ -1,9 +1,10 @@
 //! Reading files.
 
 ghost use Rattle.std.specs.Prelude.{IfOk, IfErr};
-ghost use Rattle.hlaplay.specs.Streams.{stream, IsTaken, LoadStops};
+ghost use Rattle.hla_transcript.specs.Watching.{stream};
+ghost use Rattle.hlaplay.specs.Streams.{IsTaken, LoadStops};
 
-use crate::watched::Watched;
+use hla_script::Watched;
 use std::alloc::Global;
 use std::io::Read;
 

@@ -6,14 +6,12 @@ mod parts;
 mod running;
 mod source;
 mod telling;
-mod watched;
 mod words;
-mod writing;
 
 use crate::running::do_words;
 use crate::source::System;
 use crate::telling::tell_out_of_memory;
-use crate::watched::Watched;
+use hla_script::Watched;
 use std::alloc::Global;
 use std::io::{BufWriter, Write};
 use std::process::ExitCode;

@@ -1,6 +1,6 @@
 use crate::running::do_task;
 use crate::source::{Opener, System};
-use crate::watched::Watched;
+use hla_script::Watched;
 use crate::words::Task;
 use std::alloc::Global;
 use std::io;

@@ -1,6 +1,6 @@
 //! The runs of the program, over any readers and writers.
 
-ghost use Rattle.hlaplay.specs.Streams.{stream};
+ghost use Rattle.hla_transcript.specs.Watching.{stream};
 ghost use Rattle.std.specs.Prelude.{◌≡◌, ◌&&◌, codes};
 ghost use Rattle.std.specs.Str.{bytes_eq};
 ghost use Rattle.hlaplay.specs.Asked as asked;
@@ -13,7 +13,7 @@ use crate::source::Opener;
 use crate::telling::{
     DONE, MISUSED, tell_list_stop, tell_load_stop, tell_out_of_memory, tell_play_stop,
 };
-use crate::watched::Watched;
+use hla_script::Watched;
 use crate::words::{Task, parse};
 use clap::error::ErrorKind;
 use hla_script::{ListFault, PlayFault, list, play};

@@ -1,12 +1,12 @@
 //! The one line on standard error.
 
 ghost use Rattle.std.specs.Prelude.{◌≡◌, IfOk, OnErr, string_bytes};
-ghost use Rattle.hlaplay.specs.Streams.{stream};
+ghost use Rattle.hla_transcript.specs.Watching.{stream};
 ghost use Rattle.hlaplay.specs.Program.{Tells, Complains, fault_line, fed_line, script_line, unread_line, memory_line, unwritten_line, play_stop_line, list_stop_line, load_stop_line};
 
 use crate::input::LoadFault;
-use crate::watched::Watched;
-use crate::writing::write_whole;
+use hla_script::Watched;
+use hla_transcript::write_whole;
 use hla_fed_file::FedFault;
 use hla_script::{ListFault, PlayFault, ScriptFault};
 use std::alloc::{AllocError, Global};

@@ -1,6 +1,6 @@
 use crate::input::{LoadFault, load};
 use crate::parts::parts;
-use crate::watched::Watched;
+use hla_script::Watched;
 use crate::words::{Task, parse};
 use std::io;
 use std::io::Read;

@@ -1,4 +1,3 @@
-use Rattle.std.proofs.Common.{sym}
 use Rattle.hla_base.specs.declared.fault.Fault.TheVariants as fault
 use Rattle.hla_script.specs.Playing.{OutOfMemory}
 use Rattle.hla_script.proofs.PlayLemmas.{adds_none, adds_none_in, adds_one}

@@ -1,6 +1,4 @@
 use Rattle.std.proofs.Common.{ap, sym, ◌∙◌}
-use Rattle.std.specs.Prelude.{Result, Ok, List, ℕ}
-use Rattle.hla_base.specs.declared.fault.Fault.{Fault}
 use Rattle.hla_script.specs.Requests.{handle_named}
 use Rattle.hla_script.proofs.AskLemmas.{handles_start, handles_none, handles_step}
 use Rattle.hla_script.proofs.lookups.attributes.Goals as goal

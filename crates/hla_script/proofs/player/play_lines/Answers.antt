@@ -1,4 +1,4 @@
-use Rattle.std.proofs.Common.{◌≡◌, ◌++◌, ◌∷◌, [], ◌+◌, List, take, sym, ◌∙◌, ap, subst}
+use Rattle.std.proofs.Common.{refl, Bool, true, false, ◌||◌, ◌≡◌, ◌++◌, ◌∷◌, [], ◌+◌, List, take, sym, ◌∙◌, ap, subst}
 use Rattle.std.proofs.lemmas.List.{take_more, take_all}
 use Rattle.hla_commands.specs.declared.lines.Line.{Line}
 use Rattle.hla_script.specs.Playing.{IsPlayed}
@@ -6,12 +6,17 @@ use Rattle.hla_script.proofs.PlayLemmas.{played_nothing, played_more}
 use Rattle.hla_script.proofs.KeepLemmas.{keeps_nothing}
 use Rattle.hla_script.proofs.player.play_lines.Goals as goal
 
+or_none : (b : Bool) → (b || false) ≡ b
+or_none true = refl
+or_none false = refl
+
 pub loop-line-init : goal.loop-line-init
 loop-line-init g c = record {
   name = c.new-execution.ensures.name ∙ c.in-Ok.ensures.ok;
   catalogue = c.new-execution.ensures.catalogue;
   kept = rw (c.new-records.ensures.items, c.new-execution.ensures.creates, c.new-execution.ensures.federation, c.new-execution.ensures.members) keeps_nothing;
-  played = rw c.new-records.ensures.items (played_nothing c.args.catalogue (g.W.Write.contents c.args.out.now));
+  played = rw c.new-records.ensures.items (played_nothing c.args.catalogue (g.W.Write.contents c.args.out.now.inner));
+  sound = refl;
 }
 
 pub loop-line-preserved : goal.loop-line-preserved
@@ -28,11 +33,18 @@ loop-line-preserved g c =
       played = rw more
           (played_more c.args.catalogue c.loop-line.execution.catalogue (take i items) line c.loop-line.records.items _ c.clear.new.self c.play_line.new.text c.as_slice.result.now _ _ _ kept.catalogue c.clear.ensures kept.played c.in-Ok-play_line.ensures.answered
           c.as_slice.ensures c.in-Ok-write_whole.ensures.ok);
+      sound = c.in-Ok-write_whole.ensures.failure ∙ or_none _ ∙ kept.sound;
     }
 
 pub returns-clause-played : goal.returns-clause-played
 returns-clause-played g c =
     let items = c.as_slice-line-items.result.now in
     let all : take c.loop-line.line-index items ≡ c.args.script.now = take_all c.loop-line.line-index items c.loop-line-test.false ∙ c.as_slice-line-items.ensures in
-    let played = subst (λ (ls : List Line). IsPlayed c.args.catalogue ls (g.W.Write.contents c.args.out.now) (g.W.Write.contents c.loop-line.out) c.loop-line.records.items) all c.loop-line.invariant.played in
+    let played = subst (λ (ls : List Line). IsPlayed c.args.catalogue ls (g.W.Write.contents c.args.out.now.inner) (g.W.Write.contents c.loop-line.out.inner) c.loop-line.records.items) all c.loop-line.invariant.played in
     rw c.from_vec.ensures played
+
+pub returns-in_default-play_line-clause-failure : goal.returns-in_default-play_line-clause-failure
+returns-in_default-play_line-clause-failure g c = c.loop-line.invariant.sound ∙ sym (or_none _)
+
+pub returns-clause-failure : goal.returns-clause-failure
+returns-clause-failure g c = c.loop-line.invariant.sound ∙ sym (or_none _)

@@ -8,5 +8,6 @@ invariant-loop-line g l = record {
   name : l.execution.name ≡ codes "play";
   catalogue : l.execution.catalogue ≡ l.fn.catalogue;
   kept : IsKept l.records.items (standing l.execution.creates l.execution.federation) l.execution.members.items;
-  played : IsPlayed l.fn.catalogue (take l.line-index l.line-items) (g.W.Write.contents l.fn.out) (g.W.Write.contents l.out) l.records.items;
+  played : IsPlayed l.fn.catalogue (take l.line-index l.line-items) (g.W.Write.contents l.fn.out.inner) (g.W.Write.contents l.out.inner) l.records.items;
+  sound : l.out.has_failed ≡ l.fn.out.has_failed;
 }

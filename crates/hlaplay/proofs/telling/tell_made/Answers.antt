@@ -1,5 +1,5 @@
 use Rattle.std.proofs.Common.{List, ℕ, subst}
-use Rattle.hlaplay.specs.Streams.{stream}
+use Rattle.hla_transcript.specs.Watching.{stream}
 use Rattle.hlaplay.specs.Program.{Tells}
 use Rattle.hlaplay.proofs.telling.tell_made.Goals as goal
 

@@ -3,7 +3,7 @@
 ghost use Rattle.std.specs.Prelude.{◌≡◌, ◌||◌, not, is_ok, false};
 ghost use Rattle.std.specs.Io.{ReadsAtMost, WritesAtMost};
 ghost use Rattle.std.specs.Io.KnownBytes.{ReadConsumes, WriteAppends, Keeps};
-ghost use Rattle.hlaplay.specs.Streams.{is_failed_write};
+ghost use Rattle.hla_transcript.specs.Watching.{is_failed_write};
 
 use std::io;
 use std::io::{Read, Write};
@@ -26,6 +26,13 @@ impl<T> Watched<T> {
             inner,
             has_failed: false,
         }
+    }
+
+    /// The reader or the writer itself.
+    pub fn into_inner(self) -> T
+        ensures { result ≡ self.inner }
+    {
+        self.inner
     }
 
     /// Whether a call has failed.
