@@ -1,3 +1,5 @@
+ghost use Rattle.std.specs.Prelude.{None};
+
 use crate::running::do_task;
 use crate::source::{Opener, System};
 use hla_script::Watched;

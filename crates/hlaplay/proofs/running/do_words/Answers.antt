@@ -1,6 +1,6 @@
 use Rattle.std.proofs.Common.{refl}
 use Rattle.hlaplay.specs.Asked.{asked_by}
-use Rattle.hlaplay.specs.Program.{TaskDone, Misused, NoMemory}
+use Rattle.hlaplay.specs.Program.{TaskDone, NoMemory}
 use Rattle.hlaplay.proofs.running.do_words.Goals as goal
 
 pub returns-in-Ok : goal.returns-in-Ok
