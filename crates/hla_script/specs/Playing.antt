@@ -112,9 +112,12 @@ is_cut_off (Ok x) = false
 is_cut_off (Err cut.Write) = true
 is_cut_off (Err cut.Memory) = false
 
+abbrev pub is_failed_transcript : PlayFault → Bool
+is_failed_transcript (stop.Fed e) = false
+is_failed_transcript (stop.Script e) = false
+is_failed_transcript stop.Write = true
+is_failed_transcript stop.Memory = false
+
 abbrev pub is_unwritten_transcript : {X : Type 0} → Result X PlayFault → Bool
 is_unwritten_transcript (Ok x) = false
-is_unwritten_transcript (Err (stop.Fed e)) = false
-is_unwritten_transcript (Err (stop.Script e)) = false
-is_unwritten_transcript (Err stop.Write) = true
-is_unwritten_transcript (Err stop.Memory) = false
+is_unwritten_transcript (Err e) = is_failed_transcript e

@@ -64,7 +64,11 @@ fn writes_nothing_of_a_refused_file(rt: HostRuntime) {
         kind: FedFaultKind::UnexpectedEnd,
     };
     assert_eq!(rt;
-        list(rt.alloc(), b"(FED\n(objects\n(class Ob", &mut Watched::new(&mut out)),
+        list(
+            rt.alloc(),
+            b"(FED\n(objects\n(class Ob",
+            &mut Watched::new(&mut out)
+        ),
         Err(ListFault::Fed(fault))
     );
     assert_eq!(rt; out.len(), 0);

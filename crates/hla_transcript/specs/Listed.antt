@@ -74,9 +74,12 @@ StopsListing fed old new (stop.Fed e) = reading.ReadsAs (Err e) (reading.read_of
 StopsListing fed old new stop.Write = (c : CatalogueValue) × Describes fed c
 StopsListing fed old new stop.Memory = ((c : CatalogueValue) × Describes fed c) × Appends old new []
 
--- the listing was not written
+-- a write of the listing failed
+abbrev pub is_failed_listing : ListFault → Bool
+is_failed_listing (stop.Fed e) = false
+is_failed_listing stop.Write = true
+is_failed_listing stop.Memory = false
+
 abbrev pub is_unwritten : {X : Type 0} → Result X ListFault → Bool
 is_unwritten (Ok x) = false
-is_unwritten (Err (stop.Fed e)) = false
-is_unwritten (Err stop.Write) = true
-is_unwritten (Err stop.Memory) = false
+is_unwritten (Err e) = is_failed_listing e

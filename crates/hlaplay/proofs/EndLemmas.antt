@@ -1,10 +1,14 @@
 -- A line that is told, and bytes that are kept.
 use Rattle.std.proofs.Common.{◌≡◌, ℕ, Bool, true, false, ◌||◌, not, List, take, Option, None, Some, Result, Ok, Err, IfOk, OnOk, OnErr, is_ok, refl, subst, inl, inr, ◌∙◌}
 use Rattle.std.specs.Io.KnownBytes.{Appends, Keeps}
-use Rattle.hla_transcript.specs.Listed.{IsListed}
-use Rattle.hla_script.specs.Playing.{IsPlayedFrom}
+use Rattle.hla_transcript.specs.Listed.{IsListed, is_failed_listing}
+use Rattle.hla_transcript.specs.declared.listing.ListFault.{ListFault}
+use Rattle.hla_transcript.specs.declared.listing.ListFault.TheVariants as unlisted
+use Rattle.hla_script.specs.declared.player.PlayFault.{PlayFault}
+use Rattle.hla_script.specs.declared.player.PlayFault.TheVariants as unplayed
+use Rattle.hla_script.specs.Playing.{IsPlayedFrom, is_failed_transcript}
 use Rattle.hla_transcript.specs.Watching.{Stream}
-use Rattle.hlaplay.specs.Program.{Tells, Whole, Cut, Complains, memory_line}
+use Rattle.hlaplay.specs.Program.{Tells, Whole, Cut, Complains, PlayCause, ListCause, memory_line}
 
 or-false : (b : Bool) → (b || false) ≡ b
 or-false true = refl
@@ -45,3 +49,15 @@ played_kept fed script a b c records is kept = record {
 pub same_text : {S F : Type 0} (text : S → List ℕ) (made : Result S F) (x y : List ℕ) → x ≡ y → IfOk made (λ s. text s ≡ x) → IfOk made (λ s. text s ≡ y)
 same_text text (Ok s) x y same is = is ∙ same
 same_text text (Err e) x y same is = tt
+
+-- where a write failed while playing or listing
+pub play_cause : (why : PlayFault) (old : Bool) (new : Stream) → new.has_failed ≡ (old || is_failed_transcript why) → PlayCause why new
+play_cause (unplayed.Fed e) old new failure = tt
+play_cause (unplayed.Script e) old new failure = tt
+play_cause unplayed.Write old new failure = failure ∙ or-true old
+play_cause unplayed.Memory old new failure = tt
+
+pub list_cause : (why : ListFault) (old : Bool) (new : Stream) → new.has_failed ≡ (old || is_failed_listing why) → ListCause why new
+list_cause (unlisted.Fed e) old new failure = tt
+list_cause unlisted.Write old new failure = failure ∙ or-true old
+list_cause unlisted.Memory old new failure = tt

@@ -65,18 +65,30 @@ pub data Tells (old new : Stream) (line : List ℕ) : Type 0 where
 abbrev pub Complains : Stream → Stream → List ℕ → Type 0
 Complains old new line = Tells old new line ⊎ Tells old new memory_line
 
+-- a failed write is the cause where one is told
+abbrev pub PlayCause : PlayFault → Stream → Type 0
+PlayCause (unplayed.Fed e) out = Unit {0}
+PlayCause (unplayed.Script e) out = Unit {0}
+PlayCause unplayed.Write out = out.has_failed ≡ true
+PlayCause unplayed.Memory out = Unit {0}
+
+abbrev pub ListCause : ListFault → Stream → Type 0
+ListCause (unlisted.Fed e) out = Unit {0}
+ListCause unlisted.Write out = out.has_failed ≡ true
+ListCause unlisted.Memory out = Unit {0}
+
 -- ---- given the bytes
 -- `out` and `out'` are the standard output before and after, `err` and `err'` the standard error
 
 -- a script is played over a FED file
 pub data EndsPlaying (fed script : List ℕ) (out out' err err' : Stream) (status : ℕ) : Type 0 where
   Played : (records : _) → IsPlayedFrom fed script out.bytes out'.bytes records → out'.has_failed ≡ false → err' ≡ err → status ≡ 0 → EndsPlaying fed script out out' err err' status
-  PlayStopped : (why : PlayFault) → StopsBy fed script out.bytes out'.bytes why → Complains err err' (play_stop_line why) → status ≡ 1 → EndsPlaying fed script out out' err err' status
+  PlayStopped : (why : PlayFault) → StopsBy fed script out.bytes out'.bytes why → PlayCause why out' → Complains err err' (play_stop_line why) → status ≡ 1 → EndsPlaying fed script out out' err err' status
 
 -- a FED file is listed
 pub data EndsListing (fed : List ℕ) (out out' err err' : Stream) (status : ℕ) : Type 0 where
   Listed : IsListed fed out.bytes out'.bytes → out'.has_failed ≡ false → err' ≡ err → status ≡ 0 → EndsListing fed out out' err err' status
-  ListStopped : (why : ListFault) → StopsListing fed out.bytes out'.bytes why → Complains err err' (list_stop_line why) → status ≡ 1 → EndsListing fed out out' err err' status
+  ListStopped : (why : ListFault) → StopsListing fed out.bytes out'.bytes why → ListCause why out' → Complains err err' (list_stop_line why) → status ≡ 1 → EndsListing fed out out' err err' status
 
 -- ---- given readers; of a file at most 1,048,577 bytes are taken, so that one of more than 1,048,576 is too large
 -- both files stand in one input, which is told by the name `-`

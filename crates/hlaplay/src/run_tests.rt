@@ -2,8 +2,8 @@ ghost use Rattle.std.specs.Prelude.{None};
 
 use crate::running::do_task;
 use crate::source::{Opener, System};
-use hla_script::Watched;
 use crate::words::Task;
+use hla_script::Watched;
 use std::alloc::Global;
 use std::io;
 use std::io::{Read, Write};

@@ -13,10 +13,9 @@ use crate::source::Opener;
 use crate::telling::{
     DONE, MISUSED, tell_list_stop, tell_load_stop, tell_out_of_memory, tell_play_stop,
 };
-use hla_script::Watched;
 use crate::words::{Task, parse};
 use clap::error::ErrorKind;
-use hla_script::{ListFault, PlayFault, list, play};
+use hla_script::{ListFault, PlayFault, Watched, list, play};
 use std::alloc::Global;
 use std::io::{Read, Write};
 

@@ -5,10 +5,9 @@ ghost use Rattle.hla_transcript.specs.Watching.{stream};
 ghost use Rattle.hlaplay.specs.Program.{Tells, Complains, fault_line, fed_line, script_line, unread_line, memory_line, unwritten_line, play_stop_line, list_stop_line, load_stop_line};
 
 use crate::input::LoadFault;
-use hla_script::Watched;
-use hla_transcript::write_whole;
 use hla_fed_file::FedFault;
-use hla_script::{ListFault, PlayFault, ScriptFault};
+use hla_script::{ListFault, PlayFault, ScriptFault, Watched};
+use hla_transcript::write_whole;
 use std::alloc::{AllocError, Global};
 use std::io::Write;
 

@@ -1,7 +1,7 @@
 use crate::input::{LoadFault, load};
 use crate::parts::parts;
-use hla_script::Watched;
 use crate::words::{Task, parse};
+use hla_script::Watched;
 use std::io;
 use std::io::Read;
 use std::test::Fail;
