@@ -24,7 +24,12 @@ fn is_as_expected<R: Runtime + AllocGlobal>(rt: &R, name: &str) -> io::Result<bo
     let expected_name = format!(in alloc; "{name}.expected")?;
     let expected = fs::read_to_string(rt, expected_name.as_str())?;
     let mut transcript = Vec::new(alloc);
-    match play(alloc, fed.as_bytes(), script.as_bytes(), &mut Watched::new(&mut transcript)) {
+    match play(
+        alloc,
+        fed.as_bytes(),
+        script.as_bytes(),
+        &mut Watched::new(&mut transcript),
+    ) {
         Ok(_) => Ok(transcript.as_slice() == expected.as_bytes()),
         Err(_) => Ok(false),
     }

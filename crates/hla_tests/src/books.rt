@@ -3,6 +3,7 @@
 //! each must be given next.
 
 use std::alloc::{AllocError, Global};
+use std::test::Fail;
 
 /// What a message says, by the words of the line that sent it.
 #[derive(Clone, Copy, Drop)]
@@ -42,6 +43,7 @@ struct Member<'a> {
     messages: Vec<Said<'a>>,
 }
 
+/// What was noted so far.
 #[derive(Drop)]
 pub struct Books<'a> {
     alloc: Global,
@@ -142,6 +144,7 @@ fn is_told(said: Said<'_>, callback: &str) -> bool {
 }
 
 impl<'a> Books<'a> {
+    /// Books in which nothing stands yet.
     pub fn new(alloc: Global) -> Books<'a> {
         Books {
             alloc,
@@ -367,4 +370,110 @@ impl<'a> Books<'a> {
         }
         kind == "nothing"
     }
+}
+
+/// Reads a transcript beside its script: a line for each line, with its number, and each answer as the books have it. Answers
+/// how many callbacks were told, or none where the transcript is not by the books.
+pub fn read_beside(
+    alloc: Global,
+    script: &str,
+    transcript: &str,
+) -> Result<Option<u32>, AllocError> {
+    let mut books = Books::new(alloc);
+    let mut answers = transcript.lines();
+    let mut number = 0u64;
+    for line in script.lines() {
+        number = number.saturating_add(1);
+        let said = match answers.next() {
+            Some(answer) => match answer.split_once(' ') {
+                Some((at, said)) if at.parse::<u64>() == Ok(number) => said,
+                _ => return Ok(None),
+            },
+            None => return Ok(None),
+        };
+        if !books.note(line, said)? {
+            return Ok(None);
+        }
+    }
+    if answers.next().is_some() {
+        return Ok(None);
+    }
+    Ok(Some(books.told()))
+}
+
+/// A script in which B is told of an object, of a message in receive order and of another one.
+const SCRIPT: &str = "create
+join A
+join B
+A publishObject Car Pos Paint
+B subscribeObject Car Pos Paint
+A register Car
+carry A B
+B tick
+A update 1 Car Pos=1 Paint=red
+carry A B
+carry A B
+B tick
+B tick
+B tick
+";
+
+const TRANSCRIPT: [&str; 14] = [
+    "1 ok",
+    "2 ok 1",
+    "3 ok 2",
+    "4 ok",
+    "5 ok",
+    "6 ok 1 object-1",
+    "7 ok discovery 1",
+    "8 ok discover 1 ObjectRoot.Car object-1",
+    "9 ok",
+    "10 ok event 1.1",
+    "11 ok event 1.2",
+    "12 ok reflect 1 Paint=red RO",
+    "13 ok reflect 1 Pos=1 RO",
+    "14 ok nothing",
+];
+
+/// Whether the transcript is by the books with another line in place of one, by its number.
+fn is_taken_with(alloc: Global, number: usize, line: &str) -> Result<bool, AllocError> {
+    let mut transcript = String::new(alloc);
+    for (place, answer) in TRANSCRIPT.iter().enumerate() {
+        transcript.push_str(if place + 1 == number { line } else { answer })?;
+        transcript.push_str("\n")?;
+    }
+    Ok(read_beside(alloc, SCRIPT, transcript.as_str())?.is_some())
+}
+
+#[test]
+fn takes_the_transcript(rt: HostRuntime) -> Result<(), Fail> {
+    assert!(rt; is_taken_with(rt.alloc(), 14, "14 ok nothing")?);
+    Ok(())
+}
+
+#[test]
+fn refuses_forgeries(rt: HostRuntime) -> Result<(), Fail> {
+    let forgeries = [
+        (8, "8 ok nothing"),
+        (8, "8 ok discover 2 ObjectRoot.Car object-1"),
+        (10, "10 ok event 1.2"),
+        (10, "10 ok event 1.3"),
+        (10, "10 ok removal 1.1"),
+        (11, "11 ok event 1.1"),
+        (12, "12 ok nothing"),
+        (12, "12 ok reflect 1 Pos=1 RO"),
+        (12, "12 ok reflect 1 Paint=blue RO"),
+        (12, "12 ok reflect 2 Paint=red RO"),
+        (12, "12 ok remove 1 RO"),
+        (13, "13 ok reflect 1 Paint=red RO"),
+        (14, "14 ok reflect 1 Pos=1 RO"),
+        (14, "13 ok nothing"),
+        (14, ""),
+    ];
+    for (number, line) in forgeries {
+        assert!(rt; !is_taken_with(rt.alloc(), number, line)?, "taken: {line}");
+    }
+    let none = read_beside(rt.alloc(), SCRIPT, "")?;
+    assert!(rt; none.is_none());
+    Ok(())
 }

@@ -10,7 +10,12 @@ use std::test::Fail;
 /// What a script prints over `FED`.
 pub fn transcript_of(rt: &impl Abort, alloc: Global, script: &str) -> Result<String, Fail> {
     let mut out = Vec::new(alloc);
-    let _ = play(alloc, FED.as_bytes(), script.as_bytes(), &mut Watched::new(&mut out))?;
+    let _ = play(
+        alloc,
+        FED.as_bytes(),
+        script.as_bytes(),
+        &mut Watched::new(&mut out),
+    )?;
     match String::from_utf8(out) {
         Ok(text) => Ok(text),
         Err(_) => panic!(rt; "the transcript is no text"),
@@ -310,7 +315,12 @@ fn tests_the_fed_file_first(rt: HostRuntime) -> Result<(), Fail> {
         }
         _ => panic!(rt; "the FED file is not refused"),
     }
-    match play(rt.alloc(), b"(FED)", b"create\ntick", &mut Watched::new(&mut out)) {
+    match play(
+        rt.alloc(),
+        b"(FED)",
+        b"create\ntick",
+        &mut Watched::new(&mut out),
+    ) {
         Err(PlayFault::Script(fault)) => assert_eq!(rt; fault.line, 2),
         _ => panic!(rt; "the script is not refused"),
     }
@@ -347,14 +357,24 @@ fn writes_all_or_says_so(rt: HostRuntime) -> Result<(), Fail> {
         taken: 0,
         room: 1000,
     };
-    let records = play(rt.alloc(), FED.as_bytes(), script.as_slice(), &mut Watched::new(&mut out))?;
+    let records = play(
+        rt.alloc(),
+        FED.as_bytes(),
+        script.as_slice(),
+        &mut Watched::new(&mut out),
+    )?;
     assert_eq!(rt; records.len(), 3);
     assert_eq!(rt;
         out.taken,
         "1 ok\n2 ok 1\n3 error 1 FederationExecutionAlreadyExists\n".len()
     );
     let mut full = Narrow { taken: 0, room: 8 };
-    match play(rt.alloc(), FED.as_bytes(), script.as_slice(), &mut Watched::new(&mut full)) {
+    match play(
+        rt.alloc(),
+        FED.as_bytes(),
+        script.as_slice(),
+        &mut Watched::new(&mut full),
+    ) {
         Err(PlayFault::Write) => Ok(()),
         _ => panic!(rt; "the failed write is not told"),
     }

@@ -12,5 +12,5 @@ pub record Stream : Type 0 where
   pub bytes : Option (List ℕ)
   pub has_failed : Bool
 
-abbrev pub stream : {T : Type 0} → (T → Option (List ℕ)) → Watched T → Stream
-stream bytes w = record { bytes = bytes w.inner; has_failed = w.has_failed }
+abbrev pub stream_of : {T : Type 0} → (T → Option (List ℕ)) → Watched T → Stream
+stream_of bytes w = record { bytes = bytes w.inner; has_failed = w.has_failed }

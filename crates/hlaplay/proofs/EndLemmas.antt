@@ -8,7 +8,7 @@ use Rattle.hla_script.specs.declared.player.PlayFault.{PlayFault}
 use Rattle.hla_script.specs.declared.player.PlayFault.TheVariants as unplayed
 use Rattle.hla_script.specs.Playing.{IsPlayedFrom, is_failed_transcript}
 use Rattle.hla_transcript.specs.Watching.{Stream}
-use Rattle.hlaplay.specs.Program.{Tells, Whole, Cut, Complains, PlayCause, ListCause, memory_line}
+use Rattle.hlaplay.specs.Program.{WritesLine, Whole, Cut, Complains, PlayCause, ListCause, memory_line}
 
 or-false : (b : Bool) → (b || false) ≡ b
 or-false true = refl
@@ -19,13 +19,13 @@ or-true true = refl
 or-true false = refl
 
 -- what is written whole, or else a beginning of it
-pub tells_written : {X F : Type 0} (written : Result X F) (old new : Stream) (line : List ℕ) → OnOk written (Appends old.bytes new.bytes line) → OnErr written ((n : ℕ) × Appends old.bytes new.bytes (take n line)) → new.has_failed ≡ (old.has_failed || not (is_ok written)) → Tells old new line
+pub tells_written : {X F : Type 0} (written : Result X F) (old new : Stream) (line : List ℕ) → OnOk written (Appends old.bytes new.bytes line) → OnErr written ((n : ℕ) × Appends old.bytes new.bytes (take n line)) → new.has_failed ≡ (old.has_failed || not (is_ok written)) → WritesLine old new line
 tells_written (Ok x) old new line whole part failure = Whole whole (failure ∙ or-false old.has_failed)
 tells_written (Err e) old new line whole part failure = Cut part.0 part.1 (failure ∙ or-true old.has_failed)
 
 -- a line that there was memory for, or else that there was none
-pub complains_made : {S F : Type 0} (text : S → List ℕ) (made : Result S F) (old new : Stream) (line : List ℕ) → IfOk made (λ s. text s ≡ line) → IfOk made (λ s. Tells old new (text s)) → OnErr made (Tells old new memory_line) → Complains old new line
-complains_made text (Ok s) old new line is told none = inl (let P : List ℕ → Type 0 = λ l. Tells old new l in subst P is told)
+pub complains_made : {S F : Type 0} (text : S → List ℕ) (made : Result S F) (old new : Stream) (line : List ℕ) → IfOk made (λ s. text s ≡ line) → IfOk made (λ s. WritesLine old new (text s)) → OnErr made (WritesLine old new memory_line) → Complains old new line
+complains_made text (Ok s) old new line is told none = inl (let P : List ℕ → Type 0 = λ l. WritesLine old new l in subst P is told)
 complains_made text (Err e) old new line is told none = inr none
 
 pub appends_kept : (a b c : Option (List ℕ)) (x : List ℕ) → Appends a b x → Keeps b c → Appends a c x

@@ -57,13 +57,13 @@ load_stop_line name unread.Read = unread_line name
 load_stop_line name unread.Memory = memory_line
 
 -- a line was written whole; or a write of it failed, and a beginning of it stands
-pub data Tells (old new : Stream) (line : List ℕ) : Type 0 where
-  Whole : Appends old.bytes new.bytes line → new.has_failed ≡ old.has_failed → Tells old new line
-  Cut : (n : ℕ) → Appends old.bytes new.bytes (take n line) → new.has_failed ≡ true → Tells old new line
+pub data WritesLine (old new : Stream) (line : List ℕ) : Type 0 where
+  Whole : Appends old.bytes new.bytes line → new.has_failed ≡ old.has_failed → WritesLine old new line
+  Cut : (n : ℕ) → Appends old.bytes new.bytes (take n line) → new.has_failed ≡ true → WritesLine old new line
 
 -- the line was told, or that there is no memory for it
 abbrev pub Complains : Stream → Stream → List ℕ → Type 0
-Complains old new line = Tells old new line ⊎ Tells old new memory_line
+Complains old new line = WritesLine old new line ⊎ WritesLine old new memory_line
 
 -- a failed write is the cause where one is told
 abbrev pub PlayCause : PlayFault → Stream → Type 0
@@ -108,19 +108,19 @@ pub data EndsListingFile (name : List ℕ) (file file' out out' err err' : Strea
 
 -- ---- given the bytes of each file by its name
 -- a file that was just opened
-abbrev pub opened : Option (List ℕ) → Stream
-opened bytes = record { bytes = bytes; has_failed = false }
+abbrev pub opened_stream : Option (List ℕ) → Stream
+opened_stream bytes = record { bytes = bytes; has_failed = false }
 
 -- what is asked for is done with the files that it names; `-` is the standard input, which holds both files where both names are `-`
 abbrev pub EndsTask : (List ℕ → Option (List ℕ)) → Asked → Stream → Stream → Stream → Stream → ℕ → Type 0
 EndsTask bytes_of (Play fed script) out out' err err' status =
     MatchBool (bytes_eq fed (codes "-") && bytes_eq script (codes "-"))
-    ((input' : Stream) × EndsPlayingShared (opened (bytes_of (codes "-"))) input' out out' err err' status)
-    ((fed' : Stream) × ((script' : Stream) × EndsPlayingFiles fed (opened (bytes_of fed)) fed' script (opened (bytes_of script)) script' out out' err err' status))
-EndsTask bytes_of (Listing fed) out out' err err' status = (file' : Stream) × EndsListingFile fed (opened (bytes_of fed)) file' out out' err err' status
+    ((input' : Stream) × EndsPlayingShared (opened_stream (bytes_of (codes "-"))) input' out out' err err' status)
+    ((fed' : Stream) × ((script' : Stream) × EndsPlayingFiles fed (opened_stream (bytes_of fed)) fed' script (opened_stream (bytes_of script)) script' out out' err err' status))
+EndsTask bytes_of (Listing fed) out out' err err' status = (file' : Stream) × EndsListingFile fed (opened_stream (bytes_of fed)) file' out out' err err' status
 
 -- ---- given the words of a command line: what they ask for is done; or they are refused, with nothing on the standard output
 pub data EndsRun (bytes_of : List ℕ → Option (List ℕ)) (out out' err err' : Stream) (status : ℕ) : Type 0 where
   TaskDone : (asked : Asked) → EndsTask bytes_of asked out out' err err' status → EndsRun bytes_of out out' err err' status
   Misused : out' ≡ out → status ≡ 2 → EndsRun bytes_of out out' err err' status
-  NoMemory : out' ≡ out → Tells err err' memory_line → status ≡ 1 → EndsRun bytes_of out out' err err' status
+  NoMemory : out' ≡ out → WritesLine err err' memory_line → status ≡ 1 → EndsRun bytes_of out out' err err' status

@@ -1,7 +1,7 @@
 //! Reading files.
 
 ghost use Rattle.std.specs.Prelude.{IfOk, IfErr};
-ghost use Rattle.hla_transcript.specs.Watching.{stream};
+ghost use Rattle.hla_transcript.specs.Watching.{stream_of};
 ghost use Rattle.hlaplay.specs.Streams.{IsTaken, LoadStops};
 
 use hla_script::Watched;
@@ -30,8 +30,8 @@ pub fn load<R: Read>(
     reader: &mut Watched<R>,
     limit: usize,
 ) -> Result<Vec<u8>, LoadFault>
-    ensures taken { IfOk result (λ bytes. IsTaken limit (stream R.remaining reader.old) (stream R.remaining reader.new) bytes.items) }
-    ensures stopped { IfErr result (LoadStops (stream R.remaining reader.old) (stream R.remaining reader.new)) }
+    ensures taken { IfOk result (λ bytes. IsTaken limit (stream_of R.remaining reader.old) (stream_of R.remaining reader.new) bytes.items) }
+    ensures stopped { IfErr result (LoadStops (stream_of R.remaining reader.old) (stream_of R.remaining reader.new)) }
 {
     let mut bytes = Vec::new(alloc);
     let mut piece = [0u8; 4096];

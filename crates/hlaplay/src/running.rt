@@ -1,6 +1,6 @@
 //! The runs of the program, over any readers and writers.
 
-ghost use Rattle.hla_transcript.specs.Watching.{stream};
+ghost use Rattle.hla_transcript.specs.Watching.{stream_of};
 ghost use Rattle.std.specs.Prelude.{◌≡◌, ◌&&◌, codes};
 ghost use Rattle.std.specs.Str.{bytes_eq};
 ghost use Rattle.hlaplay.specs.Asked as asked;
@@ -30,8 +30,8 @@ fn play_bytes<W: Write, E: Write>(
     errors: &mut Watched<E>,
 ) -> u8
     ensures { EndsPlaying fed.now script.now
-        (stream W.contents out.old) (stream W.contents out.new)
-        (stream E.contents errors.old) (stream E.contents errors.new) result }
+        (stream_of W.contents out.old) (stream_of W.contents out.new)
+        (stream_of E.contents errors.old) (stream_of E.contents errors.new) result }
 {
     let _records = match play(alloc, fed, script, out) {
         Ok(records) => records,
@@ -53,8 +53,8 @@ fn list_bytes<W: Write, E: Write>(
     errors: &mut Watched<E>,
 ) -> u8
     ensures { EndsListing fed.now
-        (stream W.contents out.old) (stream W.contents out.new)
-        (stream E.contents errors.old) (stream E.contents errors.new) result }
+        (stream_of W.contents out.old) (stream_of W.contents out.new)
+        (stream_of E.contents errors.old) (stream_of E.contents errors.new) result }
 {
     match list(alloc, fed, out) {
         Ok(()) => {}
@@ -76,9 +76,9 @@ fn play_shared<R: Read, W: Write, E: Write>(
     out: &mut Watched<W>,
     errors: &mut Watched<E>,
 ) -> u8
-    ensures { EndsPlayingShared (stream R.remaining input.old) (stream R.remaining input.new)
-        (stream W.contents out.old) (stream W.contents out.new)
-        (stream E.contents errors.old) (stream E.contents errors.new) result }
+    ensures { EndsPlayingShared (stream_of R.remaining input.old) (stream_of R.remaining input.new)
+        (stream_of W.contents out.old) (stream_of W.contents out.new)
+        (stream_of E.contents errors.old) (stream_of E.contents errors.new) result }
 {
     match load(alloc, input, SHARED_LIMIT) {
         Ok(bytes) => {
@@ -100,10 +100,10 @@ fn play_files<R: Read, S: Read, W: Write, E: Write>(
     out: &mut Watched<W>,
     errors: &mut Watched<E>,
 ) -> u8
-    ensures { EndsPlayingFiles fed_name.now (stream R.remaining fed.old) (stream R.remaining fed.new)
-        script_name.now (stream S.remaining script.old) (stream S.remaining script.new)
-        (stream W.contents out.old) (stream W.contents out.new)
-        (stream E.contents errors.old) (stream E.contents errors.new) result }
+    ensures { EndsPlayingFiles fed_name.now (stream_of R.remaining fed.old) (stream_of R.remaining fed.new)
+        script_name.now (stream_of S.remaining script.old) (stream_of S.remaining script.new)
+        (stream_of W.contents out.old) (stream_of W.contents out.new)
+        (stream_of E.contents errors.old) (stream_of E.contents errors.new) result }
 {
     let fed_bytes = match load(alloc, fed, FILE_LIMIT) {
         Ok(bytes) => bytes,
@@ -124,9 +124,9 @@ fn list_file<R: Read, W: Write, E: Write>(
     out: &mut Watched<W>,
     errors: &mut Watched<E>,
 ) -> u8
-    ensures { EndsListingFile name.now (stream R.remaining file.old) (stream R.remaining file.new)
-        (stream W.contents out.old) (stream W.contents out.new)
-        (stream E.contents errors.old) (stream E.contents errors.new) result }
+    ensures { EndsListingFile name.now (stream_of R.remaining file.old) (stream_of R.remaining file.new)
+        (stream_of W.contents out.old) (stream_of W.contents out.new)
+        (stream_of E.contents errors.old) (stream_of E.contents errors.new) result }
 {
     match load(alloc, file, FILE_LIMIT) {
         Ok(bytes) => list_bytes(alloc, bytes.as_slice(), out, errors),
@@ -151,8 +151,8 @@ fn play_named<O: Opener, W: Write, E: Write>(
     errors: &mut Watched<E>,
 ) -> u8
     ensures { EndsTask (O.bytes_of opener.now) (asked.Play fed_name.now script_name.now)
-        (stream W.contents out.old) (stream W.contents out.new)
-        (stream E.contents errors.old) (stream E.contents errors.new) result }
+        (stream_of W.contents out.old) (stream_of W.contents out.new)
+        (stream_of E.contents errors.old) (stream_of E.contents errors.new) result }
 {
     if share_input(fed_name, script_name) {
         let mut input = opener.open("-");
@@ -183,8 +183,8 @@ pub fn do_task<O: Opener, W: Write, E: Write>(
     errors: &mut Watched<E>,
 ) -> u8
     ensures { EndsTask (O.bytes_of opener.now) (asked_by task.entry)
-        (stream W.contents out.old) (stream W.contents out.new)
-        (stream E.contents errors.old) (stream E.contents errors.new) result }
+        (stream_of W.contents out.old) (stream_of W.contents out.new)
+        (stream_of E.contents errors.old) (stream_of E.contents errors.new) result }
 {
     match task {
         Task::Play { fed, script } => play_named(alloc, opener, fed, script, out, errors),
@@ -205,8 +205,8 @@ pub fn do_words<O: Opener, W: Write, E: Write>(
     errors: &mut Watched<E>,
 ) -> u8
     ensures { EndsRun (O.bytes_of opener.now)
-        (stream W.contents out.old) (stream W.contents out.new)
-        (stream E.contents errors.old) (stream E.contents errors.new) result }
+        (stream_of W.contents out.old) (stream_of W.contents out.new)
+        (stream_of E.contents errors.old) (stream_of E.contents errors.new) result }
 {
     match parse(alloc, words) {
         Ok(task) => do_task(alloc, opener, task, out, errors),

@@ -1,8 +1,8 @@
 //! The one line on standard error.
 
 ghost use Rattle.std.specs.Prelude.{◌≡◌, IfOk, OnErr, string_bytes};
-ghost use Rattle.hla_transcript.specs.Watching.{stream};
-ghost use Rattle.hlaplay.specs.Program.{Tells, Complains, fault_line, fed_line, script_line, unread_line, memory_line, unwritten_line, play_stop_line, list_stop_line, load_stop_line};
+ghost use Rattle.hla_transcript.specs.Watching.{stream_of};
+ghost use Rattle.hlaplay.specs.Program.{WritesLine, Complains, fault_line, fed_line, script_line, unread_line, memory_line, unwritten_line, play_stop_line, list_stop_line, load_stop_line};
 
 use crate::input::LoadFault;
 use hla_fed_file::FedFault;
@@ -50,14 +50,14 @@ fn unread_line(alloc: Global, name: &str) -> Result<String, AllocError>
 
 /// Writes a line. Where a write fails, the rest of the line is left out.
 fn tell<E: Write>(errors: &mut Watched<E>, line: &str)
-    ensures { Tells (stream E.contents errors.old) (stream E.contents errors.new) line.now }
+    ensures { WritesLine (stream_of E.contents errors.old) (stream_of E.contents errors.new) line.now }
 {
     let _ = write_whole(errors, line.as_bytes());
 }
 
 /// Says that memory ran out, and answers the status.
 pub fn tell_out_of_memory<E: Write>(errors: &mut Watched<E>) -> u8
-    ensures line { Tells (stream E.contents errors.old) (stream E.contents errors.new) memory_line }
+    ensures line { WritesLine (stream_of E.contents errors.old) (stream_of E.contents errors.new) memory_line }
     ensures status { result ≡ 1 }
 {
     tell(errors, "out of memory\n");
@@ -66,8 +66,8 @@ pub fn tell_out_of_memory<E: Write>(errors: &mut Watched<E>) -> u8
 
 /// Writes a line if there was memory for it, or else says that memory ran out, and answers the status.
 fn tell_made<E: Write>(errors: &mut Watched<E>, line: Result<String, AllocError>) -> u8
-    ensures line { IfOk line (λ line. Tells (stream E.contents errors.old) (stream E.contents errors.new) (string_bytes line)) }
-    ensures none { OnErr line (Tells (stream E.contents errors.old) (stream E.contents errors.new) memory_line) }
+    ensures line { IfOk line (λ line. WritesLine (stream_of E.contents errors.old) (stream_of E.contents errors.new) (string_bytes line)) }
+    ensures none { OnErr line (WritesLine (stream_of E.contents errors.old) (stream_of E.contents errors.new) memory_line) }
     ensures status { result ≡ 1 }
 {
     match line {
@@ -81,7 +81,7 @@ fn tell_made<E: Write>(errors: &mut Watched<E>, line: Result<String, AllocError>
 
 /// Says why a script was not played to its end, and answers the status.
 pub fn tell_play_stop<E: Write>(alloc: Global, errors: &mut Watched<E>, fault: PlayFault) -> u8
-    ensures line { Complains (stream E.contents errors.old) (stream E.contents errors.new) (play_stop_line fault) }
+    ensures line { Complains (stream_of E.contents errors.old) (stream_of E.contents errors.new) (play_stop_line fault) }
     ensures status { result ≡ 1 }
 {
     match fault {
@@ -97,7 +97,7 @@ pub fn tell_play_stop<E: Write>(alloc: Global, errors: &mut Watched<E>, fault: P
 
 /// Says why a FED file was not listed, and answers the status.
 pub fn tell_list_stop<E: Write>(alloc: Global, errors: &mut Watched<E>, fault: ListFault) -> u8
-    ensures line { Complains (stream E.contents errors.old) (stream E.contents errors.new) (list_stop_line fault) }
+    ensures line { Complains (stream_of E.contents errors.old) (stream_of E.contents errors.new) (list_stop_line fault) }
     ensures status { result ≡ 1 }
 {
     match fault {
@@ -117,7 +117,7 @@ pub fn tell_load_stop<E: Write>(
     name: &str,
     fault: LoadFault,
 ) -> u8
-    ensures line { Complains (stream E.contents errors.old) (stream E.contents errors.new) (load_stop_line name.now fault) }
+    ensures line { Complains (stream_of E.contents errors.old) (stream_of E.contents errors.new) (load_stop_line name.now fault) }
     ensures status { result ≡ 1 }
 {
     match fault {
