@@ -44,7 +44,8 @@ impl ExecutionName {
     pub fn new(name: &[u8]) -> Result<ExecutionName, Fault>
         ensures ok { IfOk result (λ n. n ≡ name.now) }
         ensures err { IfErr result (λ e. e ≡ Fault.LimitReached) }
-        ensures long { IsErrOf result Fault.LimitReached ↔ ((length name.now < 1) ⊎ (max_execution_name < length name.now)) }
+        ensures long { IsErrOf result Fault.LimitReached ↔
+            ((length name.now < 1) ⊎ (max_execution_name < length name.now)) }
     {
         let len = name.len();
         if len == 0 || len > MAX_EXECUTION_NAME {

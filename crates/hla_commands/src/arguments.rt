@@ -88,7 +88,8 @@ fn are_digits(word: &[u8]) -> bool
 /// The number that decimal digits say, if it is not above the largest.
 fn digits_value(digits: &[u8]) -> Option<u64>
     requires { list_all is_ascii_digit digits.now ≡ true }
-    ensures value { MatchOption result (max_number < digits_value 10 digits.now) (λ n. n ≡ digits_value 10 digits.now) }
+    ensures value { MatchOption result (max_number < digits_value 10 digits.now)
+        (λ n. n ≡ digits_value 10 digits.now) }
     ensures within { IfSome result (λ n. n ≤ max_number) }
 {
     let mut value: u64 = 0;

@@ -53,7 +53,8 @@ impl<'a> Words<'a> {
 
     /// Takes the first word.
     pub fn next(&mut self) -> Option<&'a [u8]>
-        ensures { MatchOption result ((self.old ≡ []) × (self.new ≡ [])) (λ word. self.old ≡ word.now ∷ self.new) }
+        ensures { MatchOption result ((self.old ≡ []) × (self.new ≡ []))
+            (λ word. self.old ≡ word.now ∷ self.new) }
     {
         let (_, rest) = self.rest.split_at(gap_len(self.rest));
         let (word, after) = rest.split_at(word_len(rest));

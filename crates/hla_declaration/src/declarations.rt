@@ -40,7 +40,15 @@ impl Declarations {
     pub fn new(alloc: Global, object_classes: usize, interaction_classes: usize) -> Declarations
         requires objects { object_classes ≤ max_classes }
         requires interactions { interaction_classes ≤ max_classes }
-        ensures { declarations_of result ≡ record { federates = 0; object_classes = object_classes; interaction_classes = interaction_classes; published = λ _ _. None; subscribed = λ _ _. None; published_interaction = λ _ _. false; subscribed_interaction = λ _ _. false } }
+        ensures { declarations_of result ≡ record {
+          federates = 0;
+          object_classes = object_classes;
+          interaction_classes = interaction_classes;
+          published = λ _ _. None;
+          subscribed = λ _ _. None;
+          published_interaction = λ _ _. false;
+          subscribed_interaction = λ _ _. false;
+        } }
     {
         Declarations {
             object_classes,
@@ -72,7 +80,9 @@ impl Declarations {
     /// most 16. `OutOfMemory`, and all as it was, where a growth was refused.
     pub fn admit(&mut self) -> Result<(), Fault>
         requires { (declarations_of self.old).federates < max_joins }
-        ensures ok { OnOk result (declarations_of self.new ≡ record (declarations_of self.old) { federates = (declarations_of self.old).federates + 1 }) }
+        ensures ok { OnOk result (declarations_of self.new ≡ record (declarations_of self.old) {
+          federates = (declarations_of self.old).federates + 1;
+        }) }
         ensures err { IfErr result (λ e. e ≡ Fault.OutOfMemory) }
         ensures unchanged { OnErr result (self.new ≡ self.old) }
     {
@@ -88,7 +98,12 @@ impl Declarations {
     pub fn withdraw(&mut self, federate: FederateNo)
         requires some { 0 < federate }
         requires joined { federate ≤ (declarations_of self.old).federates }
-        ensures { let old = declarations_of self.old in declarations_of self.new ≡ record old { published = upd old.published federate (λ _. None); subscribed = upd old.subscribed federate (λ _. None); published_interaction = upd old.published_interaction federate (λ _. false); subscribed_interaction = upd old.subscribed_interaction federate (λ _. false) } }
+        ensures { let old = declarations_of self.old in declarations_of self.new ≡ record old {
+          published = upd old.published federate (λ _. None);
+          subscribed = upd old.subscribed federate (λ _. None);
+          published_interaction = upd old.published_interaction federate (λ _. false);
+          subscribed_interaction = upd old.subscribed_interaction federate (λ _. false);
+        } }
     {
         self.members[federate as usize - 1].clear();
     }
@@ -104,7 +119,9 @@ impl Declarations {
         requires joined { federate ≤ (declarations_of self.old).federates }
         requires numbered { 0 < class }
         requires defined { class ≤ (declarations_of self.old).object_classes }
-        ensures { declarations_of self.new ≡ record (declarations_of self.old) { published = upd2 (declarations_of self.old).published federate class attributes } }
+        ensures { declarations_of self.new ≡ record (declarations_of self.old) {
+          published = upd2 (declarations_of self.old).published federate class attributes;
+        } }
     {
         self.members[federate as usize - 1]
             .published
@@ -122,7 +139,9 @@ impl Declarations {
         requires joined { federate ≤ (declarations_of self.old).federates }
         requires numbered { 0 < class }
         requires defined { class ≤ (declarations_of self.old).object_classes }
-        ensures { declarations_of self.new ≡ record (declarations_of self.old) { subscribed = upd2 (declarations_of self.old).subscribed federate class attributes } }
+        ensures { declarations_of self.new ≡ record (declarations_of self.old) {
+          subscribed = upd2 (declarations_of self.old).subscribed federate class attributes;
+        } }
     {
         self.members[federate as usize - 1]
             .subscribed
@@ -135,7 +154,9 @@ impl Declarations {
         requires joined { federate ≤ (declarations_of self.old).federates }
         requires numbered { 0 < class }
         requires defined { class ≤ (declarations_of self.old).interaction_classes }
-        ensures { declarations_of self.new ≡ record (declarations_of self.old) { published_interaction = upd2 (declarations_of self.old).published_interaction federate class publishes } }
+        ensures { declarations_of self.new ≡ record (declarations_of self.old) {
+          published_interaction = upd2 (declarations_of self.old).published_interaction federate class publishes;
+        } }
     {
         self.members[federate as usize - 1]
             .published_interactions
@@ -148,7 +169,9 @@ impl Declarations {
         requires joined { federate ≤ (declarations_of self.old).federates }
         requires numbered { 0 < class }
         requires defined { class ≤ (declarations_of self.old).interaction_classes }
-        ensures { declarations_of self.new ≡ record (declarations_of self.old) { subscribed_interaction = upd2 (declarations_of self.old).subscribed_interaction federate class subscribes } }
+        ensures { declarations_of self.new ≡ record (declarations_of self.old) {
+          subscribed_interaction = upd2 (declarations_of self.old).subscribed_interaction federate class subscribes;
+        } }
     {
         self.members[federate as usize - 1]
             .subscribed_interactions
@@ -166,7 +189,9 @@ impl Declarations {
         requires joined { federate ≤ (declarations_of self.old).federates }
         requires numbered { 0 < class }
         requires defined { class ≤ (declarations_of self.old).object_classes }
-        ensures { declarations_of self.new ≡ record (declarations_of self.old) { published = upd2 (declarations_of self.old).published federate class (Some attributes) } }
+        ensures { declarations_of self.new ≡ record (declarations_of self.old) {
+          published = upd2 (declarations_of self.old).published federate class (Some attributes);
+        } }
     {
         self.set_published(federate, class, Some(attributes));
     }
@@ -177,7 +202,9 @@ impl Declarations {
         requires joined { federate ≤ (declarations_of self.old).federates }
         requires numbered { 0 < class }
         requires defined { class ≤ (declarations_of self.old).object_classes }
-        ensures { declarations_of self.new ≡ record (declarations_of self.old) { published = upd2 (declarations_of self.old).published federate class None } }
+        ensures { declarations_of self.new ≡ record (declarations_of self.old) {
+          published = upd2 (declarations_of self.old).published federate class None;
+        } }
     {
         self.set_published(federate, class, None);
     }
@@ -194,7 +221,9 @@ impl Declarations {
         requires joined { federate ≤ (declarations_of self.old).federates }
         requires numbered { 0 < class }
         requires defined { class ≤ (declarations_of self.old).object_classes }
-        ensures { declarations_of self.new ≡ record (declarations_of self.old) { subscribed = upd2 (declarations_of self.old).subscribed federate class (Some attributes) } }
+        ensures { declarations_of self.new ≡ record (declarations_of self.old) {
+          subscribed = upd2 (declarations_of self.old).subscribed federate class (Some attributes);
+        } }
     {
         self.set_subscribed(federate, class, Some(attributes));
     }
@@ -205,7 +234,9 @@ impl Declarations {
         requires joined { federate ≤ (declarations_of self.old).federates }
         requires numbered { 0 < class }
         requires defined { class ≤ (declarations_of self.old).object_classes }
-        ensures { declarations_of self.new ≡ record (declarations_of self.old) { subscribed = upd2 (declarations_of self.old).subscribed federate class None } }
+        ensures { declarations_of self.new ≡ record (declarations_of self.old) {
+          subscribed = upd2 (declarations_of self.old).subscribed federate class None;
+        } }
     {
         self.set_subscribed(federate, class, None);
     }
@@ -216,7 +247,9 @@ impl Declarations {
         requires joined { federate ≤ (declarations_of self.old).federates }
         requires numbered { 0 < class }
         requires defined { class ≤ (declarations_of self.old).interaction_classes }
-        ensures { declarations_of self.new ≡ record (declarations_of self.old) { published_interaction = upd2 (declarations_of self.old).published_interaction federate class true } }
+        ensures { declarations_of self.new ≡ record (declarations_of self.old) {
+          published_interaction = upd2 (declarations_of self.old).published_interaction federate class true;
+        } }
     {
         self.set_published_interaction(federate, class, true);
     }
@@ -227,7 +260,9 @@ impl Declarations {
         requires joined { federate ≤ (declarations_of self.old).federates }
         requires numbered { 0 < class }
         requires defined { class ≤ (declarations_of self.old).interaction_classes }
-        ensures { declarations_of self.new ≡ record (declarations_of self.old) { published_interaction = upd2 (declarations_of self.old).published_interaction federate class false } }
+        ensures { declarations_of self.new ≡ record (declarations_of self.old) {
+          published_interaction = upd2 (declarations_of self.old).published_interaction federate class false;
+        } }
     {
         self.set_published_interaction(federate, class, false);
     }
@@ -238,7 +273,9 @@ impl Declarations {
         requires joined { federate ≤ (declarations_of self.old).federates }
         requires numbered { 0 < class }
         requires defined { class ≤ (declarations_of self.old).interaction_classes }
-        ensures { declarations_of self.new ≡ record (declarations_of self.old) { subscribed_interaction = upd2 (declarations_of self.old).subscribed_interaction federate class true } }
+        ensures { declarations_of self.new ≡ record (declarations_of self.old) {
+          subscribed_interaction = upd2 (declarations_of self.old).subscribed_interaction federate class true;
+        } }
     {
         self.set_subscribed_interaction(federate, class, true);
     }
@@ -249,7 +286,9 @@ impl Declarations {
         requires joined { federate ≤ (declarations_of self.old).federates }
         requires numbered { 0 < class }
         requires defined { class ≤ (declarations_of self.old).interaction_classes }
-        ensures { declarations_of self.new ≡ record (declarations_of self.old) { subscribed_interaction = upd2 (declarations_of self.old).subscribed_interaction federate class false } }
+        ensures { declarations_of self.new ≡ record (declarations_of self.old) {
+          subscribed_interaction = upd2 (declarations_of self.old).subscribed_interaction federate class false;
+        } }
     {
         self.set_subscribed_interaction(federate, class, false);
     }

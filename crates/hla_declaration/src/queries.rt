@@ -70,7 +70,8 @@ impl Declarations {
         class: ClassNo,
         attribute: AttributeNo,
     ) -> bool
-        ensures { result ≡ option_map_or (contains_number attribute) ((declarations_of self.now).published federate class) false }
+        ensures { result ≡ option_map_or (contains_number attribute)
+            ((declarations_of self.now).published federate class) false }
     {
         match self.published(federate, class) {
             Some(published) => published.as_slice().contains(&attribute),
@@ -85,7 +86,8 @@ impl Declarations {
         class: ClassNo,
         attribute: AttributeNo,
     ) -> bool
-        ensures { result ≡ option_map_or (contains_number attribute) ((declarations_of self.now).subscribed federate class) false }
+        ensures { result ≡ option_map_or (contains_number attribute)
+            ((declarations_of self.now).subscribed federate class) false }
     {
         match self.subscribed(federate, class) {
             Some(subscribed) => subscribed.as_slice().contains(&attribute),
@@ -95,7 +97,8 @@ impl Declarations {
 
     /// The attributes that a federate publishes of an object class, as it named them; none where it does not publish it.
     pub fn published_attributes(&self, federate: FederateNo, class: ClassNo) -> &[AttributeNo]
-        ensures { result.now ≡ option_map_or (λ xs. xs) ((declarations_of self.now).published federate class) [] }
+        ensures { result.now ≡ option_map_or (λ xs. xs) ((declarations_of self.now).published federate
+            class) [] }
     {
         match self.published(federate, class) {
             Some(attributes) => attributes.as_slice(),

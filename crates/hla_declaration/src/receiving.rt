@@ -14,7 +14,10 @@ use std::alloc::Global;
 
 /// A federate as a receiver, where it is served and is not the sender.
 fn receiver(sender: FederateNo, federate: FederateNo, served: Option<ClassNo>) -> Option<Receiver>
-    ensures { result ≡ when (not (eqb sender federate)) (option_map (λ k. record { federate = federate; class = k }) served) }
+    ensures { result ≡ when (not (eqb sender federate)) (option_map (λ k. record {
+      federate = federate;
+      class = k;
+    }) served) }
 {
     if sender == federate {
         return None;
@@ -34,7 +37,8 @@ impl Declarations {
         federate: FederateNo,
         class: ClassNo,
     ) -> Option<ClassNo>
-        ensures { result ≡ object_class_served catalogue.now (declarations_of self.now).subscribed federate class }
+        ensures { result ≡ object_class_served catalogue.now (declarations_of self.now).subscribed federate
+            class }
     {
         catalogue
             .object_lineage(class)
@@ -51,7 +55,8 @@ impl Declarations {
         federate: FederateNo,
         class: ClassNo,
     ) -> Option<ClassNo>
-        ensures { result ≡ interaction_class_served catalogue.now (declarations_of self.now).subscribed_interaction federate class }
+        ensures { result ≡ interaction_class_served catalogue.now
+            (declarations_of self.now).subscribed_interaction federate class }
     {
         catalogue
             .interaction_lineage(class)
@@ -69,7 +74,9 @@ impl Declarations {
         sender: FederateNo,
         class: ClassNo,
     ) -> Result<List<Receiver>, Fault>
-        ensures ok { IfOk result (λ rs. rs ≡ receivers_of (λ g. object_class_served catalogue.now (declarations_of self.now).subscribed g class) (declarations_of self.now).federates sender) }
+        ensures ok { IfOk result (λ rs. rs ≡ receivers_of
+            (λ g. object_class_served catalogue.now (declarations_of self.now).subscribed g class)
+            (declarations_of self.now).federates sender) }
         ensures err { IfErr result (λ e. e ≡ Fault.OutOfMemory) }
     {
         let mut receivers = List::new(alloc);
@@ -92,7 +99,9 @@ impl Declarations {
         sender: FederateNo,
         class: ClassNo,
     ) -> Result<List<Receiver>, Fault>
-        ensures ok { IfOk result (λ rs. rs ≡ receivers_of (λ g. interaction_class_served catalogue.now (declarations_of self.now).subscribed_interaction g class) (declarations_of self.now).federates sender) }
+        ensures ok { IfOk result (λ rs. rs ≡ receivers_of
+            (λ g. interaction_class_served catalogue.now (declarations_of self.now).subscribed_interaction g
+            class) (declarations_of self.now).federates sender) }
         ensures err { IfErr result (λ e. e ≡ Fault.OutOfMemory) }
     {
         let mut receivers = List::new(alloc);

@@ -120,28 +120,32 @@ impl Catalogue {
 
     /// The first object class of a path.
     pub(crate) fn object_at(&self, path: &[u8]) -> Option<ClassNo>
-        ensures { result ≡ number_at (position (λ (k : ObjectClass). bytes_eq k.path path.now) self.now.object_classes) }
+        ensures { result ≡ number_at (position (λ (k : ObjectClass). bytes_eq k.path path.now)
+            self.now.object_classes) }
     {
         self.object_paths.get(path)
     }
 
     /// The first interaction class of a path.
     pub(crate) fn interaction_at(&self, path: &[u8]) -> Option<ClassNo>
-        ensures { result ≡ number_at (position (λ (k : InteractionClass). bytes_eq k.path path.now) self.now.interaction_classes) }
+        ensures { result ≡ number_at (position (λ (k : InteractionClass). bytes_eq k.path path.now)
+            self.now.interaction_classes) }
     {
         self.interaction_paths.get(path)
     }
 
     /// The first attribute of a name among those of some classes.
     pub(crate) fn attribute_among(&self, classes: &[ClassNo], name: &[u8]) -> Option<AttributeNo>
-        ensures { result ≡ number_at (position (λ (a : Attribute). contains_number a.class classes.now && bytes_eq a.name name.now) self.now.attributes) }
+        ensures { result ≡ number_at (position (λ (a : Attribute). contains_number a.class classes.now &&
+            bytes_eq a.name name.now) self.now.attributes) }
     {
         first_number(self.attribute_names.group(name), classes)
     }
 
     /// The first parameter of a name among those of some classes.
     pub(crate) fn parameter_among(&self, classes: &[ClassNo], name: &[u8]) -> Option<ParameterNo>
-        ensures { result ≡ number_at (position (λ (p : Parameter). contains_number p.class classes.now && bytes_eq p.name name.now) self.now.parameters) }
+        ensures { result ≡ number_at (position (λ (p : Parameter). contains_number p.class classes.now &&
+            bytes_eq p.name name.now) self.now.parameters) }
     {
         first_number(self.parameter_names.group(name), classes)
     }
@@ -149,7 +153,9 @@ impl Catalogue {
     /// Adds an object class; `OutOfMemory`, and the catalogue as it was, where a growth was refused.
     pub(crate) fn add_object_class(&mut self, class: ObjectClass) -> Result<(), Fault>
         requires { length self.old.object_classes < max_classes }
-        ensures ok { OnOk result (self.new ≡ record self.old { object_classes = self.old.object_classes ++ class ∷ [] }) }
+        ensures ok { OnOk result (self.new ≡ record self.old {
+          object_classes = self.old.object_classes ++ class ∷ [];
+        }) }
         ensures err { IfErr result (λ e. e ≡ Fault.OutOfMemory) }
         ensures unchanged { OnErr result (self.new ≡ self.old) }
     {
@@ -170,7 +176,9 @@ impl Catalogue {
     /// Adds an interaction class; `OutOfMemory`, and the catalogue as it was, where a growth was refused.
     pub(crate) fn add_interaction_class(&mut self, class: InteractionClass) -> Result<(), Fault>
         requires { length self.old.interaction_classes < max_classes }
-        ensures ok { OnOk result (self.new ≡ record self.old { interaction_classes = self.old.interaction_classes ++ class ∷ [] }) }
+        ensures ok { OnOk result (self.new ≡ record self.old {
+          interaction_classes = self.old.interaction_classes ++ class ∷ [];
+        }) }
         ensures err { IfErr result (λ e. e ≡ Fault.OutOfMemory) }
         ensures unchanged { OnErr result (self.new ≡ self.old) }
     {
@@ -191,7 +199,9 @@ impl Catalogue {
     /// Adds an attribute; `OutOfMemory`, and the catalogue as it was, where a growth was refused.
     pub(crate) fn add_attribute(&mut self, attribute: Attribute) -> Result<(), Fault>
         requires { length self.old.attributes < max_attributes }
-        ensures ok { OnOk result (self.new ≡ record self.old { attributes = self.old.attributes ++ attribute ∷ [] }) }
+        ensures ok { OnOk result (self.new ≡ record self.old {
+          attributes = self.old.attributes ++ attribute ∷ [];
+        }) }
         ensures err { IfErr result (λ e. e ≡ Fault.OutOfMemory) }
         ensures unchanged { OnErr result (self.new ≡ self.old) }
     {
@@ -213,7 +223,9 @@ impl Catalogue {
     /// Adds a parameter; `OutOfMemory`, and the catalogue as it was, where a growth was refused.
     pub(crate) fn add_parameter(&mut self, parameter: Parameter) -> Result<(), Fault>
         requires { length self.old.parameters < max_parameters }
-        ensures ok { OnOk result (self.new ≡ record self.old { parameters = self.old.parameters ++ parameter ∷ [] }) }
+        ensures ok { OnOk result (self.new ≡ record self.old {
+          parameters = self.old.parameters ++ parameter ∷ [];
+        }) }
         ensures err { IfErr result (λ e. e ≡ Fault.OutOfMemory) }
         ensures unchanged { OnErr result (self.new ≡ self.old) }
     {
@@ -235,7 +247,9 @@ impl Catalogue {
     /// Adds copies of object classes.
     fn add_object_classes(&mut self, object_classes: &[ObjectClass]) -> Result<(), Fault>
         requires { length self.old.object_classes + length object_classes.now ≤ max_classes }
-        ensures ok { OnOk result (self.new ≡ record self.old { object_classes = self.old.object_classes ++ object_classes.now }) }
+        ensures ok { OnOk result (self.new ≡ record self.old {
+          object_classes = self.old.object_classes ++ object_classes.now;
+        }) }
         ensures err { IfErr result (λ e. e ≡ Fault.OutOfMemory) }
     {
         for class in object_classes {
@@ -250,7 +264,9 @@ impl Catalogue {
         interaction_classes: &[InteractionClass],
     ) -> Result<(), Fault>
         requires { length self.old.interaction_classes + length interaction_classes.now ≤ max_classes }
-        ensures ok { OnOk result (self.new ≡ record self.old { interaction_classes = self.old.interaction_classes ++ interaction_classes.now }) }
+        ensures ok { OnOk result (self.new ≡ record self.old {
+          interaction_classes = self.old.interaction_classes ++ interaction_classes.now;
+        }) }
         ensures err { IfErr result (λ e. e ≡ Fault.OutOfMemory) }
     {
         for class in interaction_classes {
@@ -262,7 +278,9 @@ impl Catalogue {
     /// Adds copies of attributes.
     fn add_attributes(&mut self, attributes: &[Attribute]) -> Result<(), Fault>
         requires { length self.old.attributes + length attributes.now ≤ max_attributes }
-        ensures ok { OnOk result (self.new ≡ record self.old { attributes = self.old.attributes ++ attributes.now }) }
+        ensures ok { OnOk result (self.new ≡ record self.old {
+          attributes = self.old.attributes ++ attributes.now;
+        }) }
         ensures err { IfErr result (λ e. e ≡ Fault.OutOfMemory) }
     {
         for attribute in attributes {
@@ -274,7 +292,9 @@ impl Catalogue {
     /// Adds copies of parameters.
     fn add_parameters(&mut self, parameters: &[Parameter]) -> Result<(), Fault>
         requires { length self.old.parameters + length parameters.now ≤ max_parameters }
-        ensures ok { OnOk result (self.new ≡ record self.old { parameters = self.old.parameters ++ parameters.now }) }
+        ensures ok { OnOk result (self.new ≡ record self.old {
+          parameters = self.old.parameters ++ parameters.now;
+        }) }
         ensures err { IfErr result (λ e. e ≡ Fault.OutOfMemory) }
     {
         for parameter in parameters {

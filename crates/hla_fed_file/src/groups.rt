@@ -27,7 +27,8 @@ fn first_among(group: &[Declared], classes: &[ClassNo]) -> Option<Declared>
 
 /// The number of the first of the declarations in some classes.
 pub(crate) fn first_number(group: &[Declared], classes: &[ClassNo]) -> Option<u32>
-    ensures { result ≡ option_map declared_number (find (λ (d : Declared). contains_number d.class classes.now) group.now) }
+    ensures { result ≡ option_map declared_number (find (λ (d : Declared). contains_number d.class
+        classes.now) group.now) }
 {
     match first_among(group, classes) {
         Some(declared) => Some(declared.number),

@@ -138,7 +138,8 @@ fn skip(text: &[u8], line: usize) -> (&[u8], usize)
 /// The quoted name whose first quote stands before the text.
 #[tactic(auto, using(crate::proofs::Lexing::fronts))]
 fn quoted_at(text: &[u8]) -> (Token<'_>, &[u8])
-    ensures stream { (line : ℕ) → stream line (view result.0) result.1.now ≡ tokens_from Between line (34 ∷ text.now) }
+    ensures stream { (line : ℕ) → stream line (view result.0) result.1.now ≡ tokens_from Between line
+        (34 ∷ text.now) }
     ensures shorter { length result.1.now ≤ length text.now }
 {
     let (name, after) = split_quoted(text);
@@ -163,7 +164,8 @@ fn starts_bad(text: &[u8]) -> bool
 #[tactic(auto, using(crate::proofs::Lexing::fronts))]
 fn word_at(text: &[u8]) -> (Token<'_>, &[u8])
     requires { StartsWord text.now }
-    ensures stream { (line : ℕ) → stream line (view result.0) result.1.now ≡ tokens_from Between line text.now }
+    ensures stream { (line : ℕ) → stream line (view result.0) result.1.now ≡ tokens_from Between line
+        text.now }
     ensures shorter { length result.1.now < length text.now }
 {
     let (name, rest) = split_word(text);
@@ -204,7 +206,8 @@ fn token_at(text: &[u8], line: usize) -> (Token<'_>, &[u8])
 /// The next token of a text that begins on a line.
 pub fn next(text: &[u8], line: usize) -> Lexed<'_>
     requires { line + length text.now < 2 ^ 64 }
-    ensures stream { tokens_from Between line text.now ≡ stream result.line (view result.token) result.rest.now }
+    ensures stream { tokens_from Between line text.now ≡ stream result.line (view result.token)
+        result.rest.now }
     ensures within { result.line + length result.rest.now ≤ line + length text.now }
     ensures shorter { is_end (view result.token) ≡ false → length result.rest.now < length text.now }
 {

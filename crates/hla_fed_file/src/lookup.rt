@@ -195,7 +195,8 @@ impl Catalogue {
     /// The first object class whose path ends with a dot and the name.
     fn object_below(&self, name: &[u8]) -> Option<usize>
         ensures small { IfSome result (λ k. k < max_classes) }
-        ensures first { result ≡ position (λ (k : ObjectClass). ends_with_name k.path name.now) self.now.object_classes }
+        ensures first { result ≡ position (λ (k : ObjectClass). ends_with_name k.path name.now)
+            self.now.object_classes }
     {
         self.object_classes()
             .iter()
@@ -205,7 +206,8 @@ impl Catalogue {
     /// The first interaction class whose path ends with a dot and the name.
     fn interaction_below(&self, name: &[u8]) -> Option<usize>
         ensures small { IfSome result (λ k. k < max_classes) }
-        ensures first { result ≡ position (λ (k : InteractionClass). ends_with_name k.path name.now) self.now.interaction_classes }
+        ensures first { result ≡ position (λ (k : InteractionClass). ends_with_name k.path name.now)
+            self.now.interaction_classes }
     {
         self.interaction_classes()
             .iter()

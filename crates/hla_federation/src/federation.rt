@@ -72,7 +72,8 @@ impl Federation {
         requires { IsBuilt step.now }
         ensures outcome { IfOk result (λ a. (next (state_of self.old) step.now).outcome ≡ outcome.Done a) }
         ensures state { OnOk result (state_of self.new ≡ (next (state_of self.old) step.now).state) }
-        ensures machine { OnOk result (IsMachineStep (central (state_of self.old)) (happening step.now (next (state_of self.old) step.now)) (central (state_of self.new))) }
+        ensures machine { OnOk result (IsMachineStep (central (state_of self.old))
+            (happening step.now (next (state_of self.old) step.now)) (central (state_of self.new))) }
         ensures refused { IfErr result (IsRefusedWith (state_of self.old) step.now) }
         ensures unchanged { OnErr result (self.new ≡ self.old) }
     {
@@ -86,10 +87,15 @@ impl Federation {
     /// `OutOfMemory`, and nothing done, where that was refused.
     pub fn run(&mut self, steps: &[Step]) -> Result<Vec<Result<Answer, Fault>>, Fault>
         requires { AreBuilt steps.now }
-        ensures steps { IfOk result (λ answers. AreSteps (state_of self.old) steps.now answers.items (state_of self.new)) }
-        ensures machine { IfOk result (λ answers. IsRun (central (state_of self.old)) (happenings (state_of self.old) (remembered steps.now answers.items)) (central (state_of self.new))) }
-        ensures laws { IfOk result (λ answers. IsLawful (central (state_of self.old)) (happenings (state_of self.old) (remembered steps.now answers.items))) }
-        ensures discoveries { IfOk result (λ answers. IsDiscoveredInTurn (central (state_of self.old)) (happenings (state_of self.old) (remembered steps.now answers.items))) }
+        ensures steps { IfOk result (λ answers. AreSteps (state_of self.old) steps.now answers.items
+            (state_of self.new)) }
+        ensures machine { IfOk result (λ answers. IsRun (central (state_of self.old))
+            (happenings (state_of self.old) (remembered steps.now answers.items))
+            (central (state_of self.new))) }
+        ensures laws { IfOk result (λ answers. IsLawful (central (state_of self.old))
+            (happenings (state_of self.old) (remembered steps.now answers.items))) }
+        ensures discoveries { IfOk result (λ answers. IsDiscoveredInTurn (central (state_of self.old))
+            (happenings (state_of self.old) (remembered steps.now answers.items))) }
         ensures err { IfErr result (λ e. e ≡ Fault.OutOfMemory) }
         ensures unchanged { OnErr result (self.new ≡ self.old) }
     {

@@ -64,7 +64,8 @@ impl Incoming {
         requires some { 0 < from }
         requires within { from ≤ max_joins }
         requires room { length messages.items ≤ item 0 self.old.rooms from }
-        ensures wires { item [] self.new.wires ≡ upd (item [] self.old.wires) from (item [] self.old.wires from ++ messages.items) }
+        ensures wires { item [] self.new.wires ≡ upd (item [] self.old.wires) from
+            (item [] self.old.wires from ++ messages.items) }
         ensures room { (g : ℕ) → from ≢ g → item 0 self.new.rooms g ≡ item 0 self.old.rooms g }
     {
         self.wires[from as usize - 1].append(messages)
@@ -84,7 +85,8 @@ impl Incoming {
         requires some { 0 < from }
         requires within { from ≤ max_joins }
         ensures first { result ≡ slice_get (item [] self.old.wires from) 0 }
-        ensures rest { item [] self.new.wires ≡ upd (item [] self.old.wires) from (drop 1 (item [] self.old.wires from)) }
+        ensures rest { item [] self.new.wires ≡ upd (item [] self.old.wires) from
+            (drop 1 (item [] self.old.wires from)) }
     {
         self.wires[from as usize - 1].take_first()
     }

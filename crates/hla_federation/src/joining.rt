@@ -47,7 +47,8 @@ impl Parts {
     ) -> Result<(), Fault>
         requires whole { IsWhole self.now }
         requires serials { serial + length objects.now ≤ largest_number }
-        ensures ok { OnOk result (HasAdded (messages_to (state_of self.now).directory sender serial (deletions_sent objects.now)) outbox.old outbox.new) }
+        ensures ok { OnOk result (HasAdded (messages_to (state_of self.now).directory sender serial
+            (deletions_sent objects.now)) outbox.old outbox.new) }
         ensures err { IfErr result (λ e. e ≡ Fault.OutOfMemory) }
     {
         let mut next = serial;

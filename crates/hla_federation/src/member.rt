@@ -50,7 +50,8 @@ fn reserve_for(
 ) -> Result<(), Fault>
     ensures received { received.new.events ≡ received.old.events }
     ensures controls { controls.new.items ≡ controls.old.items }
-    ensures ok { OnOk result (HasRoomFor (option_copied message.entry) received.new.room (deque_capacity controls.new - deque_len controls.new)) }
+    ensures ok { OnOk result (HasRoomFor (option_copied message.entry) received.new.room
+        (deque_capacity controls.new - deque_len controls.new)) }
     ensures err { IfErr result (λ e. e ≡ Fault.OutOfMemory) }
     ensures memory { OnErr result (arrival_takes_memory (option_copied message.entry) ≡ true) }
 {
@@ -105,7 +106,9 @@ impl Member {
     /// So many more messages were sent.
     pub fn count_messages(&mut self, count: u64)
         requires { self.old.shown.next_serial + count ≤ largest_number }
-        ensures { self.new ≡ record self.old { shown = record self.old.shown { next_serial = self.old.shown.next_serial + count } } }
+        ensures { self.new ≡ record self.old {
+          shown = record self.old.shown { next_serial = self.old.shown.next_serial + count };
+        } }
     {
         self.next_serial += count;
     }
@@ -128,7 +131,8 @@ impl Member {
         requires within { from ≤ max_joins }
         requires room { length messages.items ≤ item 0 self.old.rooms from }
         ensures same { self.new.shown ≡ record self.old.shown { incoming = self.new.shown.incoming } }
-        ensures wires { item [] self.new.shown.incoming ≡ upd (item [] self.old.shown.incoming) from (item [] self.old.shown.incoming from ++ messages.items) }
+        ensures wires { item [] self.new.shown.incoming ≡ upd (item [] self.old.shown.incoming) from
+            (item [] self.old.shown.incoming from ++ messages.items) }
         ensures room { (g : ℕ) → from ≢ g → item 0 self.new.rooms g ≡ item 0 self.old.rooms g }
     {
         self.incoming.append(from, messages)
@@ -142,10 +146,14 @@ impl Member {
         requires unretracting { IsUnretracting (item [] self.old.shown.incoming from) }
         ensures answer { IfOk result (λ x. x ≡ carried_of from (item [] self.old.shown.incoming from)) }
         ensures small { IfOk result (λ x. IsSmall x) }
-        ensures state { OnOk result (self.new.shown ≡ record (member_receiving from self.old.shown (item [] self.old.shown.incoming from)) { incoming = self.new.shown.incoming }) }
-        ensures wires { OnOk result (item [] self.new.shown.incoming ≡ upd (item [] self.old.shown.incoming) from (drop 1 (item [] self.old.shown.incoming from))) }
+        ensures state { OnOk result (self.new.shown ≡ record (member_receiving from self.old.shown (item [] self.old.shown.incoming from)) {
+          incoming = self.new.shown.incoming;
+        }) }
+        ensures wires { OnOk result (item [] self.new.shown.incoming ≡ upd (item [] self.old.shown.incoming)
+            from (drop 1 (item [] self.old.shown.incoming from))) }
         ensures err { IfErr result (λ e. e ≡ Fault.OutOfMemory) }
-        ensures memory { OnErr result (arrival_takes_memory (slice_get (item [] self.old.shown.incoming from) 0) ≡ true) }
+        ensures memory { OnErr result (arrival_takes_memory
+            (slice_get (item [] self.old.shown.incoming from) 0) ≡ true) }
         ensures unchanged { OnErr result (self.new.shown ≡ self.old.shown) }
     {
         if self.incoming.is_empty(from) {

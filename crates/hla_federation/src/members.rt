@@ -51,7 +51,8 @@ fn any_joined(members: &[Member]) -> bool
 
 /// Whether one of these is joined under a name.
 fn any_joined_as(members: &[Member], name: &[u8]) -> bool
-    ensures { result ≡ list_any (λ (m : RoomyMember). m.shown.joined && bytes_eq m.shown.name name.now) members.now }
+    ensures { result ≡ list_any (λ (m : RoomyMember). m.shown.joined && bytes_eq m.shown.name name.now)
+        members.now }
 {
     members.iter().any(|m| m.is_joined() && m.name() == name)
 }
@@ -86,14 +87,17 @@ impl Members {
 
     /// Whether a joined federate has this name.
     pub fn is_name_joined(&self, name: &[u8]) -> bool
-        ensures { result ≡ list_any (λ f. (members_of self.now.shown).joined f && bytes_eq ((members_of self.now.shown).name f) name.now) (numbers_below (members_of self.now.shown).next_federate) }
+        ensures { result ≡ list_any (λ f. (members_of self.now.shown).joined f && bytes_eq
+            ((members_of self.now.shown).name f) name.now)
+            (numbers_below (members_of self.now.shown).next_federate) }
     {
         any_joined_as(&self.members, name)
     }
 
     /// Whether any federate is joined.
     pub fn is_any_joined(&self) -> bool
-        ensures { result ≡ list_any (members_of self.now.shown).joined (numbers_below (members_of self.now.shown).next_federate) }
+        ensures { result ≡ list_any (members_of self.now.shown).joined
+            (numbers_below (members_of self.now.shown).next_federate) }
     {
         any_joined(&self.members)
     }
@@ -112,7 +116,9 @@ impl Members {
         requires some { 0 < federate }
         requires within { federate < (members_of self.old.shown).next_federate }
         requires serials { (members_of self.old.shown).serial federate + count ≤ largest_number }
-        ensures { members_of self.new.shown ≡ record (members_of self.old.shown) { serial = upd (members_of self.old.shown).serial federate ((members_of self.old.shown).serial federate + count) } }
+        ensures { members_of self.new.shown ≡ record (members_of self.old.shown) {
+          serial = upd (members_of self.old.shown).serial federate ((members_of self.old.shown).serial federate + count);
+        } }
     {
         self.members[federate as usize - 1].count_messages(count);
     }
@@ -135,7 +141,8 @@ impl Members {
         requires few { (members_of self.old.shown).next_federate ≤ max_joins }
         requires new { member.shown ≡ new_member member.shown.name member.shown.incoming }
         requires quiet { AreQuiet member.shown.incoming }
-        ensures { members_of self.new.shown ≡ with_member_admitted (members_of self.old.shown) member.shown.name }
+        ensures { members_of self.new.shown ≡ with_member_admitted (members_of self.old.shown)
+            member.shown.name }
     {
         self.members.push_reserved(member);
     }
@@ -170,8 +177,11 @@ impl Members {
         requires some { 0 < to }
         requires within { to < (members_of self.old.shown).next_federate }
         requires room { length messages.items ≤ room_in self.old.rooms from to }
-        ensures wires { members_of self.new.shown ≡ record (members_of self.old.shown) { wire = upd2 (members_of self.old.shown).wire from to ((members_of self.old.shown).wire from to ++ messages.items) } }
-        ensures room { (g h : ℕ) → (from ≢ g) ⊎ (to ≢ h) → room_in self.new.rooms g h ≡ room_in self.old.rooms g h }
+        ensures wires { members_of self.new.shown ≡ record (members_of self.old.shown) {
+          wire = upd2 (members_of self.old.shown).wire from to ((members_of self.old.shown).wire from to ++ messages.items);
+        } }
+        ensures room { (g h : ℕ) → (from ≢ g) ⊎ (to ≢ h) → room_in self.new.rooms g h ≡ room_in
+            self.old.rooms g h }
     {
         self.members[to as usize - 1].append(from, messages);
     }
@@ -180,7 +190,8 @@ impl Members {
     pub fn reserve_all(&mut self, along: Direction, outbox: &Outbox) -> Result<(), Fault>
         requires { IsEnd along (members_of self.old.shown).next_federate }
         ensures same { self.new.shown ≡ self.old.shown }
-        ensures ok { OnOk result (HasRoom along (item [] outbox.now) 1 (members_of self.old.shown).next_federate self.new.rooms) }
+        ensures ok { OnOk result (HasRoom along (item [] outbox.now) 1
+            (members_of self.old.shown).next_federate self.new.rooms) }
         ensures err { IfErr result (λ e. e ≡ Fault.OutOfMemory) }
     {
         let end = self.next_federate();
@@ -193,8 +204,11 @@ impl Members {
     /// Puts all messages of an outbox on their wires. It takes no memory.
     pub fn post_all(&mut self, along: Direction, outbox: Outbox)
         requires end { IsEnd along (members_of self.old.shown).next_federate }
-        requires room { HasRoom along (item [] outbox) 1 (members_of self.old.shown).next_federate self.old.rooms }
-        ensures { members_of self.new.shown ≡ record (members_of self.old.shown) { wire = posted_below along (item [] outbox) (members_of self.old.shown).next_federate (members_of self.old.shown).wire } }
+        requires room { HasRoom along (item [] outbox) 1 (members_of self.old.shown).next_federate
+            self.old.rooms }
+        ensures { members_of self.new.shown ≡ record (members_of self.old.shown) {
+          wire = posted_below along (item [] outbox) (members_of self.old.shown).next_federate (members_of self.old.shown).wire;
+        } }
     {
         let mut outbox = outbox;
         let end = self.next_federate();
@@ -215,7 +229,10 @@ impl Members {
         requires some { 0 < federate }
         requires within { federate < (members_of self.old.shown).next_federate }
         requires serials { (members_of self.old.shown).serial federate + count ≤ largest_number }
-        ensures ok { OnOk result (members_of self.new.shown ≡ record (members_of self.old.shown) { serial = upd (members_of self.old.shown).serial federate ((members_of self.old.shown).serial federate + count); wire = posted_below (From federate) (item [] outbox) (members_of self.old.shown).next_federate (members_of self.old.shown).wire }) }
+        ensures ok { OnOk result (members_of self.new.shown ≡ record (members_of self.old.shown) {
+          serial = upd (members_of self.old.shown).serial federate ((members_of self.old.shown).serial federate + count);
+          wire = posted_below (From federate) (item [] outbox) (members_of self.old.shown).next_federate (members_of self.old.shown).wire;
+        }) }
         ensures err { IfErr result (λ e. e ≡ Fault.OutOfMemory) }
         ensures unchanged { OnErr result (self.new.shown ≡ self.old.shown) }
     {
@@ -235,9 +252,11 @@ impl Members {
         requires unretracting { IsUnretracting ((members_of self.old.shown).wire from to) }
         ensures answer { IfOk result (λ x. x ≡ carried_of from ((members_of self.old.shown).wire from to)) }
         ensures small { IfOk result (λ x. IsSmall x) }
-        ensures state { OnOk result (members_of self.new.shown ≡ with_arrival from to (members_of self.old.shown)) }
+        ensures state { OnOk result (members_of self.new.shown ≡ with_arrival from to
+            (members_of self.old.shown)) }
         ensures err { IfErr result (λ e. e ≡ Fault.OutOfMemory) }
-        ensures memory { OnErr result (arrival_takes_memory (slice_get ((members_of self.old.shown).wire from to) 0) ≡ true) }
+        ensures memory { OnErr result (arrival_takes_memory
+            (slice_get ((members_of self.old.shown).wire from to) 0) ≡ true) }
         ensures unchanged { OnErr result (self.new.shown ≡ self.old.shown) }
     {
         self.members[to as usize - 1].arrive(from)
@@ -247,8 +266,10 @@ impl Members {
     pub fn pick_up(&mut self, federate: FederateNo) -> Option<Callback>
         requires some { 0 < federate }
         requires within { federate < (members_of self.old.shown).next_federate }
-        ensures callback { result ≡ picked_at ((members_of self.old.shown).controls federate) ((members_of self.old.shown).ro federate) }
-        ensures state { members_of self.new.shown ≡ with_first_picked (members_of self.old.shown) federate ((members_of self.old.shown).controls federate) }
+        ensures callback { result ≡ picked_at ((members_of self.old.shown).controls federate)
+            ((members_of self.old.shown).ro federate) }
+        ensures state { members_of self.new.shown ≡ with_first_picked (members_of self.old.shown) federate
+            ((members_of self.old.shown).controls federate) }
     {
         self.members[federate as usize - 1].pick_up()
     }

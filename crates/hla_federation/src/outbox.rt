@@ -51,7 +51,8 @@ impl Outbox {
     pub fn put(&mut self, peer: FederateNo, message: Message) -> Result<(), Fault>
         requires some { 0 < peer }
         requires within { peer ≤ max_joins }
-        ensures ok { OnOk result (item [] self.new ≡ upd (item [] self.old) peer (item [] self.old peer ++ message ∷ [])) }
+        ensures ok { OnOk result (item [] self.new ≡ upd (item [] self.old) peer
+            (item [] self.old peer ++ message ∷ [])) }
         ensures err { IfErr result (λ e. e ≡ Fault.OutOfMemory) }
     {
         self.messages[peer as usize - 1].push(message)?;

@@ -39,7 +39,8 @@ impl Parts {
     pub fn new(alloc: Global, catalogue: Catalogue) -> Parts
         ensures catalogue { result.catalogue ≡ catalogue }
         ensures members { result.members ≡ [] }
-        ensures declarations { declared.declarations_of result.declarations ≡ nothing_declared (length catalogue.object_classes) (length catalogue.interaction_classes) }
+        ensures declarations { declared.declarations_of result.declarations ≡ nothing_declared
+            (length catalogue.object_classes) (length catalogue.interaction_classes) }
         ensures objects { registry_of result.objects ≡ new_registry }
     {
         let object_classes = catalogue.object_classes().len();

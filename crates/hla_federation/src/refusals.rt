@@ -40,7 +40,8 @@ impl Parts {
 
     /// Whether a class lacks one of these parameters.
     fn lacks_parameter(&self, class: ClassNo, values: &[HandleValuePair]) -> bool
-        ensures { result ≡ list_any (λ (v : HandleValuePair). not (has_parameter self.now.catalogue class v.handle)) values.now }
+        ensures { result ≡ list_any (λ (v : HandleValuePair). not
+            (has_parameter self.now.catalogue class v.handle)) values.now }
     {
         values
             .iter()
@@ -49,7 +50,8 @@ impl Parts {
 
     /// Whether a class lacks one of the attributes that have these values.
     fn lacks_value(&self, class: ClassNo, values: &[HandleValuePair]) -> bool
-        ensures { result ≡ list_any (λ (v : HandleValuePair). not (has_attribute self.now.catalogue class v.handle)) values.now }
+        ensures { result ≡ list_any (λ (v : HandleValuePair). not
+            (has_attribute self.now.catalogue class v.handle)) values.now }
     {
         values
             .iter()
@@ -63,7 +65,8 @@ impl Parts {
         object: ObjectNo,
         values: &[HandleValuePair],
     ) -> bool
-        ensures { result ≡ list_any (λ (v : HandleValuePair). not (is_owned (state_of self.now).directory federate object v.handle)) values.now }
+        ensures { result ≡ list_any (λ (v : HandleValuePair). not
+            (is_owned (state_of self.now).directory federate object v.handle)) values.now }
     {
         values.iter().any(|v| !self.registry.owns_attribute(federate, object, v.handle))
     }
@@ -75,7 +78,8 @@ impl Parts {
         class: ClassNo,
         values: &[HandleValuePair],
     ) -> bool
-        ensures { result ≡ list_any (λ (v : HandleValuePair). not (is_published (state_of self.now).directory federate class v.handle)) values.now }
+        ensures { result ≡ list_any (λ (v : HandleValuePair). not
+            (is_published (state_of self.now).directory federate class v.handle)) values.now }
     {
         values.iter().any(|v| !self
             .declarations
@@ -272,7 +276,8 @@ impl Parts {
 
     /// Whether one of these values is of an attribute whose updates have this order.
     fn has_order(&self, order: Order, values: &[HandleValuePair]) -> bool
-        ensures { result ≡ list_any (λ (v : HandleValuePair). is_of_order order (attribute_order self.now.catalogue v.handle)) values.now }
+        ensures { result ≡ list_any (λ (v : HandleValuePair). is_of_order order
+            (attribute_order self.now.catalogue v.handle)) values.now }
     {
         values
             .iter()
@@ -281,7 +286,8 @@ impl Parts {
 
     /// How many messages an update makes: one for each order that one of its attributes has.
     fn count_parts(&self, values: &[HandleValuePair]) -> u64
-        ensures count { (object : ℕ) → result ≡ length (update_sent (state_of self.now).directory object values.now) }
+        ensures count { (object : ℕ) → result ≡ length (update_sent (state_of self.now).directory object
+            values.now) }
         ensures few { result ≤ 2 }
     {
         let received = self.has_order(Order::Receive, values);

@@ -32,7 +32,8 @@ impl Parts {
         federate: FederateNo,
         class: ClassNo,
     ) -> Result<List<AttributeNo>, Fault>
-        ensures ok { IfOk result (λ xs. xs ≡ option_map_or (λ ys. ys) ((state_of self.now).directory.published federate class) []) }
+        ensures ok { IfOk result (λ xs. xs ≡ option_map_or (λ ys. ys)
+            ((state_of self.now).directory.published federate class) []) }
         ensures err { IfErr result (λ e. e ≡ Fault.OutOfMemory) }
     {
         let published = self.declarations.published_attributes(federate, class);
@@ -51,7 +52,8 @@ impl Parts {
         name: &[u8],
     ) -> Result<(), Fault>
         requires { AreFederates receivers.now }
-        ensures ok { OnOk result (HasAdded (messages_among (discovery_to object name.now) receivers.now) outbox.old outbox.new) }
+        ensures ok { OnOk result (HasAdded (messages_among (discovery_to object name.now) receivers.now)
+            outbox.old outbox.new) }
         ensures err { IfErr result (λ e. e ≡ Fault.OutOfMemory) }
     {
         for receiver in receivers {
@@ -71,7 +73,9 @@ impl Parts {
         requires some { 0 < object }
         requires registered { object < (registry_of self.old.objects).next_object }
         ensures same { self.new ≡ record self.old { objects = self.new.objects } }
-        ensures known { registry_of self.new.objects ≡ record (registry_of self.old.objects) { known = known_among receivers.now object (registry_of self.old.objects).known } }
+        ensures known { registry_of self.new.objects ≡ record (registry_of self.old.objects) {
+          known = known_among receivers.now object (registry_of self.old.objects).known;
+        } }
     {
         for receiver in receivers {
             self.registry.make_known(object, receiver.federate);
@@ -125,7 +129,9 @@ impl Parts {
         subscribed: ClassNo,
         class: ClassNo,
     ) -> Option<ClassNo>
-        ensures { result ≡ find (λ k. eqb k subscribed || is_some ((state_of self.now).directory.subscribed federate k)) (object_lineage self.now.catalogue class) }
+        ensures { result ≡ find (λ k. eqb k subscribed || is_some
+            ((state_of self.now).directory.subscribed federate k))
+            (object_lineage self.now.catalogue class) }
     {
         self.catalogue.object_lineage(class).iter().copied().find(|k| {
             *k == subscribed || self.declarations.subscribes_object_class(federate, *k)
@@ -139,7 +145,9 @@ impl Parts {
         class: ClassNo,
         object: ObjectNo,
     ) -> Option<ClassNo>
-        ensures { (attributes : List ℕ) → result ≡ option_map (λ (d : Discovery). d.class) (discovery_of (with_subscribed (state_of self.now).directory federate class (Some attributes)) federate object) }
+        ensures { (attributes : List ℕ) → result ≡ option_map (λ (d : Discovery). d.class)
+            (discovery_of (with_subscribed (state_of self.now).directory federate class (Some attributes))
+            federate object) }
     {
         if !self.registry.exists(object)
             || self.registry.owner(object) == federate
@@ -159,7 +167,9 @@ impl Parts {
         class: ClassNo,
     ) -> Result<(), Fault>
         requires { IsSound self.now }
-        ensures ok { OnOk result ((attributes : List ℕ) → HasAdded (λ g. map message.Discovery (discoveries_of (with_subscribed (state_of self.now).directory federate class (Some attributes)) g federate)) outbox.old outbox.new) }
+        ensures ok { OnOk result ((attributes : List ℕ) → HasAdded
+            (λ g. map message.Discovery (discoveries_of (with_subscribed (state_of self.now).directory
+            federate class (Some attributes)) g federate)) outbox.old outbox.new) }
         ensures err { IfErr result (λ e. e ≡ Fault.OutOfMemory) }
     {
         let end = self.registry.next_object();
@@ -181,7 +191,9 @@ impl Parts {
         requires some { 0 < federate }
         requires within { federate ≤ max_joins }
         ensures same { self.new ≡ record self.old { objects = self.new.objects } }
-        ensures known { (attributes : List ℕ) → registry_of self.new.objects ≡ record (registry_of self.old.objects) { known = (discovered_by (with_subscribed (state_of self.old).directory federate class (Some attributes)) federate).known } }
+        ensures known { (attributes : List ℕ) → registry_of self.new.objects ≡ record (registry_of self.old.objects) {
+          known = (discovered_by (with_subscribed (state_of self.old).directory federate class (Some attributes)) federate).known;
+        } }
     {
         let end = self.registry.next_object();
         for object in 1..end {

@@ -43,7 +43,8 @@ impl Parts {
         class: ClassNo,
         values: &[HandleValuePair],
     ) -> Result<List<HandleValuePair>, Fault>
-        ensures ok { IfOk result (λ shown. shown ≡ filter (λ (v : HandleValuePair). has_parameter self.now.catalogue class v.handle) values.now) }
+        ensures ok { IfOk result (λ shown. shown ≡ filter
+            (λ (v : HandleValuePair). has_parameter self.now.catalogue class v.handle) values.now) }
         ensures err { IfErr result (λ e. e ≡ Fault.OutOfMemory) }
     {
         let mut shown = List::new(self.alloc);
@@ -62,7 +63,8 @@ impl Parts {
         class: ClassNo,
         values: &[HandleValuePair],
     ) -> Result<List<HandleValuePair>, Fault>
-        ensures ok { IfOk result (λ shown. shown ≡ subscribed_values (state_of self.now).directory federate class values.now) }
+        ensures ok { IfOk result (λ shown. shown ≡ subscribed_values (state_of self.now).directory federate
+            class values.now) }
         ensures err { IfErr result (λ e. e ≡ Fault.OutOfMemory) }
     {
         let mut shown = List::new(self.alloc);
@@ -83,7 +85,8 @@ impl Parts {
         order: Order,
         values: &[HandleValuePair],
     ) -> Result<List<HandleValuePair>, Fault>
-        ensures ok { IfOk result (λ part. part ≡ values_of_order (state_of self.now).directory order values.now) }
+        ensures ok { IfOk result (λ part. part ≡ values_of_order (state_of self.now).directory order
+            values.now) }
         ensures err { IfErr result (λ e. e ≡ Fault.OutOfMemory) }
     {
         let mut part = List::new(self.alloc);
@@ -105,7 +108,10 @@ impl Parts {
         values: &[HandleValuePair],
     ) -> Result<(), Fault>
         requires { IsWhole self.now }
-        ensures ok { OnOk result (HasAdded (message_to (state_of self.now).directory sender serial (record { order = Receive; body = AnInteraction class values.now })) outbox.old outbox.new) }
+        ensures ok { OnOk result (HasAdded (message_to (state_of self.now).directory sender serial (record {
+          order = Receive;
+          body = AnInteraction class values.now;
+        })) outbox.old outbox.new) }
         ensures err { IfErr result (λ e. e ≡ Fault.OutOfMemory) }
     {
         let receivers = self
@@ -132,7 +138,10 @@ impl Parts {
         values: &[HandleValuePair],
     ) -> Result<(), Fault>
         requires { IsWhole self.now }
-        ensures ok { OnOk result (HasAdded (message_to (state_of self.now).directory sender serial (record { order = Receive; body = AnUpdate object values.now })) outbox.old outbox.new) }
+        ensures ok { OnOk result (HasAdded (message_to (state_of self.now).directory sender serial (record {
+          order = Receive;
+          body = AnUpdate object values.now;
+        })) outbox.old outbox.new) }
         ensures err { IfErr result (λ e. e ≡ Fault.OutOfMemory) }
     {
         let class = self.registry.class_of(object);
@@ -151,7 +160,8 @@ impl Parts {
 
     /// Whether the removal of an object goes to a federate: to each other to which it is known.
     fn receives_removal(&self, sender: FederateNo, object: ObjectNo, federate: FederateNo) -> bool
-        ensures { let d = (state_of self.now).directory in result ≡ is_other d.joined sender federate && d.known object federate }
+        ensures { let d = (state_of self.now).directory in result ≡ is_other d.joined sender federate &&
+            d.known object federate }
     {
         federate != sender
             && self.members.is_joined(federate)
@@ -167,7 +177,10 @@ impl Parts {
         object: ObjectNo,
     ) -> Result<(), Fault>
         requires { IsWhole self.now }
-        ensures ok { OnOk result (HasAdded (message_to (state_of self.now).directory sender serial (record { order = Receive; body = ADeletion object })) outbox.old outbox.new) }
+        ensures ok { OnOk result (HasAdded (message_to (state_of self.now).directory sender serial (record {
+          order = Receive;
+          body = ADeletion object;
+        })) outbox.old outbox.new) }
         ensures err { IfErr result (λ e. e ≡ Fault.OutOfMemory) }
     {
         let end = self.members.next_federate();
@@ -191,7 +204,8 @@ impl Parts {
     ) -> Result<u64, Fault>
         requires { IsWhole self.now }
         ensures count { IfOk result (λ n. n ≡ length (part_sent Receive object values.now)) }
-        ensures ok { OnOk result (HasAdded (messages_to (state_of self.now).directory sender serial (part_sent Receive object values.now)) outbox.old outbox.new) }
+        ensures ok { OnOk result (HasAdded (messages_to (state_of self.now).directory sender serial
+            (part_sent Receive object values.now)) outbox.old outbox.new) }
         ensures err { IfErr result (λ e. e ≡ Fault.OutOfMemory) }
     {
         if values.is_empty() {

@@ -54,7 +54,10 @@ impl Peers {
     pub fn set(&mut self, peer: FederateNo, epoch: u64, bound: Ticks)
         requires some { 0 < peer }
         requires within { peer ≤ 16 }
-        ensures { peers_of self.new ≡ record { bound = upd (peers_of self.old).bound peer bound; known_epoch = upd (peers_of self.old).known_epoch peer epoch } }
+        ensures { peers_of self.new ≡ record {
+          bound = upd (peers_of self.old).bound peer bound;
+          known_epoch = upd (peers_of self.old).known_epoch peer epoch;
+        } }
     {
         let row = PeerRow { epoch, bound };
         self.put(peer, row);
@@ -65,7 +68,10 @@ impl Peers {
     pub fn lower(&mut self, peer: FederateNo, epoch: u64, entry: Ticks)
         requires some { 0 < peer }
         requires within { peer ≤ 16 }
-        ensures { peers_of self.new ≡ record { bound = upd (peers_of self.old).bound peer (min ((peers_of self.old).bound peer) entry); known_epoch = upd (peers_of self.old).known_epoch peer epoch } }
+        ensures { peers_of self.new ≡ record {
+          bound = upd (peers_of self.old).bound peer (min ((peers_of self.old).bound peer) entry);
+          known_epoch = upd (peers_of self.old).known_epoch peer epoch;
+        } }
     {
         let bound = self.row(peer).bound.min(entry);
         self.put(peer, PeerRow { epoch, bound });
@@ -76,7 +82,9 @@ impl Peers {
     pub fn accept(&mut self, peer: FederateNo, epoch: u64, value: Ticks)
         requires some { 0 < peer }
         requires within { peer ≤ 16 }
-        ensures { peers_of self.new ≡ record (peers_of self.old) { bound = upd (peers_of self.old).bound peer (null_bound ((peers_of self.old).known_epoch peer) ((peers_of self.old).bound peer) epoch value) } }
+        ensures { peers_of self.new ≡ record (peers_of self.old) {
+          bound = upd (peers_of self.old).bound peer (null_bound ((peers_of self.old).known_epoch peer) ((peers_of self.old).bound peer) epoch value);
+        } }
     {
         let row = self.row(peer);
         let bound = if epoch == row.epoch {
@@ -96,7 +104,8 @@ impl Peers {
     /// The lower bound on the time stamps that may still come: the least of the bounds. It is at hand, and no row is
     /// looked at.
     pub fn bound(&self) -> Ticks
-        ensures joined { (n : ℕ) → ((g : ℕ) → n ≤ g → (peers_of self.now).bound g ≡ forever) → result ≡ least n (peers_of self.now).bound }
+        ensures joined { (n : ℕ) → ((g : ℕ) → n ≤ g → (peers_of self.now).bound g ≡ forever) → result ≡
+            least n (peers_of self.now).bound }
         ensures rows { result ≡ least 17 (peers_of self.now).bound }
     {
         self.least
@@ -105,7 +114,10 @@ impl Peers {
     /// What is known of a peer.
     pub fn row(&self, peer: FederateNo) -> PeerRow
         requires { peer ≤ 16 }
-        ensures { result ≡ record { epoch = (peers_of self.now).known_epoch peer; bound = (peers_of self.now).bound peer } }
+        ensures { result ≡ record {
+          epoch = (peers_of self.now).known_epoch peer;
+          bound = (peers_of self.now).bound peer;
+        } }
     {
         let row = &self.rows[peer as usize];
         *row
@@ -113,7 +125,10 @@ impl Peers {
 
     fn put(&mut self, peer: FederateNo, row: PeerRow)
         requires { peer ≤ 16 }
-        ensures { peers_of self.new ≡ record { bound = upd (peers_of self.old).bound peer row.bound; known_epoch = upd (peers_of self.old).known_epoch peer row.epoch } }
+        ensures { peers_of self.new ≡ record {
+          bound = upd (peers_of self.old).bound peer row.bound;
+          known_epoch = upd (peers_of self.old).known_epoch peer row.epoch;
+        } }
     {
         let old = self.rows[peer as usize].bound;
         self.rows[peer as usize] = row;

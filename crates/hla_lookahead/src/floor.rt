@@ -75,7 +75,9 @@ impl Floor {
     /// constrained and may be granted an earlier time, by a next-event request or a flush: there it waits for the grant.
     pub fn on_request(&mut self, kind: AdvanceKind, asked: Ticks, is_constrained: bool)
         requires { asked ≤ max_time }
-        ensures { self.new ≡ record self.old { floor = cond ((is_next kind || is_flush kind) && is_constrained) self.old.floor (max self.old.floor (asked + width self.old.lookahead kind)) } }
+        ensures { self.new ≡ record self.old {
+          floor = cond ((is_next kind || is_flush kind) && is_constrained) self.old.floor (max self.old.floor (asked + width self.old.lookahead kind));
+        } }
     {
         if waits_for_its_grant(kind) && is_constrained {
             return;
@@ -86,7 +88,9 @@ impl Floor {
     /// A request of this kind is granted at `time`: the floor rises to that and the request's width.
     pub fn on_grant(&mut self, kind: AdvanceKind, time: Ticks)
         requires { time ≤ max_time }
-        ensures { self.new ≡ record self.old { floor = max self.old.floor (time + width self.old.lookahead kind) } }
+        ensures { self.new ≡ record self.old {
+          floor = max self.old.floor (time + width self.old.lookahead kind);
+        } }
     {
         self.floor = self.floor.max(time + self.width(kind));
     }

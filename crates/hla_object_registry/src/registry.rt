@@ -203,7 +203,8 @@ impl Registry {
         requires within { owner ≤ max_joins }
         requires unused { is_name_used_in (registry_of self.old) name ≡ false }
         ensures answer { IfOk result (λ h. h ≡ (registry_of self.old).next_object) }
-        ensures registered { OnOk result (registry_of self.new ≡ with_registered (registry_of self.old) class name owner attributes) }
+        ensures registered { OnOk result (registry_of self.new ≡ with_registered (registry_of self.old)
+            class name owner attributes) }
         ensures err { IfErr result (λ e. e ≡ Fault.OutOfMemory) }
         ensures unchanged { OnErr result (self.new ≡ self.old) }
     {
@@ -227,7 +228,9 @@ impl Registry {
         requires registered { object < (registry_of self.old).next_object }
         requires federate { 0 < federate }
         requires within { federate ≤ max_joins }
-        ensures { registry_of self.new ≡ record (registry_of self.old) { known = upd2 (registry_of self.old).known object federate true } }
+        ensures { registry_of self.new ≡ record (registry_of self.old) {
+          known = upd2 (registry_of self.old).known object federate true;
+        } }
     {
         let entry = &mut self.entries[object as usize - 1];
         entry.known.insert(federate);
@@ -237,7 +240,9 @@ impl Registry {
     pub fn delete(&mut self, object: ObjectNo)
         requires some { 0 < object }
         requires registered { object < (registry_of self.old).next_object }
-        ensures { registry_of self.new ≡ record (registry_of self.old) { object = upd (registry_of self.old).object object (record ((registry_of self.old).object object) { exists = false }) } }
+        ensures { registry_of self.new ≡ record (registry_of self.old) {
+          object = upd (registry_of self.old).object object (record ((registry_of self.old).object object) { exists = false });
+        } }
     {
         let entry = &mut self.entries[object as usize - 1];
         entry.exists = false;

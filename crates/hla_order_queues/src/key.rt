@@ -22,7 +22,11 @@ pub struct EventName {
 impl EventKey {
     /// The key of an event.
     pub fn of(event: &Event) -> EventKey
-        ensures { result ≡ record { stamp = event.now.stamp; sender = event.now.sender; serial = event.now.serial } }
+        ensures { result ≡ record {
+          stamp = event.now.stamp;
+          sender = event.now.sender;
+          serial = event.now.serial;
+        } }
     {
         EventKey {
             stamp: event.stamp,

@@ -87,7 +87,8 @@ impl TsoQueue {
 
     /// Whether an event that `sender` sent with that serial is in the queue.
     pub fn has(&self, sender: FederateNo, serial: Serial) -> bool
-        ensures { MatchBool result (IsSome (find_event sender serial self.now)) (find_event sender serial self.now ≡ None) }
+        ensures { MatchBool result (IsSome (find_event sender serial self.now))
+            (find_event sender serial self.now ≡ None) }
     {
         self.stamps.contains_key(&EventName { sender, serial })
     }
@@ -153,10 +154,13 @@ impl TsoQueue {
     /// all. `OutOfMemory` where room for them was refused there; the events of both queues then stay as they are. It
     /// goes through the events that move.
     pub fn move_below(&mut self, bound: Ticks, received: &mut RoQueue) -> Result<(), Fault>
-        ensures left { bound < FOREVER → OnOk result (self.new ≡ filter (λ e. not (nat_lt e.stamp bound)) self.old) }
-        ensures moved { bound < FOREVER → OnOk result (received.new.events ≡ received.old.events ++ filter (λ e. nat_lt e.stamp bound) self.old) }
+        ensures left { bound < FOREVER → OnOk result (self.new ≡ filter (λ e. not (nat_lt e.stamp bound))
+            self.old) }
+        ensures moved { bound < FOREVER → OnOk result (received.new.events ≡ received.old.events ++ filter
+            (λ e. nat_lt e.stamp bound) self.old) }
         ensures none_left { bound ≡ FOREVER → OnOk result (self.new ≡ []) }
-        ensures all_moved { bound ≡ FOREVER → OnOk result (received.new.events ≡ received.old.events ++ self.old) }
+        ensures all_moved { bound ≡ FOREVER → OnOk result
+            (received.new.events ≡ received.old.events ++ self.old) }
         ensures err { IfErr result (λ e. e ≡ Fault.OutOfMemory) }
         ensures unchanged { OnErr result (self.new ≡ self.old) }
         ensures received_unchanged { OnErr result (received.new.events ≡ received.old.events) }

@@ -31,7 +31,8 @@ pub struct Execution {
 /// Does a step, and answers how it ended; where memory ran out it is not done.
 fn do_step(federation: &mut Option<Federation>, step: &Step) -> Result<Outcome, Fault>
     requires { IsBuilt step.now }
-    ensures ok { IfOk result (λ out. IsStepped (option_map components_of federation.old) step.now out (option_map components_of federation.new)) }
+    ensures ok { IfOk result (λ out. IsStepped (option_map components_of federation.old) step.now out
+        (option_map components_of federation.new)) }
     ensures err { OnErr result (federation.new ≡ federation.old) }
 {
     match federation {
@@ -50,7 +51,8 @@ fn do_step(federation: &mut Option<Federation>, step: &Step) -> Result<Outcome, 
 
 /// Destroys the execution where it is there and no federate is joined.
 fn destroy_unless_joined(federation: &mut Option<Federation>) -> Outcome
-    ensures { IsDestroyed (option_map components_of federation.old) result (option_map components_of federation.new) }
+    ensures { IsDestroyed (option_map components_of federation.old) result
+        (option_map components_of federation.new) }
 {
     match federation {
         None => return Outcome::Refused(Fault::FederationExecutionDoesNotExist),
@@ -65,7 +67,13 @@ fn destroy_unless_joined(federation: &mut Option<Federation>) -> Outcome
 }
 
 fn script_record(name: ExecutionName, act: Act, outcome: Outcome) -> Record
-    ensures { result ≡ record { actor = 0; execution = name; act = act; outcome = outcome; choice = choice.None } }
+    ensures { result ≡ record {
+      actor = 0;
+      execution = name;
+      act = act;
+      outcome = outcome;
+      choice = choice.None;
+    } }
 {
     Record {
         actor: 0,
@@ -99,7 +107,9 @@ impl Execution {
     pub fn act(&mut self, request: Request) -> Result<Record, Fault>
         requires name { self.old.name ≡ codes "play" }
         requires built { IsBuiltRequest request }
-        ensures ok { IfOk result (λ r. IsActed (act_of self.old.catalogue request r.outcome) (standing self.old.creates self.old.federation) self.old.members.items r (standing self.new.creates self.new.federation) self.new.members.items) }
+        ensures ok { IfOk result (λ r. IsActed (act_of self.old.catalogue request r.outcome)
+            (standing self.old.creates self.old.federation) self.old.members.items r
+            (standing self.new.creates self.new.federation) self.new.members.items) }
         ensures err { OnErr result (self.new.federation ≡ self.old.federation) }
         ensures creates { OnErr result (self.new.creates ≡ self.old.creates) }
         ensures members { OnErr result (self.new.members.items ≡ self.old.members.items) }
@@ -116,7 +126,9 @@ impl Execution {
     /// Creates the execution, unless it is there.
     fn create(&mut self) -> Result<Record, Fault>
         requires { self.old.name ≡ codes "play" }
-        ensures ok { IfOk result (λ r. IsActed (act.Create (created_with self.old.catalogue r.outcome)) (standing self.old.creates self.old.federation) self.old.members.items r (standing self.new.creates self.new.federation) self.new.members.items) }
+        ensures ok { IfOk result (λ r. IsActed (act.Create (created_with self.old.catalogue r.outcome))
+            (standing self.old.creates self.old.federation) self.old.members.items r
+            (standing self.new.creates self.new.federation) self.new.members.items) }
         ensures err { OnErr result (self.new.federation ≡ self.old.federation) }
         ensures creates { OnErr result (self.new.creates ≡ self.old.creates) }
         ensures members { OnErr result (self.new.members.items ≡ self.old.members.items) }
@@ -156,7 +168,9 @@ impl Execution {
     /// Destroys the execution, where it may be.
     fn destroy(&mut self) -> Record
         requires { self.old.name ≡ codes "play" }
-        ensures ok { IsActed act.Destroy (standing self.old.creates self.old.federation) self.old.members.items result (standing self.new.creates self.new.federation) self.new.members.items }
+        ensures ok { IsActed act.Destroy (standing self.old.creates self.old.federation)
+            self.old.members.items result (standing self.new.creates self.new.federation)
+            self.new.members.items }
         ensures catalogue { self.new.catalogue ≡ self.old.catalogue }
         ensures name { self.new.name ≡ self.old.name }
     {
@@ -168,7 +182,9 @@ impl Execution {
     fn take(&mut self, step: Step) -> Result<Record, Fault>
         requires name { self.old.name ≡ codes "play" }
         requires built { IsBuilt step }
-        ensures ok { IfOk result (λ r. IsActed (act.Step step) (standing self.old.creates self.old.federation) self.old.members.items r (standing self.new.creates self.new.federation) self.new.members.items) }
+        ensures ok { IfOk result (λ r. IsActed (act.Step step)
+            (standing self.old.creates self.old.federation) self.old.members.items r
+            (standing self.new.creates self.new.federation) self.new.members.items) }
         ensures err { OnErr result (self.new.federation ≡ self.old.federation) }
         ensures creates { OnErr result (self.new.creates ≡ self.old.creates) }
         ensures members { OnErr result (self.new.members.items ≡ self.old.members.items) }

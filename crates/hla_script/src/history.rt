@@ -64,7 +64,8 @@ fn request_with_room(
     ensures admitted { IfOk result (IsAdmitted execution.now.catalogue records.old.items command.now) }
     ensures built { IfOk result IsBuiltRequest }
     ensures room { OnOk result (vec_len records.new + 1 ≤ vec_capacity records.new) }
-    ensures refused { IfErr result (λ e. LineEnds execution.now.catalogue records.old.items command.now (outcome.Refused e) []) }
+    ensures refused { IfErr result (λ e. LineEnds execution.now.catalogue records.old.items command.now
+        (outcome.Refused e) []) }
     ensures records { records.new.items ≡ records.old.items }
 {
     match Request::of(
@@ -91,11 +92,14 @@ pub fn play_line(
     text: &mut Text,
 ) -> Result<(), Fault>
     requires name { execution.old.name ≡ codes "play" }
-    requires kept { IsKept records.old.items (standing execution.old.creates execution.old.federation) execution.old.members.items }
+    requires kept { IsKept records.old.items (standing execution.old.creates execution.old.federation)
+        execution.old.members.items }
     ensures name { execution.new.name ≡ execution.old.name }
     ensures catalogue { execution.new.catalogue ≡ execution.old.catalogue }
-    ensures kept { OnOk result (IsKept records.new.items (standing execution.new.creates execution.new.federation) execution.new.members.items) }
-    ensures answered { OnOk result (IsAnswered execution.old.catalogue line.now records.old.items records.new.items text.old text.new) }
+    ensures kept { OnOk result (IsKept records.new.items
+        (standing execution.new.creates execution.new.federation) execution.new.members.items) }
+    ensures answered { OnOk result (IsAnswered execution.old.catalogue line.now records.old.items
+        records.new.items text.old text.new) }
 {
     let request = match request_with_room(execution, records, &line.command) {
         Ok(request) => request,

@@ -95,7 +95,8 @@ fn with_number(
     numbers: Result<List<AttributeNo>, AskFault>,
     number: AttributeNo,
 ) -> Result<List<AttributeNo>, AskFault>
-    ensures { (meant : Result (List ℕ) Fault) → Asks numbers meant → Asks result (with_last_handle meant number) }
+    ensures { (meant : Result (List ℕ) Fault) → Asks numbers meant → Asks result
+        (with_last_handle meant number) }
 {
     let mut numbers = numbers?;
     match numbers.push(number) {
@@ -130,7 +131,8 @@ fn with_pair(
     handle: u32,
     value: &[u8],
 ) -> Result<List<HandleValuePair>, AskFault>
-    ensures { (meant : Result (List HandleValuePair) Fault) → Asks pairs meant → Asks result (with_last_pair meant handle value.now) }
+    ensures { (meant : Result (List HandleValuePair) Fault) → Asks pairs meant → Asks result
+        (with_last_pair meant handle value.now) }
 {
     if let Err(AskFault::Refused(_)) = &pairs {
         return pairs;

@@ -44,7 +44,8 @@ fn play_lines<W: Write>(
     script: &Script,
     out: &mut Watched<W>,
 ) -> Result<List<Record>, StopFault>
-    ensures played { IfOk result (λ records. IsPlayed catalogue script.now (W.contents out.old.inner) (W.contents out.new.inner) records) }
+    ensures played { IfOk result (λ records. IsPlayed catalogue script.now (W.contents out.old.inner)
+        (W.contents out.new.inner) records) }
     ensures next { IfOk result (λ records. (x : Federations) × AreNext no_federations records x) }
     ensures failure { out.new.has_failed ≡ (out.old.has_failed || is_cut_off result) }
 {
@@ -79,7 +80,8 @@ pub fn play<W: Write>(
 ) -> Result<List<Record>, PlayFault>
     // Each line has one outcome: that of the record of its step, or that of a line that makes no step. What was written
     // is these outcomes, and the records are just those of the steps, in order.
-    ensures played { IfOk result (IsPlayedFrom fed.now script.now (W.contents out.old.inner) (W.contents out.new.inner)) }
+    ensures played { IfOk result (IsPlayedFrom fed.now script.now (W.contents out.old.inner)
+        (W.contents out.new.inner)) }
 
     // The records are, one after another, those of the components' next-state function from no executions: each line that
     // makes a step is answered as that function says, with what it carries and delivers.
@@ -89,7 +91,8 @@ pub fn play<W: Write>(
     ensures run { IfOk result (λ records. (y : machine.Executions) × AreRun machine.no_executions records y) }
 
     // The first fault of the FED file, or else that of the script, with nothing written.
-    ensures stopped { IfErr result (StopsBy fed.now script.now (W.contents out.old.inner) (W.contents out.new.inner)) }
+    ensures stopped { IfErr result (StopsBy fed.now script.now (W.contents out.old.inner)
+        (W.contents out.new.inner)) }
 
     // A write has failed where that is answered, and nowhere else.
     ensures failure { out.new.has_failed ≡ (out.old.has_failed || is_unwritten_transcript result) }

@@ -60,7 +60,8 @@ impl TimeState {
     /// Whether a time is none at which the federate may enable regulation: its own alone while it is constrained, else any
     /// that is not in its past.
     fn is_no_time_of_regulation(&self, time: Ticks) -> bool
-        ensures { result ≡ cond (is_constrained self.now) (not (eqb time self.now.time)) (ltb time self.now.time) }
+        ensures { result ≡ cond (is_constrained self.now) (not (eqb time self.now.time))
+            (ltb time self.now.time) }
     {
         if self.is_constrained() {
             time != self.time()

@@ -48,7 +48,8 @@ fn order_name(order: Order) -> &'static str
 
 /// Adds a transport and an order, each behind a space.
 fn transport_and_order(text: &mut Text, transport: Transport, order: Order) -> Result<(), Fault>
-    ensures ok { OnOk result (text.new ≡ text.old ++ (codes " " ++ transport_text transport ++ codes " " ++ order_text order)) }
+    ensures ok { OnOk result (text.new ≡ text.old ++ (codes " " ++ transport_text transport ++ codes " " ++
+        order_text order)) }
     ensures err { IfErr result (λ e. e ≡ Fault.OutOfMemory) }
 {
     text.word_and_bytes(" ", transport_name(transport).as_bytes())?;
@@ -78,7 +79,8 @@ fn parameter_line(text: &mut Text, number: u64, parameter: &Parameter) -> Result
 
 /// Adds the lines of the attributes that a class declares itself.
 fn own_attributes(text: &mut Text, class: ClassNo, attributes: &[Attribute]) -> Result<(), Fault>
-    ensures ok { OnOk result (text.new ≡ text.old ++ each_numbered (own_attribute_text class) attributes.now) }
+    ensures ok { OnOk result (text.new ≡ text.old ++ each_numbered (own_attribute_text class)
+        attributes.now) }
     ensures err { IfErr result (λ e. e ≡ Fault.OutOfMemory) }
 {
     for (place, attribute) in attributes.iter().enumerate() {
@@ -91,7 +93,8 @@ fn own_attributes(text: &mut Text, class: ClassNo, attributes: &[Attribute]) -> 
 
 /// Adds the lines of the parameters that a class declares itself.
 fn own_parameters(text: &mut Text, class: ClassNo, parameters: &[Parameter]) -> Result<(), Fault>
-    ensures ok { OnOk result (text.new ≡ text.old ++ each_numbered (own_parameter_text class) parameters.now) }
+    ensures ok { OnOk result (text.new ≡ text.old ++ each_numbered (own_parameter_text class)
+        parameters.now) }
     ensures err { IfErr result (λ e. e ≡ Fault.OutOfMemory) }
 {
     for (place, parameter) in parameters.iter().enumerate() {
@@ -178,7 +181,8 @@ fn interaction_classes(
     parameters: &[Parameter],
 ) -> Result<(), Fault>
     requires { length classes.now ≤ max_classes }
-    ensures ok { OnOk result (text.new ≡ text.old ++ each_numbered (interaction_text parameters.now) classes.now) }
+    ensures ok { OnOk result (text.new ≡ text.old ++ each_numbered (interaction_text parameters.now)
+        classes.now) }
     ensures err { IfErr result (λ e. e ≡ Fault.OutOfMemory) }
 {
     for (place, class) in classes.iter().enumerate() {
@@ -215,7 +219,8 @@ pub fn list<W: Write>(alloc: Global, fed: &[u8], out: &mut Watched<W>) -> Result
     ensures listed { OnOk result (IsListed fed.now (W.contents out.old.inner) (W.contents out.new.inner)) }
 
     // The first fault of the FED file, with nothing written.
-    ensures stopped { IfErr result (StopsListing fed.now (W.contents out.old.inner) (W.contents out.new.inner)) }
+    ensures stopped { IfErr result (StopsListing fed.now (W.contents out.old.inner)
+        (W.contents out.new.inner)) }
 
     // A write has failed where that is answered, and nowhere else.
     ensures failure { out.new.has_failed ≡ (out.old.has_failed || is_unwritten result) }

@@ -14,7 +14,8 @@ pub struct WriteFailed;
 /// writer does.
 pub fn write_whole<W: Write>(out: &mut Watched<W>, bytes: &[u8]) -> Result<(), WriteFailed>
     ensures ok { OnOk result (Appends (W.contents out.old.inner) (W.contents out.new.inner) bytes.now) }
-    ensures err { OnErr result ((n : ℕ) × Appends (W.contents out.old.inner) (W.contents out.new.inner) (take n bytes.now)) }
+    ensures err { OnErr result ((n : ℕ) × Appends (W.contents out.old.inner) (W.contents out.new.inner)
+        (take n bytes.now)) }
     ensures failure { out.new.has_failed ≡ (out.old.has_failed || not (is_ok result)) }
 {
     let mut at = 0;

@@ -30,8 +30,10 @@ pub fn load<R: Read>(
     reader: &mut Watched<R>,
     limit: usize,
 ) -> Result<Vec<u8>, LoadFault>
-    ensures taken { IfOk result (λ bytes. IsTaken limit (stream_of R.remaining reader.old) (stream_of R.remaining reader.new) bytes.items) }
-    ensures stopped { IfErr result (LoadStops (stream_of R.remaining reader.old) (stream_of R.remaining reader.new)) }
+    ensures taken { IfOk result (λ bytes. IsTaken limit (stream_of R.remaining reader.old)
+        (stream_of R.remaining reader.new) bytes.items) }
+    ensures stopped { IfErr result (LoadStops (stream_of R.remaining reader.old)
+        (stream_of R.remaining reader.new)) }
 {
     let mut bytes = Vec::new(alloc);
     let mut piece = [0u8; 4096];

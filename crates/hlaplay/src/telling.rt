@@ -57,7 +57,8 @@ fn tell<E: Write>(errors: &mut Watched<E>, line: &str)
 
 /// Says that memory ran out, and answers the status.
 pub fn tell_out_of_memory<E: Write>(errors: &mut Watched<E>) -> u8
-    ensures line { WritesLine (stream_of E.contents errors.old) (stream_of E.contents errors.new) memory_line }
+    ensures line { WritesLine (stream_of E.contents errors.old) (stream_of E.contents errors.new)
+        memory_line }
     ensures status { result ≡ 1 }
 {
     tell(errors, "out of memory\n");
@@ -66,8 +67,10 @@ pub fn tell_out_of_memory<E: Write>(errors: &mut Watched<E>) -> u8
 
 /// Writes a line if there was memory for it, or else says that memory ran out, and answers the status.
 fn tell_made<E: Write>(errors: &mut Watched<E>, line: Result<String, AllocError>) -> u8
-    ensures line { IfOk line (λ line. WritesLine (stream_of E.contents errors.old) (stream_of E.contents errors.new) (string_bytes line)) }
-    ensures none { OnErr line (WritesLine (stream_of E.contents errors.old) (stream_of E.contents errors.new) memory_line) }
+    ensures line { IfOk line (λ line. WritesLine (stream_of E.contents errors.old)
+        (stream_of E.contents errors.new) (string_bytes line)) }
+    ensures none { OnErr line (WritesLine (stream_of E.contents errors.old)
+        (stream_of E.contents errors.new) memory_line) }
     ensures status { result ≡ 1 }
 {
     match line {
@@ -81,7 +84,8 @@ fn tell_made<E: Write>(errors: &mut Watched<E>, line: Result<String, AllocError>
 
 /// Says why a script was not played to its end, and answers the status.
 pub fn tell_play_stop<E: Write>(alloc: Global, errors: &mut Watched<E>, fault: PlayFault) -> u8
-    ensures line { Complains (stream_of E.contents errors.old) (stream_of E.contents errors.new) (play_stop_line fault) }
+    ensures line { Complains (stream_of E.contents errors.old) (stream_of E.contents errors.new)
+        (play_stop_line fault) }
     ensures status { result ≡ 1 }
 {
     match fault {
@@ -97,7 +101,8 @@ pub fn tell_play_stop<E: Write>(alloc: Global, errors: &mut Watched<E>, fault: P
 
 /// Says why a FED file was not listed, and answers the status.
 pub fn tell_list_stop<E: Write>(alloc: Global, errors: &mut Watched<E>, fault: ListFault) -> u8
-    ensures line { Complains (stream_of E.contents errors.old) (stream_of E.contents errors.new) (list_stop_line fault) }
+    ensures line { Complains (stream_of E.contents errors.old) (stream_of E.contents errors.new)
+        (list_stop_line fault) }
     ensures status { result ≡ 1 }
 {
     match fault {
@@ -117,7 +122,8 @@ pub fn tell_load_stop<E: Write>(
     name: &str,
     fault: LoadFault,
 ) -> u8
-    ensures line { Complains (stream_of E.contents errors.old) (stream_of E.contents errors.new) (load_stop_line name.now fault) }
+    ensures line { Complains (stream_of E.contents errors.old) (stream_of E.contents errors.new)
+        (load_stop_line name.now fault) }
     ensures status { result ≡ 1 }
 {
     match fault {
