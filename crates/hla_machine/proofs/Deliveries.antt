@@ -35,7 +35,7 @@ use Rattle.hla_machine.specs.CentralInvariant.{CentralInv}
 use Rattle.hla_machine.specs.Sends.{copy_for, after_message, after_messages}
 use Rattle.hla_machine.specs.Machine.{MayEnd, after_leaving, after_enter, after_cease, after_call, after_carry, after_done, after}
 use Rattle.hla_machine.specs.Runs.{Happening, IsRun}
-use Rattle.hla_machine.specs.History.{GivesCallback, Names, NamesPlain, SpeaksOf, Hears, HearsPlain, Happens, HappenAfter, next_state}
+use Rattle.hla_machine.specs.History.{GivesCallback, Names, NamesPlain, SpeaksOf, Hears, HearsPlain, IsOnItsWay, Happens, HappenAfter, next_state}
 use Rattle.hla_machine.proofs.Bags.{at_key_here}
 use Rattle.hla_machine.proofs.CentralInvariant.{IsThinner, thin_same, thin_removed, thin_demoted, thin_moved, copies_cases, laws_after, laws_start}
 use Rattle.hla_machine.proofs.Ahead.{given}
@@ -218,6 +218,9 @@ absent_run c (h ∷ hs) d f e run none low =
         (from k refl)
 
 -- ---- the laws
+pub heard_on_its_way : (c : Central) (h : Happening) (f : ℕ) (e : EventHandle) → Happens c h → Hears h f e → IsOnItsWay c f e
+heard_on_its_way c h f e is p = let x = heard c h f e is.allowed.0 p in (x.copy, x.was)
+
 pub heard_from_another : (c : Central) (h : Happening) (f : ℕ) (e : EventHandle) → Happens c h → Hears h f e → e.sender ≢ f
 heard_from_another c h f e is p same =
     let w = others_run (new_central is.catalogue) is.before c is.run (others_start is.catalogue) in

@@ -38,28 +38,28 @@ use Rattle.hla_machine.proofs.Keeps.{IsKept}
 abbrev pub Owing : (ℕ → ℕ → SentEvent) → (ℕ → ℕ → ℕ → ℕ) → Type 0
 Owing sent owed = (g m f : ℕ) → 1 ≤ owed g m f → (sent g m).retracted ≡ true
 
-at_cases : (bag : ℕ → ℕ → ℕ → Option Copy) (g m f : ℕ) (o : Option Copy) (h n l : ℕ) → ((g ≡ h) × (m ≡ n) × (f ≡ l) × (at_key bag g m f o h n l ≡ o)) ⊎ (at_key bag g m f o h n l ≡ bag h n l)
+pub at_cases : (bag : ℕ → ℕ → ℕ → Option Copy) (g m f : ℕ) (o : Option Copy) (h n l : ℕ) → ((g ≡ h) × (m ≡ n) × (f ≡ l) × (at_key bag g m f o h n l ≡ o)) ⊎ (at_key bag g m f o h n l ≡ bag h n l)
 unfolding at_key
 at_cases bag g m f o h n l = ⊎_elim
     (λ (y : (is_key g m h n && eqb f l) ≡ true). let p = and_parts _ _ y in let q = and_parts _ _ p.0 in inl (eqb-true g h q.0, eqb-true m n q.1, eqb-true f l p.1, rw y refl))
     (λ (e : (is_key g m h n && eqb f l) ≡ false). inr (rw e refl))
     (cases_Bool (is_key g m h n && eqb f l))
 
-copies_stay : (joined : ℕ → Bool) (bag : ℕ → ℕ → ℕ → Option Copy) (g m : ℕ) (copy : ℕ → Option Copy) (h n f : ℕ) → ((g ≡ h) → m ≡ n → ⊥) → with_copies joined bag g m copy h n f ≡ bag h n f
+pub copies_stay : (joined : ℕ → Bool) (bag : ℕ → ℕ → ℕ → Option Copy) (g m : ℕ) (copy : ℕ → Option Copy) (h n f : ℕ) → ((g ≡ h) → m ≡ n → ⊥) → with_copies joined bag g m copy h n f ≡ bag h n f
 unfolding with_copies
 copies_stay joined bag g m copy h n f ne = ⊎_elim
     (λ (y : is_key g m h n ≡ true). absurd (let p = and_parts _ _ y in ne (eqb-true g h p.0) (eqb-true m n p.1)))
     (λ (e : is_key g m h n ≡ false). rw e refl)
     (cases_Bool (is_key g m h n))
 
-demoted_cases : (bag : ℕ → ℕ → ℕ → Option Copy) (f : ℕ) (events : List EventHandle) (h n l : ℕ) → (with_demoted bag f events h n l ≡ option_map demoted (bag h n l)) ⊎ (with_demoted bag f events h n l ≡ bag h n l)
+pub demoted_cases : (bag : ℕ → ℕ → ℕ → Option Copy) (f : ℕ) (events : List EventHandle) (h n l : ℕ) → (with_demoted bag f events h n l ≡ option_map demoted (bag h n l)) ⊎ (with_demoted bag f events h n l ≡ bag h n l)
 unfolding with_demoted
 demoted_cases bag f events h n l = ⊎_elim
     (λ (y : (eqb f l && is_among events h n) ≡ true). inl (rw y refl))
     (λ (e : (eqb f l && is_among events h n) ≡ false). inr (rw e refl))
     (cases_Bool (eqb f l && is_among events h n))
 
-handle_is : (e : EventHandle) (g m : ℕ) → e.sender ≡ g → e.serial ≡ m → e ≡ record { sender = g; serial = m }
+pub handle_is : (e : EventHandle) (g m : ℕ) → e.sender ≡ g → e.serial ≡ m → e ≡ record { sender = g; serial = m }
 handle_is e g m e1 e2 = subst (λ m. e ≡ record { sender = g; serial = m }) e2 (subst (λ g. e ≡ record { sender = g; serial = e.serial }) e1 refl)
 
 module _ (g m f : ℕ) (k : Copy) (tso : k.order ≡ Tso) where

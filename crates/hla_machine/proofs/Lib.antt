@@ -34,6 +34,10 @@ pub mod Retractions
 pub mod Grants
 -- Who is given a message, and how often
 pub mod Deliveries
+-- Each message of a call is sent to each federate that receives it, and to no other
+pub mod Addressing
+-- What is on its way to a federate stays so until it is settled
+pub mod Reaching
 -- Numbers and names of objects are never given twice
 pub mod Registrations
 -- Records of all executions, cut to one of them

@@ -1,5 +1,5 @@
 -- What a federate is given over a run
-use Rattle.std.specs.Prelude.{ℕ, ◌≡◌, ◌<◌, ◌⊎◌, true, false, Some, List, [], ◌∷◌, ◌++◌}
+use Rattle.std.specs.Prelude.{ℕ, ◌+◌, ◌≡◌, ◌<◌, ◌⊎◌, true, false, Option, None, Some, List, [], ◌∷◌, ◌++◌}
 use Rattle.hla_base.specs.declared.number.EventHandle.{EventHandle}
 use Rattle.hla_base.specs.declared.row.AdvanceRequest.{AdvanceRequest}
 use Rattle.hla_base.specs.declared.row.TimeRow.{TimeRow}
@@ -8,11 +8,15 @@ use Rattle.hla_fed_file.specs.CatalogueValue.{CatalogueValue}
 use Rattle.hla_callbacks.specs.declared.callback.Callback.{Callback}
 use Rattle.hla_callbacks.specs.declared.callback.Callback.TheVariants as callback
 use Rattle.hla_callbacks.specs.declared.callback.Delivery.TheVariants as delivery
+use Rattle.hla_machine.specs.declared.service.Service.{Service}
+use Rattle.hla_machine.specs.declared.service.Service.TheVariants as service
+use Rattle.hla_machine.specs.declared.service.ResignAction.TheVariants.{DeleteObjects}
 use Rattle.hla_machine.specs.declared.step.Step.{Step}
 use Rattle.hla_machine.specs.declared.step.Step.TheVariants.{Tick}
 use Rattle.hla_machine.specs.declared.step.Answer.TheVariants as answer
 use Rattle.hla_machine.specs.declared.step.Outcome.{Outcome}
 use Rattle.hla_machine.specs.declared.step.Outcome.TheVariants as outcome
+use Rattle.hla_machine.specs.Directory.{Directory, Outgoing, receives, content_for, objects_of, update_sent, interaction_sent, deletion_sent, deletions_sent}
 use Rattle.hla_machine.specs.Central.{Central, Copy, Tso, new_central, demoted}
 use Rattle.hla_machine.specs.Callbacks.{IsCopy}
 use Rattle.hla_machine.specs.Machine.{Allowed, after}
@@ -119,6 +123,34 @@ IsMoved c d f e s = (k : Copy) × IsCopy c f e k × (k.order ≡ Tso) × (k.stam
 abbrev pub IsPickedOrMoved : Central → List Happening → ℕ → EventHandle → ℕ → Type 0
 IsPickedOrMoved c [] f e s = ⊥
 IsPickedOrMoved c (h ∷ hs) f e s = Picks h f e s ⊎ (IsMoved c (next_state c h) f e s ⊎ IsPickedOrMoved (next_state c h) hs f e s)
+
+-- ---- to whom messages go
+-- the messages of a call, in the order of their serials
+abbrev pub messages_of : Directory → ℕ → Service → List Outgoing
+messages_of d f (service.UpdateAttributeValues object values stamp) = update_sent d object values
+messages_of d f (service.SendInteraction class values stamp) = interaction_sent d class values
+messages_of d f (service.DeleteObjectInstance object stamp) = deletion_sent d object
+messages_of d f (service.Resign DeleteObjects) = deletions_sent (objects_of d f)
+messages_of d f s = []
+
+-- f's message with serial m lies in the bag for each federate that receives it, with what it says to that one, and for no other
+pub record IsSentTo (d : Directory) (bag : ℕ → ℕ → ℕ → Option Copy) (f m : ℕ) (out : Outgoing) : Type 0 where
+  pub receivers : (g : ℕ) → receives d f out.body g ≡ true → (k : Copy) × (bag f m g ≡ Some k) × (content_for d out.body g ≡ Some k.content)
+  pub others : (g : ℕ) → receives d f out.body g ≡ false → bag f m g ≡ None
+
+-- so does each of f's messages from serial m on
+abbrev pub AreSentTo : Directory → (ℕ → ℕ → ℕ → Option Copy) → ℕ → ℕ → List Outgoing → Type 0
+AreSentTo d bag f m [] = Unit {0}
+AreSentTo d bag f m (out ∷ outs) = IsSentTo d bag f m out × AreSentTo d bag f (m + 1) outs
+
+-- the message that e names was sent to f, and is under way or waits for it; it does from its sending on
+abbrev pub IsOnItsWay : Central → ℕ → EventHandle → Type 0
+IsOnItsWay c f e = (k : Copy) × IsCopy c f e k
+
+-- at some step of the run from c, f is given the message, or the message is retracted, or f resigns
+abbrev pub IsSettled : Central → List Happening → ℕ → EventHandle → Type 0
+IsSettled c [] f e = ⊥
+IsSettled c (h ∷ hs) f e = Hears h f e ⊎ (((c.sent e.sender e.serial).retracted ≡ true) ⊎ (((next_state c h).directory.joined f ≡ false) ⊎ IsSettled (next_state c h) hs f e))
 
 -- a run leads to c, another from c to d, where the machine allows h
 pub record HappensLater (c : Central) (between : List Happening) (d : Central) (h : Happening) : Type 0 where
