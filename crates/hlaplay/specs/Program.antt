@@ -1,7 +1,8 @@
 -- How a run of the program ends
-use Rattle.std.specs.Prelude.{◌≡◌, ℕ, true, false, ◌&&◌, ◌⊎◌, List, ◌++◌, take, Option, MatchBool, codes, decimal}
+use Rattle.std.specs.Prelude.{◌≡◌, ◌+◌, ℕ, true, false, ◌&&◌, ◌⊎◌, List, ◌++◌, take, Option, MatchBool, codes, decimal}
 use Rattle.std.specs.Str.{bytes_eq}
 use Rattle.std.specs.Io.KnownBytes.{Appends}
+use Rattle.hla_base.specs.Limits.{max_fed_file, max_script}
 use Rattle.hla_fed_file.specs.Fault.{kind_name_of}
 use Rattle.hla_fed_file.specs.declared.fault.FedFault.{FedFault}
 use Rattle.hla_commands.specs.FaultName.{kind_name}
@@ -90,20 +91,28 @@ pub data EndsListing (fed : List ℕ) (out out' err err' : Stream) (status : ℕ
   Listed : IsListed fed out.bytes out'.bytes → out'.has_failed ≡ false → err' ≡ err → status ≡ 0 → EndsListing fed out out' err err' status
   ListStopped : (why : ListFault) → StopsListing fed out.bytes out'.bytes why → ListCause why out' → Complains err err' (list_stop_line why) → status ≡ 1 → EndsListing fed out out' err err' status
 
--- ---- given readers; of a file at most 1,048,577 bytes are taken, so that one of more than 1,048,576 is too large
+-- ---- given readers
+-- one byte more is taken of a file than it may have, so that one that has more is too large
+abbrev pub file_limit : ℕ
+file_limit = max_fed_file + 1
+
+-- of both files in one input, and the line between them
+abbrev pub shared_limit : ℕ
+shared_limit = max_fed_file + max_script + 4
+
 -- both files stand in one input, which is told by the name `-`
 pub data EndsPlayingShared (input input' out out' err err' : Stream) (status : ℕ) : Type 0 where
-  SharedRead : (bytes : List ℕ) → IsTaken 2097156 input input' bytes → EndsPlaying (first_part bytes) (second_part bytes) out out' err err' status → EndsPlayingShared input input' out out' err err' status
+  SharedRead : (bytes : List ℕ) → IsTaken shared_limit input input' bytes → EndsPlaying (first_part bytes) (second_part bytes) out out' err err' status → EndsPlayingShared input input' out out' err err' status
   SharedUnread : (why : LoadFault) → LoadStops input input' why → out' ≡ out → Complains err err' (load_stop_line (codes "-") why) → status ≡ 1 → EndsPlayingShared input input' out out' err err' status
 
 -- the FED file is read before the script
 pub data EndsPlayingFiles (fed_name : List ℕ) (fed fed' : Stream) (script_name : List ℕ) (script script' out out' err err' : Stream) (status : ℕ) : Type 0 where
-  FilesRead : (fed_bytes script_bytes : List ℕ) → IsTaken 1048577 fed fed' fed_bytes → IsTaken 1048577 script script' script_bytes → EndsPlaying fed_bytes script_bytes out out' err err' status → EndsPlayingFiles fed_name fed fed' script_name script script' out out' err err' status
+  FilesRead : (fed_bytes script_bytes : List ℕ) → IsTaken file_limit fed fed' fed_bytes → IsTaken file_limit script script' script_bytes → EndsPlaying fed_bytes script_bytes out out' err err' status → EndsPlayingFiles fed_name fed fed' script_name script script' out out' err err' status
   FedUnread : (why : LoadFault) → LoadStops fed fed' why → script' ≡ script → out' ≡ out → Complains err err' (load_stop_line fed_name why) → status ≡ 1 → EndsPlayingFiles fed_name fed fed' script_name script script' out out' err err' status
-  ScriptUnread : (fed_bytes : List ℕ) → IsTaken 1048577 fed fed' fed_bytes → (why : LoadFault) → LoadStops script script' why → out' ≡ out → Complains err err' (load_stop_line script_name why) → status ≡ 1 → EndsPlayingFiles fed_name fed fed' script_name script script' out out' err err' status
+  ScriptUnread : (fed_bytes : List ℕ) → IsTaken file_limit fed fed' fed_bytes → (why : LoadFault) → LoadStops script script' why → out' ≡ out → Complains err err' (load_stop_line script_name why) → status ≡ 1 → EndsPlayingFiles fed_name fed fed' script_name script script' out out' err err' status
 
 pub data EndsListingFile (name : List ℕ) (file file' out out' err err' : Stream) (status : ℕ) : Type 0 where
-  FileRead : (bytes : List ℕ) → IsTaken 1048577 file file' bytes → EndsListing bytes out out' err err' status → EndsListingFile name file file' out out' err err' status
+  FileRead : (bytes : List ℕ) → IsTaken file_limit file file' bytes → EndsListing bytes out out' err err' status → EndsListingFile name file file' out out' err err' status
   FileUnread : (why : LoadFault) → LoadStops file file' why → out' ≡ out → Complains err err' (load_stop_line name why) → status ≡ 1 → EndsListingFile name file file' out out' err err' status
 
 -- ---- given the bytes of each file by its name

@@ -4,15 +4,16 @@ ghost use Rattle.std.specs.Prelude.{IfOk, IfErr};
 ghost use Rattle.hla_transcript.specs.Watching.{stream_of};
 ghost use Rattle.hlaplay.specs.Streams.{IsTaken, LoadStops};
 
+use hla_base::{MAX_FED_FILE, MAX_SCRIPT};
 use hla_script::Watched;
 use std::alloc::Global;
 use std::io::Read;
 
 /// The most bytes that are taken of a file: one more than it may have.
-pub const FILE_LIMIT: usize = 1_048_577;
+pub const FILE_LIMIT: usize = MAX_FED_FILE + 1;
 
-/// The most bytes that are taken of a standard input that holds two files.
-pub const SHARED_LIMIT: usize = 2_097_156;
+/// The most bytes that are taken of a standard input that holds two files: those of both, and the line between them.
+pub const SHARED_LIMIT: usize = MAX_FED_FILE + MAX_SCRIPT + 4;
 
 /// Why a file was not read.
 #[derive(Clone, Copy, Debug, PartialEq, Eq)]
