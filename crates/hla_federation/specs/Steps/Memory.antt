@@ -1,5 +1,5 @@
 -- Which steps may be refused for want of memory; no other step ever is
-use Rattle.std.specs.Prelude.{◌≡◌, ◌⊎◌, Bool, true, false, Option, None, Some, slice_get}
+use Rattle.std.specs.Prelude.{◌≡◌, ◌⊎◌, ◌&&◌, ltb, Bool, true, false, Option, None, Some, slice_get}
 use Rattle.hla_base.specs.declared.fault.Fault.{Fault}
 use Rattle.hla_base.specs.declared.fault.Fault.TheVariants.{OutOfMemory}
 use Rattle.hla_null_message.specs.declared.message.Message.{Message}
@@ -9,7 +9,9 @@ use Rattle.hla_machine.specs.declared.service.Service.TheVariants as service
 use Rattle.hla_machine.specs.declared.step.Step.{Step}
 use Rattle.hla_machine.specs.declared.step.Step.TheVariants.{Join, Call, Carry, Announce, Tick}
 use Rattle.hla_machine.specs.Refusals.{refusal}
+use Rattle.hla_base.specs.Rows.{is_regulator}
 use Rattle.hla_components.specs.Components.{Components}
+use Rattle.hla_components.specs.Component.{promise}
 use Rattle.hla_components.specs.Next.{components_seen}
 
 -- what a component keeps of a message that comes takes memory, but of a null message it keeps a number
@@ -18,7 +20,7 @@ arrival_takes_memory None = false
 arrival_takes_memory (Some (message.Null k v)) = false
 arrival_takes_memory (Some m) = true
 
--- lists, names and messages take memory
+-- lists, names and messages take memory, but no row of a federate does
 abbrev pub service_takes_memory : Service → Bool
 service_takes_memory (service.UnpublishObjectClass class) = false
 service_takes_memory (service.UnsubscribeObjectClass class) = false
@@ -31,14 +33,27 @@ service_takes_memory (service.GetInteractionClassHandle name) = false
 service_takes_memory (service.GetAttributeHandle name class) = false
 service_takes_memory (service.GetParameterHandle name class) = false
 service_takes_memory (service.GetObjectInstanceHandle name) = false
+service_takes_memory service.EnableTimeConstrained = false
+service_takes_memory (service.TimeAdvanceRequest time) = false
+service_takes_memory (service.TimeAdvanceRequestAvailable time) = false
+service_takes_memory (service.NextEventRequest time) = false
+service_takes_memory (service.NextEventRequestAvailable time) = false
+service_takes_memory (service.FlushQueueRequest time) = false
+service_takes_memory (service.ModifyLookahead lookahead) = false
+service_takes_memory service.EnableAsynchronousDelivery = false
+service_takes_memory service.DisableAsynchronousDelivery = false
+service_takes_memory service.QueryLbts = false
+service_takes_memory service.QueryFederateTime = false
+service_takes_memory service.QueryMinNextEventTime = false
+service_takes_memory service.QueryLookahead = false
 service_takes_memory service = true
 
--- a tick gives what has arrived, and what it gives was made when it was sent
+-- a tick gives what has arrived, and what it gives was made when it was sent; an announcement takes memory where it is made
 abbrev pub takes_memory : Components → Step → Bool
 takes_memory s (Join name) = true
 takes_memory s (Call f service) = service_takes_memory service
 takes_memory s (Carry from to) = arrival_takes_memory (slice_get (s.wire from to) 0)
-takes_memory s (Announce f) = true
+takes_memory s (Announce f) = is_regulator (s.row f) && ltb (s.last_announced f) (promise s f)
 takes_memory s (Tick f) = false
 
 -- refused as the definitions say; or for want of memory, where they say nothing and the step takes any
