@@ -36,6 +36,10 @@ is_flush FlushQueue = true
 abbrev pub width : ℕ → AdvanceKind → ℕ
 width lookahead kind = cond (is_strict kind) (max lookahead 1) lookahead
 
+-- the time t, or for a strict request the next one after it
+abbrev pub reach : AdvanceKind → ℕ → ℕ
+reach kind t = cond (is_strict kind) (t + 1) t
+
 -- ---- roles
 abbrev pub is_enabled : Role → Bool
 is_enabled Disabled = false
@@ -58,6 +62,10 @@ is_regulator r = not (is_disabled r.regulating)
 
 abbrev pub is_constrained : TimeRow → Bool
 is_constrained r = is_enabled r.constrained
+
+-- nothing below it may still be sent to the federate; an unconstrained one has none
+abbrev pub bar_of : TimeRow → ℕ
+bar_of r = cond (is_constrained r) r.bar 0
 
 abbrev pub is_none_of : {X : Type 0} → Option X → Bool
 is_none_of None = true
@@ -129,7 +137,7 @@ constrains r = record r { constrained = Enabled; bar = r.time }
 
 -- the bar after a pick or a grant at t: a strict request leaves nothing at t
 abbrev pub bar_after : TimeRow → AdvanceKind → ℕ → ℕ
-bar_after r kind t = max r.bar (cond (is_strict kind) (t + 1) t)
+bar_after r kind t = max r.bar (reach kind t)
 
 abbrev pub least_of : ℕ → Option ℕ → ℕ
 least_of s None = s

@@ -1,5 +1,8 @@
 //! The roles and the time of one federate (HLA 1.3, time management).
 
+ghost use Rattle.std.specs.Prelude.{◌≡◌, ◌≤◌, max};
+ghost use Rattle.hla_base.specs.Rows.{is_strict, is_next, is_flush, width};
+
 use crate::number::Ticks;
 
 /// How far a federate is with one of the two roles of time management, time regulating and time constrained.
@@ -26,6 +29,59 @@ pub enum AdvanceKind {
     NextEventAvailable,
     /// Flush Queue Request.
     FlushQueue,
+}
+
+impl AdvanceKind {
+    /// Whether a request of this kind leaves nothing behind at the time that it is granted (Time Advance Request, Next Event
+    /// Request).
+    pub fn is_strict(self) -> bool
+        ensures { result ≡ is_strict self }
+    {
+        match self {
+            AdvanceKind::TimeAdvance | AdvanceKind::NextEvent => true,
+            AdvanceKind::TimeAdvanceAvailable
+            | AdvanceKind::NextEventAvailable
+            | AdvanceKind::FlushQueue => false,
+        }
+    }
+
+    /// Whether it is a next-event request, which may be granted an earlier time than it asks for.
+    pub fn is_next(self) -> bool
+        ensures { result ≡ is_next self }
+    {
+        match self {
+            AdvanceKind::NextEvent | AdvanceKind::NextEventAvailable => true,
+            AdvanceKind::TimeAdvance
+            | AdvanceKind::TimeAdvanceAvailable
+            | AdvanceKind::FlushQueue => false,
+        }
+    }
+
+    /// Whether it is a flush, which picks up all that waits.
+    pub fn is_flush(self) -> bool
+        ensures { result ≡ is_flush self }
+    {
+        match self {
+            AdvanceKind::FlushQueue => true,
+            AdvanceKind::TimeAdvance
+            | AdvanceKind::TimeAdvanceAvailable
+            | AdvanceKind::NextEvent
+            | AdvanceKind::NextEventAvailable => false,
+        }
+    }
+
+    /// The width of an advance of this kind, in ticks: how far above the time that is granted a federate with this lookahead
+    /// may send.
+    pub fn width(self, lookahead: Ticks) -> Ticks
+        ensures value { result ≡ width lookahead self }
+        ensures bounded { result ≤ max lookahead 1 }
+    {
+        if self.is_strict() {
+            lookahead.max(1)
+        } else {
+            lookahead
+        }
+    }
 }
 
 /// A request to advance that was accepted and is not yet granted.

@@ -4,7 +4,7 @@ use Rattle.std.specs.List.{All}
 use Rattle.hla_base.specs.declared.content.Discovery.{Discovery}
 use Rattle.hla_base.specs.declared.number.EventHandle.{EventHandle}
 use Rattle.hla_base.specs.declared.row.AdvanceRequest.{AdvanceRequest}
-use Rattle.hla_base.specs.Rows.{is_constrained}
+use Rattle.hla_base.specs.Rows.{is_constrained, reach}
 use Rattle.hla_fed_file.specs.CatalogueValue.{CatalogueValue}
 use Rattle.hla_callbacks.specs.declared.callback.Callback.{Callback}
 use Rattle.hla_machine.specs.declared.service.Service.{Service}
@@ -12,7 +12,6 @@ use Rattle.hla_machine.specs.declared.step.Step.{Step}
 use Rattle.hla_machine.specs.declared.step.Step.TheVariants.{Call}
 use Rattle.hla_machine.specs.declared.step.Answer.TheVariants as answer
 use Rattle.hla_machine.specs.declared.step.Outcome.TheVariants as outcome
-use Rattle.hla_machine.specs.Central.{reach}
 use Rattle.hla_machine.specs.History.{GivesCallback, SpeaksOf, Hears, HearsPlain, Picks, IsGranted, IsInNoFlush, IsInStrict, IsInOneAdvance, IsBefore, WaitsInOrder, IsPickedOrMoved}
 use Rattle.hla_machine.specs.Discovered.{Discovers, IsDiscoveredAmong, IsDiscoveredInTurn}
 use Rattle.hla_machine.specs.Machine.{MayEnd, after}

@@ -18,7 +18,7 @@ use Rattle.hla_order_queues.specs.declared.control.Control.TheVariants.{ToDiscov
 use Rattle.hla_order_queues.specs.Queues.{is_before, occurs}
 use Rattle.hla_null_message.specs.Wires.{events, discoveries}
 use Rattle.hla_components.specs.Components.{Components}
-use Rattle.hla_components.specs.Component.{promise_of}
+use Rattle.hla_local.specs.Promising.{promise_of}
 use Rattle.hla_components.specs.CentralOf.{central}
 
 -- P holds of each

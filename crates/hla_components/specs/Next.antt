@@ -44,7 +44,10 @@ use Rattle.hla_order_queues.specs.declared.control.Control.{Control}
 use Rattle.hla_order_queues.specs.declared.control.Control.TheVariants.{ToDiscover, ToRetract}
 use Rattle.hla_order_queues.specs.Queues.{insert_event, remove_event, find_event, handle_of, handles_of}
 use Rattle.hla_components.specs.Components.{Components}
-use Rattle.hla_components.specs.Component.{local_bound, promise, regulation_entry, least_waiting, Pick, NoPick, PickControl, PickRo, PickRegulates, PickConstrains, PickTso, PickGrant, pick}
+use Rattle.hla_components.specs.Component.{local_bound, promise, regulation_entry}
+use Rattle.hla_local.specs.Promising.{least_waiting}
+use Rattle.hla_local.specs.Arriving.{tso_with_event, ro_with_event, controls_with_retraction}
+use Rattle.hla_local.specs.Picking.{is_below, Pick, NoPick, PickControl, PickRo, PickRegulates, PickConstrains, PickTso, PickGrant, pick}
 
 pub record Outcomes : Type 0 where
   pub outcome : Outcome
@@ -235,14 +238,10 @@ with_wire s g f ms = record s { wire = upd2 s.wire g f ms }
 abbrev pub with_null_accepted : Components → ℕ → ℕ → ℕ → ℕ → List Message → Components
 with_null_accepted s g f k v ms = record (with_wire s g f ms) { bound = upd2 s.bound f g (null_bound (s.known_epoch f g) (s.bound f g) k v) }
 
--- is the event kept in key order
-abbrev pub is_kept_in_order : TimeRow → Event → Bool
-is_kept_in_order r e = e.ordered && not (is_disabled r.constrained)
-
 abbrev pub with_event_accepted : Components → ℕ → ℕ → Event → List Message → Components
 with_event_accepted s g f e ms = record (with_wire s g f ms) {
-  tso = upd s.tso f (cond (is_kept_in_order (s.row f) e) (insert_event e (s.tso f)) (s.tso f));
-  ro = upd s.ro f (cond (is_kept_in_order (s.row f) e) (s.ro f) (s.ro f ++ e ∷ []));
+  tso = upd s.tso f (tso_with_event (s.row f) e (s.tso f));
+  ro = upd s.ro f (ro_with_event (s.row f) e (s.ro f));
 }
 
 abbrev pub with_discovery_accepted : Components → ℕ → ℕ → Discovery → List Message → Components
@@ -253,8 +252,7 @@ abbrev pub with_retraction_accepted : Components → ℕ → ℕ → ℕ → Lis
 with_retraction_accepted s g f m ms = record (with_wire s g f ms) {
   tso = upd s.tso f (remove_event g m (s.tso f));
   ro = upd s.ro f (remove_event g m (s.ro f));
-  controls = upd s.controls f (cond (is_none_of (or_else (find_event g m (s.tso f)) (find_event g m (s.ro f))))
-      (s.controls f ++ ToRetract (record { sender = g; serial = m }) ∷ []) (s.controls f));
+  controls = upd s.controls f (controls_with_retraction g m (s.tso f) (s.ro f) (s.controls f));
 }
 
 abbrev pub carried_event : Event → Carried
@@ -281,9 +279,6 @@ event_callback d e = content_callback d (handle_of e) e.content
 
 abbrev pub delivery_of : Event → Delivery
 delivery_of e = cond e.ordered (delivery.Demoted e.stamp) delivery.Receive
-
-abbrev pub is_below : ℕ → Event → Bool
-is_below t e = ltb e.stamp t
 
 abbrev pub callback_outcome : Callback → Components → Outcomes
 callback_outcome k s = answer_outcome (answer.Ticked (Some k)) s

@@ -79,7 +79,7 @@ impl Floor {
           floor = cond ((is_next kind || is_flush kind) && is_constrained) self.old.floor (max self.old.floor (asked + width self.old.lookahead kind));
         } }
     {
-        if waits_for_its_grant(kind) && is_constrained {
+        if (kind.is_next() || kind.is_flush()) && is_constrained {
             return;
         }
         self.floor = self.floor.max(asked + self.width(kind));
@@ -109,20 +109,6 @@ impl Floor {
         ensures value { result ≡ width self.now.lookahead kind }
         ensures bounded { result ≤ max_time }
     {
-        match kind {
-            AdvanceKind::TimeAdvance | AdvanceKind::NextEvent => self.lookahead.max(1),
-            AdvanceKind::TimeAdvanceAvailable
-            | AdvanceKind::NextEventAvailable
-            | AdvanceKind::FlushQueue => self.lookahead,
-        }
-    }
-}
-
-fn waits_for_its_grant(kind: AdvanceKind) -> bool
-    ensures { result ≡ (is_next kind || is_flush kind) }
-{
-    match kind {
-        AdvanceKind::NextEvent | AdvanceKind::NextEventAvailable | AdvanceKind::FlushQueue => true,
-        AdvanceKind::TimeAdvance | AdvanceKind::TimeAdvanceAvailable => false,
+        kind.width(self.lookahead)
     }
 }

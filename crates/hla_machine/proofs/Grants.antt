@@ -3,9 +3,9 @@ use Rattle.std.proofs.Common.{◌≡◌, ◌⊎◌, ℕ, ◌≤◌, ◌<◌, Boo
 use Rattle.std.proofs.lemmas.Bool.{cases_Bool}
 use Rattle.hla_base.specs.declared.number.EventHandle.{EventHandle}
 use Rattle.hla_base.specs.declared.row.AdvanceRequest.{AdvanceRequest}
-use Rattle.hla_base.specs.Rows.{is_constrained, is_flush}
+use Rattle.hla_base.specs.Rows.{is_constrained, is_flush, reach}
 use Rattle.hla_callbacks.specs.declared.callback.Callback.TheVariants as callback
-use Rattle.hla_machine.specs.Central.{Central, new_central, Copy, Tso, reach}
+use Rattle.hla_machine.specs.Central.{Central, new_central, Copy, Tso}
 use Rattle.hla_machine.specs.Callbacks.{IsCopy, MayGrant}
 use Rattle.hla_machine.specs.Machine.{MayEnd}
 use Rattle.hla_machine.specs.Runs.{Happening, IsRun}

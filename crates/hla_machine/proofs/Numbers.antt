@@ -13,7 +13,7 @@ use Rattle.hla_base.specs.declared.content.Content.TheVariants as content
 use Rattle.hla_base.specs.declared.number.EventHandle.{EventHandle}
 use Rattle.hla_base.specs.Limits.{max_time, max_enablings}
 use Rattle.hla_base.specs.Tables.{upd, or_else, greatest, when}
-use Rattle.hla_base.specs.Rows.{is_strict, is_next, is_flush, is_constrained, new_row, width, row_after_request, regulating_from, regulates, constrains, row_after_pick, first_or, grant_time, row_after_grant, bar_after, keep_if, RowNumbers}
+use Rattle.hla_base.specs.Rows.{is_strict, is_next, is_flush, is_constrained, new_row, width, row_after_request, regulating_from, regulates, constrains, row_after_pick, first_or, grant_time, row_after_grant, bar_after, keep_if, RowNumbers, bar_of}
 use Rattle.hla_callbacks.specs.declared.callback.Callback.{Callback}
 use Rattle.hla_callbacks.specs.declared.callback.Callback.TheVariants as callback
 use Rattle.hla_callbacks.specs.declared.callback.Delivery.{Delivery}
@@ -32,7 +32,7 @@ use Rattle.hla_machine.specs.declared.step.Outcome.TheVariants as outcome
 use Rattle.hla_machine.specs.declared.step.Choice.{Choice}
 use Rattle.hla_machine.specs.declared.step.Choice.TheVariants as choice
 use Rattle.hla_machine.specs.Directory.{deletion_sent, deletions_sent, objects_of, update_sent, interaction_sent}
-use Rattle.hla_machine.specs.Central.{Central, BelowAllTso, BelowWake, bar_of, low_entry, BelowSomeWake}
+use Rattle.hla_machine.specs.Central.{Central, BelowAllTso, BelowWake, low_entry, BelowSomeWake}
 use Rattle.hla_machine.specs.Callbacks.{MayPickIn, MayDeliver, MayPickUp, MayGrant, MayConstrain, row_after, after_delivery, after_constraint, after_pick}
 use Rattle.hla_machine.specs.Sends.{after_messages}
 use Rattle.hla_base.specs.RowRefusals.{request_tests, regulation_tests}

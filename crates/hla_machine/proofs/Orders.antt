@@ -6,8 +6,8 @@ use Rattle.hla_base.specs.declared.row.AdvanceKind.{AdvanceKind}
 use Rattle.hla_base.specs.declared.row.AdvanceKind.TheVariants.{TimeAdvance, TimeAdvanceAvailable, NextEvent, NextEventAvailable, FlushQueue}
 use Rattle.hla_base.specs.declared.row.AdvanceRequest.{AdvanceRequest}
 use Rattle.hla_base.specs.Tables.{or_else}
-use Rattle.hla_base.specs.Rows.{is_strict, is_next, is_flush, is_constrained, is_advancing, is_none_of, row_after_pick, bar_after, first_or}
-use Rattle.hla_machine.specs.Central.{Central, Copy, Tso, reach, at_key, KeyLe}
+use Rattle.hla_base.specs.Rows.{is_strict, is_next, is_flush, is_constrained, is_advancing, is_none_of, row_after_pick, bar_after, first_or, reach}
+use Rattle.hla_machine.specs.Central.{Central, Copy, Tso, at_key, KeyLe}
 use Rattle.hla_machine.specs.Callbacks.{MayPick, row_after}
 use Rattle.hla_machine.specs.Machine.{MayEnd}
 use Rattle.hla_machine.specs.Runs.{Happening, IsRun}

@@ -7,8 +7,8 @@ use Rattle.hla_base.specs.declared.row.AdvanceRequest.{AdvanceRequest}
 use Rattle.hla_base.specs.declared.row.Role.TheVariants.{Disabled, Pending}
 use Rattle.hla_base.specs.declared.row.TimeRow.{TimeRow}
 use Rattle.hla_base.specs.Tables.{when, or_else}
-use Rattle.hla_base.specs.Rows.{is_strict, is_next, is_flush, is_regulator, is_constrained, is_pending, next_request, keep_if, width, new_row, least_stamp, least_stamp_in, row_after_request, regulating_from, regulates, constrains, row_after_pick, row_after_grant, bar_after, first_or}
-use Rattle.hla_machine.specs.Central.{BelowWake, BelowRequest, BelowOut, reach}
+use Rattle.hla_base.specs.Rows.{is_strict, is_next, is_flush, is_regulator, is_constrained, is_pending, next_request, keep_if, width, new_row, least_stamp, least_stamp_in, row_after_request, regulating_from, regulates, constrains, row_after_pick, row_after_grant, bar_after, first_or, reach}
+use Rattle.hla_machine.specs.Central.{BelowWake, BelowRequest, BelowOut}
 
 -- up to where the picks of an advance may have raised the bar of a regulator
 abbrev pub covered : ℕ → ℕ → Option AdvanceRequest → Option ℕ → ℕ

@@ -11,7 +11,7 @@ use Rattle.hla_base.specs.declared.row.Role.{Role}
 use Rattle.hla_base.specs.declared.row.Role.TheVariants.{Disabled, Pending, Enabled}
 use Rattle.hla_base.specs.declared.row.TimeRow.{TimeRow}
 use Rattle.hla_base.specs.Tables.{upd}
-use Rattle.hla_base.specs.Rows.{is_next, is_flush, is_constrained, is_disabled, is_pending, regulates, constrains, row_after_pick, row_after_grant, bar_after, first_or}
+use Rattle.hla_base.specs.Rows.{is_next, is_flush, is_constrained, is_disabled, is_pending, regulates, constrains, row_after_pick, row_after_grant, bar_after, first_or, reach}
 use Rattle.hla_fed_file.specs.CatalogueValue.{CatalogueValue}
 use Rattle.hla_callbacks.specs.declared.callback.Callback.{Callback}
 use Rattle.hla_callbacks.specs.declared.callback.Callback.TheVariants as callback
@@ -30,7 +30,7 @@ use Rattle.hla_machine.specs.declared.step.Outcome.TheVariants as outcome
 use Rattle.hla_machine.specs.declared.step.Choice.{Choice}
 use Rattle.hla_machine.specs.declared.step.Choice.TheVariants as choice
 use Rattle.hla_machine.specs.Directory.{deletion_sent, update_sent, interaction_sent}
-use Rattle.hla_machine.specs.Central.{Central, new_central, Copy, Tso, BelowBound, reach, demoted, at_key}
+use Rattle.hla_machine.specs.Central.{Central, new_central, Copy, Tso, BelowBound, demoted, at_key}
 use Rattle.hla_machine.specs.Callbacks.{IsCopy, MayPickIn, is_among, MayDeliver, MayPickUp, MayGrant, MayConstrain, with_demoted, row_after, with_central_row, after_delivery, after_constraint, after_pick}
 use Rattle.hla_machine.specs.Refusals.{refusal}
 use Rattle.hla_machine.specs.Machine.{central_seen, MayAnswer, MayDo, MayEnd, after_call, after_arrival, after_carry, after_done, after}

@@ -6,7 +6,7 @@ use Rattle.hla_base.specs.declared.row.AdvanceRequest.{AdvanceRequest}
 use Rattle.hla_base.specs.declared.row.Role.TheVariants.{Disabled}
 use Rattle.hla_base.specs.declared.row.TimeRow.{TimeRow}
 use Rattle.hla_base.specs.Tables.{upd}
-use Rattle.hla_base.specs.Rows.{is_next, is_flush, is_regulator, is_constrained, is_none_of, least_stamp, row_after_request, regulating_from, new_row}
+use Rattle.hla_base.specs.Rows.{is_next, is_flush, is_regulator, is_constrained, is_none_of, least_stamp, row_after_request, regulating_from, new_row, bar_of}
 use Rattle.hla_fed_file.specs.declared.declared.Order.TheVariants.{Timestamp}
 use Rattle.hla_machine.specs.declared.service.Service.TheVariants as service
 use Rattle.hla_machine.specs.declared.service.ResignAction.{ResignAction}
@@ -16,7 +16,7 @@ use Rattle.hla_machine.specs.declared.step.Answer.TheVariants as answer
 use Rattle.hla_machine.specs.declared.step.Choice.{Choice}
 use Rattle.hla_machine.specs.declared.step.Choice.TheVariants as choice
 use Rattle.hla_machine.specs.Directory.{Outgoing, is_of_order, objects_of, deletions_sent}
-use Rattle.hla_machine.specs.Central.{Central, Copy, SentEvent, bar_of, low_entry}
+use Rattle.hla_machine.specs.Central.{Central, Copy, SentEvent, low_entry}
 use Rattle.hla_machine.specs.Callbacks.{with_demoted, with_central_row}
 use Rattle.hla_machine.specs.Sends.{is_ordered, is_some_ordered, after_message, after_messages}
 use Rattle.hla_base.specs.RowRefusals.{request_tests}

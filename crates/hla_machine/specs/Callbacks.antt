@@ -8,14 +8,14 @@ use Rattle.hla_base.specs.declared.content.Discovery.{Discovery}
 use Rattle.hla_base.specs.declared.row.AdvanceRequest.{AdvanceRequest}
 use Rattle.hla_base.specs.declared.row.TimeRow.{TimeRow}
 use Rattle.hla_base.specs.Tables.{upd, upd2}
-use Rattle.hla_base.specs.Rows.{is_strict, is_next, is_flush, is_constrained, is_pending, is_none_of, is_advancing, regulates, constrains, row_after_pick, grant_time, row_after_grant}
+use Rattle.hla_base.specs.Rows.{is_strict, is_next, is_flush, is_constrained, is_pending, is_none_of, is_advancing, regulates, constrains, row_after_pick, grant_time, row_after_grant, reach}
 use Rattle.hla_callbacks.specs.declared.callback.Callback.{Callback}
 use Rattle.hla_callbacks.specs.declared.callback.Callback.TheVariants as callback
 use Rattle.hla_callbacks.specs.declared.callback.Delivery.{Delivery}
 use Rattle.hla_callbacks.specs.declared.callback.Delivery.TheVariants as delivery
 use Rattle.hla_machine.specs.declared.step.Choice.{Choice}
 use Rattle.hla_machine.specs.declared.step.Choice.TheVariants as choice
-use Rattle.hla_machine.specs.Central.{Central, Copy, Ro, Tso, Demoted, BelowAllTso, BelowBound, Reached, reach, KeyLe, at_key, at3, demoted}
+use Rattle.hla_machine.specs.Central.{Central, Copy, Ro, Tso, Demoted, BelowAllTso, BelowBound, Reached, KeyLe, at_key, at3, demoted}
 
 -- ---- messages
 -- the discovery of what a message speaks of was given before

@@ -8,7 +8,7 @@ use Rattle.hla_base.specs.declared.row.AdvanceRequest.{AdvanceRequest}
 use Rattle.hla_base.specs.declared.row.TimeRow.{TimeRow}
 use Rattle.hla_base.specs.declared.number.EventHandle.{EventHandle}
 use Rattle.hla_base.specs.Tables.{upd, upd2, is_other, greatest, or_else, when}
-use Rattle.hla_base.specs.Rows.{is_strict, is_enabled, is_regulator, is_constrained, next_request, width, new_row}
+use Rattle.hla_base.specs.Rows.{is_enabled, is_regulator, is_constrained, next_request, width, new_row, reach, bar_of}
 use Rattle.hla_fed_file.specs.CatalogueValue.{CatalogueValue}
 use Rattle.hla_machine.specs.Directory.{Directory, new_directory}
 
@@ -84,18 +84,11 @@ BelowOut below r v = (v ≤ r.floor) ⊎ BelowRequest below r (next_request r) v
 abbrev pub BelowBound : Central → ℕ → ℕ → Type 0
 BelowBound c f v = (v ≤ forever) × ((g : ℕ) → c.directory.joined g ≡ true → g ≢ f → is_regulator (c.row g) ≡ true → BelowOut (BelowAllTso c g) (c.row g) v)
 
--- the time t, or for a strict request the next one after it
-abbrev pub reach : AdvanceKind → ℕ → ℕ
-reach kind t = cond (is_strict kind) (t + 1) t
-
 -- nothing can come to f any more, and nothing waits for it, before the reach of t
 abbrev pub Reached : Central → ℕ → AdvanceKind → ℕ → Type 0
 Reached c f kind t = BelowBound c f (reach kind t) × BelowAllTso c f (reach kind t)
 
 -- ---- the entry of a newcomer among the regulators
-abbrev pub bar_of : TimeRow → ℕ
-bar_of r = cond (is_constrained r) r.bar 0
-
 -- at or above t + lookahead and every constrained federate's bar
 unfoldable pub low_entry : Directory → (ℕ → TimeRow) → ℕ → ℕ
 low_entry d row earliest = greatest d.next_federate earliest (λ g. bar_of (row g))

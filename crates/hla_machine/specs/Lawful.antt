@@ -4,14 +4,14 @@ use Rattle.std.specs.List.{All}
 use Rattle.hla_base.specs.declared.content.Discovery.{Discovery}
 use Rattle.hla_base.specs.declared.number.EventHandle.{EventHandle}
 use Rattle.hla_base.specs.declared.row.AdvanceRequest.{AdvanceRequest}
-use Rattle.hla_base.specs.Rows.{is_constrained}
+use Rattle.hla_base.specs.Rows.{is_constrained, reach}
 use Rattle.hla_callbacks.specs.declared.callback.Callback.{Callback}
 use Rattle.hla_machine.specs.declared.service.Service.{Service}
 use Rattle.hla_machine.specs.declared.step.Step.TheVariants.{Call}
 use Rattle.hla_machine.specs.declared.step.Answer.{Answer}
 use Rattle.hla_machine.specs.declared.step.Answer.TheVariants as answer
 use Rattle.hla_machine.specs.declared.step.Outcome.TheVariants as outcome
-use Rattle.hla_machine.specs.Central.{Central, reach}
+use Rattle.hla_machine.specs.Central.{Central}
 use Rattle.hla_machine.specs.Runs.{Happening, IsRun}
 use Rattle.hla_machine.specs.History.{GivesCallback, SpeaksOf, Hears, HearsPlain, Picks, IsGranted, IsInNoFlush, IsInStrict, IsInOneAdvance, IsBefore, next_state, WaitsInOrder, IsPickedOrMoved, messages_of, AreSentTo, IsOnItsWay, IsSettled, HasHistory, central_after, Occurs, OccurAfter, OccursLater}
 use Rattle.hla_machine.specs.Laws.{IsSafe, IsAhead}

@@ -5,7 +5,7 @@ ghost use Rattle.hla_base.specs.Limits.{max_time};
 ghost use Rattle.hla_base.specs.Rows.{first_or};
 ghost use Rattle.hla_null_message.specs.Promise.{least_wake, promise_in};
 
-use hla_base::{AdvanceKind, AdvanceRequest, Ticks, TimeRow};
+use hla_base::{AdvanceRequest, Ticks, TimeRow};
 
 /// The earliest time, in ticks, at which a next-event request may be granted, as far as a federate can tell: its first pick,
 /// or else the least of the time that it asked for, the least stamp that waits for it, and the least bound of its peers.
@@ -36,12 +36,7 @@ pub fn promise(row: &TimeRow, request: Option<AdvanceRequest>, queued: Ticks, bo
     let Some(request) = request else {
         return row.floor;
     };
-    let width = match request.kind {
-        AdvanceKind::TimeAdvance | AdvanceKind::NextEvent => row.lookahead.max(1),
-        AdvanceKind::TimeAdvanceAvailable
-        | AdvanceKind::NextEventAvailable
-        | AdvanceKind::FlushQueue => row.lookahead,
-    };
+    let width = request.kind.width(row.lookahead);
     let wake = least_wake(request, row.first_pick, queued, bound);
     row.floor.max(wake + width)
 }

@@ -28,7 +28,9 @@ fn put(queue: &mut TsoQueue, event: Event) -> Result<(), Fail> {
     if queue.has(event.sender, event.serial) {
         return Err("it is there already".into());
     }
-    queue.insert(event)?;
+    if queue.insert(event).is_err() {
+        return Err("no room".into());
+    }
     Ok(())
 }
 

@@ -93,25 +93,25 @@ impl TsoQueue {
         self.stamps.contains_key(&EventName { sender, serial })
     }
 
-    /// Puts an event at its place; `OutOfMemory`, and the queue as it was, where a growth was refused. The time grows
-    /// with the logarithm of the events.
-    pub fn insert(&mut self, event: Event) -> Result<(), Fault>
+    /// Puts an event at its place; the event comes back, and the queue is as it was, where a growth was refused. The time
+    /// grows with the logarithm of the events.
+    pub fn insert(&mut self, event: Event) -> Result<(), Event>
         requires { find_event event.sender event.serial self.old ≡ None }
         ensures ok { OnOk result (self.new ≡ insert_event event self.old) }
-        ensures err { IfErr result (λ e. e ≡ Fault.OutOfMemory) }
+        ensures err { IfErr result (λ e. e ≡ event) }
         ensures unchanged { OnErr result (self.new ≡ self.old) }
     {
         let key = EventKey::of(&event);
         let Ok(()) = self.events.reserve(1) else {
-            return Err(Fault::OutOfMemory);
+            return Err(event);
         };
         let place = self.events.vacant_key();
         let Ok(_) = self.places.insert(key, place) else {
-            return Err(Fault::OutOfMemory);
+            return Err(event);
         };
         let Ok(_) = self.stamps.insert(key.name(), key.stamp) else {
             let _ = self.places.remove(&key);
-            return Err(Fault::OutOfMemory);
+            return Err(event);
         };
         let _ = self.events.insert_reserved(event);
         Ok(())

@@ -13,7 +13,8 @@ use Rattle.hla_machine.specs.declared.step.Step.{Step}
 use Rattle.hla_machine.specs.declared.step.Step.TheVariants.{Join, Call, Carry, Announce, Tick}
 use Rattle.hla_machine.specs.declared.step.Choice.TheVariants as choice
 use Rattle.hla_machine.specs.Refusals.{refusal}
-use Rattle.hla_components.specs.Component.{pick, local_bound}
+use Rattle.hla_components.specs.Component.{local_bound}
+use Rattle.hla_local.specs.Picking.{pick}
 use Rattle.hla_components.specs.Components.{Components}
 use Rattle.hla_components.specs.Next.{Outcomes, next, unless_refused, step_outcome, call_outcome, carry_outcome, pick_outcome, components_seen}
 use Rattle.hla_federation.specs.Tables.FederationValue.{FederationValue}

@@ -2,7 +2,7 @@
 
 ghost use Rattle.std.specs.Prelude.{◌≡◌, ◌≤◌, ◌+◌, ◌*◌, ◌||◌, not, leb, eqb, Some, None, IfSome};
 ghost use Rattle.hla_base.specs.Limits.{max_time, max_enablings};
-ghost use Rattle.hla_base.specs.Rows.{is_regulator, is_constrained, is_enabled, is_pending, is_advancing, new_row, least_stamp, next_request, RowNumbers, is_disabled, is_next, row_after_request, regulating_from, regulates, constrains, row_after_pick, row_after_grant, bar_after, grant_time};
+ghost use Rattle.hla_base.specs.Rows.{is_regulator, is_constrained, is_enabled, is_pending, is_advancing, new_row, least_stamp, next_request, RowNumbers, is_disabled, is_next, row_after_request, regulating_from, regulates, constrains, row_after_pick, row_after_grant, bar_after, grant_time, bar_of, width};
 ghost use Rattle.hla_base.specs.RowRefusals.{first_fault, request_tests, regulation_tests};
 ghost use Rattle.hla_base.specs.declared.row.Role.TheVariants.{Disabled, Pending};
 
@@ -66,7 +66,7 @@ impl TimeState {
         TimeRow {
             time: self.time,
             lookahead: self.floor.lookahead(),
-            floor: self.floor.least_stamp(None),
+            floor: self.floor(),
             regulating: self.regulating,
             regulation_time: self.regulation_time,
             constrained: self.constrained,
@@ -160,6 +160,30 @@ impl TimeState {
         self.advance
     }
 
+    /// Its floor, in ticks: it sends nothing below it in time-stamp order.
+    pub fn floor(&self) -> Ticks
+        ensures value { result ≡ self.now.floor }
+        ensures bounded { result ≤ 2 * max_time }
+    {
+        self.floor.least_stamp(None)
+    }
+
+    /// The width of an advance of this kind, in ticks: how far above the time that is granted the federate may send.
+    pub fn width(&self, kind: AdvanceKind) -> Ticks
+        ensures value { result ≡ width self.now.lookahead kind }
+        ensures bounded { result ≤ max_time }
+    {
+        self.floor.width(kind)
+    }
+
+    /// Its bar, in ticks: nothing below it may still be sent to the federate while it is constrained; 0 while it is not.
+    pub fn bar(&self) -> Ticks
+        ensures value { result ≡ bar_of self.now }
+        ensures bounded { result ≤ max_time + 1 }
+    {
+        if self.is_constrained() { self.bar } else { 0 }
+    }
+
     /// The least stamp that the federate may send in time-stamp order.
     pub fn least_stamp(&self) -> Ticks
         ensures value { result ≡ least_stamp self.now }
@@ -177,19 +201,8 @@ impl TimeState {
             return None;
         }
         match self.advance {
-            Some(request) if is_next(request.kind) => Some(request),
+            Some(request) if request.kind.is_next() => Some(request),
             _ => None,
         }
-    }
-}
-
-/// Whether a kind of advance is one of the next-event requests.
-fn is_next(kind: AdvanceKind) -> bool
-    ensures { result ≡ is_next kind }
-{
-    match kind {
-        AdvanceKind::NextEvent | AdvanceKind::NextEventAvailable => true,
-        AdvanceKind::TimeAdvance | AdvanceKind::TimeAdvanceAvailable | AdvanceKind::FlushQueue =>
-            false,
     }
 }

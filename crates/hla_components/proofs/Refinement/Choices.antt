@@ -22,8 +22,9 @@ use Rattle.hla_machine.specs.Callbacks.{is_among}
 use Rattle.hla_machine.specs.Machine.{IsChoice, IsCallbackChoice, AreDistinct}
 use Rattle.hla_order_queues.specs.Queues.{occurs, find_event, handles_of}
 use Rattle.hla_components.specs.Components.{Components}
-use Rattle.hla_components.specs.Component.{promise, local_bound, pick, Pick, NoPick, PickControl, PickRo, PickRegulates, PickConstrains, PickTso, PickGrant}
-use Rattle.hla_components.specs.Next.{Outcomes, answer_outcome, step_outcome, call_outcome, carry_outcome, pick_outcome, with_null_announced, content_callback, is_below}
+use Rattle.hla_components.specs.Component.{promise, local_bound}
+use Rattle.hla_local.specs.Picking.{pick, Pick, NoPick, PickControl, PickRo, PickRegulates, PickConstrains, PickTso, PickGrant, is_below}
+use Rattle.hla_components.specs.Next.{Outcomes, answer_outcome, step_outcome, call_outcome, carry_outcome, pick_outcome, with_null_announced, content_callback}
 use Rattle.hla_components.specs.Invariant.{Kept}
 use Rattle.hla_components.proofs.Wiring.Queues.{find-none, occurs-cons, occurs-filter}
 use Rattle.hla_components.proofs.Wiring.Bags.{event_self}

@@ -19,7 +19,8 @@ use Rattle.hla_machine.specs.Directory.{Outgoing, deletion_sent, deletions_sent,
 use Rattle.hla_machine.specs.Refusals.{refusal}
 use Rattle.hla_machine.proofs.Tests.{caller_joined}
 use Rattle.hla_components.specs.Components.{Components, new_components}
-use Rattle.hla_components.specs.Component.{promise, regulation_entry, local_bound, pick, Pick, NoPick, PickControl, PickRo, PickRegulates, PickConstrains, PickTso, PickGrant}
+use Rattle.hla_components.specs.Component.{promise, regulation_entry, local_bound}
+use Rattle.hla_local.specs.Picking.{pick, Pick, NoPick, PickControl, PickRo, PickRegulates, PickConstrains, PickTso, PickGrant}
 use Rattle.hla_components.specs.Next.{Outcomes, answer_outcome, with_message_sent, with_messages_sent, with_regulation_enabled, with_null_announced, with_federate_gone, call_outcome, carry_outcome, pick_outcome, step_outcome, components_seen}
 use Rattle.hla_components.specs.Invariant.{Kept, EpochInv}
 

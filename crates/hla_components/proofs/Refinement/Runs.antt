@@ -22,7 +22,8 @@ use Rattle.hla_null_message.specs.Wires.{discoveries, events, retractions}
 use Rattle.hla_order_queues.specs.Controls.{discoveries_from, dues}
 use Rattle.hla_order_queues.specs.Queues.{occurs, find_event}
 use Rattle.hla_components.specs.Components.{Components, new_components}
-use Rattle.hla_components.specs.Component.{local_bound, Pick, NoPick, PickControl, PickRo, PickRegulates, PickConstrains, PickTso, PickGrant}
+use Rattle.hla_components.specs.Component.{local_bound}
+use Rattle.hla_local.specs.Picking.{Pick, NoPick, PickControl, PickRo, PickRegulates, PickConstrains, PickTso, PickGrant}
 use Rattle.hla_components.specs.Next.{Outcomes, unless_refused, components_seen, step_outcome, carry_outcome, pick_outcome, next}
 use Rattle.hla_components.specs.CentralOf.{central}
 use Rattle.hla_components.specs.Invariant.{Kept, Inv, CountsEnablings, EpochInv}

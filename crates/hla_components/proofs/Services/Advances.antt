@@ -9,11 +9,11 @@ use Rattle.hla_base.specs.declared.row.Role.{Role}
 use Rattle.hla_base.specs.declared.row.Role.TheVariants.{Disabled, Pending, Enabled}
 use Rattle.hla_base.specs.declared.row.TimeRow.{TimeRow}
 use Rattle.hla_base.specs.Tables.{upd, or_else, when}
-use Rattle.hla_base.specs.Rows.{is_strict, is_next, is_flush, is_constrained, is_disabled, is_pending, next_request, width, keep_if, regulates, row_after_pick, row_after_grant, bar_after, least_of, first_or, grant_time}
+use Rattle.hla_base.specs.Rows.{is_strict, is_next, is_flush, is_constrained, is_disabled, is_pending, next_request, width, keep_if, regulates, row_after_pick, row_after_grant, bar_after, least_of, first_or, grant_time, reach}
 use Rattle.hla_callbacks.specs.declared.callback.Delivery.TheVariants as delivery
 use Rattle.hla_machine.specs.declared.step.Step.TheVariants.{Tick}
 use Rattle.hla_machine.specs.declared.step.Choice.TheVariants as choice
-use Rattle.hla_machine.specs.Central.{reach, Reached, at_key}
+use Rattle.hla_machine.specs.Central.{Reached, at_key}
 use Rattle.hla_machine.specs.Callbacks.{IsAtFirstPick, IsLeastKey, MayPick, MayPickIn, MayGrantFlush, row_after, after_delivery}
 use Rattle.hla_machine.specs.Callbacks as machine
 use Rattle.hla_machine.specs.Refusals.{refusal}
@@ -21,7 +21,8 @@ use Rattle.hla_order_queues.specs.Queues.{find_event, is_event, handle_of, first
 use Rattle.hla_null_message.specs.Wires.{events, retractions}
 use Rattle.hla_components.specs.Components.{Components}
 use Rattle.hla_null_message.specs.Promise.{promise_in}
-use Rattle.hla_components.specs.Component.{local_bound, is_first_fit, PickRegulates, PickTso, PickGrant}
+use Rattle.hla_components.specs.Component.{local_bound}
+use Rattle.hla_local.specs.Picking.{is_first_fit, PickRegulates, PickTso, PickGrant}
 use Rattle.hla_components.specs.Next.{components_seen, pick_outcome}
 use Rattle.hla_components.specs.CentralOf.{central, bag_of, wire_copy, tso_copy, ro_copy}
 use Rattle.hla_components.specs.Invariant.{EachOf, Above, IsTsoQueue, IsInKeyOrder, IsWaiting, CopyInv, ObjectInv, is_wire, stamps, Kept}

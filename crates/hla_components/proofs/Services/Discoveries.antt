@@ -22,7 +22,7 @@ use Rattle.hla_order_queues.specs.declared.control.Control.TheVariants.{ToDiscov
 use Rattle.hla_null_message.specs.Wires.{events, discoveries, retractions}
 use Rattle.hla_order_queues.specs.Controls.{discoveries_from}
 use Rattle.hla_components.specs.Components.{Components}
-use Rattle.hla_components.specs.Component.{PickControl}
+use Rattle.hla_local.specs.Picking.{PickControl}
 use Rattle.hla_components.specs.Next.{components_seen, step_outcome, put_discoveries, with_class_subscribed, carry_outcome, pick_outcome}
 use Rattle.hla_components.specs.CentralOf.{central}
 use Rattle.hla_components.specs.Invariant.{EachOf, Tells, IsTold, IsBehind, IsKnownOf, IsControl, is_wire, Kept}

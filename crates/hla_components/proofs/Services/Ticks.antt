@@ -26,7 +26,7 @@ use Rattle.hla_order_queues.specs.Queues.{find_event, handle_of, is_event}
 use Rattle.hla_null_message.specs.Wires.{events, discoveries}
 use Rattle.hla_order_queues.specs.Controls.{discoveries_from}
 use Rattle.hla_components.specs.Components.{Components}
-use Rattle.hla_components.specs.Component.{NoPick, PickRo, is_held_back}
+use Rattle.hla_local.specs.Picking.{NoPick, PickRo, is_held_back}
 use Rattle.hla_components.specs.Next.{components_seen, pick_outcome, callback_outcome, event_callback, content_callback}
 use Rattle.hla_components.specs.CentralOf.{central, bag_of, wire_copy, tso_copy, ro_copy}
 use Rattle.hla_components.specs.Invariant.{EachOf, IsKnownOf, IsTold, IsBehind, Tells, IsWaiting, IsInSerialOrder, CopyInv, ObjectInv, Kept}

@@ -19,7 +19,8 @@ use Rattle.hla_null_message.specs.Wires.{events, discoveries, retractions}
 use Rattle.hla_order_queues.specs.Controls.{discoveries_from}
 use Rattle.hla_components.specs.Components.{Components}
 use Rattle.hla_null_message.specs.Promise.{promise_in}
-use Rattle.hla_components.specs.Component.{promise, promise_of, local_bound}
+use Rattle.hla_components.specs.Component.{promise, local_bound}
+use Rattle.hla_local.specs.Promising.{promise_of}
 use Rattle.hla_components.specs.Next.{answer_outcome, components_seen, step_outcome, put_behind, with_row, with_null_announced}
 use Rattle.hla_components.specs.CentralOf.{central}
 use Rattle.hla_components.specs.Invariant.{Tells, CopyInv, ObjectInv, Kept}

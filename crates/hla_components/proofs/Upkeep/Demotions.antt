@@ -15,8 +15,9 @@ use Rattle.hla_machine.specs.Refusals.{refusal}
 use Rattle.hla_order_queues.specs.Queues.{find_event, is_event, occurs, handle_of, handles_of}
 use Rattle.hla_null_message.specs.Wires.{events}
 use Rattle.hla_components.specs.Components.{Components}
-use Rattle.hla_components.specs.Component.{local_bound, PickConstrains}
-use Rattle.hla_components.specs.Next.{components_seen, step_outcome, pick_outcome, is_below}
+use Rattle.hla_components.specs.Component.{local_bound}
+use Rattle.hla_local.specs.Picking.{PickConstrains, is_below}
+use Rattle.hla_components.specs.Next.{components_seen, step_outcome, pick_outcome}
 use Rattle.hla_components.specs.CentralOf.{central, bag_of, wire_copy, tso_copy, ro_copy}
 use Rattle.hla_components.specs.Invariant.{EachOf, Above, IsTsoQueue, Kept}
 use Rattle.hla_components.specs.Headline.{IsKeptStep}

@@ -14,7 +14,8 @@ use Rattle.hla_order_queues.specs.declared.control.Control.TheVariants.{ToDiscov
 use Rattle.hla_null_message.specs.Wires.{discoveries}
 use Rattle.hla_order_queues.specs.Queues.{insert_event, remove_event}
 use Rattle.hla_components.specs.Components.{Components}
-use Rattle.hla_components.specs.Next.{put_behind, put_discoveries, is_kept_in_order, with_event_accepted, with_discovery_accepted, with_retraction_accepted}
+use Rattle.hla_components.specs.Next.{put_behind, put_discoveries, with_event_accepted, with_discovery_accepted, with_retraction_accepted}
+use Rattle.hla_local.specs.Arriving.{is_kept_in_order}
 use Rattle.hla_components.specs.Invariant.{EachOf, IsKnownOf, IsTold, IsBehind, Tells, IsWaiting, IsControl, ObjectInv}
 use Rattle.hla_base.proofs.Tables.{upd_each, upd2_each, upd2_same}
 use Rattle.hla_components.proofs.Basics.Each.{EachOf-append, EachOf-weaker, EachOf-remove, EachOf-insert}

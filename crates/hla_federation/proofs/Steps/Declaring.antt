@@ -16,10 +16,11 @@ use Rattle.hla_machine.specs.declared.step.Carried.TheVariants as carried
 use Rattle.hla_order_queues.specs.declared.control.Control.{Control}
 use Rattle.hla_order_queues.specs.declared.control.Control.TheVariants.{ToDiscover, ToRetract}
 use Rattle.hla_components.specs.Components.{Components}
-use Rattle.hla_components.specs.Component.{pick}
+use Rattle.hla_local.specs.Picking.{pick}
 use Rattle.hla_components.specs.Invariant.{Inv, Carries}
 use Rattle.hla_federation.specs.Tables.Members.{MemberTables, with_member_admitted, with_message_queued, with_first_picked, carried_of, IsUnretracting, IsSmall}
-use Rattle.hla_components.specs.Next.{answer_outcome, pick_outcome, carry_outcome, with_federate_joined, is_kept_in_order, carried_event}
+use Rattle.hla_components.specs.Next.{answer_outcome, pick_outcome, carry_outcome, with_federate_joined, carried_event}
+use Rattle.hla_local.specs.Arriving.{is_kept_in_order}
 use Rattle.hla_federation.specs.Steps.Picking.{picked_at}
 use Rattle.hla_federation.specs.Steps.State.{state_from}
 use Rattle.hla_federation.proofs.Tables.MemberTables.{upd-self}

@@ -4,8 +4,9 @@ use Rattle.hla_order_queues.specs.Kept.{HasEvents}
 use Rattle.hla_order_queues.specs.Queues.{insert_event}
 use Rattle.hla_order_queues.proofs.KeptLemmas.{kept_opened, kept_same, kept_back, kept_inserted, kept_from, kept_view}
 use Rattle.hla_order_queues.proofs.tso.TsoQueue.insert.Goals as goal
+use Rattle.hla_order_queues.proofs.tso.TsoQueue.insert.Goals.{After-remove}
 
-no_slab : (c : goal.Joined-event) → HasEvents c.reserve.new.self c.self.inside.places.entries c.self.inside.stamps c.args.self.now
+no_slab : (c : goal.In_default) → HasEvents c.reserve.new.self c.self.inside.places.entries c.self.inside.stamps c.args.self.now
 no_slab c =
     kept_same c.self.inside.events c.reserve.new.self c.self.inside.places.entries c.self.inside.places.entries c.self.inside.stamps c.self.inside.stamps c.args.self.now (ap (λ s. s.slots) c.reserve.ensures.rest_kept) refl refl
     (kept_opened c.self.inside.events c.self.inside.places.entries c.self.inside.stamps c.args.self.now c.self.invariant c.self.view_is)
@@ -16,7 +17,7 @@ invariant_of-self c = kept_from (no_slab c)
 pub returns-in_default-clause-unchanged : goal.returns-in_default-clause-unchanged
 returns-in_default-clause-unchanged c = kept_view (no_slab c)
 
-no_place : (c : goal.Joined-event-2) → HasEvents c.reserve.new.self c.insert.new.self.entries c.self.inside.stamps c.args.self.now
+no_place : (c : goal.In_default-insert) → HasEvents c.reserve.new.self c.insert.new.self.entries c.self.inside.stamps c.args.self.now
 no_place c =
     kept_same c.self.inside.events c.reserve.new.self c.self.inside.places.entries c.insert.new.self.entries c.self.inside.stamps c.self.inside.stamps c.args.self.now (ap (λ s. s.slots) c.reserve.ensures.rest_kept) c.in_default-insert.ensures.err refl
     (kept_opened c.self.inside.events c.self.inside.places.entries c.self.inside.stamps c.args.self.now c.self.invariant c.self.view_is)
@@ -27,7 +28,7 @@ invariant_of-self-in_default-insert c = kept_from (no_place c)
 pub returns-in_default-insert-clause-unchanged : goal.returns-in_default-insert-clause-unchanged
 returns-in_default-insert-clause-unchanged c = kept_view (no_place c)
 
-no_stamp : (c : goal.Joined-event-3) → HasEvents c.reserve.new.self c.remove.new.self.entries c.insert-2.new.self c.args.self.now
+no_stamp : (c : After-remove) → HasEvents c.reserve.new.self c.remove.new.self.entries c.insert-2.new.self c.args.self.now
 no_stamp c =
     let was = kept_opened c.self.inside.events c.self.inside.places.entries c.self.inside.stamps c.args.self.now c.self.invariant c.self.view_is in
     kept_same c.self.inside.events c.reserve.new.self c.self.inside.places.entries c.remove.new.self.entries c.self.inside.stamps c.insert-2.new.self c.args.self.now (ap (λ s. s.slots) c.reserve.ensures.rest_kept)

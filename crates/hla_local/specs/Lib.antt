@@ -1,0 +1,8 @@
+-- What contracts see of one federate's component
+pub mod LocalValue
+-- What it picks up at a tick
+pub mod Picking
+-- What it makes of messages that come
+pub mod Arriving
+-- What it promises, and where a newcomer among the regulators may enter
+pub mod Promising

@@ -1,0 +1,23 @@
+//! What a federate picks up at a tick.
+
+use hla_base::{Event, Ticks};
+use hla_order_queues::Control;
+
+/// What a federate picks up at a tick.
+#[derive(Debug, Drop)]
+pub enum Picked {
+    /// There is nothing to pick up.
+    Nothing,
+    /// An object to discover, or a message to take back.
+    Control(Control),
+    /// A message in receive order.
+    Received(Event),
+    /// Regulation is enabled, at this time (Time Regulation Enabled).
+    Regulation(Ticks),
+    /// The federate is constrained from now on, at this time (Time Constrained Enabled).
+    Constraint(Ticks),
+    /// A message in time-stamp order.
+    Ordered(Event),
+    /// The advance is granted, to this time (Time Advance Grant).
+    Grant(Ticks),
+}
