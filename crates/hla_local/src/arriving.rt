@@ -59,7 +59,6 @@ impl Local {
         Ok(())
     }
 
-    #[tactic(auto, using(crate::proofs::Retracting::event_missed, crate::proofs::Retracting::event_elsewhere, crate::proofs::Retracting::nothing_asked))]
     fn accept_retraction(&mut self, from: FederateNo, serial: Serial) -> Result<(), Message>
         requires { MayCome from (message.Retraction serial) self.old }
         ensures ok { OnOk result (self.new ≡ local_accepting from (message.Retraction serial) self.old) }
