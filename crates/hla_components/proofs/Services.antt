@@ -22,3 +22,5 @@ pub mod Retractions
 pub mod Ticks
 -- A tick that enables regulation, gives a message in time-stamp order, or grants
 pub mod Advances
+-- What a tick and a message do to the state is what they do to one federate's component
+pub mod Locals

@@ -14,3 +14,5 @@ pub mod Headline
 pub mod Executions
 -- Scripts whose ends are known, by computation
 pub mod Examples
+-- One federate's component as a value of its own
+pub mod Locals

@@ -4,3 +4,4 @@
 
 pub mod examples;
 pub mod headline;
+pub mod locals;
