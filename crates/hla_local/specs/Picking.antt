@@ -9,6 +9,8 @@ use Rattle.hla_base.specs.Tables.{least}
 use Rattle.hla_base.specs.Rows.{is_next, is_flush, is_pending, is_advancing, is_constrained, reach, grant_time, least_of, regulates, constrains, row_after_pick, row_after_grant}
 use Rattle.hla_lbts.specs.Peers.{peers_of}
 use Rattle.hla_local.specs.LocalValue.{LocalValue}
+use Rattle.hla_local.specs.declared.picked.NextPick.{NextPick}
+use Rattle.hla_local.specs.declared.picked.NextPick.TheVariants as next
 use Rattle.hla_local.specs.declared.picked.Picked.{Picked}
 use Rattle.hla_local.specs.declared.picked.Picked.TheVariants as picked
 use Rattle.hla_order_queues.specs.declared.control.Control.{Control}
@@ -80,6 +82,16 @@ picked_by r PickRegulates = picked.Regulation r.regulation_time
 picked_by r PickConstrains = picked.Constraint r.time
 picked_by r (PickTso q e rest) = picked.Ordered e
 picked_by r (PickGrant q t) = picked.Grant t
+
+-- what is picked up, without what it carries
+abbrev pub next_pick_by : Pick → NextPick
+next_pick_by NoPick = next.Nothing
+next_pick_by (PickControl k rest) = next.Control
+next_pick_by (PickRo e rest) = next.Received
+next_pick_by PickRegulates = next.Regulation
+next_pick_by PickConstrains = next.Constraint
+next_pick_by (PickTso q e rest) = next.Ordered
+next_pick_by (PickGrant q t) = next.Grant t
 
 -- the component behind it; what waits in stamp order below the time of a federate that is constrained from now on is given in receive order
 abbrev pub local_picking : LocalValue → Pick → LocalValue

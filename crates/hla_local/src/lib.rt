@@ -2,6 +2,7 @@
 #![tactic(auto)]
 
 mod arriving;
+mod foreseeing;
 mod local;
 mod picked;
 mod picking;
@@ -9,4 +10,4 @@ mod picking;
 mod tests;
 
 pub use local::Local;
-pub use picked::Picked;
+pub use picked::{NextPick, Picked};

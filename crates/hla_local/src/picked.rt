@@ -21,3 +21,22 @@ pub enum Picked {
     /// The advance is granted, to this time (Time Advance Grant).
     Grant(Ticks),
 }
+
+/// What a federate would pick up at a tick, without what that carries.
+#[derive(Clone, Copy, Debug, PartialEq, Eq)]
+pub enum NextPick {
+    /// There is nothing to pick up.
+    Nothing,
+    /// An object to discover, or a message to take back.
+    Control,
+    /// A message in receive order.
+    Received,
+    /// That regulation is enabled (Time Regulation Enabled).
+    Regulation,
+    /// That the federate is constrained from now on (Time Constrained Enabled).
+    Constraint,
+    /// A message in time-stamp order.
+    Ordered,
+    /// The grant of the advance, to this time, in ticks (Time Advance Grant).
+    Grant(Ticks),
+}

@@ -35,7 +35,7 @@ impl Local {
     }
 
     /// Whether it waits with what is in receive order for its next advance.
-    fn is_held_back(&self) -> bool
+    pub(crate) fn is_held_back(&self) -> bool
         ensures { result ≡ is_held_back self.now.row }
     {
         self.state.is_constrained()
@@ -123,7 +123,7 @@ impl Local {
 }
 
 /// Whether nothing can come any more up to a time, and for a strict request nothing at it, where nothing comes below `bound`.
-fn is_reached(kind: AdvanceKind, time: Ticks, bound: Ticks) -> bool
+pub(crate) fn is_reached(kind: AdvanceKind, time: Ticks, bound: Ticks) -> bool
     ensures { result ≡ is_reached kind time bound }
 {
     if kind.is_strict() {
@@ -144,7 +144,7 @@ fn is_first_fit(kind: AdvanceKind, first_pick: Option<Ticks>, stamp: Ticks) -> b
 }
 
 /// Whether a message with this stamp, the least that waits, is picked up in a request.
-fn is_picked(row: &TimeRow, request: AdvanceRequest, stamp: Ticks, bound: Ticks) -> bool
+pub(crate) fn is_picked(row: &TimeRow, request: AdvanceRequest, stamp: Ticks, bound: Ticks) -> bool
     ensures { result ≡ is_picked row.now request stamp bound }
 {
     request.kind.is_flush()
@@ -154,7 +154,7 @@ fn is_picked(row: &TimeRow, request: AdvanceRequest, stamp: Ticks, bound: Ticks)
 }
 
 /// Where a flush with nothing left is granted: at the least of the asked time, the bound and what it picked up.
-fn flush_time(row: &TimeRow, request: AdvanceRequest, bound: Ticks) -> Ticks
+pub(crate) fn flush_time(row: &TimeRow, request: AdvanceRequest, bound: Ticks) -> Ticks
     ensures value { result ≡ flush_time row.now request bound }
     ensures within { result ≤ request.asked }
 {
@@ -166,7 +166,7 @@ fn flush_time(row: &TimeRow, request: AdvanceRequest, bound: Ticks) -> Ticks
 }
 
 /// Where a request that is no flush is granted: a next-event request of a constrained federate at its first pick.
-fn grant_time(row: &TimeRow, request: AdvanceRequest) -> Ticks
+pub(crate) fn grant_time(row: &TimeRow, request: AdvanceRequest) -> Ticks
     requires numbers { RowNumbers row.now }
     requires waits { row.now.advance ≡ Some request }
     ensures value { result ≡ grant_time row.now request }

@@ -1,5 +1,5 @@
 -- A queue in order begins with the events that move
-use Rattle.std.proofs.Common.{◌≡◌, ℕ, zero, suc, ◌+◌, ◌≤◌, ◌<◌, Some, None, Bool, true, false, cond, eqb, ltb, not, ◌||◌, List, [], ◌∷◌, ◌++◌, take, drop, filter, refl, sym, ap, subst, ◌∙◌, arith}
+use Rattle.std.proofs.Common.{◌≡◌, ℕ, zero, suc, ◌+◌, ◌≤◌, ◌<◌, Some, None, Bool, true, false, cond, eqb, ltb, not, ◌||◌, List, [], ◌∷◌, ◌++◌, map, take, drop, filter, refl, sym, ap, subst, ◌∙◌, arith}
 use Rattle.std.proofs.lemmas.Bool.Decides.{nat_tests}
 use Rattle.std.specs.declared.cmp.Ordering.{Ordering}
 use Rattle.std.specs.declared.cmp.Ordering.TheVariants.{Less, Equal, Greater}
@@ -9,10 +9,12 @@ use Rattle.std.specs.List.Sorted.{IsStrictlySortedBy}
 use Rattle.std.specs.Map.{keys_of}
 use Rattle.slab.specs.Slab.{Slab}
 use Rattle.hla_base.specs.declared.content.Event.{Event}
+use Rattle.hla_base.specs.declared.number.EventHandle.{EventHandle}
 use Rattle.hla_base.specs.Tables.{forever}
 use Rattle.hla_order_queues.specs.declared.key.EventKey.{EventKey}
 use Rattle.hla_order_queues.specs.Kept.{key_cmp, HoldEvents}
 use Rattle.hla_order_queues.specs.Moving.{is_moved, IsRising}
+use Rattle.hla_order_queues.specs.Queues.{handle_of, handles_of}
 
 less_then : (l e : Bool) (o : Ordering) → ordering_then (cond l Less (cond e Equal Greater)) o ≡ Less → (l || e) ≡ true
 less_then true e o h = refl
@@ -123,3 +125,15 @@ all_moved bound n xs h is all =
       ap (λ k. take k xs) is ∙ first.0 ∙ filter_all _ (λ e. every bound e all) xs,
       ap (λ k. drop k xs) is ∙ first.1 ∙ filter_none _ (λ e. ap not (every bound e all)) xs,
     )
+
+-- the handles of the first keys are those of the first events
+abbrev pub handle_at : EventKey → EventHandle
+handle_at k = record { sender = k.sender; serial = k.serial }
+
+pub handles_of-keys : (s : Slab Event) (n : ℕ) (es : List (EventKey × ℕ)) (xs : List Event) → HoldEvents s es xs → map handle_at (take n (keys_of es)) ≡ handles_of (take n xs)
+unfolding HoldEvents handles_of
+handles_of-keys s zero es xs h = refl
+handles_of-keys s (suc n) [] [] h = refl
+handles_of-keys s (suc n) [] (x ∷ xs) h = absurd h
+handles_of-keys s (suc n) (e ∷ es) [] h = absurd h
+handles_of-keys s (suc n) (e ∷ es) (x ∷ xs) h = rw (sym h.0.key, handles_of-keys s n es xs h.1)

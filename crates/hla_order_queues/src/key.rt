@@ -2,7 +2,7 @@
 
 ghost use Rattle.std.specs.Prelude.{◌≡◌};
 
-use hla_base::{Event, FederateNo, Serial, Ticks};
+use hla_base::{Event, EventHandle, FederateNo, Serial, Ticks};
 
 /// The place of an event in time-stamp order: by stamp, at equal stamps by sender, then by serial.
 #[derive(Clone, Copy, Debug, PartialEq, Eq, PartialOrd, Ord)]
@@ -40,6 +40,16 @@ impl EventKey {
         ensures { result ≡ record { sender = self.sender; serial = self.serial } }
     {
         EventName {
+            sender: self.sender,
+            serial: self.serial,
+        }
+    }
+
+    /// The handle of the event that has this key.
+    pub fn handle(self) -> EventHandle
+        ensures { result ≡ record { sender = self.sender; serial = self.serial } }
+    {
+        EventHandle {
             sender: self.sender,
             serial: self.serial,
         }

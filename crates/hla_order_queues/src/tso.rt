@@ -1,16 +1,16 @@
 //! The queue of events in time-stamp order.
 
-ghost use Rattle.std.specs.Prelude.{◌≡◌, ◌++◌, ◌<◌, [], None, length, drop, slice_get, filter, not, nat_lt, IfErr, OnOk, OnErr, MatchBool, IsSome, option_copied};
+ghost use Rattle.std.specs.Prelude.{◌≡◌, ◌++◌, ◌<◌, [], None, length, drop, slice_get, filter, not, nat_lt, IfErr, IfOk, OnOk, OnErr, MatchBool, IsSome, option_copied};
 ghost use Rattle.std.specs.List.{prefix_len};
 ghost use Rattle.hla_base.specs.declared.fault.Fault.TheVariants.{OutOfMemory};
-ghost use Rattle.hla_order_queues.specs.Queues.{insert_event, find_event, remove_event, first_stamp};
+ghost use Rattle.hla_order_queues.specs.Queues.{insert_event, find_event, remove_event, first_stamp, handles_of};
 ghost use Rattle.hla_order_queues.specs.Moving.{is_moved, IsRising};
 
 use crate::key::{EventKey, EventName};
 use crate::receive::RoQueue;
-use hla_base::{Event, FOREVER, Fault, FederateNo, Serial, Ticks};
+use hla_base::{Event, EventHandle, FOREVER, Fault, FederateNo, Serial, Ticks};
 use slab::Slab;
-use std::alloc::Global;
+use std::alloc::{AllocError, Global};
 use std::collections::BTreeMap;
 use std::marker::Model;
 
@@ -183,6 +183,27 @@ impl TsoQueue {
             .keys()
             .take_while(|key| key.stamp < bound || bound == FOREVER)
             .count()
+    }
+
+    /// The handles of the events with a stamp below `bound`, in their order; of all for `FOREVER`. `OutOfMemory` where
+    /// room for them was refused. It goes through the keys of these events alone.
+    pub fn handles_below(&self, alloc: Global, bound: Ticks) -> Result<Vec<EventHandle>, Fault>
+        ensures below { bound < FOREVER → IfOk result (λ v. v.items ≡ handles_of (filter
+            (λ e. nat_lt e.stamp bound) self.now)) }
+        ensures all { bound ≡ FOREVER → IfOk result (λ v. v.items ≡ handles_of self.now) }
+        ensures err { IfErr result (λ e. e ≡ Fault.OutOfMemory) }
+    {
+        let count = self.count_below(bound);
+        let handles: Result<Vec<EventHandle>, AllocError> = self
+            .places
+            .keys()
+            .take(count)
+            .map(|key| key.handle())
+            .collect(alloc);
+        match handles {
+            Ok(handles) => Ok(handles),
+            Err(_) => Err(Fault::OutOfMemory),
+        }
     }
 
     /// Takes all events out.
