@@ -1,6 +1,4 @@
--- Cutting one more line off.
-pub mod PartLemmas
--- A line that is told, and bytes that are kept.
-pub mod EndLemmas
--- A task is done where the run on its opened files ends as it must.
-pub mod TaskLemmas
+-- What clap's matches and errors say of the words.
+pub mod WordLemmas
+-- Words of a plain form ask clap for the same.
+pub mod PlainLemmas

@@ -1,60 +1,82 @@
 //! Plays scripts over FED files, and lists what FED files declare.
 #![tactic(auto)]
 
-mod input;
-mod parts;
 mod running;
-mod source;
-mod telling;
 mod words;
 
-use crate::running::do_words;
-use crate::source::System;
-use crate::telling::tell_out_of_memory;
-use hla_script::Watched;
-use std::alloc::Global;
+ghost use Rattle.std.specs.Prelude.{◌≡◌, IfOk, OnErr, map, string_bytes};
+ghost use Rattle.std.specs.Vec.Iter.{into_iter_items};
+ghost use Rattle.clap.specs.Walk.{texts};
+ghost use Rattle.hla_transcript.specs.Watching.{stream_of};
+ghost use Rattle.hlaplay.specs.Run.{EndsMisuse, EndsSomeRun};
+
+use crate::running::{MISUSED, do_words};
+use hla_program::{System, tell, tell_out_of_memory};
+use hla_transcript::Watched;
+use std::alloc::{AllocError, Global};
+use std::env::Args;
 use std::io::{BufWriter, Write};
 use std::process::ExitCode;
 use std::rt::Runtime;
 use std::{env, io};
 
-/// The words of the command line.
-fn command_words<R: Runtime + AllocGlobal>(rt: &R) -> io::Result<Vec<String>> {
-    let mut words = Vec::new(rt.alloc());
-    for word in env::args(rt)? {
-        words.push(word)?;
-    }
-    Ok(words)
-}
-
-/// The words, lent.
-fn texts_of(alloc: Global, words: &[String]) -> io::Result<Vec<&str>> {
-    let mut texts = Vec::new(alloc);
+/// The words that the system gives, kept: all of them, in their order.
+fn kept_words(alloc: Global, words: Args) -> Result<Vec<String>, AllocError>
+    ensures { IfOk result (λ kept. kept.items ≡ into_iter_items words) }
+{
+    let mut kept = Vec::new(alloc);
     for word in words {
-        texts.push(word.as_str())?;
+        kept.push(word)?;
     }
-    Ok(texts)
+    Ok(kept)
 }
 
-/// Hands the words of the command line, the files of the system and its standard output on, and answers the status.
-fn run<R: Runtime + AllocGlobal, E: Write>(rt: &R, errors: &mut Watched<E>) -> io::Result<u8> {
+/// The words, lent: just these, in their order.
+fn texts_of(alloc: Global, words: &[String]) -> Result<Vec<&str>, AllocError>
+    ensures { IfOk result (λ lent. texts lent.items ≡ map string_bytes words.now) }
+{
+    let mut lent = Vec::new(alloc);
+    for word in words {
+        lent.push(word.as_str())?;
+    }
+    Ok(lent)
+}
+
+/// Hands the words of the command line, the files of the system and its standard output on, and answers the status with which
+/// their run ends. Where the words cannot be had, or there is no memory for them, nothing is done.
+fn run<R: Runtime + AllocGlobal, E: Write>(rt: &R, errors: &mut Watched<E>) -> io::Result<u8>
+    ensures ok { IfOk result (EndsSomeRun
+        (stream_of E.contents errors.old) (stream_of E.contents errors.new)) }
+    ensures err { OnErr result (errors.new ≡ errors.old) }
+{
     let alloc: Global = rt.alloc();
-    let words = command_words(rt)?;
+    let words = kept_words(alloc, env::args(rt)?)?;
     let texts = texts_of(alloc, words.as_slice())?;
     let mut out = Watched::new(BufWriter::new(alloc, io::writer(rt))?);
     let system = System::new(rt);
     Ok(do_words(alloc, &system, texts.as_slice(), &mut out, errors))
 }
 
+/// Says why there is no run, and answers the status: a word is not UTF-8, or memory ran out.
+fn tell_unstarted<E: Write>(errors: &mut Watched<E>, error: &io::Error) -> u8
+    ensures { EndsMisuse (stream_of E.contents errors.old) (stream_of E.contents errors.new) result }
+{
+    match error.kind() {
+        io::ErrorKind::InvalidData => {
+            tell(errors, "a word of the command line is not UTF-8\n");
+            MISUSED
+        }
+        _ => tell_out_of_memory(errors),
+    }
+}
+
 fn main(rt: HostRuntime) -> ExitCode {
     let mut errors = Watched::new(rt.stderr());
     match run(&rt, &mut errors) {
         Ok(status) => ExitCode::from(status),
-        Err(_) => ExitCode::from(tell_out_of_memory(&mut errors)),
+        Err(error) => ExitCode::from(tell_unstarted(&mut errors, &error)),
     }
 }
 
-#[cfg(test)]
-mod run_tests;
 #[cfg(test)]
 mod tests;

@@ -1,72 +1,5 @@
-use crate::input::{LoadFault, load};
-use crate::parts::parts;
-use crate::words::{Task, parse};
-use hla_script::Watched;
-use std::io;
-use std::io::Read;
-use std::test::Fail;
-
-/// A reader that gives five bytes at a time, fails once it has given so many, and never ends.
-#[derive(Drop)]
-struct Endless {
-    given: usize,
-    fails_at: usize,
-}
-
-impl Read for Endless {
-    fn read(&mut self, buffer: &mut [u8]) -> io::Result<usize> {
-        if self.given >= self.fails_at {
-            return Err(io::Error::from(io::ErrorKind::Other));
-        }
-        let given = buffer.len().min(5);
-        self.given = self.given.saturating_add(given);
-        Ok(given)
-    }
-}
-
-#[test]
-fn loads_up_to_the_limit(rt: HostRuntime) -> Result<(), Fail> {
-    let mut whole = Watched::new(b"(FED)".as_slice());
-    assert_eq!(rt;
-        load(rt.alloc(), &mut whole, 9)?.as_slice(),
-        b"(FED)".as_slice()
-    );
-    let mut cut = Watched::new(b"(FED)".as_slice());
-    assert_eq!(rt;
-        load(rt.alloc(), &mut cut, 3)?.as_slice(),
-        b"(FE".as_slice()
-    );
-    let mut endless = Watched::new(Endless {
-        given: 0,
-        fails_at: 2000,
-    });
-    assert_eq!(rt; load(rt.alloc(), &mut endless, 1999)?.len(), 1999);
-    Ok(())
-}
-
-#[test]
-fn tells_a_failed_read(rt: HostRuntime) {
-    let mut failing = Watched::new(Endless {
-        given: 0,
-        fails_at: 2000,
-    });
-    assert!(rt; matches!(&load(rt.alloc(), &mut failing, 5000), Err(LoadFault::Read)));
-}
-
-#[test]
-fn cuts_at_the_first_separator(rt: HostRuntime) {
-    for (input, first, second) in [
-        ("(FED)\n%%\ncreate\n%%\n", "(FED)\n", "create\n%%\n"),
-        ("%%\ncreate", "", "create"),
-        ("(FED)\n%%", "(FED)\n", ""),
-        ("(FED)\n%%\r\n %%\n%%%\n", "(FED)\n%%\r\n %%\n%%%\n", ""),
-        ("", "", ""),
-    ] {
-        let (before, behind) = parts(input.as_bytes());
-        assert_eq!(rt; before, first.as_bytes(), "in {input:?}");
-        assert_eq!(rt; behind, second.as_bytes(), "in {input:?}");
-    }
-}
+use crate::words::{WordsFault, parse};
+use hla_program::Task;
 
 #[test]
 fn reads_the_command_line(rt: HostRuntime) {
@@ -86,10 +19,14 @@ fn reads_the_command_line(rt: HostRuntime) {
     assert!(rt;
         matches!(&parse(alloc, &["hlaplay", "play", "a.fed", "-"]), Ok(task) if *task == named)
     );
+    assert!(rt;
+        matches!(&parse(alloc, &["hlaplay", "play", "--", "a.fed", "-"]), Ok(task) if *task == named)
+    );
     let listed = Task::List { fed: "a.fed" };
     assert!(rt; matches!(&parse(alloc, &["hlaplay", "fed", "a.fed"]), Ok(task) if *task == listed));
     for words in [
         ["hlaplay", "play", "a.fed"].as_slice(),
+        ["hlaplay", "play", "a.fed", "-b"].as_slice(),
         ["hlaplay", "play", "a", "b", "c"].as_slice(),
         ["hlaplay", "--help"].as_slice(),
         ["hlaplay", "fed"].as_slice(),
@@ -97,7 +34,7 @@ fn reads_the_command_line(rt: HostRuntime) {
         ["hlaplay", "play", "--loud", "a", "b"].as_slice(),
     ] {
         assert!(rt;
-            matches!(&parse(alloc, words), Err(Some(_))),
+            matches!(&parse(alloc, words), Err(WordsFault::Refused(_))),
             "at {words:?}"
         );
     }

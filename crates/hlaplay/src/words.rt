@@ -1,26 +1,63 @@
-//! The command line.
+//! What the words of the command line ask for.
 
-ghost use Rattle.std.specs.Prelude.{◌≡◌, option_map};
-ghost use Rattle.clap.specs.Matches.{found_of};
-ghost use Rattle.hlaplay.specs.Asked.{asked_by, asked_with};
+ghost use Rattle.std.specs.Prelude.{◌≡◌, false, IfOk, IfErr, Some, map, option_map};
+ghost use Rattle.clap.specs.Matches.{first_value, found_of};
+ghost use Rattle.clap.specs.Simple.{app_of};
+ghost use Rattle.clap.specs.Walk.{rule_of, texts};
+ghost use Rattle.hla_program.specs.Tasks.{named_task};
+ghost use Rattle.hlaplay.specs.Words.{is_operand, plain_task, file_rule, command_line, task_with, clap_task, task_of, IsReadAlike};
+ghost use Rattle.hlaplay.specs.Refusals.{IsCausedBy, IsFoundIn, RefusesWords};
 
+use clap::error::ErrorKind;
 use clap::{Arg, ArgMatches, Command, Error};
+use hla_program::Task;
 use std::alloc::{AllocError, Global};
 
-/// What is to be done.
-#[derive(Clone, Copy, Debug, PartialEq, Eq)]
-pub enum Task<'a> {
-    /// A script is played over a FED file; `-` stands for the standard input.
-    Play { fed: &'a str, script: &'a str },
-    /// What a FED file declares is listed; `-` stands for the standard input.
-    List { fed: &'a str },
+/// Why the words of a command line ask for no task.
+#[derive(Drop)]
+pub enum WordsFault {
+    /// clap refuses them, or they ask for help; the error has the text.
+    Refused(Error),
+    /// Memory ran out.
+    Memory,
 }
 
-fn file(alloc: Global, id: &str) -> Arg<'_> {
+/// Whether clap could take a word for no option: it is `-`, or does not begin with `-`.
+fn is_operand(word: &str) -> bool
+    ensures { result ≡ is_operand word.now }
+{
+    !matches!(word.as_bytes(), [b'-', _, ..])
+}
+
+/// What words of a plain form ask for. This takes no memory, so they are never refused.
+fn plain_task<'a>(words: &[&'a str]) -> Option<Task<'a>>
+    ensures { option_map named_task result ≡ plain_task (texts words.now) }
+{
+    match words {
+        [] | [_] => Some(Task::Play {
+            fed: "-",
+            script: "-",
+        }),
+        [_, word, fed] if *word == "fed" && is_operand(fed) => Some(Task::List { fed }),
+        [_, word, fed, script] if *word == "play" && is_operand(fed) && is_operand(script) => {
+            Some(Task::Play { fed, script })
+        }
+        _ => None,
+    }
+}
+
+/// An argument that has to be there.
+fn file(alloc: Global, id: &str) -> Arg<'_>
+    ensures rule { rule_of result ≡ file_rule id.now }
+    ensures local { result.global ≡ false }
+{
     Arg::new(alloc, id).required(true)
 }
 
-fn command<'a>(alloc: Global) -> Result<Command<'a>, AllocError> {
+/// The command line as clap is told of it. Fails only for want of memory.
+fn command<'a>(alloc: Global) -> Result<Command<'a>, AllocError>
+    ensures { IfOk result (λ command. app_of command ≡ command_line) }
+{
     let play = Command::new(alloc, "play")
         .about("Plays a script over a FED file; - is the standard input")
         .arg(file(alloc, "FED"))?
@@ -36,8 +73,8 @@ fn command<'a>(alloc: Global) -> Result<Command<'a>, AllocError> {
 }
 
 /// What a subcommand asks for.
-fn asked<'a>(name: &str, found: &ArgMatches<'a>) -> Option<Task<'a>>
-    ensures { option_map asked_by result ≡ asked_with name.now (found_of found.now) }
+fn task_with<'a>(name: &str, found: &ArgMatches<'a>) -> Option<Task<'a>>
+    ensures { option_map named_task result ≡ task_with (first_value (found_of found.now)) name.now }
 {
     if name == "fed" {
         return Some(Task::List {
@@ -50,22 +87,45 @@ fn asked<'a>(name: &str, found: &ArgMatches<'a>) -> Option<Task<'a>>
     })
 }
 
-/// What the words ask for, the program's name in front; without others it is `play - -`.
-pub fn parse<'a>(alloc: Global, words: &'a [&'a str]) -> Result<Task<'a>, Option<Error>> {
-    if words.len() <= 1 {
-        return Ok(Task::Play {
-            fed: "-",
-            script: "-",
-        });
+/// Why clap gave no matches.
+fn fault_of_error(error: Error) -> WordsFault
+    ensures { IsCausedBy error result }
+{
+    match error.kind() {
+        ErrorKind::OutOfMemory => WordsFault::Memory,
+        _ => WordsFault::Refused(error),
     }
+}
+
+/// What words ask for as clap reads them.
+fn clap_task<'a>(alloc: Global, words: &'a [&'a str]) -> Result<Task<'a>, WordsFault>
+    ensures ok { IfOk result (λ task. clap_task (texts words.entry.now) ≡ Some (named_task task)) }
+    ensures err { IfErr result (IsFoundIn (texts words.entry.now)) }
+{
     let Ok(command) = command(alloc) else {
-        return Err(None);
+        return Err(WordsFault::Memory);
     };
-    match command.try_get_matches_from(words) {
-        Err(error) => Err(Some(error)),
-        Ok(matches) => match matches.subcommand() {
-            Some((name, found)) => asked(name, found).ok_or(None),
-            None => Err(None),
-        },
+    let matches = match command.try_get_matches_from(words) {
+        Ok(matches) => matches,
+        Err(error) => return Err(fault_of_error(error)),
+    };
+    // clap asks for a subcommand and its files; of a subcommand's values none of its clauses says so.
+    let Some((name, found)) = matches.subcommand() else {
+        return Err(WordsFault::Memory);
+    };
+    task_with(name, found).ok_or(WordsFault::Memory)
+}
+
+/// What the words ask for, the program's name in front; without others it is `play - -`. Words of a plain form (no other
+/// words, `fed FILE` or `play FED SCRIPT`, with names that are no options) take no memory and are never refused.
+#[tactic(auto, using(crate::proofs::PlainLemmas::read_alike))]
+pub fn parse<'a>(alloc: Global, words: &'a [&'a str]) -> Result<Task<'a>, WordsFault>
+    ensures ok { IfOk result (λ task. task_of (texts words.entry.now) ≡ Some (named_task task)) }
+    ensures err { IfErr result (RefusesWords (texts words.entry.now)) }
+    ensures alike { IsReadAlike (texts words.entry.now) }
+{
+    match plain_task(words) {
+        Some(task) => Ok(task),
+        None => clap_task(alloc, words),
     }
 }

@@ -1,10 +1,21 @@
-use Rattle.std.proofs.Common.{refl}
-use Rattle.hlaplay.specs.Asked.{asked_by}
-use Rattle.hlaplay.specs.Program.{TaskDone, NoMemory}
+use Rattle.std.proofs.Common.{refl, subst}
+use Rattle.clap.specs.Walk.{texts}
+use Rattle.hlaplay.specs.Refusals.{IsFoundIn}
+use Rattle.hlaplay.specs.declared.words.WordsFault.{WordsFault}
+use Rattle.clap.specs.Values.{kind_of}
+use Rattle.hla_program.specs.Tasks.{named_task}
+use Rattle.hlaplay.specs.Run.{TaskDone, Misused, NoMemory}
 use Rattle.hlaplay.proofs.running.do_words.Goals as goal
 
 pub returns-in-Ok : goal.returns-in-Ok
-returns-in-Ok g c = TaskDone (asked_by c.in-Ok.task) c.do_task.ensures
+returns-in-Ok g c = TaskDone (named_task c.in-Ok.task) c.in-Ok.ensures.ok c.do_task.ensures
 
-pub returns-in-Err : goal.returns-in-Err
-returns-in-Err g c = NoMemory refl c.tell_out_of_memory.ensures.line c.tell_out_of_memory.ensures.status
+pub returns-in-Err-Refused : goal.returns-in-Err-Refused
+returns-in-Err-Refused g c =
+    let P : WordsFault → Type 0 = λ fault. IsFoundIn (texts c.args.words.now) fault in
+    let found = subst P c.in-Err-Refused.field-0-is c.in-Err-Refused.ensures.err.1 in
+    Misused c.in-Err-Refused.ensures.err.0 (kind_of c.in-Err-Refused.error) found refl c.tell_refusal.ensures
+
+pub returns-in-Err-Memory : goal.returns-in-Err-Memory
+returns-in-Err-Memory g c =
+    NoMemory c.in-Err-Memory.ensures.err.0 refl c.tell_out_of_memory.ensures.line c.tell_out_of_memory.ensures.status

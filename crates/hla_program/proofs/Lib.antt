@@ -1,0 +1,6 @@
+-- Cutting one more line off.
+pub mod PartLemmas
+-- A line that is told, and bytes that are kept.
+pub mod EndLemmas
+-- A task is done where the run on its opened files ends as it must.
+pub mod TaskLemmas

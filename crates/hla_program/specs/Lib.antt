@@ -1,0 +1,8 @@
+-- What is to be done, with the files by their names
+pub mod Tasks
+-- Two files in one input
+pub mod Parts
+-- Readers and writers that keep in mind whether they failed
+pub mod Streams
+-- How a task ends
+pub mod Program

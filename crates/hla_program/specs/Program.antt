@@ -1,0 +1,129 @@
+-- How a task ends
+use Rattle.std.specs.Prelude.{◌≡◌, ◌+◌, ℕ, true, false, ◌&&◌, ◌⊎◌, List, ◌++◌, take, Option, MatchBool, codes, decimal}
+use Rattle.std.specs.Str.{bytes_eq}
+use Rattle.std.specs.Io.KnownBytes.{Appends}
+use Rattle.hla_base.specs.Limits.{max_fed_file, max_script}
+use Rattle.hla_fed_file.specs.Fault.{kind_name_of}
+use Rattle.hla_fed_file.specs.declared.fault.FedFault.{FedFault}
+use Rattle.hla_commands.specs.FaultName.{kind_name}
+use Rattle.hla_transcript.specs.Listed.{IsListed, StopsListing}
+use Rattle.hla_script.specs.Playing.{IsPlayedFrom, StopsBy}
+use Rattle.hla_commands.specs.declared.lines.ScriptFault.{ScriptFault}
+use Rattle.hla_transcript.specs.declared.listing.ListFault.{ListFault}
+use Rattle.hla_transcript.specs.declared.listing.ListFault.TheVariants as unlisted
+use Rattle.hla_script.specs.declared.player.PlayFault.{PlayFault}
+use Rattle.hla_script.specs.declared.player.PlayFault.TheVariants as unplayed
+use Rattle.hla_program.specs.Tasks.{NamedTask, Play, Listing}
+use Rattle.hla_program.specs.Parts.{first_part, second_part}
+use Rattle.hla_transcript.specs.Watching.{Stream}
+use Rattle.hla_program.specs.Streams.{IsTaken, LoadStops}
+use Rattle.hla_program.specs.declared.input.LoadFault.{LoadFault}
+use Rattle.hla_program.specs.declared.input.LoadFault.TheVariants as unread
+
+-- ---- the line on standard error
+abbrev pub fault_line : List ℕ → ℕ → List ℕ → List ℕ
+fault_line file line kind = file ++ codes " line " ++ decimal line ++ codes ": " ++ kind ++ codes "\n"
+
+abbrev pub fed_line : FedFault → List ℕ
+fed_line e = fault_line (codes "fed") e.line (kind_name_of e.kind)
+
+abbrev pub script_line : ScriptFault → List ℕ
+script_line e = fault_line (codes "script") e.line (kind_name e.kind)
+
+abbrev pub unread_line : List ℕ → List ℕ
+unread_line name = codes "cannot read " ++ name ++ codes "\n"
+
+abbrev pub unwritten_line : List ℕ
+unwritten_line = codes "cannot write\n"
+
+abbrev pub memory_line : List ℕ
+memory_line = codes "out of memory\n"
+
+-- why a script was not played to its end
+abbrev pub play_stop_line : PlayFault → List ℕ
+play_stop_line (unplayed.Fed e) = fed_line e
+play_stop_line (unplayed.Script e) = script_line e
+play_stop_line unplayed.Write = unwritten_line
+play_stop_line unplayed.Memory = memory_line
+
+-- why a FED file was not listed
+abbrev pub list_stop_line : ListFault → List ℕ
+list_stop_line (unlisted.Fed e) = fed_line e
+list_stop_line unlisted.Write = unwritten_line
+list_stop_line unlisted.Memory = memory_line
+
+-- why a file of this name was not read
+abbrev pub load_stop_line : List ℕ → LoadFault → List ℕ
+load_stop_line name unread.Read = unread_line name
+load_stop_line name unread.Memory = memory_line
+
+-- a line was written whole; or a write of it failed, and a beginning of it stands
+pub data WritesLine (old new : Stream) (line : List ℕ) : Type 0 where
+  Whole : Appends old.bytes new.bytes line → new.has_failed ≡ old.has_failed → WritesLine old new line
+  Cut : (n : ℕ) → Appends old.bytes new.bytes (take n line) → new.has_failed ≡ true → WritesLine old new line
+
+-- the line was told, or that there is no memory for it
+abbrev pub Complains : Stream → Stream → List ℕ → Type 0
+Complains old new line = WritesLine old new line ⊎ WritesLine old new memory_line
+
+-- a failed write is the cause where one is told
+abbrev pub PlayCause : PlayFault → Stream → Type 0
+PlayCause (unplayed.Fed e) out = Unit {0}
+PlayCause (unplayed.Script e) out = Unit {0}
+PlayCause unplayed.Write out = out.has_failed ≡ true
+PlayCause unplayed.Memory out = Unit {0}
+
+abbrev pub ListCause : ListFault → Stream → Type 0
+ListCause (unlisted.Fed e) out = Unit {0}
+ListCause unlisted.Write out = out.has_failed ≡ true
+ListCause unlisted.Memory out = Unit {0}
+
+-- ---- given the bytes
+-- `out` and `out'` are the standard output before and after, `err` and `err'` the standard error
+
+-- a script is played over a FED file
+pub data EndsPlaying (fed script : List ℕ) (out out' err err' : Stream) (status : ℕ) : Type 0 where
+  Played : (records : _) → IsPlayedFrom fed script out.bytes out'.bytes records → out'.has_failed ≡ false → err' ≡ err → status ≡ 0 → EndsPlaying fed script out out' err err' status
+  PlayStopped : (why : PlayFault) → StopsBy fed script out.bytes out'.bytes why → PlayCause why out' → Complains err err' (play_stop_line why) → status ≡ 1 → EndsPlaying fed script out out' err err' status
+
+-- a FED file is listed
+pub data EndsListing (fed : List ℕ) (out out' err err' : Stream) (status : ℕ) : Type 0 where
+  Listed : IsListed fed out.bytes out'.bytes → out'.has_failed ≡ false → err' ≡ err → status ≡ 0 → EndsListing fed out out' err err' status
+  ListStopped : (why : ListFault) → StopsListing fed out.bytes out'.bytes why → ListCause why out' → Complains err err' (list_stop_line why) → status ≡ 1 → EndsListing fed out out' err err' status
+
+-- ---- given readers
+-- one byte more is taken of a file than it may have, so that one that has more is too large
+abbrev pub file_limit : ℕ
+file_limit = max_fed_file + 1
+
+-- of both files in one input, and the line between them
+abbrev pub shared_limit : ℕ
+shared_limit = max_fed_file + max_script + 4
+
+-- both files stand in one input, which is told by the name `-`
+pub data EndsPlayingShared (input input' out out' err err' : Stream) (status : ℕ) : Type 0 where
+  SharedRead : (bytes : List ℕ) → IsTaken shared_limit input input' bytes → EndsPlaying (first_part bytes) (second_part bytes) out out' err err' status → EndsPlayingShared input input' out out' err err' status
+  SharedUnread : (why : LoadFault) → LoadStops input input' why → out' ≡ out → Complains err err' (load_stop_line (codes "-") why) → status ≡ 1 → EndsPlayingShared input input' out out' err err' status
+
+-- the FED file is read before the script
+pub data EndsPlayingFiles (fed_name : List ℕ) (fed fed' : Stream) (script_name : List ℕ) (script script' out out' err err' : Stream) (status : ℕ) : Type 0 where
+  FilesRead : (fed_bytes script_bytes : List ℕ) → IsTaken file_limit fed fed' fed_bytes → IsTaken file_limit script script' script_bytes → EndsPlaying fed_bytes script_bytes out out' err err' status → EndsPlayingFiles fed_name fed fed' script_name script script' out out' err err' status
+  FedUnread : (why : LoadFault) → LoadStops fed fed' why → script' ≡ script → out' ≡ out → Complains err err' (load_stop_line fed_name why) → status ≡ 1 → EndsPlayingFiles fed_name fed fed' script_name script script' out out' err err' status
+  ScriptUnread : (fed_bytes : List ℕ) → IsTaken file_limit fed fed' fed_bytes → (why : LoadFault) → LoadStops script script' why → out' ≡ out → Complains err err' (load_stop_line script_name why) → status ≡ 1 → EndsPlayingFiles fed_name fed fed' script_name script script' out out' err err' status
+
+pub data EndsListingFile (name : List ℕ) (file file' out out' err err' : Stream) (status : ℕ) : Type 0 where
+  FileRead : (bytes : List ℕ) → IsTaken file_limit file file' bytes → EndsListing bytes out out' err err' status → EndsListingFile name file file' out out' err err' status
+  FileUnread : (why : LoadFault) → LoadStops file file' why → out' ≡ out → Complains err err' (load_stop_line name why) → status ≡ 1 → EndsListingFile name file file' out out' err err' status
+
+-- ---- given the bytes of each file by its name
+-- a file that was just opened
+abbrev pub opened_stream : Option (List ℕ) → Stream
+opened_stream bytes = record { bytes = bytes; has_failed = false }
+
+-- what is asked for is done with the files that it names; `-` is the standard input, which holds both files where both names are `-`
+abbrev pub EndsTask : (List ℕ → Option (List ℕ)) → NamedTask → Stream → Stream → Stream → Stream → ℕ → Type 0
+EndsTask bytes_of (Play fed script) out out' err err' status =
+    MatchBool (bytes_eq fed (codes "-") && bytes_eq script (codes "-"))
+    ((input' : Stream) × EndsPlayingShared (opened_stream (bytes_of (codes "-"))) input' out out' err err' status)
+    ((fed' : Stream) × ((script' : Stream) × EndsPlayingFiles fed (opened_stream (bytes_of fed)) fed' script (opened_stream (bytes_of script)) script' out out' err err' status))
+EndsTask bytes_of (Listing fed) out out' err err' status = (file' : Stream) × EndsListingFile fed (opened_stream (bytes_of fed)) file' out out' err err' status

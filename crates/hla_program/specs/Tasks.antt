@@ -1,0 +1,13 @@
+-- What is to be done, with the files by their names
+use Rattle.std.specs.Prelude.{ℕ, List}
+use Rattle.hla_program.specs.declared.task.Task.{Task}
+use Rattle.hla_program.specs.declared.task.Task.TheVariants as task
+
+-- to play a script over a FED file, or to list a FED file
+pub data NamedTask : Type 0 where
+  Play : (fed script : List ℕ) → NamedTask
+  Listing : (fed : List ℕ) → NamedTask
+
+abbrev pub named_task : Task → NamedTask
+named_task (task.Play fed script) = Play fed.now script.now
+named_task (task.List fed) = Listing fed.now

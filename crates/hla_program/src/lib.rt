@@ -1,0 +1,19 @@
+//! What the program does with the files that its command line names.
+#![tactic(auto)]
+
+mod input;
+mod parts;
+mod running;
+mod source;
+mod task;
+mod telling;
+
+pub use running::do_task;
+pub use source::{Opener, Source, System};
+pub use task::Task;
+pub use telling::{tell, tell_out_of_memory};
+
+#[cfg(test)]
+mod run_tests;
+#[cfg(test)]
+mod tests;

@@ -1,0 +1,281 @@
+ghost use Rattle.std.specs.Prelude.{None};
+
+use crate::running::do_task;
+use crate::source::{Opener, System};
+use crate::task::Task;
+use hla_script::Watched;
+use std::alloc::Global;
+use std::io;
+use std::io::{Read, Write};
+use std::test::Fail;
+
+const FED: &[u8] = b"(FED
+ (Federation Demo)
+ (FEDversion v1.3)
+ (spaces)
+ (objects
+  (class ObjectRoot
+   (attribute privilegeToDelete reliable timestamp)))
+ (interactions
+  (class InteractionRoot reliable receive
+   (parameter Text))))
+";
+
+const SCRIPT: &[u8] = b"create
+join A
+";
+
+const TRANSCRIPT: &[u8] = b"1 ok
+2 ok 1
+";
+
+/// A file of a fake disk, or one whose reads fail once its bytes are given.
+#[derive(Clone, Copy)]
+struct Shelved<'a> {
+    bytes: &'a [u8],
+    fails: bool,
+}
+
+impl Read for Shelved<'_> {
+    fn read(&mut self, buffer: &mut [u8]) -> io::Result<usize> {
+        if self.bytes.is_empty() && self.fails {
+            return Err(io::Error::from(io::ErrorKind::Other));
+        }
+        self.bytes.read(buffer)
+    }
+}
+
+/// A fake disk: files by their names. Any other file cannot be read.
+#[derive(Drop)]
+struct Shelf<'a> {
+    files: &'a [(&'a str, &'a [u8])],
+}
+
+impl<'a> Opener for Shelf<'a> {
+    type Input = Shelved<'a>;
+
+    ghost bytes_of = { λ _ _. None };
+
+    fn open(&self, name: &str) -> Watched<Shelved<'a>> {
+        for (file_name, bytes) in self.files {
+            if *file_name == name {
+                return Watched::new(Shelved {
+                    bytes,
+                    fails: false,
+                });
+            }
+        }
+        Watched::new(Shelved {
+            bytes: b"(FE",
+            fails: true,
+        })
+    }
+}
+
+/// A writer that takes three bytes at a time while there is room, and then fails.
+#[derive(Drop)]
+struct Narrow {
+    room: usize,
+    fails_to_flush: bool,
+}
+
+impl Write for Narrow {
+    fn write(&mut self, bytes: &[u8]) -> io::Result<usize> {
+        if self.room == 0 {
+            return Err(io::Error::from(io::ErrorKind::Other));
+        }
+        let taken = bytes.len().min(3).min(self.room);
+        self.room -= taken;
+        Ok(taken)
+    }
+
+    fn flush(&mut self) -> io::Result<()> {
+        if self.fails_to_flush {
+            return Err(io::Error::from(io::ErrorKind::Other));
+        }
+        Ok(())
+    }
+}
+
+/// The status of a task on these files, and what is on the standard output and on the standard error.
+fn ends(alloc: Global, files: &[(&str, &[u8])], task: Task<'_>) -> (u8, Vec<u8>, Vec<u8>) {
+    let mut out = Vec::new(alloc);
+    let mut errors = Vec::new(alloc);
+    let shelf = Shelf { files };
+    let status = do_task(
+        alloc,
+        &shelf,
+        task,
+        &mut Watched::new(&mut out),
+        &mut Watched::new(&mut errors),
+    );
+    (status, out, errors)
+}
+
+const PLAY: Task<'static> = Task::Play {
+    fed: "a.fed",
+    script: "b.script",
+};
+
+#[test]
+fn plays_files_by_their_names(rt: HostRuntime) {
+    let files: [(&str, &[u8]); 2] = [("a.fed", FED), ("b.script", SCRIPT)];
+    let (status, out, errors) = ends(rt.alloc(), files.as_slice(), PLAY);
+    assert_eq!(rt; status, 0);
+    assert_eq!(rt; out.as_slice(), TRANSCRIPT);
+    assert_eq!(rt; errors.as_slice(), b"".as_slice());
+}
+
+#[test]
+fn lists_a_file_by_its_name(rt: HostRuntime) {
+    let files: [(&str, &[u8]); 2] = [("b.fed", SCRIPT), ("a.fed", FED)];
+    let task = Task::List { fed: "a.fed" };
+    let (status, out, errors) = ends(rt.alloc(), files.as_slice(), task);
+    assert_eq!(rt; status, 0);
+    assert_eq!(rt;
+        out.as_slice(),
+        b"object 1 ObjectRoot
+attribute 1 privilegeToDelete reliable timestamp
+interaction 1 InteractionRoot reliable receive
+parameter 1 Text
+"
+            .as_slice()
+    );
+    assert_eq!(rt; errors.as_slice(), b"".as_slice());
+}
+
+#[test]
+fn plays_one_input_that_holds_both(rt: HostRuntime) -> Result<(), Fail> {
+    let alloc = rt.alloc();
+    let mut input = Vec::new(alloc);
+    input.extend_from_slice(FED)?;
+    input.extend_from_slice(b"%%\n")?;
+    input.extend_from_slice(SCRIPT)?;
+    let files: [(&str, &[u8]); 1] = [("-", input.as_slice())];
+    let task = Task::Play {
+        fed: "-",
+        script: "-",
+    };
+    let (status, out, errors) = ends(alloc, files.as_slice(), task);
+    assert_eq!(rt; status, 0);
+    assert_eq!(rt; out.as_slice(), TRANSCRIPT);
+    assert_eq!(rt; errors.as_slice(), b"".as_slice());
+    Ok(())
+}
+
+#[test]
+fn tells_refused_input_in_one_line(rt: HostRuntime) {
+    let bad_fed: &[u8] = b"(FED\n (Federation Demo)\n";
+    let bad_script: &[u8] = b"create\n\nA fly\n";
+    for (fed, script, line) in [
+        (bad_fed, SCRIPT, "fed line 3: UnexpectedEnd\n"),
+        (bad_fed, bad_script, "fed line 3: UnexpectedEnd\n"),
+        (SCRIPT, FED, "fed line 1: ExpectedOpen\n"),
+        (FED, bad_script, "script line 3: UnknownWord\n"),
+    ] {
+        let files: [(&str, &[u8]); 2] = [("a.fed", fed), ("b.script", script)];
+        let (status, out, errors) = ends(rt.alloc(), files.as_slice(), PLAY);
+        assert_eq!(rt; status, 1, "at {line}");
+        assert_eq!(rt; out.as_slice(), b"".as_slice(), "at {line}");
+        assert_eq!(rt; errors.as_slice(), line.as_bytes(), "at {line}");
+    }
+}
+
+#[test]
+fn tells_a_file_that_is_too_large(rt: HostRuntime) -> Result<(), Fail> {
+    let alloc = rt.alloc();
+    let large = vec![in alloc; b' '; 1_048_577]?;
+    let files: [(&str, &[u8]); 1] = [("a.fed", large.as_slice())];
+    let task = Task::List { fed: "a.fed" };
+    let (status, out, errors) = ends(alloc, files.as_slice(), task);
+    assert_eq!(rt; status, 1);
+    assert_eq!(rt; out.as_slice(), b"".as_slice());
+    assert_eq!(rt; errors.as_slice(), b"fed line 1: TooLarge\n".as_slice());
+    Ok(())
+}
+
+#[test]
+fn tells_which_file_cannot_be_read(rt: HostRuntime) {
+    let both: [(&str, &[u8]); 2] = [("a.fed", FED), ("b.script", SCRIPT)];
+    for (files, line) in [
+        (&both[..1], "cannot read b.script\n"),
+        (&both[1..], "cannot read a.fed\n"),
+        (&both[..0], "cannot read a.fed\n"),
+    ] {
+        let (status, out, errors) = ends(rt.alloc(), files, PLAY);
+        assert_eq!(rt; status, 1, "at {line}");
+        assert_eq!(rt; out.as_slice(), b"".as_slice(), "at {line}");
+        assert_eq!(rt; errors.as_slice(), line.as_bytes(), "at {line}");
+    }
+    let task = Task::Play {
+        fed: "-",
+        script: "-",
+    };
+    let (status, _, errors) = ends(rt.alloc(), both.as_slice(), task);
+    assert_eq!(rt; status, 1);
+    assert_eq!(rt; errors.as_slice(), b"cannot read -\n".as_slice());
+}
+
+#[test]
+fn tells_that_it_cannot_write(rt: HostRuntime) {
+    let files: [(&str, &[u8]); 2] = [("a.fed", FED), ("b.script", SCRIPT)];
+    let shelf = Shelf {
+        files: files.as_slice(),
+    };
+    for (room, fails_to_flush, status, line) in [
+        (100, false, 0, ""),
+        (100, true, 1, "cannot write\n"),
+        (7, false, 1, "cannot write\n"),
+        (0, false, 1, "cannot write\n"),
+    ] {
+        let mut errors = Vec::new(rt.alloc());
+        let mut out = Watched::new(Narrow {
+            room,
+            fails_to_flush,
+        });
+        let ended = do_task(
+            rt.alloc(),
+            &shelf,
+            PLAY,
+            &mut out,
+            &mut Watched::new(&mut errors),
+        );
+        assert_eq!(rt; ended, status, "with room for {room}");
+        assert_eq!(rt; errors.as_slice(), line.as_bytes(), "with room for {room}");
+    }
+}
+
+#[test]
+fn keeps_the_status_where_standard_error_fails(rt: HostRuntime) {
+    let mut out = Vec::new(rt.alloc());
+    let mut errors = Watched::new(Narrow {
+        room: 4,
+        fails_to_flush: false,
+    });
+    let shelf = Shelf { files: &[] };
+    let mut watched_out = Watched::new(&mut out);
+    let status = do_task(rt.alloc(), &shelf, PLAY, &mut watched_out, &mut errors);
+    assert_eq!(rt; status, 1);
+    assert!(rt; errors.has_failed());
+}
+
+#[test]
+fn tells_that_a_file_is_not_there(rt: HostRuntime) {
+    let mut out = Vec::new(rt.alloc());
+    let mut errors = Vec::new(rt.alloc());
+    let status = do_task(
+        rt.alloc(),
+        &System::new(&rt),
+        Task::List {
+            fed: "no-such-folder/a.fed",
+        },
+        &mut Watched::new(&mut out),
+        &mut Watched::new(&mut errors),
+    );
+    assert_eq!(rt; status, 1);
+    assert_eq!(rt; out.as_slice(), b"".as_slice());
+    assert_eq!(rt;
+        errors.as_slice(),
+        b"cannot read no-such-folder/a.fed\n".as_slice()
+    );
+}

@@ -1,0 +1,193 @@
+//! Tasks done, over any files and writers.
+
+ghost use Rattle.hla_transcript.specs.Watching.{stream_of};
+ghost use Rattle.std.specs.Prelude.{◌≡◌, ◌&&◌, codes};
+ghost use Rattle.std.specs.Str.{bytes_eq};
+ghost use Rattle.hla_program.specs.Tasks as tasks;
+ghost use Rattle.hla_program.specs.Tasks.{named_task};
+ghost use Rattle.hla_program.specs.Program.{EndsPlaying, EndsListing, EndsPlayingShared, EndsPlayingFiles, EndsListingFile, EndsTask};
+
+use crate::input::{FILE_LIMIT, SHARED_LIMIT, load};
+use crate::parts::parts;
+use crate::source::Opener;
+use crate::task::Task;
+use crate::telling::{DONE, tell_list_stop, tell_load_stop, tell_play_stop};
+use hla_script::{ListFault, PlayFault, Watched, list, play};
+use std::alloc::Global;
+use std::io::{Read, Write};
+
+/// Plays a script over a FED file, and answers the status: 0 once the transcript is on `out` and nothing on `errors`; 1 with
+/// one line on `errors` for the first fault of the FED file, or else for that of the script, with nothing on `out`, and for
+/// a failed write or want of memory.
+fn play_bytes<W: Write, E: Write>(
+    alloc: Global,
+    fed: &[u8],
+    script: &[u8],
+    out: &mut Watched<W>,
+    errors: &mut Watched<E>,
+) -> u8
+    ensures { EndsPlaying fed.now script.now
+        (stream_of W.contents out.old) (stream_of W.contents out.new)
+        (stream_of E.contents errors.old) (stream_of E.contents errors.new) result }
+{
+    let _records = match play(alloc, fed, script, out) {
+        Ok(records) => records,
+        Err(fault) => return tell_play_stop(alloc, errors, fault),
+    };
+    let _ = out.flush();
+    if out.has_failed() {
+        return tell_play_stop(alloc, errors, PlayFault::Write);
+    }
+    DONE
+}
+
+/// Lists what a FED file declares, and answers the status: 0 once the list is on `out` and nothing on `errors`; 1 with one
+/// line on `errors` for the first fault of the FED file, with nothing on `out`, and for a failed write or want of memory.
+fn list_bytes<W: Write, E: Write>(
+    alloc: Global,
+    fed: &[u8],
+    out: &mut Watched<W>,
+    errors: &mut Watched<E>,
+) -> u8
+    ensures { EndsListing fed.now
+        (stream_of W.contents out.old) (stream_of W.contents out.new)
+        (stream_of E.contents errors.old) (stream_of E.contents errors.new) result }
+{
+    match list(alloc, fed, out) {
+        Ok(()) => {}
+        Err(fault) => return tell_list_stop(alloc, errors, fault),
+    }
+    let _ = out.flush();
+    if out.has_failed() {
+        return tell_list_stop(alloc, errors, ListFault::Write);
+    }
+    DONE
+}
+
+/// Plays a script over a FED file, both from one input: the FED file is what stands before its first line that is exactly
+/// `%%`, and the script what stands behind it. Answers as `play_bytes` does, and 1 with one line on `errors`, and nothing on
+/// `out`, where the input cannot be read.
+fn play_shared<R: Read, W: Write, E: Write>(
+    alloc: Global,
+    input: &mut Watched<R>,
+    out: &mut Watched<W>,
+    errors: &mut Watched<E>,
+) -> u8
+    ensures { EndsPlayingShared (stream_of R.remaining input.old) (stream_of R.remaining input.new)
+        (stream_of W.contents out.old) (stream_of W.contents out.new)
+        (stream_of E.contents errors.old) (stream_of E.contents errors.new) result }
+{
+    match load(alloc, input, SHARED_LIMIT) {
+        Ok(bytes) => {
+            let (fed, script) = parts(bytes.as_slice());
+            play_bytes(alloc, fed, script, out, errors)
+        }
+        Err(fault) => tell_load_stop(alloc, errors, "-", fault),
+    }
+}
+
+/// Plays a script over a FED file. Both are read before either is tested, the FED file first. Answers as `play_bytes` does,
+/// and 1 with one line on `errors`, and nothing on `out`, where one of them cannot be read.
+fn play_files<R: Read, S: Read, W: Write, E: Write>(
+    alloc: Global,
+    fed_name: &str,
+    fed: &mut Watched<R>,
+    script_name: &str,
+    script: &mut Watched<S>,
+    out: &mut Watched<W>,
+    errors: &mut Watched<E>,
+) -> u8
+    ensures { EndsPlayingFiles fed_name.now (stream_of R.remaining fed.old) (stream_of R.remaining fed.new)
+        script_name.now (stream_of S.remaining script.old) (stream_of S.remaining script.new)
+        (stream_of W.contents out.old) (stream_of W.contents out.new)
+        (stream_of E.contents errors.old) (stream_of E.contents errors.new) result }
+{
+    let fed_bytes = match load(alloc, fed, FILE_LIMIT) {
+        Ok(bytes) => bytes,
+        Err(fault) => return tell_load_stop(alloc, errors, fed_name, fault),
+    };
+    match load(alloc, script, FILE_LIMIT) {
+        Ok(bytes) => play_bytes(alloc, fed_bytes.as_slice(), bytes.as_slice(), out, errors),
+        Err(fault) => tell_load_stop(alloc, errors, script_name, fault),
+    }
+}
+
+/// Lists what a FED file declares. Answers as `list_bytes` does, and 1 with one line on `errors`, and nothing on `out`,
+/// where the file cannot be read.
+fn list_file<R: Read, W: Write, E: Write>(
+    alloc: Global,
+    name: &str,
+    file: &mut Watched<R>,
+    out: &mut Watched<W>,
+    errors: &mut Watched<E>,
+) -> u8
+    ensures { EndsListingFile name.now (stream_of R.remaining file.old) (stream_of R.remaining file.new)
+        (stream_of W.contents out.old) (stream_of W.contents out.new)
+        (stream_of E.contents errors.old) (stream_of E.contents errors.new) result }
+{
+    match load(alloc, file, FILE_LIMIT) {
+        Ok(bytes) => list_bytes(alloc, bytes.as_slice(), out, errors),
+        Err(fault) => tell_load_stop(alloc, errors, name, fault),
+    }
+}
+
+/// Whether both files stand in the standard input.
+fn share_input(fed_name: &str, script_name: &str) -> bool
+    ensures { result ≡ (bytes_eq fed_name.now (codes "-") && bytes_eq script_name.now (codes "-")) }
+{
+    fed_name == "-" && script_name == "-"
+}
+
+/// Plays the script of a name over the FED file of a name; both from one input where both names are `-`.
+fn play_named<O: Opener, W: Write, E: Write>(
+    alloc: Global,
+    opener: &O,
+    fed_name: &str,
+    script_name: &str,
+    out: &mut Watched<W>,
+    errors: &mut Watched<E>,
+) -> u8
+    ensures { EndsTask (O.bytes_of opener.now) (tasks.Play fed_name.now script_name.now)
+        (stream_of W.contents out.old) (stream_of W.contents out.new)
+        (stream_of E.contents errors.old) (stream_of E.contents errors.new) result }
+{
+    if share_input(fed_name, script_name) {
+        let mut input = opener.open("-");
+        return play_shared(alloc, &mut input, out, errors);
+    }
+    let mut fed = opener.open(fed_name);
+    let mut script = opener.open(script_name);
+    play_files(
+        alloc,
+        fed_name,
+        &mut fed,
+        script_name,
+        &mut script,
+        out,
+        errors,
+    )
+}
+
+/// Does what is asked for with the files that it names, and answers the status. 0: what was asked for is on `out`, all of it
+/// handed on, and nothing on `errors`. 1, with one line on `errors`: a FED file or a script is refused, or a file cannot be
+/// read, with nothing on `out`; or a write failed, or memory ran out. What a failed write to `errors` left out is lost, and
+/// the status stays.
+pub fn do_task<O: Opener, W: Write, E: Write>(
+    alloc: Global,
+    opener: &O,
+    task: Task<'_>,
+    out: &mut Watched<W>,
+    errors: &mut Watched<E>,
+) -> u8
+    ensures { EndsTask (O.bytes_of opener.now) (named_task task.entry)
+        (stream_of W.contents out.old) (stream_of W.contents out.new)
+        (stream_of E.contents errors.old) (stream_of E.contents errors.new) result }
+{
+    match task {
+        Task::Play { fed, script } => play_named(alloc, opener, fed, script, out, errors),
+        Task::List { fed } => {
+            let mut file = opener.open(fed);
+            list_file(alloc, fed, &mut file, out, errors)
+        }
+    }
+}

@@ -1,0 +1,130 @@
+//! The one line on standard error.
+
+ghost use Rattle.std.specs.Prelude.{◌≡◌, IfOk, OnErr, string_bytes};
+ghost use Rattle.hla_transcript.specs.Watching.{stream_of};
+ghost use Rattle.hla_program.specs.Program.{WritesLine, Complains, fault_line, fed_line, script_line, unread_line, memory_line, unwritten_line, play_stop_line, list_stop_line, load_stop_line};
+
+use crate::input::LoadFault;
+use hla_fed_file::FedFault;
+use hla_script::{ListFault, PlayFault, ScriptFault, Watched};
+use hla_transcript::write_whole;
+use std::alloc::{AllocError, Global};
+use std::io::Write;
+
+/// The status of a run that did what it was asked for.
+pub const DONE: u8 = 0;
+
+/// The status of input that is refused or cannot be read, of output that cannot be written, and of want of memory.
+pub const REFUSED: u8 = 1;
+
+/// The line of a fault in a file.
+fn fault_line(alloc: Global, file: &str, line: usize, kind: &str) -> Result<String, AllocError>
+    ensures { IfOk result (λ text. string_bytes text ≡ fault_line file.now line kind.now) }
+{
+    format!(in alloc; "{file} line {line}: {kind}\n")
+}
+
+/// The line of a fault of a FED file.
+fn fed_line(alloc: Global, fault: FedFault) -> Result<String, AllocError>
+    ensures { IfOk result (λ text. string_bytes text ≡ fed_line fault) }
+{
+    fault_line(alloc, "fed", fault.line, fault.kind.name())
+}
+
+/// The line of a fault of a script.
+fn script_line(alloc: Global, fault: ScriptFault) -> Result<String, AllocError>
+    ensures { IfOk result (λ text. string_bytes text ≡ script_line fault) }
+{
+    fault_line(alloc, "script", fault.line, fault.kind.name())
+}
+
+/// The line of a file that was not read.
+fn unread_line(alloc: Global, name: &str) -> Result<String, AllocError>
+    ensures { IfOk result (λ text. string_bytes text ≡ unread_line name.now) }
+{
+    format!(in alloc; "cannot read {name}\n")
+}
+
+/// Writes a line, or any text. Where a write fails, the rest of it is left out.
+pub fn tell<E: Write>(errors: &mut Watched<E>, line: &str)
+    ensures { WritesLine (stream_of E.contents errors.old) (stream_of E.contents errors.new) line.now }
+{
+    let _ = write_whole(errors, line.as_bytes());
+}
+
+/// Says that memory ran out, and answers the status.
+pub fn tell_out_of_memory<E: Write>(errors: &mut Watched<E>) -> u8
+    ensures line { WritesLine (stream_of E.contents errors.old) (stream_of E.contents errors.new)
+        memory_line }
+    ensures status { result ≡ 1 }
+{
+    tell(errors, "out of memory\n");
+    REFUSED
+}
+
+/// Writes a line if there was memory for it, or else says that memory ran out, and answers the status.
+fn tell_made<E: Write>(errors: &mut Watched<E>, line: Result<String, AllocError>) -> u8
+    ensures line { IfOk line (λ line. WritesLine (stream_of E.contents errors.old)
+        (stream_of E.contents errors.new) (string_bytes line)) }
+    ensures none { OnErr line (WritesLine (stream_of E.contents errors.old)
+        (stream_of E.contents errors.new) memory_line) }
+    ensures status { result ≡ 1 }
+{
+    match line {
+        Ok(line) => {
+            tell(errors, line.as_str());
+            REFUSED
+        }
+        Err(_) => tell_out_of_memory(errors),
+    }
+}
+
+/// Says why a script was not played to its end, and answers the status.
+pub fn tell_play_stop<E: Write>(alloc: Global, errors: &mut Watched<E>, fault: PlayFault) -> u8
+    ensures line { Complains (stream_of E.contents errors.old) (stream_of E.contents errors.new)
+        (play_stop_line fault) }
+    ensures status { result ≡ 1 }
+{
+    match fault {
+        PlayFault::Fed(fault) => tell_made(errors, fed_line(alloc, fault)),
+        PlayFault::Script(fault) => tell_made(errors, script_line(alloc, fault)),
+        PlayFault::Write => {
+            tell(errors, "cannot write\n");
+            REFUSED
+        }
+        PlayFault::Memory => tell_out_of_memory(errors),
+    }
+}
+
+/// Says why a FED file was not listed, and answers the status.
+pub fn tell_list_stop<E: Write>(alloc: Global, errors: &mut Watched<E>, fault: ListFault) -> u8
+    ensures line { Complains (stream_of E.contents errors.old) (stream_of E.contents errors.new)
+        (list_stop_line fault) }
+    ensures status { result ≡ 1 }
+{
+    match fault {
+        ListFault::Fed(fault) => tell_made(errors, fed_line(alloc, fault)),
+        ListFault::Write => {
+            tell(errors, "cannot write\n");
+            REFUSED
+        }
+        ListFault::Memory => tell_out_of_memory(errors),
+    }
+}
+
+/// Says why a file was not read, and answers the status.
+pub fn tell_load_stop<E: Write>(
+    alloc: Global,
+    errors: &mut Watched<E>,
+    name: &str,
+    fault: LoadFault,
+) -> u8
+    ensures line { Complains (stream_of E.contents errors.old) (stream_of E.contents errors.new)
+        (load_stop_line name.now fault) }
+    ensures status { result ≡ 1 }
+{
+    match fault {
+        LoadFault::Read => tell_made(errors, unread_line(alloc, name)),
+        LoadFault::Memory => tell_out_of_memory(errors),
+    }
+}

@@ -1,8 +1,0 @@
-use Rattle.hlaplay.proofs.TaskLemmas.{list_task}
-use Rattle.hlaplay.proofs.running.do_task.Goals as goal
-
-pub returns-in-Play : goal.returns-in-Play
-returns-in-Play g c = rw c.in-Play.is c.play_named.ensures
-
-pub returns-in-List : goal.returns-in-List
-returns-in-List g c = rw c.in-List.is (list_task (g.O.Opener.bytes_of c.args.opener.now) c.in-List.fed.now _ _ _ _ _ _ _ c.open-file.ensures.bytes c.open-file.ensures.sound c.list_file.ensures)
