@@ -37,8 +37,8 @@ opening_of word =
     else opening.Federate
 
 -- which declaration a word makes or withdraws, if it is one of their words
-unfoldable pub declaring_of : List ℕ → Option Verb
-declaring_of word =
+unfoldable pub declaration_verb_of : List ℕ → Option Verb
+declaration_verb_of word =
     if bytes_eq word (codes "publishObject") then Some (verb.DeclareObject declaration.Publication)
     else if bytes_eq word (codes "unpublishObject") then Some (verb.WithdrawObject declaration.Publication)
     else if bytes_eq word (codes "subscribeObject") then Some (verb.DeclareObject declaration.Subscription)
@@ -60,7 +60,7 @@ verb_of word =
     else if bytes_eq word (codes "delete") then Some verb.Delete
     else if bytes_eq word (codes "objectHandle") then Some verb.ObjectHandle
     else if bytes_eq word (codes "objectName") then Some verb.ObjectName
-    else declaring_of word
+    else declaration_verb_of word
 
 -- the action of a resignation that a word names, if it names one
 unfoldable pub action_of : List ℕ → Option ResignAction

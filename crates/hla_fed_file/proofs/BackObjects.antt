@@ -6,7 +6,7 @@ use Rattle.hla_fed_file.specs.Lexical.{Lexed, tokens}
 use Rattle.hla_fed_file.specs.Keywords.{keyword_of}
 use Rattle.hla_fed_file.specs.CatalogueValue.{CatalogueValue}
 use Rattle.hla_fed_file.specs.Declaring.{innermost, with_object_class, with_attribute, has_attribute_named}
-use Rattle.hla_fed_file.specs.Reading.{reading, after_token, opened, closed, worded, after_quoted, named_at, begun, attribute_option, is_done}
+use Rattle.hla_fed_file.specs.Reading.{reading, after_token, after_open, after_close, after_word, after_quoted, after_name_at, place_behind_keyword, attribute_option, is_done}
 use Rattle.hla_fed_file.specs.Grammar.{Symbol, LeftParen, RightParen, Means, Named, AnyName, Fits, Options, Bare, Ordered, SecLevels, NoLevel, ALevel, ObjectItems, NoItem, AnAttribute, ASecLevel, AClass, space_then, options_then, levels_then, object_items_then, transport_of, order_of, object_items_declare, IsShort, levels_fit, AttributeFits, object_items_fit}
 use Rattle.hla_fed_file.specs.declared.declared.Attribute.{Attribute}
 use Rattle.hla_fed_file.specs.declared.declared.Order.{Order}
@@ -31,7 +31,7 @@ use Rattle.hla_fed_file.proofs.BackSteps.{Tail, at_next, back, between_token, he
 
 -- behind a token at a place in which an attribute may end
 attribute_end_token : (token : text.Token) (d : ℕ) (l : List ℕ) (kept : Option Attribute) (c : CatalogueValue) (next : Reader) → after_token (half at.AttributeEnd d l kept c) token ≡ Ok next → Fits token LeftParen ⊎ Fits token RightParen
-unfolding worded after_quoted
+unfolding after_word after_quoted
 attribute_end_token text.Open d l kept c next ok = inl tt
 attribute_end_token text.Close d l kept c next ok = inr tt
 attribute_end_token (text.Word w) d l kept c next ok = cc
@@ -40,9 +40,9 @@ attribute_end_token text.Bad d l kept c next ok = cc
 attribute_end_token text.Unclosed d l kept c next ok = cc
 attribute_end_token text.End d l kept c next ok = cc
 
-attribute_deeper : (p : Place) (d : ℕ) (l : List ℕ) (kept : Option Attribute) (c : CatalogueValue) (next : Reader) → EndsAttribute p → opened (half p d l kept c) ≡ Ok next
+attribute_deeper : (p : Place) (d : ℕ) (l : List ℕ) (kept : Option Attribute) (c : CatalogueValue) (next : Reader) → EndsAttribute p → after_open (half p d l kept c) ≡ Ok next
     → (d < 64) × (next ≡ half (at.Head head.AttributeItem) (d + 1) l kept c)
-unfolding opened
+unfolding after_open
 attribute_deeper p d l kept c next e ok = went_deeper (at.Head head.AttributeItem) (half p d l kept c) next (sym (e.opens (half p d l kept c)) ∙ ok)
 
 -- the security levels of an attribute, and its end
@@ -119,7 +119,7 @@ named_word w k d l kept c next e ok = cc
 
 named_token : (token : text.Token) (d : ℕ) (l : List ℕ) (kept : Option Attribute) (c : CatalogueValue) (next : Reader) → after_token (half (at.AttributeOptions stage.Named) d l kept c) token ≡ Ok next
     → OptionNext token next (half_carried d l kept c) (half_ordered d l kept c)
-unfolding worded after_quoted
+unfolding after_word after_quoted
 named_token text.Open d l kept c next ok = Paren (inl tt)
 named_token text.Close d l kept c next ok = Paren (inr tt)
 named_token (text.Word w) d l kept c next ok = named_word w (keyword_of w) d l kept c next refl ok
@@ -130,7 +130,7 @@ named_token text.End d l kept c next ok = cc
 
 carried_token : (token : text.Token) (d : ℕ) (l : List ℕ) (kept : Option Attribute) (c : CatalogueValue) (next : Reader) → after_token (half (at.AttributeOptions stage.Carried) d l kept c) token ≡ Ok next
     → (Fits token LeftParen ⊎ Fits token RightParen) ⊎ ((o : Order) × Fits token (Means (word.Ordered o)) × (next ≡ half_ordered d l kept c o))
-unfolding worded after_quoted
+unfolding after_word after_quoted
 carried_token text.Open d l kept c next ok = inl (inl tt)
 carried_token text.Close d l kept c next ok = inl (inr tt)
 carried_token (text.Word w) d l kept c next ok = only_order w (keyword_of w) refl ok
@@ -146,7 +146,7 @@ carried_token text.End d l kept c next ok = cc
 
 ordered_token : (token : text.Token) (d : ℕ) (l : List ℕ) (kept : Option Attribute) (c : CatalogueValue) (next : Reader) → after_token (half (at.AttributeOptions stage.Ordered) d l kept c) token ≡ Ok next
     → (Fits token LeftParen ⊎ Fits token RightParen) ⊎ (Fits token AnyName × (next ≡ half at.AttributeEnd d l kept c))
-unfolding worded after_quoted
+unfolding after_word after_quoted
 ordered_token text.Open d l kept c next ok = inl (inl tt)
 ordered_token text.Close d l kept c next ok = inl (inr tt)
 ordered_token (text.Word w) d l kept c next ok = inr (tt, cc)
@@ -226,7 +226,7 @@ record AttributeRead (d : ℕ) (l : List ℕ) (c : CatalogueValue) (ts : List Le
   fit : levels_fit (d + 1) levels
   tail : Tail (λ ss. Named name ∷ options_then options (levels_then levels (RightParen ∷ ss))) ts (reader (at.Between lists.ObjectItems) d l (with_attribute l name (transport_of options) (order_of options) c)) final
 
-attribute_named : (n : List ℕ) (d : ℕ) (l : List ℕ) (c : CatalogueValue) (next : Reader) → named_at name.Attribute (reader (at.Name name.Attribute) d l c) n ≡ Ok next
+attribute_named : (n : List ℕ) (d : ℕ) (l : List ℕ) (c : CatalogueValue) (next : Reader) → after_name_at name.Attribute (reader (at.Name name.Attribute) d l c) n ≡ Ok next
     → AttributeFits l n c × (next ≡ half (at.AttributeOptions stage.Named) d l (kept_of l n c) c)
 attribute_named n d l c next ok =
     let k = kept_room (has_attribute_named c l n) (nat_le max_attributes (length c.attributes)) max_attributes (length c.attributes) (half (at.AttributeOptions stage.Named) d l None c)
@@ -278,7 +278,7 @@ data ObjectItemBegins (k : Keyword) (d : ℕ) (place : Place) : Type 0 where
   BeginsAttribute : (keyword : k ≡ word.Attribute) (there : place ≡ at.Name name.Attribute) → ObjectItemBegins k d place
   BeginsLevel : (keyword : k ≡ word.SecLevel) (there : place ≡ at.Ignored within.ObjectClass d) → ObjectItemBegins k d place
 
-object_item_begun : (k : Keyword) (d : ℕ) (place : Place) → begun head.ObjectItem d (Some k) ≡ Some place → ObjectItemBegins k d place
+object_item_begun : (k : Keyword) (d : ℕ) (place : Place) → place_behind_keyword head.ObjectItem d (Some k) ≡ Some place → ObjectItemBegins k d place
 object_item_begun word.Class d place h = BeginsClass refl cc
 object_item_begun word.Attribute d place h = BeginsAttribute refl cc
 object_item_begun word.SecLevel d place h = BeginsLevel refl cc
@@ -289,7 +289,7 @@ pub record ObjectBody (d : ℕ) (l : List ℕ) (c : CatalogueValue) (ts : List L
   pub items : ObjectItems
   pub fit : object_items_fit d l items c
   pub after : Reader
-  pub closing : closed (reader (at.Between lists.ObjectItems) d l (object_items_declare l items c)) ≡ Ok after
+  pub closing : after_close (reader (at.Between lists.ObjectItems) d l (object_items_declare l items c)) ≡ Ok after
   pub tail : Tail (λ ss. object_items_then items (RightParen ∷ ss)) ts after final
 
 pub object_body : (n : ℕ) (d : ℕ) (l : List ℕ) (c : CatalogueValue) (ts : List Lexed) (final : CatalogueValue) → length ts ≤ n → 0 < length l → reading (reader (at.Between lists.ObjectItems) d l c) ts ≡ Ok final → ObjectBody d l c ts final

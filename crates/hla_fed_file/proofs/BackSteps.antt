@@ -7,7 +7,7 @@ use Rattle.hla_fed_file.specs.Lexical.{Lexed, tokens}
 use Rattle.hla_fed_file.specs.Tokens.{is_end}
 use Rattle.hla_fed_file.specs.Keywords.{keyword_of}
 use Rattle.hla_fed_file.specs.CatalogueValue.{CatalogueValue}
-use Rattle.hla_fed_file.specs.Reading.{reading, after_token, opened, closed, worded, after_quoted, named, named_at, begun, deeper, place_behind, head_in, goes_to, is_done, goes, ending_of, Outcome, Step}
+use Rattle.hla_fed_file.specs.Reading.{reading, after_token, after_open, after_close, after_word, after_quoted, after_name, after_name_at, place_behind_keyword, with_paren_opened, place_behind, head_in, with_place, is_done, outcome_after, ending_of, Outcome, Step}
 use Rattle.hla_fed_file.specs.Grammar.{Symbol, LeftParen, RightParen, Means, Named, AnyName, Fits, Spells, Ignored, NoMore, AName, AList, ignored_then, IsShort, ignored_fit}
 use Rattle.hla_fed_file.specs.declared.fault.FedFaultKind.TheVariants as kind
 use Rattle.hla_fed_file.specs.declared.place.Keyword.{Keyword}
@@ -37,7 +37,7 @@ pub record Back (s : Reader) (t : Lexed) (ts : List Lexed) (final : CatalogueVal
   pub read : reading next ts ≡ Ok final
 
 went : (s : Reader) (t : Lexed) (ts : List Lexed) (final : CatalogueValue) (b : Bool) (r : Step) → is_end t.token ≡ b → after_token s t.token ≡ r → is_done s.place ≡ false
-    → cond b (ending_of t.line s) (goes t.line r (λ s'. reading s' ts)) ≡ Ok final → Back s t ts final
+    → cond b (ending_of t.line s) (outcome_after t.line r (λ s'. reading s' ts)) ≡ Ok final → Back s t ts final
 went s t ts final true r e h d ok = absurd (not_done (is_done s.place) d ok)
   where
     not_done : (b : Bool) → b ≡ false → cond {A = Outcome} b (Ok s.catalogue) (Err (record { line = t.line; kind = kind.UnexpectedEnd })) ≡ Ok final → ⊥
@@ -66,13 +66,13 @@ deepened : (b : Bool) (place : Place) (s next : Reader) → nat_le 64 s.depth �
 deepened true place s next e ok = cc
 deepened false place s next e ok = let less : s.depth < 64 = grind (arith, nat_tests) in (less, cc)
 
-pub went_deeper : (place : Place) (s next : Reader) → deeper place s ≡ Ok next → (s.depth < 64) × (next ≡ moved s place (s.depth + 1))
+pub went_deeper : (place : Place) (s next : Reader) → with_paren_opened place s ≡ Ok next → (s.depth < 64) × (next ≡ moved s place (s.depth + 1))
 went_deeper place s next ok = deepened (nat_le 64 s.depth) place s next refl ok
 
 -- where a list may begin or end
 pub between_token : (token : text.Token) (i : Lists) (d : ℕ) (l : List ℕ) (c : CatalogueValue) (next : Reader) → after_token (reader (at.Between i) d l c) token ≡ Ok next
-    → (Fits token LeftParen × (d < 64) × (next ≡ reader (at.Head (head_in i)) (d + 1) l c)) ⊎ (Fits token RightParen × (closed (reader (at.Between i) d l c) ≡ Ok next))
-unfolding opened worded after_quoted
+    → (Fits token LeftParen × (d < 64) × (next ≡ reader (at.Head (head_in i)) (d + 1) l c)) ⊎ (Fits token RightParen × (after_close (reader (at.Between i) d l c) ≡ Ok next))
+unfolding after_open after_word after_quoted
 between_token text.Open i d l c next ok = let p = went_deeper (at.Head (head_in i)) (reader (at.Between i) d l c) next ok in inl (tt, p.0, p.1)
 between_token text.Close i d l c next ok = inr (tt, ok)
 between_token (text.Word w) i d l c next ok = cc
@@ -86,10 +86,10 @@ pub record HeadRead (token : text.Token) (h : Head) (d : ℕ) (s next : Reader) 
   pub keyword : Keyword
   pub fits : Fits token (Means keyword)
   pub place : Place
-  pub begins : begun h d (Some keyword) ≡ Some place
+  pub begins : place_behind_keyword h d (Some keyword) ≡ Some place
   pub then : next ≡ moved s place d
 
-begun_none : (h : Head) (d : ℕ) → begun h d None ≡ None
+begun_none : (h : Head) (d : ℕ) → place_behind_keyword h d None ≡ None
 begun_none head.File d = refl
 begun_none head.Part d = refl
 begun_none head.ObjectClass d = refl
@@ -99,21 +99,21 @@ begun_none head.InteractionClass d = refl
 begun_none head.InteractionItem d = refl
 begun_none head.ParameterItem d = refl
 
-went_to : (o : Option Place) (s next : Reader) → goes_to o s ≡ Ok next → (place : Place) × (o ≡ Some place) × (next ≡ record s { place = place })
+went_to : (o : Option Place) (s next : Reader) → with_place o s ≡ Ok next → (place : Place) × (o ≡ Some place) × (next ≡ record s { place = place })
 went_to None s next ok = cc
 went_to (Some place) s next ok = (place, refl, cc)
 
-head_word : (w : List ℕ) (k : Option Keyword) (h : Head) (d : ℕ) (s next : Reader) → keyword_of w ≡ k → goes_to (begun h d k) (moved s (at.Head h) d) ≡ Ok next → HeadRead (text.Word w) h d s next
+head_word : (w : List ℕ) (k : Option Keyword) (h : Head) (d : ℕ) (s next : Reader) → keyword_of w ≡ k → with_place (place_behind_keyword h d k) (moved s (at.Head h) d) ≡ Ok next → HeadRead (text.Word w) h d s next
 head_word w None h d s next e ok =
-    let g = went_to (begun h d None) (moved s (at.Head h) d) next ok in
+    let g = went_to (place_behind_keyword h d None) (moved s (at.Head h) d) next ok in
     let bad : None ≡ Some g.0 = sym (begun_none h d) ∙ g.1 in
     absurd (let no : ⊥ = cc in no)
 head_word w (Some k) h d s next e ok =
-    let g = went_to (begun h d (Some k)) (moved s (at.Head h) d) next ok in
+    let g = went_to (place_behind_keyword h d (Some k)) (moved s (at.Head h) d) next ok in
     record { keyword = k; fits = e; place = g.0; begins = g.1; then = g.2 }
 
 pub head_token : (token : text.Token) (h : Head) (d : ℕ) (s next : Reader) → after_token (moved s (at.Head h) d) token ≡ Ok next → HeadRead token h d s next
-unfolding opened closed worded after_quoted
+unfolding after_open after_close after_word after_quoted
 head_token text.Open h d s next ok = cc
 head_token text.Close h d s next ok = cc
 head_token (text.Word w) h d s next ok = head_word w (keyword_of w) h d s next refl ok
@@ -126,10 +126,10 @@ head_token text.End h d s next ok = cc
 pub record NameRead (token : text.Token) (what : Naming) (s next : Reader) : Type 0 where
   pub name : List ℕ
   pub fits : Fits token (Named name)
-  pub named : named what s name ≡ Ok next
+  pub named : after_name what s name ≡ Ok next
 
 pub name_token : (token : text.Token) (what : Naming) (d : ℕ) (l : List ℕ) (c : CatalogueValue) (next : Reader) → after_token (reader (at.Name what) d l c) token ≡ Ok next → NameRead token what (reader (at.Name what) d l c) next
-unfolding opened closed worded after_quoted
+unfolding after_open after_close after_word after_quoted
 name_token text.Open what d l c next ok = cc
 name_token text.Close what d l c next ok = cc
 name_token (text.Word w) what d l c next ok = record { name = w; fits = refl; named = ok }
@@ -143,9 +143,9 @@ shortened true b n x next h g ok = cc
 shortened false true n x next h g ok = cc
 shortened false false n x next h g ok = let some : 0 < length n = grind (arith, nat_tests) in let few : length n ≤ max_name = grind (arith, nat_tests) in ((some, few), ok)
 
-pub was_named : (what : Naming) (s next : Reader) (n : List ℕ) → named what s n ≡ Ok next → IsShort n × (named_at what s n ≡ Ok next)
-unfolding named
-was_named what s next n ok = shortened (length n == 0) (nat_lt max_name (length n)) n (named_at what s n) next refl refl ok
+pub was_named : (what : Naming) (s next : Reader) (n : List ℕ) → after_name what s n ≡ Ok next → IsShort n × (after_name_at what s n ≡ Ok next)
+unfolding after_name
+was_named what s next n ok = shortened (length n == 0) (nat_lt max_name (length n)) n (after_name_at what s n) next refl refl ok
 
 -- a limit was kept
 pub kept_limit : (b : Bool) (m n : ℕ) (s next : Reader) → nat_le m n ≡ b → cond {A = Step} b (Err kind.TooLarge) (Ok s) ≡ Ok next → (n < m) × (next ≡ s)
@@ -159,8 +159,8 @@ kept_room false false m n x y next h ok = let less : n < m = grind (arith, nat_t
 
 -- Ignored lists.
 ignored_token : (token : text.Token) (s : Reader) (w : Within) (base d : ℕ) (next : Reader) → after_token (ignoring s w base d) token ≡ Ok next
-    → ((Fits token LeftParen × (d < 64) × (next ≡ ignoring s w base (d + 1))) ⊎ (Fits token AnyName × (next ≡ ignoring s w base d))) ⊎ (Fits token RightParen × (closed (ignoring s w base d) ≡ Ok next))
-unfolding opened worded after_quoted
+    → ((Fits token LeftParen × (d < 64) × (next ≡ ignoring s w base (d + 1))) ⊎ (Fits token AnyName × (next ≡ ignoring s w base d))) ⊎ (Fits token RightParen × (after_close (ignoring s w base d) ≡ Ok next))
+unfolding after_open after_word after_quoted
 ignored_token text.Open s w base d next ok = let p = went_deeper (at.Ignored w base) (ignoring s w base d) next ok in inl (inl (tt, p.0, p.1))
 ignored_token text.Close s w base d next ok = inr (tt, ok)
 ignored_token (text.Word n) s w base d next ok = inl (inr (tt, cc))
@@ -173,7 +173,7 @@ record IgnoredRead (s : Reader) (w : Within) (base d : ℕ) (ts : List Lexed) (f
   ignored : Ignored
   fit : ignored_fit d ignored
   after : Reader
-  closing : closed (ignoring s w base d) ≡ Ok after
+  closing : after_close (ignoring s w base d) ≡ Ok after
   tail : Tail (λ ss. ignored_then ignored (RightParen ∷ ss)) ts after final
 
 ignored_back : (n : ℕ) (s : Reader) (w : Within) (base d : ℕ) (ts : List Lexed) (final : CatalogueValue) → length ts ≤ n → base ≤ d → reading (ignoring s w base d) ts ≡ Ok final → IgnoredRead s w base d ts final
@@ -220,10 +220,10 @@ list_back s w d ts final h =
     record { ignored = a.ignored; fit = a.fit; tail = record { rest = a.tail.rest; fewer = a.tail.fewer; spelled = a.tail.spelled; read = at_next _ _ a.tail.rest final behind a.tail.read } }
 
 -- the keyword of a list of security levels, in an attribute and in a parameter
-pub level_begun : (k : Keyword) (d : ℕ) (place : Place) → begun head.AttributeItem d (Some k) ≡ Some place → (k ≡ word.SecLevel) × (place ≡ at.Ignored within.Attribute d)
+pub level_begun : (k : Keyword) (d : ℕ) (place : Place) → place_behind_keyword head.AttributeItem d (Some k) ≡ Some place → (k ≡ word.SecLevel) × (place ≡ at.Ignored within.Attribute d)
 level_begun word.SecLevel d place h = (refl, cc)
 level_begun k d place h = cc
 
-pub parameter_level_begun : (k : Keyword) (d : ℕ) (place : Place) → begun head.ParameterItem d (Some k) ≡ Some place → (k ≡ word.SecLevel) × (place ≡ at.Ignored within.Parameter d)
+pub parameter_level_begun : (k : Keyword) (d : ℕ) (place : Place) → place_behind_keyword head.ParameterItem d (Some k) ≡ Some place → (k ≡ word.SecLevel) × (place ≡ at.Ignored within.Parameter d)
 parameter_level_begun word.SecLevel d place h = (refl, cc)
 parameter_level_begun k d place h = cc

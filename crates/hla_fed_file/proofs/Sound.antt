@@ -7,7 +7,7 @@ use Rattle.hla_fed_file.specs.Lexical.{Lexed, tokens}
 use Rattle.hla_fed_file.specs.Tokens.{is_end}
 use Rattle.hla_fed_file.specs.CatalogueValue.{CatalogueValue, empty_catalogue}
 use Rattle.hla_fed_file.specs.Declaring.{with_object_class, with_interaction_class}
-use Rattle.hla_fed_file.specs.Reading.{reading, after_token, opened, closed, worded, after_quoted, named_at, begun, goes, Outcome, start, read_of, Step}
+use Rattle.hla_fed_file.specs.Reading.{reading, after_token, after_open, after_close, after_word, after_quoted, after_name_at, place_behind_keyword, outcome_after, Outcome, start, reading_of, Step}
 use Rattle.hla_fed_file.specs.Grammar.{LeftParen, RightParen, Means, Named, TheEnd, Fits, Spells, ObjectClasses, NoClass, TopClass, InteractionClasses, NoTop, ATop, Parts, NoPart, ALabel, AnIgnored, Objects, Interactions, object_classes_then, interaction_classes_then, parts_then, file_of, transport_of, order_of, object_items_declare, interaction_items_declare, object_classes_declare, interaction_classes_declare, parts_declare, IsShort, object_classes_fit, interaction_classes_fit, parts_fit, Describes}
 use Rattle.hla_fed_file.specs.declared.fault.FedFaultKind.TheVariants as kind
 use Rattle.hla_fed_file.specs.declared.place.Keyword.{Keyword}
@@ -25,11 +25,11 @@ use Rattle.hla_fed_file.proofs.BackObjects.{class_back, object_body}
 use Rattle.hla_fed_file.proofs.BackInteractions.{interaction_body, subclass_back}
 
 -- Lists of classes.
-object_class_begun : (k : Keyword) (d : ℕ) (place : Place) → begun head.ObjectClass d (Some k) ≡ Some place → (k ≡ word.Class) × (place ≡ at.Name name.ObjectClass)
+object_class_begun : (k : Keyword) (d : ℕ) (place : Place) → place_behind_keyword head.ObjectClass d (Some k) ≡ Some place → (k ≡ word.Class) × (place ≡ at.Name name.ObjectClass)
 object_class_begun word.Class d place h = (refl, cc)
 object_class_begun k d place h = cc
 
-interaction_class_begun : (k : Keyword) (d : ℕ) (place : Place) → begun head.InteractionClass d (Some k) ≡ Some place → (k ≡ word.Class) × (place ≡ at.Name name.InteractionClass)
+interaction_class_begun : (k : Keyword) (d : ℕ) (place : Place) → place_behind_keyword head.InteractionClass d (Some k) ≡ Some place → (k ≡ word.Class) × (place ≡ at.Name name.InteractionClass)
 interaction_class_begun word.Class d place h = (refl, cc)
 interaction_class_begun k d place h = cc
 
@@ -38,12 +38,12 @@ record ObjectClassesRead (c : CatalogueValue) (ts : List Lexed) (final : Catalog
   fit : object_classes_fit classes c
   tail : Tail (λ ss. object_classes_then classes (RightParen ∷ ss)) ts (reader (at.Between lists.Parts) 1 [] (object_classes_declare classes c)) final
 
-classes_close : (c : CatalogueValue) → closed (reader (at.Between lists.ObjectClasses) 2 [] c) ≡ Ok (reader (at.Between lists.Parts) 1 [] c)
-unfolding closed
+classes_close : (c : CatalogueValue) → after_close (reader (at.Between lists.ObjectClasses) 2 [] c) ≡ Ok (reader (at.Between lists.Parts) 1 [] c)
+unfolding after_close
 classes_close c = refl
 
-top_closes : (n : ℕ) (c : CatalogueValue) → closed (reader (at.Between lists.ObjectItems) 3 (n ∷ []) c) ≡ Ok (reader (at.Between lists.ObjectClasses) 2 [] c)
-unfolding closed
+top_closes : (n : ℕ) (c : CatalogueValue) → after_close (reader (at.Between lists.ObjectItems) 3 (n ∷ []) c) ≡ Ok (reader (at.Between lists.ObjectClasses) 2 [] c)
+unfolding after_close
 top_closes n c = refl
 
 object_classes_back : (n : ℕ) (c : CatalogueValue) (ts : List Lexed) (final : CatalogueValue) → length ts ≤ n → reading (reader (at.Between lists.ObjectClasses) 2 [] c) ts ≡ Ok final → ObjectClassesRead c ts final
@@ -92,12 +92,12 @@ record InteractionClassesRead (c : CatalogueValue) (ts : List Lexed) (final : Ca
   fit : interaction_classes_fit classes c
   tail : Tail (λ ss. interaction_classes_then classes (RightParen ∷ ss)) ts (reader (at.Between lists.Parts) 1 [] (interaction_classes_declare classes c)) final
 
-interactions_close : (c : CatalogueValue) → closed (reader (at.Between lists.InteractionClasses) 2 [] c) ≡ Ok (reader (at.Between lists.Parts) 1 [] c)
-unfolding closed
+interactions_close : (c : CatalogueValue) → after_close (reader (at.Between lists.InteractionClasses) 2 [] c) ≡ Ok (reader (at.Between lists.Parts) 1 [] c)
+unfolding after_close
 interactions_close c = refl
 
-top_interaction_closes : (n : ℕ) (c : CatalogueValue) → closed (reader (at.Between lists.InteractionItems) 3 (n ∷ []) c) ≡ Ok (reader (at.Between lists.InteractionClasses) 2 [] c)
-unfolding closed
+top_interaction_closes : (n : ℕ) (c : CatalogueValue) → after_close (reader (at.Between lists.InteractionItems) 3 (n ∷ []) c) ≡ Ok (reader (at.Between lists.InteractionClasses) 2 [] c)
+unfolding after_close
 top_interaction_closes n c = refl
 
 interaction_classes_back : (n : ℕ) (c : CatalogueValue) (ts : List Lexed) (final : CatalogueValue) → length ts ≤ n → reading (reader (at.Between lists.InteractionClasses) 2 [] c) ts ≡ Ok final → InteractionClassesRead c ts final
@@ -143,7 +143,7 @@ interaction_classes_back (suc n) c (t ∷ k ∷ ts) final few h =
 
 -- Parts and files.
 label_token : (token : text.Token) (c : CatalogueValue) (next : Reader) → after_token (reader at.LabelEnd 2 [] c) token ≡ Ok next → Fits token RightParen × (next ≡ reader (at.Between lists.Parts) 1 [] c)
-unfolding opened closed worded after_quoted
+unfolding after_open after_close after_word after_quoted
 label_token text.Open c next ok = cc
 label_token text.Close c next ok = (tt, cc)
 label_token (text.Word w) c next ok = cc
@@ -157,7 +157,7 @@ record LabelRead (c : CatalogueValue) (ts : List Lexed) (final : CatalogueValue)
   short : IsShort name
   tail : Tail (λ ss. Named name ∷ RightParen ∷ ss) ts (reader (at.Between lists.Parts) 1 [] c) final
 
-label_named : (n : List ℕ) (c : CatalogueValue) (next : Reader) → named_at name.Label (reader (at.Name name.Label) 2 [] c) n ≡ Ok next → next ≡ reader at.LabelEnd 2 [] c
+label_named : (n : List ℕ) (c : CatalogueValue) (next : Reader) → after_name_at name.Label (reader (at.Name name.Label) 2 [] c) n ≡ Ok next → next ≡ reader at.LabelEnd 2 [] c
 label_named n c next ok = cc
 
 label_back : (c : CatalogueValue) (ts : List Lexed) (final : CatalogueValue) → reading (reader (at.Name name.Label) 2 [] c) ts ≡ Ok final → LabelRead c ts final
@@ -181,7 +181,7 @@ data PartBegins (k : Keyword) (d : ℕ) (place : Place) : Type 0 where
   BeginsObjects : (keyword : k ≡ word.Objects) (there : place ≡ at.Between lists.ObjectClasses) → PartBegins k d place
   BeginsInteractions : (keyword : k ≡ word.Interactions) (there : place ≡ at.Between lists.InteractionClasses) → PartBegins k d place
 
-part_begun : (k : Keyword) (d : ℕ) (place : Place) → begun head.Part d (Some k) ≡ Some place → PartBegins k d place
+part_begun : (k : Keyword) (d : ℕ) (place : Place) → place_behind_keyword head.Part d (Some k) ≡ Some place → PartBegins k d place
 part_begun word.Label d place h = BeginsLabel refl cc
 part_begun word.Ignored d place h = BeginsIgnored refl cc
 part_begun word.Objects d place h = BeginsObjects refl cc
@@ -193,8 +193,8 @@ record PartsRead (c : CatalogueValue) (ts : List Lexed) (final : CatalogueValue)
   fit : parts_fit parts c
   tail : Tail (λ ss. parts_then parts (RightParen ∷ ss)) ts (reader at.Done 0 [] (parts_declare parts c)) final
 
-file_closes : (c : CatalogueValue) → closed (reader (at.Between lists.Parts) 1 [] c) ≡ Ok (reader at.Done 0 [] c)
-unfolding closed
+file_closes : (c : CatalogueValue) → after_close (reader (at.Between lists.Parts) 1 [] c) ≡ Ok (reader at.Done 0 [] c)
+unfolding after_close
 file_closes c = refl
 
 parts_back : (n : ℕ) (c : CatalogueValue) (ts : List Lexed) (final : CatalogueValue) → length ts ≤ n → reading (reader (at.Between lists.Parts) 1 [] c) ts ≡ Ok final → PartsRead c ts final
@@ -268,7 +268,7 @@ parts_back (suc n) c (t ∷ k ∷ ts) final few h =
     ]
 
 start_token : (token : text.Token) (next : Reader) → after_token start token ≡ Ok next → Fits token LeftParen × (next ≡ reader (at.Head head.File) 1 [] empty_catalogue)
-unfolding opened closed worded after_quoted
+unfolding after_open after_close after_word after_quoted
 start_token text.Open next ok = (tt, cc)
 start_token text.Close next ok = cc
 start_token (text.Word w) next ok = cc
@@ -277,12 +277,12 @@ start_token text.Bad next ok = cc
 start_token text.Unclosed next ok = cc
 start_token text.End next ok = cc
 
-file_begun : (k : Keyword) (d : ℕ) (place : Place) → begun head.File d (Some k) ≡ Some place → (k ≡ word.Fed) × (place ≡ at.Between lists.Parts)
+file_begun : (k : Keyword) (d : ℕ) (place : Place) → place_behind_keyword head.File d (Some k) ≡ Some place → (k ≡ word.Fed) × (place ≡ at.Between lists.Parts)
 file_begun word.Fed d place h = (refl, cc)
 file_begun k d place h = cc
 
 done_token : (token : text.Token) (c : CatalogueValue) (next : Reader) → after_token (reader at.Done 0 [] c) token ≡ Ok next → ⊥
-unfolding opened closed worded after_quoted
+unfolding after_open after_close after_word after_quoted
 done_token text.Open c next ok = cc
 done_token text.Close c next ok = cc
 done_token (text.Word w) c next ok = cc
@@ -297,7 +297,7 @@ done_back c [] final h = cc
 done_back c (t ∷ ts) final h = at_end t.token t.line (after_token (reader at.Done 0 [] c) t.token) refl h
   where
     at_end : (token : text.Token) (line : ℕ) (r : Step) → after_token (reader at.Done 0 [] c) token ≡ r
-        → cond (is_end token) (Ok c) (goes line r (λ s'. reading s' ts)) ≡ Ok final → Fits token TheEnd × (c ≡ final)
+        → cond (is_end token) (Ok c) (outcome_after line r (λ s'. reading s' ts)) ≡ Ok final → Fits token TheEnd × (c ≡ final)
     at_end text.End line r e h = (tt, cc)
     at_end token line (Ok s') e h = absurd (done_token token c s' e)
     at_end token line (Err k) e h = cc
@@ -324,8 +324,8 @@ short_text bytes true r c h ok = cc
 short_text bytes false r c h ok = let few : length bytes ≤ max_fed_file = grind (arith, nat_tests) in (few, ok)
 
 -- what is read is what the grammar relates to the text
-pub read_described : (text : List ℕ) (c : CatalogueValue) → read_of text ≡ Ok c → Describes text c
-unfolding read_of
+pub read_described : (text : List ℕ) (c : CatalogueValue) → reading_of text ≡ Ok c → Describes text c
+unfolding reading_of
 read_described text c ok =
     let s = short_text text (nat_lt max_fed_file (length text)) (reading start (tokens text)) c refl ok in
     let f = file_back (tokens text) c s.1 in

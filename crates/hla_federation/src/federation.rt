@@ -52,7 +52,7 @@ impl Federation {
 
     /// What each federation keeps, for a caller's own proofs: its lists are whole, the components' invariant holds of the
     /// state that they stand for, and a list of steps leads to that state from a new execution. It does nothing.
-    pub fn keeps(&self)
+    pub fn soundness(&self)
         ensures { IsSound self.now }
     {
         let _parts = &self.parts;

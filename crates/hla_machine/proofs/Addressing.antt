@@ -14,7 +14,7 @@ use Rattle.hla_machine.specs.declared.step.Answer.{Answer}
 use Rattle.hla_machine.specs.declared.step.Outcome.{Outcome}
 use Rattle.hla_machine.specs.declared.step.Outcome.TheVariants as outcome
 use Rattle.hla_machine.specs.declared.step.Choice.{Choice}
-use Rattle.hla_machine.specs.Directory.{Directory, Outgoing, receives, content_for, objects_of, update_sent, interaction_sent, deletion_sent, deletions_sent}
+use Rattle.hla_machine.specs.Directory.{Directory, Outgoing, is_receiver, content_for, objects_of, update_sent, interaction_sent, deletion_sent, deletions_sent}
 use Rattle.hla_machine.specs.Central.{Central, Copy, with_copies, is_key}
 use Rattle.hla_machine.specs.Sends.{copy_for, after_message, after_messages}
 use Rattle.hla_machine.specs.CentralInvariant.{CentralInv}
@@ -100,12 +100,12 @@ left_sent d b f m [] are = tt
 left_sent d b f m (out ∷ outs) are = (
   record {
     receivers = λ g r. let w = are.0.receivers g r in (w.0, upd_other (b.bag f m) f None g (differs g r) ∙ w.1, w.2);
-    others = by_number f (λ g. receives d f out.body g ≡ false → upd (b.bag f m) f None g ≡ None) (λ _. upd_same (b.bag f m) f None) (λ g ne r. upd_other (b.bag f m) f None g ne ∙ are.0.others g r);
+    others = by_number f (λ g. is_receiver d f out.body g ≡ false → upd (b.bag f m) f None g ≡ None) (λ _. upd_same (b.bag f m) f None) (λ g ne r. upd_other (b.bag f m) f None g ne ∙ are.0.others g r);
   },
   left_sent d b f (m + 1) outs are.1,
 )
   where
-    differs : (g : ℕ) → receives d f out.body g ≡ true → f ≡ g → ⊥
+    differs : (g : ℕ) → is_receiver d f out.body g ≡ true → f ≡ g → ⊥
     differs g r same = let p = and_parts _ _ r in own d.joined f g p.0 same
 
 call_sent : (c : Central) (f : ℕ) (s : Service) (o : Choice) → CentralInv c → AreSentTo c.directory (after_call c f s o).bag f (c.serial f) (messages_of c.directory f s)

@@ -7,7 +7,7 @@ use Rattle.hla_base.specs.declared.content.Content.TheVariants as content
 use Rattle.hla_base.specs.declared.row.AdvanceRequest.{AdvanceRequest}
 use Rattle.hla_base.specs.declared.row.TimeRow.{TimeRow}
 use Rattle.hla_base.specs.Tables.{or_else}
-use Rattle.hla_base.specs.Rows.{is_next, is_flush, is_constrained, is_pending, new_row, regulating_from, regulates, row_after_grant, first_or}
+use Rattle.hla_base.specs.Rows.{is_next, is_flush, is_constrained, is_pending, new_row, row_with_entry, row_after_regulation_enabled, row_after_grant, first_or}
 use Rattle.hla_callbacks.specs.declared.callback.Callback.{Callback}
 use Rattle.hla_callbacks.specs.declared.callback.Callback.TheVariants as callback
 use Rattle.hla_callbacks.specs.declared.callback.Delivery.{Delivery}
@@ -130,9 +130,9 @@ module _ (c : Central) (k : IsKept c) (f : ℕ) (t : Timely (c.row f)) where
     first = λ q p e i. absurd (cc);
     late = λ p. absurd (cc);
   })
-  timely_turn r m (Entered lookahead e idle low is) = subst Timely (sym is) (timely_idle (regulating_from (c.row f) lookahead e) idle
+  timely_turn r m (Entered lookahead e idle low is) = subst Timely (sym is) (timely_idle (row_with_entry (c.row f) lookahead e) idle
       (λ _. cond_both (is_constrained (c.row f)) (c.row f).time (e - lookahead) (λ x. (c.row f).time ≤ x) (λ _. omega arith) (λ _. omega arith)))
-  timely_turn r m (Regulated was is) = subst Timely (sym is) (timely_idle (regulates (c.row f)) ((k.rows f).idle was) (λ p. absurd (cc)))
+  timely_turn r m (Regulated was is) = subst Timely (sym is) (timely_idle (row_after_regulation_enabled (c.row f)) ((k.rows f).idle was) (λ p. absurd (cc)))
   timely_turn r m (Rested idle rests same_time same_role same_regulation) = timely_idle r rests (λ p. let l = t.late (rw (← same_role) p) in omega (arith, same_time, same_regulation))
   timely_turn r m (Picked q e s x asks con copy may is) = subst Timely (sym is) (record {
     asked = t.asked;

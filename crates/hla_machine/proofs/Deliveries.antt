@@ -29,7 +29,7 @@ use Rattle.hla_machine.specs.declared.step.Outcome.TheVariants as outcome
 use Rattle.hla_machine.specs.declared.step.Choice.{Choice}
 use Rattle.hla_machine.specs.declared.step.Choice.TheVariants as choice
 use Rattle.hla_machine.specs.Directory.{Outgoing, deletion_sent, deletions_sent, objects_of, update_sent, interaction_sent}
-use Rattle.hla_machine.specs.Central.{Central, new_central, Copy, Ro, at_key, demoted}
+use Rattle.hla_machine.specs.Central.{Central, new_central, Copy, Ro, at_key, demoted_copy}
 use Rattle.hla_machine.specs.Callbacks.{IsCopy, IsFirstRo, IsDiscovered, MayDeliver, MayPickUp, with_demoted, after_delivery, after_constraint, after_pick}
 use Rattle.hla_machine.specs.CentralInvariant.{CentralInv}
 use Rattle.hla_machine.specs.Sends.{copy_for, after_message, after_messages}
@@ -113,8 +113,8 @@ call_brings c f (service.EnableTimeRegulation time lookahead) o = enter_brings c
 call_brings c f service.DisableTimeConstrained o = cease_brings c f o
 call_brings c f s o = same_bag c _ refl refl
 
-arrival_thin : (c : Central) (g f m : ℕ) → IsThinner (cond (is_disabled (c.row f).constrained) (at_key c.bag g m f (option_map demoted (c.bag g m f))) c.bag) c.bag
-arrival_thin c g f m = cond_both (is_disabled (c.row f).constrained) (at_key c.bag g m f (option_map demoted (c.bag g m f))) c.bag (λ b. IsThinner b c.bag) (λ _. thin_demoted c.bag g m f) (λ _. thin_same c.bag)
+arrival_thin : (c : Central) (g f m : ℕ) → IsThinner (cond (is_disabled (c.row f).constrained) (at_key c.bag g m f (option_map demoted_copy (c.bag g m f))) c.bag) c.bag
+arrival_thin c g f m = cond_both (is_disabled (c.row f).constrained) (at_key c.bag g m f (option_map demoted_copy (c.bag g m f))) c.bag (λ b. IsThinner b c.bag) (λ _. thin_demoted c.bag g m f) (λ _. thin_same c.bag)
 
 carry_brings : (c : Central) (g f : ℕ) (x : Carried) → Brought c (after_carry c g f x)
 carry_brings c g f (carried.Event e) = calm c _ refl (arrival_thin c g f e.serial)

@@ -7,7 +7,7 @@ use Rattle.hla_base.specs.declared.row.AdvanceRequest.{AdvanceRequest}
 use Rattle.hla_base.specs.declared.row.Role.TheVariants.{Disabled, Pending}
 use Rattle.hla_base.specs.declared.row.TimeRow.{TimeRow}
 use Rattle.hla_base.specs.Tables.{when, or_else}
-use Rattle.hla_base.specs.Rows.{is_strict, is_next, is_flush, is_regulator, is_constrained, is_pending, next_request, keep_if, width, new_row, least_stamp, least_stamp_in, row_after_request, regulating_from, regulates, constrains, row_after_pick, row_after_grant, bar_after, first_or}
+use Rattle.hla_base.specs.Rows.{is_strict, is_next, is_flush, is_regulator, is_constrained, is_pending, next_request, keep_if, width, new_row, least_stamp, least_stamp_in, row_after_request, row_with_entry, row_after_regulation_enabled, row_after_constraint_enabled, row_after_pick, row_after_grant, bar_after, first_or}
 use Rattle.hla_machine.specs.Central.{BelowWake, BelowRequest, BelowOut, reach}
 
 -- up to where the picks of an advance may have raised the bar of a regulator
@@ -201,7 +201,7 @@ law_lookahead r lookahead law idle = record {
 }
 
 -- enabling regulation from the entry e on
-pub law_entered : (r : TimeRow) (lookahead e : ℕ) → RowLaw r → r.advance ≡ None → r.time ≤ e → (is_constrained r ≡ true → r.bar ≤ e) → RowLaw (regulating_from r lookahead e)
+pub law_entered : (r : TimeRow) (lookahead e : ℕ) → RowLaw r → r.advance ≡ None → r.time ≤ e → (is_constrained r ≡ true → r.bar ≤ e) → RowLaw (row_with_entry r lookahead e)
 law_entered r lookahead e law idle late above = record {
   idle = λ _. idle;
   resting = λ _. idle;
@@ -214,7 +214,7 @@ law_entered r lookahead e law idle late above = record {
   covers = λ c _. le_trans (above c) (covered_floor e lookahead r.advance r.first_pick);
 }
 
-pub law_regulates : (r : TimeRow) → RowLaw r → is_pending r.regulating ≡ true → is_regulator r ≡ true → RowLaw (regulates r)
+pub law_regulates : (r : TimeRow) → RowLaw r → is_pending r.regulating ≡ true → is_regulator r ≡ true → RowLaw (row_after_regulation_enabled r)
 law_regulates r law was g = record {
   idle = λ e. absurd (cc);
   resting = law.resting;
@@ -227,7 +227,7 @@ law_regulates r law was g = record {
   covers = λ c _. law.covers c g;
 }
 
-pub law_constrains : (r : TimeRow) → RowLaw r → is_pending r.constrained ≡ true → is_pending r.regulating ≡ false → RowLaw (constrains r)
+pub law_constrains : (r : TimeRow) → RowLaw r → is_pending r.constrained ≡ true → is_pending r.regulating ≡ false → RowLaw (row_after_constraint_enabled r)
 law_constrains r law was free = record {
   idle = law.idle;
   resting = λ e. absurd (cc);

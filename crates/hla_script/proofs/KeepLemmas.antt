@@ -24,8 +24,8 @@ use Rattle.hla_federation.specs.Steps.Memory.{IsRefusedWith}
 use Rattle.hla_federation.specs.Steps.State.{state_of, IsBuilt}
 use Rattle.hla_script.specs.declared.members.Member.{Member}
 use Rattle.hla_components.specs.Executions.{Federations, no_federations, central_executions, with_created, with_destroyed, ending_unless, next_act, after_record, step_in, IsNext, AreNext}
-use Rattle.hla_script.specs.Keeping.{components_of, DoesNext, IsStepped, Standing, Holds, left_after, IsDestroyed, Leads, IsActed, IsKept}
-use Rattle.hla_script.specs.Playing.{created_with}
+use Rattle.hla_script.specs.Keeping.{components_of, DoesNext, IsStepped, Standing, Holds, execution_after_destroy, IsDestroyed, Leads, IsActed, IsKept}
+use Rattle.hla_script.specs.Playing.{created_catalogue}
 use Rattle.hla_script.specs.Members.{members_from, member_after}
 use Rattle.hla_script.proofs.ChoiceLemmas.{built_choice}
 
@@ -62,11 +62,11 @@ creates c n new few e = record {
 }
 
 pub creation_acts : (c : CatalogueValue) (n m : ℕ) (old : Option Components) (ms after : List Member) (new : Components) (r : Record) → n < max_creates → m ≡ n + 1 → old ≡ None → new ≡ new_components c → r ≡ creation c → after ≡ []
-    → IsActed (act.Create (created_with c r.outcome)) (record { creates = n; here = old }) ms r (record { creates = m; here = Some new }) after
+    → IsActed (act.Create (created_catalogue c r.outcome)) (record { creates = n; here = old }) ms r (record { creates = m; here = Some new }) after
 creation_acts c n m old ms after new r few next none is_new same cleared =
     let main : IsActed (act.Create (Some c)) (record { creates = n; here = None }) ms (creation c) (record { creates = n + 1; here = Some new }) [] =
     record { same = refl; remembered = λ e. cc; members = refl; leads = creates c n new few is_new } in
-    subst (λ (x : Record). IsActed (act.Create (created_with c x.outcome)) (record { creates = n; here = old }) ms x (record { creates = m; here = Some new }) after) (sym same) (rw (none, cleared, next) main)
+    subst (λ (x : Record). IsActed (act.Create (created_catalogue c x.outcome)) (record { creates = n; here = old }) ms x (record { creates = m; here = Some new }) after) (sym same) (rw (none, cleared, next) main)
 
 -- the record of a create past the limit
 abbrev pub excess : CatalogueValue → Record
@@ -84,11 +84,11 @@ exceeds c n many = record {
 }
 
 pub excess_acts : (c : CatalogueValue) (n : ℕ) (old : Option Components) (ms : List Member) (r : Record) → max_creates ≤ n → old ≡ None → r ≡ excess c
-    → IsActed (act.Create (created_with c r.outcome)) (record { creates = n; here = old }) ms r (record { creates = n; here = old }) ms
+    → IsActed (act.Create (created_catalogue c r.outcome)) (record { creates = n; here = old }) ms r (record { creates = n; here = old }) ms
 excess_acts c n old ms r many none same =
     let main : IsActed (act.Create (Some c)) (record { creates = n; here = None }) ms (excess c) (record { creates = n; here = None }) ms =
     record { same = refl; remembered = λ e. cc; members = refl; leads = exceeds c n many } in
-    subst (λ (x : Record). IsActed (act.Create (created_with c x.outcome)) (record { creates = n; here = old }) ms x (record { creates = n; here = old }) ms) (sym same) (rw none main)
+    subst (λ (x : Record). IsActed (act.Create (created_catalogue c x.outcome)) (record { creates = n; here = old }) ms x (record { creates = n; here = old }) ms) (sym same) (rw none main)
 
 -- the record of a create of an execution that is there
 abbrev pub repetition : Record
@@ -98,7 +98,7 @@ repeats : (n : ℕ) (s : Components) (x : Federations) → Holds x (record { cre
 repeats n s x h = rw h.execution refl
 
 pub repetition_acts : (c : CatalogueValue) (n : ℕ) (f : Option FederationValue) (ms : List Member) (r : Record) → is_some f ≡ true → r ≡ repetition
-    → IsActed (act.Create (created_with c r.outcome)) (record { creates = n; here = option_map components_of f }) ms r (record { creates = n; here = option_map components_of f }) ms
+    → IsActed (act.Create (created_catalogue c r.outcome)) (record { creates = n; here = option_map components_of f }) ms r (record { creates = n; here = option_map components_of f }) ms
 repetition_acts c n None ms r there same = cc
 repetition_acts c n (Some f) ms r there same =
     let s = components_of f in
@@ -108,7 +108,7 @@ repetition_acts c n (Some f) ms r there same =
     } in
     let main : IsActed (act.Create None) (record { creates = n; here = Some s }) ms repetition (record { creates = n; here = Some s }) ms =
     record { same = refl; remembered = λ e. cc; members = refl; leads = leads } in
-    subst (λ (x : Record). IsActed (act.Create (created_with c x.outcome)) (record { creates = n; here = Some s }) ms x (record { creates = n; here = Some s }) ms) (sym same) main
+    subst (λ (x : Record). IsActed (act.Create (created_catalogue c x.outcome)) (record { creates = n; here = Some s }) ms x (record { creates = n; here = Some s }) ms) (sym same) main
 
 -- ---- destroying
 not_memory : (old : Option Components) (out : Outcome) → EndsAs (destroy_fault (option_map central old)) out → out ≡ outcome.Refused fault.OutOfMemory → ⊥
@@ -127,7 +127,7 @@ ends_outcome None out x y ends = ends
 ends_outcome (Some e) out x y ends = ends
 
 destroyed_holds : (n : ℕ) (old : Option Components) (f : Option Fault) (out : Outcome) (x : Federations) → EndsAs f out → Holds x (record { creates = n; here = old })
-    → Holds (ending_unless f x (with_destroyed x (codes "play"))).executions (record { creates = n; here = left_after old out })
+    → Holds (ending_unless f x (with_destroyed x (codes "play"))).executions (record { creates = n; here = execution_after_destroy old out })
 destroyed_holds n None None out x ends h = rw ends (record { creates = h.creates; present = omega (arith, h.present); execution = refl })
 destroyed_holds n (Some c) None out x ends h = rw ends (record { creates = h.creates; present = omega (arith, h.present); execution = refl })
 destroyed_holds n old (Some e) out x ends h = rw ends h
@@ -137,7 +137,7 @@ pub destroys : (n : ℕ) (old new : Option Components) (ms : List Member) (out :
 destroys n old new ms out r is same =
     let ends : (x : Federations) → Holds x (record { creates = n; here = old }) → EndsAs (destroy_fault (option_map central (x.execution (codes "play")))) out =
     λ x h. subst (λ (here : Option Components). EndsAs (destroy_fault (option_map central here)) out) (sym h.execution) is.ends in
-    let main : IsActed act.Destroy (record { creates = n; here = old }) ms (destruction out) (record { creates = n; here = left_after old out }) ms =
+    let main : IsActed act.Destroy (record { creates = n; here = old }) ms (destruction out) (record { creates = n; here = execution_after_destroy old out }) ms =
     record {
       same = refl;
       remembered = not_memory old out is.ends;

@@ -28,13 +28,13 @@ use Rattle.hla_script.specs.Requests.{request_of}
 
 -- ---- the record of a line
 -- a create that is accepted holds the catalogue; so does one past the limit, which is tested behind the FED file
-abbrev pub created_with : CatalogueValue → Outcome → Option CatalogueValue
-created_with c (outcome.Done a) = Some c
-created_with c (outcome.Refused fault.LimitReached) = Some c
-created_with c out = None
+abbrev pub created_catalogue : CatalogueValue → Outcome → Option CatalogueValue
+created_catalogue c (outcome.Done a) = Some c
+created_catalogue c (outcome.Refused fault.LimitReached) = Some c
+created_catalogue c out = None
 
 abbrev pub act_of : CatalogueValue → Request → Outcome → Act
-act_of c request.Create out = act.Create (created_with c out)
+act_of c request.Create out = act.Create (created_catalogue c out)
 act_of c request.Destroy out = act.Destroy
 act_of c (request.Step s) out = act.Step s
 

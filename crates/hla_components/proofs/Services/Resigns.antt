@@ -3,7 +3,7 @@ use Rattle.std.proofs.Common.{◌≡◌, ◌≢◌, ℕ, ◌≤◌, eqb, not, �
 use Rattle.std.proofs.lemmas.Bool.{cond_both, and_parts, and_from, cases_Bool}
 use Rattle.hla_null_message.specs.declared.message.Message.{Message}
 use Rattle.hla_null_message.specs.declared.message.Message.TheVariants as message
-use Rattle.hla_base.specs.Tables.{forever, is_other, numbers_below, or_else, upd, upd_row, clear}
+use Rattle.hla_base.specs.Tables.{forever, is_other, numbers_below, or_else, upd, upd_row, upd_whole_column}
 use Rattle.hla_base.specs.Rows.{is_regulator, least_stamp, new_row}
 use Rattle.hla_fed_file.specs.declared.declared.Order.TheVariants.{Receive, Timestamp}
 use Rattle.hla_machine.specs.declared.service.Service.TheVariants as service
@@ -40,7 +40,7 @@ module _ (s : Components) (f : ℕ) (kept : Kept s) (member : s.directory.joined
   row_wire = upd_row s.wire s.directory.joined f (λ _. with_last_null s f)
 
   abbrev wire : ℕ → ℕ → List Message
-  wire = clear (upd_row s.wire s.directory.joined f (λ _. with_last_null s f)) f []
+  wire = upd_whole_column (upd_row s.wire s.directory.joined f (λ _. with_last_null s f)) f []
 
   other_kept : (g k : ℕ) → is_other (upd s.directory.joined f false) g k ≡ true → is_other s.directory.joined g k ≡ true
   other_kept g k e = let p = and_parts _ _ e in and_from _ _ p.0 (upd_each s.directory.joined f false (λ j x. x ≡ true → s.directory.joined j ≡ true) (λ x. absurd (cc)) (λ _ _ x. x) k p.1)

@@ -16,7 +16,7 @@ use Rattle.hla_machine.specs.Central.{SentEvent, no_event}
 use Rattle.hla_machine.specs.Sends.{is_ordered, sent_event, sent_handle}
 use Rattle.hla_components.specs.Components.{Components}
 use Rattle.hla_components.specs.Next.{with_message_sent, with_messages_sent, put_event}
-use Rattle.hla_federation.specs.Steps.Sending.{said, message_to, messages_to}
+use Rattle.hla_federation.specs.Steps.Sending.{said_messages, message_to, messages_to}
 use Rattle.hla_base.proofs.Tables.{upd_same}
 
 unordered : (out : Outgoing) → is_ordered new_row None out ≡ false
@@ -37,7 +37,7 @@ sent_wire d f serial outs wire = λ g h. cond (eqb f g) (wire g h ++ messages_to
 abbrev pub sent_plain : Components → ℕ → List Outgoing → Components
 sent_plain s f outs = record s { serial = upd s.serial f (s.serial f + length outs); wire = sent_wire s.directory f (s.serial f) outs s.wire }
 
-put_said : (f serial : ℕ) (out : Outgoing) (o : Option Content) (ms : List Message) → put_event f serial new_row None out o ms ≡ ms ++ said f serial o
+put_said : (f serial : ℕ) (out : Outgoing) (o : Option Content) (ms : List Message) → put_event f serial new_row None out o ms ≡ ms ++ said_messages f serial o
 put_said f serial out None ms = sym (append-nil ms)
 put_said f serial out (Some x) ms = rw (unordered out) refl
 
@@ -57,7 +57,7 @@ row_wire : (d : Directory) (f serial : ℕ) (out : Outgoing) (wire : ℕ → ℕ
 unfolding upd_row
 row_wire d f serial out wire g h = ⊎_elim
     (λ (y : eqb f g ≡ true). ⊎_elim
-    (λ (z : is_other d.joined f h ≡ true). rw (y, z) (put_said f serial out (content_for d out.body h) (wire g h) ∙ ap (λ (ms : List Message). wire g h ++ ms) (sym (append-nil (said f serial (content_for d out.body h))))))
+    (λ (z : is_other d.joined f h ≡ true). rw (y, z) (put_said f serial out (content_for d out.body h) (wire g h) ∙ ap (λ (ms : List Message). wire g h ++ ms) (sym (append-nil (said_messages f serial (content_for d out.body h))))))
     (λ (z : is_other d.joined f h ≡ false). rw (y, z) (sym (append-nil (wire g h))))
     (cases_Bool (is_other d.joined f h)))
     (λ (n : eqb f g ≡ false). rw n refl)
