@@ -24,7 +24,7 @@ use Rattle.hla_fed_file.specs.declared.place.Within.TheVariants as within
 use Rattle.hla_fed_file.specs.declared.place.Place.{Place}
 use Rattle.hla_fed_file.specs.declared.place.Place.TheVariants as at
 use Rattle.hla_fed_file.specs.declared.reader.Reader.{Reader}
-use Rattle.hla_fed_file.proofs.ReadSteps.{alike, fits_left, fits_right, ignoring, moved, pending, reader}
+use Rattle.hla_fed_file.proofs.ReadSteps.{alike, fits_left, fits_right, ignoring_reader, reader_at, pending, reader}
 use Rattle.hla_fed_file.proofs.ReadInteractions.{Waits, amended_class, behind_closes, behind_opens, class_amended, class_carried, first_of_class, inside, interaction_closes, parameter_closes}
 use Rattle.hla_fed_file.proofs.BackSteps.{Tail, at_next, back, between_token, head_token, kept_limit, list_back, name_token, none_left, ok_same, parameter_level_begun, was_named, went_deeper}
 use Rattle.hla_fed_file.proofs.BackObjects.{Carries, OptionNext, Orders, Paren}
@@ -65,11 +65,11 @@ parameter_levels (suc n) d l c (t ∷ k ∷ ts) final few h =
           record { levels = NoLevel; fit = tt; tail = record { rest = k ∷ ts; fewer = omega arith; spelled = λ ss sp. (p.0, sp); read = at_next _ _ (k ∷ ts) final behind b.read } }
       | inl p ↦
           let s = reader at.ParameterEnd (d + 1) l c in
-          let w = back (moved s (at.Head head.ParameterItem) (d + 1 + 1)) k ts final refl (at_next _ _ (k ∷ ts) final p.2 b.read) in
+          let w = back (reader_at s (at.Head head.ParameterItem) (d + 1 + 1)) k ts final refl (at_next _ _ (k ∷ ts) final p.2 b.read) in
           let q = head_token k.token head.ParameterItem (d + 1 + 1) s w.next w.step in
           let z = parameter_level_begun q.keyword (d + 1 + 1) q.place q.begins in
           let fits : Fits k.token (Means word.SecLevel) = rw z.0 at q.fits in
-          let there : w.next ≡ ignoring s within.Parameter (d + 1 + 1) (d + 1 + 1) = q.then ∙ ap (λ (place : Place). moved s place (d + 1 + 1)) z.1 in
+          let there : w.next ≡ ignoring_reader s within.Parameter (d + 1 + 1) (d + 1 + 1) = q.then ∙ ap (λ (place : Place). reader_at s place (d + 1 + 1)) z.1 in
           let a = list_back s within.Parameter (d + 1) ts final (at_next _ _ ts final there w.read) in
           let fewer : length a.tail.rest ≤ n = omega (arith, a.tail.fewer) in
           let r = parameter_levels n d l c a.tail.rest final fewer a.tail.read in
@@ -279,13 +279,13 @@ interaction_body (suc n) d l c (t ∷ k ∷ ts) final few some h =
       | inr p ↦ record { items = NoEntry; fit = tt; after = b.next; closing = p.1; tail = record { rest = k ∷ ts; fewer = omega arith; spelled = λ ss sp. (p.0, sp); read = b.read } }
       | inl p ↦
           let s = reader (at.Between lists.InteractionItems) d l c in
-          let w = back (moved s (at.Head head.InteractionItem) (d + 1)) k ts final refl (at_next _ _ (k ∷ ts) final p.2 b.read) in
+          let w = back (reader_at s (at.Head head.InteractionItem) (d + 1)) k ts final refl (at_next _ _ (k ∷ ts) final p.2 b.read) in
           let q = head_token k.token head.InteractionItem (d + 1) s w.next w.step in
           let short_enough : length ts ≤ n = omega arith in
           elim (interaction_item_begun q.keyword (d + 1) q.place q.begins) [
             | BeginsSubclass kw there ↦
                 let fits : Fits k.token (Means word.Class) = rw kw at q.fits in
-                let at_name : w.next ≡ reader (at.Name name.InteractionClass) (d + 1) l c = q.then ∙ ap (λ (place : Place). moved s place (d + 1)) there in
+                let at_name : w.next ≡ reader (at.Name name.InteractionClass) (d + 1) l c = q.then ∙ ap (λ (place : Place). reader_at s place (d + 1)) there in
                 let a = subclass_back (d + 1) l c ts final (at_next _ _ ts final at_name w.read) in
                 let inner = (length c.interaction_classes + 1) ∷ l in
                 let opened = with_interaction_class l a.name (transport_of a.options) (order_of a.options) c in
@@ -305,7 +305,7 @@ interaction_body (suc n) d l c (t ∷ k ∷ ts) final few some h =
                 }
             | BeginsParameter kw there ↦
                 let fits : Fits k.token (Means word.Parameter) = rw kw at q.fits in
-                let at_name : w.next ≡ reader (at.Name name.Parameter) (d + 1) l c = q.then ∙ ap (λ (place : Place). moved s place (d + 1)) there in
+                let at_name : w.next ≡ reader (at.Name name.Parameter) (d + 1) l c = q.then ∙ ap (λ (place : Place). reader_at s place (d + 1)) there in
                 let a = parameter_back d l c ts final (at_next _ _ ts final at_name w.read) in
                 let declared = with_parameter l a.name c in
                 let fewer : length a.tail.rest ≤ n = omega (arith, a.tail.fewer) in
@@ -320,7 +320,7 @@ interaction_body (suc n) d l c (t ∷ k ∷ ts) final few some h =
                 }
             | BeginsLevels kw there ↦
                 let fits : Fits k.token (Means word.SecLevel) = rw kw at q.fits in
-                let in_list : w.next ≡ ignoring s within.InteractionClass (d + 1) (d + 1) = q.then ∙ ap (λ (place : Place). moved s place (d + 1)) there in
+                let in_list : w.next ≡ ignoring_reader s within.InteractionClass (d + 1) (d + 1) = q.then ∙ ap (λ (place : Place). reader_at s place (d + 1)) there in
                 let a = list_back s within.InteractionClass d ts final (at_next _ _ ts final in_list w.read) in
                 let fewer : length a.tail.rest ≤ n = omega (arith, a.tail.fewer) in
                 let others = interaction_body n d l c a.tail.rest final fewer some a.tail.read in

@@ -31,16 +31,16 @@ same_bytes : (a b : List ℕ) → bytes_eq a b ≡ true → a ≡ b
 same_bytes a b e = (bytes_eq-Decides a b).0 e
 
 -- two names that differ are looked up in any order
-swapped : (name other k : List ℕ) (x y z : List Declared) (a b : Bool) → bytes_eq other k ≡ a → bytes_eq name other ≡ b → bytes_eq name k ≡ false → cond a x (cond b y z) ≡ cond b y (cond a x z)
-swapped name other k x y z true true ea eb differ =
+swapped_tests : (name other k : List ℕ) (x y z : List Declared) (a b : Bool) → bytes_eq other k ≡ a → bytes_eq name other ≡ b → bytes_eq name k ≡ false → cond a x (cond b y z) ≡ cond b y (cond a x z)
+swapped_tests name other k x y z true true ea eb differ =
     let same : bytes_eq name k ≡ true = ap (bytes_eq name) (sym (same_bytes other k ea)) ∙ eb in
     absurd (let bad : ⊥ = cc in bad)
-swapped name other k x y z true false ea eb differ = refl
-swapped name other k x y z false b ea eb differ = refl
+swapped_tests name other k x y z true false ea eb differ = refl
+swapped_tests name other k x y z false b ea eb differ = refl
 
-chosen : (b : Bool) (x y z : List Declared) → cond b x z ≡ cond b x (cond b y z)
-chosen true x y z = refl
-chosen false x y z = refl
+nested_choice : (b : Bool) (x y z : List Declared) → cond b x z ≡ cond b x (cond b y z)
+nested_choice true x y z = refl
+nested_choice false x y z = refl
 
 -- the key is that of the name
 at_key : (name other k : List ℕ) → bytes_eq name k ≡ true → bytes_eq other k ≡ bytes_eq name other
@@ -54,8 +54,8 @@ group_set (e ∷ es) name other g g' h = by_key (bytes_eq name e.0.items) refl h
     by_key : (b : Bool) → bytes_eq name e.0.items ≡ b → cond b (Some e.1) (lookup (is_key name) es) ≡ Some g
         → (lookup (is_key name) es ≡ Some g → group_in (groups_of (set_value (is_key name) es g')) other ≡ cond (bytes_eq name other) g' (group_in (groups_of es) other))
         → group_in (groups_of (cond b ((e.0, g') ∷ es) (e ∷ set_value (is_key name) es g'))) other ≡ cond (bytes_eq name other) g' (cond (bytes_eq other e.0.items) e.1 (group_in (groups_of es) other))
-    by_key true k found later = rw (at_key name other e.0.items k) (chosen (bytes_eq name other) g' e.1 (group_in (groups_of es) other))
-    by_key false k found later = rw (later found) (swapped name other e.0.items e.1 g' (group_in (groups_of es) other) (bytes_eq other e.0.items) (bytes_eq name other) refl refl k)
+    by_key true k found later = rw (at_key name other e.0.items k) (nested_choice (bytes_eq name other) g' e.1 (group_in (groups_of es) other))
+    by_key false k found later = rw (later found) (swapped_tests name other e.0.items e.1 g' (group_in (groups_of es) other) (bytes_eq other e.0.items) (bytes_eq name other) refl refl k)
 
 -- a new name is added
 group_inserted : (es : Entries) (k : Vec ℕ Global) (g : List Declared) (other : List ℕ) → lookup (is_key k.items) es ≡ None → group_in (groups_of (insert_entry same_key es k g)) other ≡ cond (bytes_eq k.items other) g (group_in (groups_of es) other)
@@ -66,7 +66,7 @@ group_inserted (e ∷ es) k g other h = by_key (bytes_eq k.items e.0.items) refl
         → (lookup (is_key k.items) es ≡ None → group_in (groups_of (insert_entry same_key es k g)) other ≡ cond (bytes_eq k.items other) g (group_in (groups_of es) other))
         → group_in (groups_of (cond b ((e.0, g) ∷ es) (e ∷ insert_entry same_key es k g))) other ≡ cond (bytes_eq k.items other) g (cond (bytes_eq other e.0.items) e.1 (group_in (groups_of es) other))
     by_key true e' found later = cc
-    by_key false e' found later = rw (later found) (swapped k.items other e.0.items e.1 g (group_in (groups_of es) other) (bytes_eq other e.0.items) (bytes_eq k.items other) refl refl e')
+    by_key false e' found later = rw (later found) (swapped_tests k.items other e.0.items e.1 g (group_in (groups_of es) other) (bytes_eq other e.0.items) (bytes_eq k.items other) refl refl e')
 
 -- a name that has declarations has one more
 pub noted_more : (es es' : Entries) (name : List ℕ) (g g' : List Declared) (p : Declared) → Some g ≡ lookup (is_key name) es → es' ≡ set_value (is_key name) es g' → g' ≡ g ++ p ∷ [] → IsNoted (groups_of es) (groups_of es') name p

@@ -21,7 +21,7 @@ use Rattle.hla_fed_file.specs.declared.place.Stage.TheVariants as stage
 use Rattle.hla_fed_file.specs.declared.place.Within.TheVariants as within
 use Rattle.hla_fed_file.specs.declared.place.Place.TheVariants as at
 use Rattle.hla_fed_file.specs.declared.reader.Reader.{Reader}
-use Rattle.hla_fed_file.proofs.ReadSteps.{Reads, above_zero, alike, any_read, below_limit, deepens, down, fits_left, fits_right, keyword_read, list_read, name_read, pending, reader, right_read}
+use Rattle.hla_fed_file.proofs.ReadSteps.{Reads, above_zero, alike, any_read, below_limit, paren_opened, down, fits_left, fits_right, keyword_read, list_read, name_read, pending, reader, right_read}
 use Rattle.hla_fed_file.proofs.ReadObjects.{begin_read, item_opens, stage_of}
 
 -- Interaction classes.
@@ -147,7 +147,7 @@ interaction_closes d n l c h = let e : (length l == 0) ≡ false = above_zero _ 
 -- the security levels of a parameter, and its end
 parameter_end_opens : (d : ℕ) (l : List ℕ) (c : CatalogueValue) → d < 64 → after_open (reader at.ParameterEnd d l c) ≡ Ok (reader (at.Head head.ParameterItem) (d + 1) l c)
 unfolding after_open
-parameter_end_opens d l c h = deepens (at.Head head.ParameterItem) (reader at.ParameterEnd d l c) h
+parameter_end_opens d l c h = paren_opened (at.Head head.ParameterItem) (reader at.ParameterEnd d l c) h
 
 pub parameter_closes : (d : ℕ) (l : List ℕ) (c : CatalogueValue) → after_close (reader at.ParameterEnd (d + 1) l c) ≡ Ok (reader (at.Between lists.InteractionItems) d l c)
 unfolding after_close

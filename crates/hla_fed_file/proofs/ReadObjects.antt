@@ -25,24 +25,24 @@ use Rattle.hla_fed_file.specs.declared.place.Within.TheVariants as within
 use Rattle.hla_fed_file.specs.declared.place.Place.{Place}
 use Rattle.hla_fed_file.specs.declared.place.Place.TheVariants as at
 use Rattle.hla_fed_file.specs.declared.reader.Reader.{Reader}
-use Rattle.hla_fed_file.proofs.ReadSteps.{Reads, above_zero, any_read, below_limit, deepens, down, half, keyword_read, left_read, list_read, name_read, reader, right_read}
+use Rattle.hla_fed_file.proofs.ReadSteps.{Reads, above_zero, any_read, below_limit, paren_opened, down, half, keyword_read, left_read, list_read, name_read, reader, right_read}
 
 -- Options.
 abbrev pub stage_of : Option Transport → Stage
 stage_of None = stage.Named
 stage_of (Some t) = stage.Carried
 
-abbrev pub carried : Option Transport → Option Attribute → Option Attribute
-carried None kept = kept
-carried (Some t) kept = option_map {T = Attribute} {U = Attribute} (λ a. record a { transport = t }) kept
+abbrev pub with_transport_option : Option Transport → Option Attribute → Option Attribute
+with_transport_option None kept = kept
+with_transport_option (Some t) kept = option_map {T = Attribute} {U = Attribute} (λ a. record a { transport = t }) kept
 
-abbrev pub ordered : Order → Option Attribute → Option Attribute
-ordered o kept = option_map {T = Attribute} {U = Attribute} (λ a. record a { order = o }) kept
+abbrev pub with_order_option : Order → Option Attribute → Option Attribute
+with_order_option o kept = option_map {T = Attribute} {U = Attribute} (λ a. record a { order = o }) kept
 
 -- an attribute behind its options, and its place
-abbrev pub amended : Options → Option Attribute → Option Attribute
-amended (Bare t) kept = carried t kept
-amended (Ordered t o space) kept = ordered o (carried t kept)
+abbrev pub with_options : Options → Option Attribute → Option Attribute
+with_options (Bare t) kept = with_transport_option t kept
+with_options (Ordered t o space) kept = with_order_option o (with_transport_option t kept)
 
 abbrev pub space_place : Bool → Place
 space_place true = at.AttributeEnd
@@ -53,16 +53,16 @@ options_place (Bare t) = at.AttributeOptions (stage_of t)
 options_place (Ordered t o space) = space_place space
 
 transport_read : (t : Option Transport) (d : ℕ) (l : List ℕ) (kept : Option Attribute) (c : CatalogueValue) (ts : List Lexed) (ss : List Symbol) → Spells ts (transport_then t ss)
-    → Reads (half (at.AttributeOptions stage.Named) d l kept c) (half (at.AttributeOptions (stage_of t)) d l (carried t kept) c) ts ss
+    → Reads (half (at.AttributeOptions stage.Named) d l kept c) (half (at.AttributeOptions (stage_of t)) d l (with_transport_option t kept) c) ts ss
 unfolding after_word
 transport_read None d l kept c ts ss sp = record { rest = ts; spelled = sp; same = refl }
-transport_read (Some t) d l kept c ts ss sp = keyword_read (word.Carried t) _ (half (at.AttributeOptions stage.Carried) d l (carried (Some t) kept) c) ts ss (λ w h. rw h refl) sp
+transport_read (Some t) d l kept c ts ss sp = keyword_read (word.Carried t) _ (half (at.AttributeOptions stage.Carried) d l (with_transport_option (Some t) kept) c) ts ss (λ w h. rw h refl) sp
 
 order_read : (t : Option Transport) (o : Order) (d : ℕ) (l : List ℕ) (kept : Option Attribute) (c : CatalogueValue) (ts : List Lexed) (ss : List Symbol) → Spells ts (Means (word.Ordered o) ∷ ss)
-    → Reads (half (at.AttributeOptions (stage_of t)) d l kept c) (half (at.AttributeOptions stage.Ordered) d l (ordered o kept) c) ts ss
+    → Reads (half (at.AttributeOptions (stage_of t)) d l kept c) (half (at.AttributeOptions stage.Ordered) d l (with_order_option o kept) c) ts ss
 unfolding after_word
-order_read None o d l kept c ts ss sp = keyword_read (word.Ordered o) _ (half (at.AttributeOptions stage.Ordered) d l (ordered o kept) c) ts ss (λ w h. rw h refl) sp
-order_read (Some t) o d l kept c ts ss sp = keyword_read (word.Ordered o) _ (half (at.AttributeOptions stage.Ordered) d l (ordered o kept) c) ts ss (λ w h. rw h refl) sp
+order_read None o d l kept c ts ss sp = keyword_read (word.Ordered o) _ (half (at.AttributeOptions stage.Ordered) d l (with_order_option o kept) c) ts ss (λ w h. rw h refl) sp
+order_read (Some t) o d l kept c ts ss sp = keyword_read (word.Ordered o) _ (half (at.AttributeOptions stage.Ordered) d l (with_order_option o kept) c) ts ss (λ w h. rw h refl) sp
 
 space_read : (space : Bool) (d : ℕ) (l : List ℕ) (kept : Option Attribute) (c : CatalogueValue) (ts : List Lexed) (ss : List Symbol) → Spells ts (space_then space ss)
     → Reads (half (at.AttributeOptions stage.Ordered) d l kept c) (half (space_place space) d l kept c) ts ss
@@ -71,12 +71,12 @@ space_read false d l kept c ts ss sp = record { rest = ts; spelled = sp; same = 
 space_read true d l kept c ts ss sp = any_read _ (half at.AttributeEnd d l kept c) ts ss (λ w. refl) (λ w. refl) sp
 
 options_read : (o : Options) (d : ℕ) (l : List ℕ) (kept : Option Attribute) (c : CatalogueValue) (ts : List Lexed) (ss : List Symbol) → Spells ts (options_then o ss)
-    → Reads (half (at.AttributeOptions stage.Named) d l kept c) (half (options_place o) d l (amended o kept) c) ts ss
+    → Reads (half (at.AttributeOptions stage.Named) d l kept c) (half (options_place o) d l (with_options o kept) c) ts ss
 options_read (Bare t) d l kept c ts ss sp = transport_read t d l kept c ts ss sp
 options_read (Ordered t o space) d l kept c ts ss sp =
     let a = transport_read t d l kept c ts _ sp in
-    let b = order_read t o d l (carried t kept) c a.rest _ a.spelled in
-    let e = space_read space d l (ordered o (carried t kept)) c b.rest ss b.spelled in
+    let b = order_read t o d l (with_transport_option t kept) c a.rest _ a.spelled in
+    let e = space_read space d l (with_order_option o (with_transport_option t kept)) c b.rest ss b.spelled in
     record { rest = e.rest; spelled = e.spelled; same = a.same ∙ b.same ∙ e.same }
 
 -- a place in which an attribute may end
@@ -105,7 +105,7 @@ attribute_ends p d l (Some a) c e = e.closes (half p (d + 1) l (Some a) c) ∙ a
 
 pub attribute_opens : (p : Place) (d : ℕ) (l : List ℕ) (kept : Option Attribute) (c : CatalogueValue) → EndsAttribute p → d < 64 → after_open (half p d l kept c) ≡ Ok (half (at.Head head.AttributeItem) (d + 1) l kept c)
 unfolding after_open
-attribute_opens p d l kept c e h = e.opens (half p d l kept c) ∙ deepens (at.Head head.AttributeItem) (half p d l kept c) h
+attribute_opens p d l kept c e h = e.opens (half p d l kept c) ∙ paren_opened (at.Head head.AttributeItem) (half p d l kept c) h
 
 -- the security levels of an attribute, and its end
 levels_read : (v : SecLevels) (p : Place) (d : ℕ) (l : List ℕ) (kept : Option Attribute) (c : CatalogueValue) (ts : List Lexed) (ss : List Symbol) → EndsAttribute p → levels_fit (d + 1) v → Spells ts (levels_then v (RightParen ∷ ss))
@@ -127,7 +127,7 @@ attribute_kept true d l n c room = refl
 attribute_kept false d l n c room = let e : nat_le max_attributes (length c.attributes) ≡ false = below_limit _ _ (room refl) in rw e refl
 
 pub kept_declares : (b : Bool) (l n : List ℕ) (o : Options) (c : CatalogueValue)
-    → with_kept (amended o (cond b None (Some (record { class = innermost l; name = n; transport = transport.Reliable; order = order.Receive })))) c
+    → with_kept (with_options o (cond b None (Some (record { class = innermost l; name = n; transport = transport.Reliable; order = order.Receive })))) c
     ≡ cond b c (record c { attributes = c.attributes ++ record { class = innermost l; name = n; transport = transport_of o; order = order_of o } ∷ [] })
 kept_declares true l n (Bare None) c = refl
 kept_declares true l n (Bare (Some t)) c = refl
@@ -141,7 +141,7 @@ kept_declares false l n (Ordered (Some t) o space) c = refl
 -- an item of a class begins
 pub item_opens : (d : ℕ) (l : List ℕ) (c : CatalogueValue) (i : Lists) → d < 64 → after_open (reader (at.Between i) d l c) ≡ Ok (reader (at.Head (head_in i)) (d + 1) l c)
 unfolding after_open
-item_opens d l c i h = deepens (at.Head (head_in i)) (reader (at.Between i) d l c) h
+item_opens d l c i h = paren_opened (at.Head (head_in i)) (reader (at.Between i) d l c) h
 
 -- a parenthesis and a keyword
 pub begin_read : (k : Keyword) (i : Lists) (place : Place) (d : ℕ) (l : List ℕ) (c : CatalogueValue) (ts : List Lexed) (ss : List Symbol) → d < 64 → place_behind_keyword (head_in i) (d + 1) (Some k) ≡ Some place
@@ -158,7 +158,7 @@ attribute_read n o v d l c ts ss h short room fit sp =
     let a = begin_read word.Attribute lists.ObjectItems (at.Name name.Attribute) d l c ts _ h refl sp in
     let b = name_read name.Attribute n (d + 1) l c (half (at.AttributeOptions stage.Named) (d + 1) l (kept_of l n c) c) a.rest _ short (attribute_kept (has_attribute_named c l n) (d + 1) l n c room) a.spelled in
     let e = options_read o (d + 1) l (kept_of l n c) c b.rest _ b.spelled in
-    let r = levels_read v (options_place o) d l (amended o (kept_of l n c)) c e.rest ss (options_end o) fit e.spelled in
+    let r = levels_read v (options_place o) d l (with_options o (kept_of l n c)) c e.rest ss (options_end o) fit e.spelled in
     let declares = kept_declares (has_attribute_named c l n) l n o c in
     record { rest = r.rest; spelled = r.spelled; same = a.same ∙ b.same ∙ e.same ∙ r.same ∙ ap (λ (c' : CatalogueValue). reading (reader (at.Between lists.ObjectItems) d l c') r.rest) declares }
 

@@ -30,8 +30,8 @@ abbrev pub reader : Place → ℕ → List ℕ → CatalogueValue → Reader
 reader place depth lineage c = half place depth lineage None c
 
 -- a reader somewhere else
-abbrev pub moved : Reader → Place → ℕ → Reader
-moved s place depth = record s { place = place; depth = depth }
+abbrev pub reader_at : Reader → Place → ℕ → Reader
+reader_at s place depth = record s { place = place; depth = depth }
 
 pub one : (s s' : Reader) (t : Lexed) (ts : List Lexed) → is_end t.token ≡ false → after_token s t.token ≡ Ok s' → reading s (t ∷ ts) ≡ reading s' ts
 unfolding reading
@@ -144,49 +144,49 @@ name_read what n d l c s' (t ∷ ts) ss short h sp =
     record { rest = ts; spelled = sp.1; same = one _ _ t ts f.0 f.1 }
 
 -- one more parenthesis
-pub deepens : (place : Place) (s : Reader) → s.depth < 64 → with_paren_opened place s ≡ Ok (moved s place (s.depth + 1))
-deepens place s h = let e : nat_le 64 s.depth ≡ false = below_limit _ _ h in rw e refl
+pub paren_opened : (place : Place) (s : Reader) → s.depth < 64 → with_paren_opened place s ≡ Ok (reader_at s place (s.depth + 1))
+paren_opened place s h = let e : nat_le 64 s.depth ≡ false = below_limit _ _ h in rw e refl
 
 -- Ignored lists.
-abbrev pub ignoring : Reader → Within → ℕ → ℕ → Reader
-ignoring s w base d = moved s (at.Ignored w base) d
+abbrev pub ignoring_reader : Reader → Within → ℕ → ℕ → Reader
+ignoring_reader s w base d = reader_at s (at.Ignored w base) d
 
-pub ignored_opens : (s : Reader) (w : Within) (base d : ℕ) → d < 64 → after_open (ignoring s w base d) ≡ Ok (ignoring s w base (d + 1))
+pub ignored_opens : (s : Reader) (w : Within) (base d : ℕ) → d < 64 → after_open (ignoring_reader s w base d) ≡ Ok (ignoring_reader s w base (d + 1))
 unfolding after_open
-ignored_opens s w base d h = deepens (at.Ignored w base) (ignoring s w base d) h
+ignored_opens s w base d h = paren_opened (at.Ignored w base) (ignoring_reader s w base d) h
 
-pub ignored_closes : (s : Reader) (w : Within) (base d : ℕ) → base ≤ d → after_close (ignoring s w base (d + 1)) ≡ Ok (ignoring s w base d)
+pub ignored_closes : (s : Reader) (w : Within) (base d : ℕ) → base ≤ d → after_close (ignoring_reader s w base (d + 1)) ≡ Ok (ignoring_reader s w base d)
 unfolding after_close
 ignored_closes s w base d h = let e : (d + 1 == base) ≡ false = above base d h in rw (e, down d) refl
 
-pub ignored_ends : (s : Reader) (w : Within) (d : ℕ) → after_close (ignoring s w (d + 1) (d + 1)) ≡ Ok (moved s (place_behind w) d)
+pub ignored_ends : (s : Reader) (w : Within) (d : ℕ) → after_close (ignoring_reader s w (d + 1) (d + 1)) ≡ Ok (reader_at s (place_behind w) d)
 unfolding after_close
 ignored_ends s w d = let e : (d + 1 == d + 1) ≡ true = same_number (d + 1) in rw (e, down d) refl
 
-ignored_read : (i : Ignored) (s : Reader) (w : Within) (base d : ℕ) (ts : List Lexed) (ss : List Symbol) → base ≤ d → ignored_fit d i → Spells ts (ignored_then i ss) → Reads (ignoring s w base d) (ignoring s w base d) ts ss
+ignored_read : (i : Ignored) (s : Reader) (w : Within) (base d : ℕ) (ts : List Lexed) (ss : List Symbol) → base ≤ d → ignored_fit d i → Spells ts (ignored_then i ss) → Reads (ignoring_reader s w base d) (ignoring_reader s w base d) ts ss
 unfolding after_word after_quoted
 ignored_read NoMore s w base d ts ss le fit sp = record { rest = ts; spelled = sp; same = refl }
 ignored_read (AName others) s w base d ts ss le fit sp =
-    let a = any_read (ignoring s w base d) (ignoring s w base d) ts _ (λ n. refl) (λ n. refl) sp in
+    let a = any_read (ignoring_reader s w base d) (ignoring_reader s w base d) ts _ (λ n. refl) (λ n. refl) sp in
     let r = ignored_read others s w base d a.rest ss le fit a.spelled in
     record { rest = r.rest; spelled = r.spelled; same = a.same ∙ r.same }
 ignored_read (AList inside others) s w base d ts ss le fit sp =
-    let a = left_read (ignoring s w base d) (ignoring s w base (d + 1)) ts _ (ignored_opens s w base d fit.0) sp in
+    let a = left_read (ignoring_reader s w base d) (ignoring_reader s w base (d + 1)) ts _ (ignored_opens s w base d fit.0) sp in
     let more : base ≤ d + 1 = omega arith in
     let b = ignored_read inside s w base (d + 1) a.rest _ more fit.1 a.spelled in
-    let e = right_read (ignoring s w base (d + 1)) (ignoring s w base d) b.rest _ (ignored_closes s w base d le) b.spelled in
+    let e = right_read (ignoring_reader s w base (d + 1)) (ignoring_reader s w base d) b.rest _ (ignored_closes s w base d le) b.spelled in
     let r = ignored_read others s w base d e.rest ss le fit.2 e.spelled in
     record { rest = r.rest; spelled = r.spelled; same = a.same ∙ b.same ∙ e.same ∙ r.same }
 
 -- an ignored list with its parentheses and its keyword
-pub list_read : (k : Keyword) (h : Head) (w : Within) (i : Ignored) (p : Place) (s : Reader) (d : ℕ) (ts : List Lexed) (ss : List Symbol) → after_open (moved s p d) ≡ Ok (moved s (at.Head h) (d + 1))
+pub list_read : (k : Keyword) (h : Head) (w : Within) (i : Ignored) (p : Place) (s : Reader) (d : ℕ) (ts : List Lexed) (ss : List Symbol) → after_open (reader_at s p d) ≡ Ok (reader_at s (at.Head h) (d + 1))
     → place_behind_keyword h (d + 1) (Some k) ≡ Some (at.Ignored w (d + 1)) → ignored_fit (d + 1) i → Spells ts (LeftParen ∷ Means k ∷ ignored_then i (RightParen ∷ ss))
-    → Reads (moved s p d) (moved s (place_behind w) d) ts ss
+    → Reads (reader_at s p d) (reader_at s (place_behind w) d) ts ss
 unfolding after_word
 list_read k h w i p s d ts ss opens begins fit sp =
-    let a = left_read (moved s p d) (moved s (at.Head h) (d + 1)) ts _ opens sp in
-    let b = keyword_read k (moved s (at.Head h) (d + 1)) (ignoring s w (d + 1) (d + 1)) a.rest _ (λ n e. rw (e, begins) refl) a.spelled in
+    let a = left_read (reader_at s p d) (reader_at s (at.Head h) (d + 1)) ts _ opens sp in
+    let b = keyword_read k (reader_at s (at.Head h) (d + 1)) (ignoring_reader s w (d + 1) (d + 1)) a.rest _ (λ n e. rw (e, begins) refl) a.spelled in
     let le : d + 1 ≤ d + 1 = omega arith in
     let i = ignored_read i s w (d + 1) (d + 1) b.rest _ le fit b.spelled in
-    let e = right_read (ignoring s w (d + 1) (d + 1)) (moved s (place_behind w) d) i.rest ss (ignored_ends s w d) i.spelled in
+    let e = right_read (ignoring_reader s w (d + 1) (d + 1)) (reader_at s (place_behind w) d) i.rest ss (ignored_ends s w d) i.spelled in
     record { rest = e.rest; spelled = e.spelled; same = a.same ∙ b.same ∙ i.same ∙ e.same }

@@ -19,7 +19,7 @@ use Rattle.hla_fed_file.specs.declared.place.Within.TheVariants as within
 use Rattle.hla_fed_file.specs.declared.place.Place.{Place}
 use Rattle.hla_fed_file.specs.declared.place.Place.TheVariants as at
 use Rattle.hla_fed_file.specs.declared.reader.Reader.{Reader}
-use Rattle.hla_fed_file.proofs.ReadSteps.{moved, reader}
+use Rattle.hla_fed_file.proofs.ReadSteps.{reader_at, reader}
 use Rattle.hla_fed_file.proofs.BackSteps.{Tail, at_next, back, between_token, head_token, list_back, name_token, none_left, ok_same, was_named}
 use Rattle.hla_fed_file.proofs.BackObjects.{class_back, object_body}
 use Rattle.hla_fed_file.proofs.BackInteractions.{interaction_body, subclass_back}
@@ -65,11 +65,11 @@ object_classes_back (suc n) c (t ∷ k ∷ ts) final few h =
           record { classes = NoClass; fit = tt; tail = record { rest = k ∷ ts; fewer = omega arith; spelled = λ ss sp. (p.0, sp); read = at_next _ _ (k ∷ ts) final behind b.read } }
       | inl p ↦
           let s = reader (at.Between lists.ObjectClasses) 2 [] c in
-          let w = back (moved s (at.Head head.ObjectClass) 3) k ts final refl (at_next _ _ (k ∷ ts) final p.2 b.read) in
+          let w = back (reader_at s (at.Head head.ObjectClass) 3) k ts final refl (at_next _ _ (k ∷ ts) final p.2 b.read) in
           let q = head_token k.token head.ObjectClass 3 s w.next w.step in
           let z = object_class_begun q.keyword 3 q.place q.begins in
           let fits : Fits k.token (Means word.Class) = rw z.0 at q.fits in
-          let at_name : w.next ≡ reader (at.Name name.ObjectClass) 3 [] c = q.then ∙ ap (λ (place : Place). moved s place 3) z.1 in
+          let at_name : w.next ≡ reader (at.Name name.ObjectClass) 3 [] c = q.then ∙ ap (λ (place : Place). reader_at s place 3) z.1 in
           let a = class_back 3 [] c ts final (at_next _ _ ts final at_name w.read) in
           let inner = (length c.object_classes + 1) ∷ [] in
           let opened = with_object_class [] a.name c in
@@ -119,11 +119,11 @@ interaction_classes_back (suc n) c (t ∷ k ∷ ts) final few h =
           record { classes = NoTop; fit = tt; tail = record { rest = k ∷ ts; fewer = omega arith; spelled = λ ss sp. (p.0, sp); read = at_next _ _ (k ∷ ts) final behind b.read } }
       | inl p ↦
           let s = reader (at.Between lists.InteractionClasses) 2 [] c in
-          let w = back (moved s (at.Head head.InteractionClass) 3) k ts final refl (at_next _ _ (k ∷ ts) final p.2 b.read) in
+          let w = back (reader_at s (at.Head head.InteractionClass) 3) k ts final refl (at_next _ _ (k ∷ ts) final p.2 b.read) in
           let q = head_token k.token head.InteractionClass 3 s w.next w.step in
           let z = interaction_class_begun q.keyword 3 q.place q.begins in
           let fits : Fits k.token (Means word.Class) = rw z.0 at q.fits in
-          let at_name : w.next ≡ reader (at.Name name.InteractionClass) 3 [] c = q.then ∙ ap (λ (place : Place). moved s place 3) z.1 in
+          let at_name : w.next ≡ reader (at.Name name.InteractionClass) 3 [] c = q.then ∙ ap (λ (place : Place). reader_at s place 3) z.1 in
           let a = subclass_back 3 [] c ts final (at_next _ _ ts final at_name w.read) in
           let inner = (length c.interaction_classes + 1) ∷ [] in
           let opened = with_interaction_class [] a.name (transport_of a.options) (order_of a.options) c in
@@ -216,13 +216,13 @@ parts_back (suc n) c (t ∷ k ∷ ts) final few h =
           record { parts = NoPart; fit = tt; tail = record { rest = k ∷ ts; fewer = omega arith; spelled = λ ss sp. (p.0, sp); read = at_next _ _ (k ∷ ts) final behind b.read } }
       | inl p ↦
           let s = reader (at.Between lists.Parts) 1 [] c in
-          let w = back (moved s (at.Head head.Part) 2) k ts final refl (at_next _ _ (k ∷ ts) final p.2 b.read) in
+          let w = back (reader_at s (at.Head head.Part) 2) k ts final refl (at_next _ _ (k ∷ ts) final p.2 b.read) in
           let q = head_token k.token head.Part 2 s w.next w.step in
           let few_left : length ts ≤ n = omega arith in
           elim (part_begun q.keyword 2 q.place q.begins) [
             | BeginsLabel kw there ↦
                 let fits : Fits k.token (Means word.Label) = rw kw at q.fits in
-                let a = label_back c ts final (at_next _ _ ts final (q.then ∙ ap (λ (place : Place). moved s place 2) there) w.read) in
+                let a = label_back c ts final (at_next _ _ ts final (q.then ∙ ap (λ (place : Place). reader_at s place 2) there) w.read) in
                 let fewer : length a.tail.rest ≤ n = omega (arith, a.tail.fewer) in
                 let others = parts_back n c a.tail.rest final fewer a.tail.read in
                 let less : length others.tail.rest ≤ length (t ∷ k ∷ ts) = omega (arith, a.tail.fewer, others.tail.fewer) in
@@ -233,7 +233,7 @@ parts_back (suc n) c (t ∷ k ∷ ts) final few h =
                 }
             | BeginsIgnored kw there ↦
                 let fits : Fits k.token (Means word.Ignored) = rw kw at q.fits in
-                let a = list_back s within.File 1 ts final (at_next _ _ ts final (q.then ∙ ap (λ (place : Place). moved s place 2) there) w.read) in
+                let a = list_back s within.File 1 ts final (at_next _ _ ts final (q.then ∙ ap (λ (place : Place). reader_at s place 2) there) w.read) in
                 let fewer : length a.tail.rest ≤ n = omega (arith, a.tail.fewer) in
                 let others = parts_back n c a.tail.rest final fewer a.tail.read in
                 let less : length others.tail.rest ≤ length (t ∷ k ∷ ts) = omega (arith, a.tail.fewer, others.tail.fewer) in
@@ -244,7 +244,7 @@ parts_back (suc n) c (t ∷ k ∷ ts) final few h =
                 }
             | BeginsObjects kw there ↦
                 let fits : Fits k.token (Means word.Objects) = rw kw at q.fits in
-                let a = object_classes_back n c ts final few_left (at_next _ _ ts final (q.then ∙ ap (λ (place : Place). moved s place 2) there) w.read) in
+                let a = object_classes_back n c ts final few_left (at_next _ _ ts final (q.then ∙ ap (λ (place : Place). reader_at s place 2) there) w.read) in
                 let fewer : length a.tail.rest ≤ n = omega (arith, a.tail.fewer) in
                 let others = parts_back n (object_classes_declare a.classes c) a.tail.rest final fewer a.tail.read in
                 let less : length others.tail.rest ≤ length (t ∷ k ∷ ts) = omega (arith, a.tail.fewer, others.tail.fewer) in
@@ -255,7 +255,7 @@ parts_back (suc n) c (t ∷ k ∷ ts) final few h =
                 }
             | BeginsInteractions kw there ↦
                 let fits : Fits k.token (Means word.Interactions) = rw kw at q.fits in
-                let a = interaction_classes_back n c ts final few_left (at_next _ _ ts final (q.then ∙ ap (λ (place : Place). moved s place 2) there) w.read) in
+                let a = interaction_classes_back n c ts final few_left (at_next _ _ ts final (q.then ∙ ap (λ (place : Place). reader_at s place 2) there) w.read) in
                 let fewer : length a.tail.rest ≤ n = omega (arith, a.tail.fewer) in
                 let others = parts_back n (interaction_classes_declare a.classes c) a.tail.rest final fewer a.tail.read in
                 let less : length others.tail.rest ≤ length (t ∷ k ∷ ts) = omega (arith, a.tail.fewer, others.tail.fewer) in
@@ -311,11 +311,11 @@ file_back (t ∷ []) final h =
 file_back (t ∷ k ∷ ts) final h =
     let b = back start t (k ∷ ts) final refl h in
     let p = start_token t.token b.next b.step in
-    let w = back (moved start (at.Head head.File) 1) k ts final refl (at_next _ _ (k ∷ ts) final p.1 b.read) in
+    let w = back (reader_at start (at.Head head.File) 1) k ts final refl (at_next _ _ (k ∷ ts) final p.1 b.read) in
     let q = head_token k.token head.File 1 start w.next w.step in
     let z = file_begun q.keyword 1 q.place q.begins in
     let fits : Fits k.token (Means word.Fed) = rw z.0 at q.fits in
-    let a = parts_back (length ts) empty_catalogue ts final (omega arith) (at_next _ _ ts final (q.then ∙ ap (λ (place : Place). moved start place 1) z.1) w.read) in
+    let a = parts_back (length ts) empty_catalogue ts final (omega arith) (at_next _ _ ts final (q.then ∙ ap (λ (place : Place). reader_at start place 1) z.1) w.read) in
     let e = done_back (parts_declare a.parts empty_catalogue) a.tail.rest final a.tail.read in
     (a.parts, (p.0, (fits, a.tail.spelled _ e.0)), a.fit, e.1)
 

@@ -51,8 +51,8 @@ pub peers_of-silent : (n : ℕ) → peers_of (replicate n silent_peer) ≡ table
 peers_of-silent n = same_tables _ _ _ _ (fun_ext (λ g. ap (λ (r : PeerRow). r.bound) (silent_at n g))) (fun_ext (λ g. ap (λ (r : PeerRow). r.epoch) (silent_at n g)))
 
 -- ---- a null message
-pub raised : (known bound epoch value : ℕ) → epoch ≡ known → max bound value ≡ null_bound known bound epoch value
-raised known bound epoch value same = let y : eqb epoch known ≡ true = grind (arith, nat_tests) in rw y
+pub raised_bound : (known bound epoch value : ℕ) → epoch ≡ known → max bound value ≡ null_bound known bound epoch value
+raised_bound known bound epoch value same = let y : eqb epoch known ≡ true = grind (arith, nat_tests) in rw y
 
-pub ignored : (known bound epoch value : ℕ) → (epoch ≡ known → ⊥) → bound ≡ null_bound known bound epoch value
-ignored known bound epoch value apart = let n : eqb epoch known ≡ false = grind (arith, nat_tests) in rw n
+pub ignored_bound : (known bound epoch value : ℕ) → (epoch ≡ known → ⊥) → bound ≡ null_bound known bound epoch value
+ignored_bound known bound epoch value apart = let n : eqb epoch known ≡ false = grind (arith, nat_tests) in rw n

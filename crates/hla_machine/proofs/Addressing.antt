@@ -58,22 +58,22 @@ copy_here joined bag f m copy g none = rw (eq-eqb f f refl, eq-eqb m m refl, non
     end true None = refl
     end true (Some k) = refl
 
-made : (b : Bool) (x : Option Content) (make : Content → Copy) → (b && is_some x) ≡ true → ((y : Content) → (make y).content ≡ y) → (k : Copy) × (when b (option_map make x) ≡ Some k) × (x ≡ Some k.content)
-made true (Some x) make e same = (make x, refl, λ i. Some (sym (same x) i))
-made true None make e same = absurd (cc)
-made false x make e same = absurd (cc)
+made_copy : (b : Bool) (x : Option Content) (make : Content → Copy) → (b && is_some x) ≡ true → ((y : Content) → (make y).content ≡ y) → (k : Copy) × (when b (option_map make x) ≡ Some k) × (x ≡ Some k.content)
+made_copy true (Some x) make e same = (make x, refl, λ i. Some (sym (same x) i))
+made_copy true None make e same = absurd (cc)
+made_copy false x make e same = absurd (cc)
 
-unmade : (b : Bool) (x : Option Content) (make : Content → Copy) → (b && is_some x) ≡ false → when b (option_map make x) ≡ None
-unmade true (Some x) make e = absurd (cc)
-unmade true None make e = refl
-unmade false x make e = refl
+unmade_copy : (b : Bool) (x : Option Content) (make : Content → Copy) → (b && is_some x) ≡ false → when b (option_map make x) ≡ None
+unmade_copy true (Some x) make e = absurd (cc)
+unmade_copy true None make e = refl
+unmade_copy false x make e = refl
 
 message_sent : (c : Central) (f : ℕ) (stamp : Option ℕ) (out : Outgoing) → NoneAhead c f → IsSentTo c.directory (after_message c f stamp out).bag f (c.serial f) out
 message_sent c f stamp out none = record {
   receivers = λ g is.
-      let w = made (is_other c.directory.joined f g) (content_for c.directory out.body g) _ is (λ y. refl) in
+      let w = made_copy (is_other c.directory.joined f g) (content_for c.directory out.body g) _ is (λ y. refl) in
       (w.0, copy_here c.directory.joined c.bag f (c.serial f) (copy_for c.directory (c.row f) stamp out) g (none (c.serial f) g (omega arith)) ∙ w.1, w.2);
-  others = λ g is. copy_here c.directory.joined c.bag f (c.serial f) (copy_for c.directory (c.row f) stamp out) g (none (c.serial f) g (omega arith)) ∙ unmade (is_other c.directory.joined f g) (content_for c.directory out.body g) _ is;
+  others = λ g is. copy_here c.directory.joined c.bag f (c.serial f) (copy_for c.directory (c.row f) stamp out) g (none (c.serial f) g (omega arith)) ∙ unmade_copy (is_other c.directory.joined f g) (content_for c.directory out.body g) _ is;
 }
 
 sent_in : (d : Directory) (to bag : ℕ → ℕ → ℕ → Option Copy) (f m : ℕ) (out : Outgoing) → ((g : ℕ) → to f m g ≡ bag f m g) → IsSentTo d bag f m out → IsSentTo d to f m out

@@ -29,7 +29,7 @@ use Rattle.hla_machine.specs.Machine.{central_seen, MayAnswer, MayDo, MayEnd, af
 use Rattle.hla_base.proofs.Tables.{upd_each, upd2_each}
 use Rattle.hla_machine.proofs.Tests.{clear_call}
 use Rattle.hla_machine.proofs.Keeps.{IsKept, NoMore, fewer_removed, fewer_demoted, fewer_moved, keeps_sent, new_or_old}
-use Rattle.hla_machine.proofs.Services.{EachHigh, unordered, high_stamps, left_fewer, same_bag}
+use Rattle.hla_machine.proofs.Services.{EachHigh, each_high_unstamped, high_stamps, left_fewer, same_bag}
 
 -- each unretracted copy in time-stamp order is at or above its constrained receiver's bar, or was there before
 abbrev pub News : Central → Central → Type 0
@@ -105,7 +105,7 @@ cease_change c f (choice.Moved events) = calm c _ (fewer_change c (with_demoted 
 cease_change c f o = calm c _ (no_news c) (refl, refl)
 
 call_change : (c : Central) (f : ℕ) (s : Service) (a : Answer) (o : Choice) → refusal (central_seen c) (Call f s) ≡ None → MayAnswer c f s a o → IsKept c → Change c (after_call c f s o)
-call_change c f (service.Resign DeleteObjects) a o none may k = let outs = deletions_sent (objects_of c.directory f) in left_change c (after_messages c f None outs) f (sends_change c f None outs (unordered (c.row f) outs) k)
+call_change c f (service.Resign DeleteObjects) a o none may k = let outs = deletions_sent (objects_of c.directory f) in left_change c (after_messages c f None outs) f (sends_change c f None outs (each_high_unstamped (c.row f) outs) k)
 call_change c f (service.Resign NoAction) a o none may k = left_change c c f (calm c c (no_news c) (refl, refl))
 call_change c f (service.UpdateAttributeValues object values stamp) a o none may k = let x = clear_call (central_seen c) f (service.UpdateAttributeValues object values stamp) none in let outs = update_sent c.directory object values in
     let x1 = x.1 in let x2 = x1.1 in let x3 = x2.1 in let x4 = x3.1 in sends_change c f stamp outs (high_stamps (c.row f) stamp outs x4.0) k

@@ -38,7 +38,7 @@ use Rattle.hla_machine.proofs.Tests.{caller_joined}
 use Rattle.hla_machine.proofs.CentralInvariant.{laws_after, laws_start}
 use Rattle.hla_machine.proofs.Fates.{Owing, at_cases, copies_stay, demoted_cases, handle_is}
 use Rattle.hla_machine.proofs.Retractions.{IsSound, step_onward, sound_start}
-use Rattle.hla_machine.proofs.Ahead.{given}
+use Rattle.hla_machine.proofs.Ahead.{given_of}
 
 -- a copy lies in the bag
 abbrev Lies : (ℕ → ℕ → ℕ → Option Copy) → ℕ → ℕ → ℕ → Type 0
@@ -177,8 +177,8 @@ reach_run c (h ∷ hs) d f e run w is =
     by_course later (Given x gives names) = inr (inl (record { given = x; gives = gives; names = names }))
 
 -- what is on its way to a federate stays so, or is settled
-pub reaches : (c : Central) (hs : List Happening) (d : Central) (f : ℕ) (e : EventHandle) → HasHistory c → IsRun c hs d → IsOnItsWay c f e → IsOnItsWay d f e ⊎ IsSettled c hs f e
-reaches c hs d f e is run way =
+pub settled_or_on_its_way : (c : Central) (hs : List Happening) (d : Central) (f : ℕ) (e : EventHandle) → HasHistory c → IsRun c hs d → IsOnItsWay c f e → IsOnItsWay d f e ⊎ IsSettled c hs f e
+settled_or_on_its_way c hs d f e is run way =
     reach_run c hs d f e run (reliable_run (new_central is.catalogue) is.before c is.run (record { laws = laws_start is.catalogue; sound = sound_start is.catalogue })) way
 
 pub reliable_at : (c : Central) (h : Happening) → Happens c h → CentralInv c

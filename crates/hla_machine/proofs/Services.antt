@@ -89,16 +89,16 @@ high_stamps r stamp outs fine = high_each r stamp outs (λ some. ⊎_elim
     (λ (n : ltb (unwrap_or stamp 0) (least_stamp r) ≡ false). ltb-false _ _ n)
     (and_cases _ _ (or_parts _ _ fine).1))
 
-pub unordered : (r : TimeRow) (outs : List Outgoing) → EachHigh r None outs
-unordered r [] = tt
-unordered r (out ∷ outs) = ((λ o. let p : false ≡ true = (and_parts (is_of_order Timestamp out.order) false (and_parts _ _ o).0).1 in absurd (cc)), unordered r outs)
+pub each_high_unstamped : (r : TimeRow) (outs : List Outgoing) → EachHigh r None outs
+each_high_unstamped r [] = tt
+each_high_unstamped r (out ∷ outs) = ((λ o. let p : false ≡ true = (and_parts (is_of_order Timestamp out.order) false (and_parts _ _ o).0).1 in absurd (cc)), each_high_unstamped r outs)
 
 pub sends_keep : (c : Central) (f : ℕ) (stamp : Option ℕ) (outs : List Outgoing) → EachHigh (c.row f) stamp outs → IsKept c → IsKept (after_messages c f stamp outs)
 sends_keep c f stamp [] high k = k
 sends_keep c f stamp (out ∷ outs) high k = sends_keep (after_message c f stamp out) f stamp outs high.1 (keeps_sent c f stamp out k high.0)
 
 pub resign_keeps : (c : Central) (f : ℕ) (way : ResignAction) → IsKept c → IsKept (after_resign c f way)
-resign_keeps c f DeleteObjects k = let outs = deletions_sent (objects_of c.directory f) in left_keeps (after_messages c f None outs) f (sends_keep c f None outs (unordered (c.row f) outs) k)
+resign_keeps c f DeleteObjects k = let outs = deletions_sent (objects_of c.directory f) in left_keeps (after_messages c f None outs) f (sends_keep c f None outs (each_high_unstamped (c.row f) outs) k)
 resign_keeps c f NoAction k = left_keeps c f k
 resign_keeps c f ReleaseAttributes k = k
 resign_keeps c f DeleteObjectsAndReleaseAttributes k = k

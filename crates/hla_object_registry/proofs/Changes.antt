@@ -72,29 +72,29 @@ module _ (rs : List Registered) where
         ∙ ap (λ t. t k) (upd-self (registry_of rs).known h _ refl g))
 
 -- the object, deleted if it is the federate's
-abbrev pub withdrawn : ℕ → Registered → Registered
-withdrawn f x = record x { object = record x.object { exists = x.object.exists && not (eqb x.object.owner f) } }
+abbrev pub object_after_withdrawal : ℕ → Registered → Registered
+object_after_withdrawal f x = record x { object = record x.object { exists = x.object.exists && not (eqb x.object.owner f) } }
 
 -- the first n objects are as they were, and deleted if they are the federate's; the others are as they were
 pub record IsWithdrawn (f n : ℕ) (old new : List Registered) : Type 0 where
   pub length_same : length new ≡ length old
-  pub before : (k : ℕ) → k < n → item_at unregistered_object new (suc k) ≡ withdrawn f (item_at unregistered_object old (suc k))
+  pub before : (k : ℕ) → k < n → item_at unregistered_object new (suc k) ≡ object_after_withdrawal f (item_at unregistered_object old (suc k))
   pub after : (k : ℕ) → n ≤ k → item_at unregistered_object new (suc k) ≡ item_at unregistered_object old (suc k)
 
 pub none_withdrawn : (f : ℕ) (rs : List Registered) → IsWithdrawn f 0 rs rs
 none_withdrawn f rs = record { length_same = refl; before = λ k below. absurd (omega arith); after = λ k _. refl }
 
-pub one_withdrawn : (f n : ℕ) (old new : List Registered) → IsWithdrawn f n old new → n < length new → IsWithdrawn f (n + 1) old (set new n (withdrawn f (item_at unregistered_object new (suc n))))
+pub one_withdrawn : (f n : ℕ) (old new : List Registered) → IsWithdrawn f n old new → n < length new → IsWithdrawn f (n + 1) old (set new n (object_after_withdrawal f (item_at unregistered_object new (suc n))))
 one_withdrawn f n old new h within =
-    let x = withdrawn f (item_at unregistered_object new (suc n)) in
+    let x = object_after_withdrawal f (item_at unregistered_object new (suc n)) in
     let same : length new ≡ length old = h.length_same in
     let back : suc n - 1 ≡ n = omega arith in
     let written = λ (g : ℕ). ap (λ m. item_at unregistered_object (set new m x) g) (sym back) ∙ item-set unregistered_object new (suc n) x (omega arith) (omega arith) g in
     record {
       length_same = length-set new n x ∙ same;
       before = λ k below. ⊎_elim
-          (λ (e : k ≡ n). subst (λ m. item_at unregistered_object (set new n x) (suc m) ≡ withdrawn f (item_at unregistered_object old (suc m))) (sym e)
-          (written (suc n) ∙ upd_same (item_at unregistered_object new) (suc n) x ∙ ap (withdrawn f) (h.after n (omega arith))))
+          (λ (e : k ≡ n). subst (λ m. item_at unregistered_object (set new n x) (suc m) ≡ object_after_withdrawal f (item_at unregistered_object old (suc m))) (sym e)
+          (written (suc n) ∙ upd_same (item_at unregistered_object new) (suc n) x ∙ ap (object_after_withdrawal f) (h.after n (omega arith))))
           (λ (ne : k ≢ n). written (suc k) ∙ upd_other (item_at unregistered_object new) (suc n) x (suc k) (λ e. ne (omega arith)) ∙ h.before k (omega arith))
           (cases_eq k n);
       after = λ k above. written (suc k) ∙ upd_other (item_at unregistered_object new) (suc n) x (suc k) (λ e. absurd (omega arith)) ∙ h.after k (omega arith);
@@ -106,11 +106,11 @@ all_withdrawn f n old new h all = registry_ext
     (λ g. ap (λ (r : Registered). r.object) (each g))
     (λ g k. ap (λ (r : Registered). is_in r.known k) (each g))
   where
-    each : (g : ℕ) → item_at unregistered_object new g ≡ withdrawn f (item_at unregistered_object old g)
+    each : (g : ℕ) → item_at unregistered_object new g ≡ object_after_withdrawal f (item_at unregistered_object old g)
     each zero = refl
     each (suc k) = ⊎_elim
         (λ (below : k < n). h.before k below)
         (λ (above : n ≤ k).
         let same : length new ≡ length old = h.length_same in
-        item-none unregistered_object new (suc k) (omega arith) ∙ ap (withdrawn f) (sym (item-none unregistered_object old (suc k) (omega arith))))
+        item-none unregistered_object new (suc k) (omega arith) ∙ ap (object_after_withdrawal f) (sym (item-none unregistered_object old (suc k) (omega arith))))
         (cases_lt k n)

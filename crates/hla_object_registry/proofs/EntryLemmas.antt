@@ -6,7 +6,7 @@ use Rattle.std.specs.Map.{values_of}
 use Rattle.hla_base.specs.Tables.{upd, upd2}
 use Rattle.hla_object_registry.specs.Registered.{Registered, unregistered_object, item_at, is_in, registry_of}
 use Rattle.hla_object_registry.proofs.Items.{numbered_within}
-use Rattle.hla_object_registry.proofs.Changes.{one_more, one_known, one_changed, IsWithdrawn, withdrawn, one_withdrawn}
+use Rattle.hla_object_registry.proofs.Changes.{one_more, one_known, one_changed, IsWithdrawn, object_after_withdrawal, one_withdrawn}
 use Rattle.std.specs.Option.{option_map}
 use Rattle.std.specs.declared.vec.Vec.{Vec}
 use Rattle.std.specs.declared.alloc.Global.{Global}
@@ -102,5 +102,5 @@ entry_withdrawn f n old new v at within before =
     let there : slice_get (values_of new) (suc n - 1) ≡ Some v = subst (λ m. slice_get (values_of new) m ≡ Some v) back at in
     let k = key_at new n v at in
     let x : item_at unregistered_object (registered_objects new) (suc n) ≡ registered_object (k.0, v) = ap (λ o. unwrap_or o unregistered_object) (numbered_within (registered_objects new) (suc n) (λ z. absurd (omega arith)) ∙ ap (slice_get (registered_objects new)) (sym back) ∙ sym (slice_get-registered new n) ∙ ap (option_map registered_object) k.1) in
-    subst (IsWithdrawn f (n + 1) (registered_objects old)) (ap (λ (r : Registered). set (registered_objects new) n (withdrawn f r)) x ∙ sym (registered-set new n k.0 v _ k.1))
+    subst (IsWithdrawn f (n + 1) (registered_objects old)) (ap (λ (r : Registered). set (registered_objects new) n (object_after_withdrawal f r)) x ∙ sym (registered-set new n k.0 v _ k.1))
     (one_withdrawn f n (registered_objects old) (registered_objects new) before (omega (arith, within, length-registered new)))

@@ -157,9 +157,9 @@ module _ (rs : List Registered) (name : List ℕ) where
         (cases_Bool (is_known_in (registry_of rs) f j && bytes_eq (item_at unregistered_object rs j).object.name name)))
 
 -- a name that no object has is entered last
-pub inserted : (es : Entries) (rs : List Registered) (name : List ℕ) (k : Vec ℕ Global) (v : Entry) → registered_objects es ≡ rs → k.items ≡ name → is_name_used_in (registry_of rs) name ≡ false
+pub entry_inserted_last : (es : Entries) (rs : List Registered) (name : List ℕ) (k : Vec ℕ Global) (v : Entry) → registered_objects es ≡ rs → k.items ≡ name → is_name_used_in (registry_of rs) name ≡ false
     → insert_entry same_key es k v ≡ es ++ (k, v) ∷ []
-inserted es rs name k v view same unused = absent_inserted es k v (ap (λ n. lookup (is_key n) es) same ∙ not_looked_up es name (let P : List Registered → Type 0 = λ l. IsUnused l name in subst P (sym view) (unused_from rs name unused)))
+entry_inserted_last es rs name k v view same unused = absent_inserted es k v (ap (λ n. lookup (is_key n) es) same ∙ not_looked_up es name (let P : List Registered → Type 0 = λ l. IsUnused l name in subst P (sym view) (unused_from rs name unused)))
   where
     absent_inserted : (all : Entries) (k : Vec ℕ Global) (v : Entry) → lookup (is_key k.items) all ≡ None → insert_entry same_key all k v ≡ all ++ (k, v) ∷ []
     absent_inserted [] k v h = refl

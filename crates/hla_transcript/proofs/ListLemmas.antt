@@ -30,9 +30,9 @@ all_of {X = X} text bs xs i h =
     ap (λ (ys : List (ℕ × X)). bs ++ flat_map (λ p. text p.0 p.1) ys) (take_all i es whole)
 
 -- the line of what the class declares itself
-pub shown : (a b : ℕ) (line : List ℕ) → a ≡ b → line ≡ (if a == b then line else [])
-shown a b line h = rw (eq-eqb a b h) refl
+pub shown_line : (a b : ℕ) (line : List ℕ) → a ≡ b → line ≡ (if a == b then line else [])
+shown_line a b line h = rw (eq-eqb a b h) refl
 
 -- nothing of what another class declares
-pub hidden : (a b : ℕ) (line text : List ℕ) → (a ≡ b → ⊥) → text ≡ text ++ (if a == b then line else [])
-hidden a b line text h = grind (arith, common_steps, nat_tests, append-nil text)
+pub hidden_line : (a b : ℕ) (line text : List ℕ) → (a ≡ b → ⊥) → text ≡ text ++ (if a == b then line else [])
+hidden_line a b line text h = grind (arith, common_steps, nat_tests, append-nil text)

@@ -152,9 +152,9 @@ sent_directory s f stamp [] = refl
 sent_directory s f stamp (out ∷ outs) = sent_directory (with_message_sent s f stamp out) f stamp outs
 
 -- without a stamp nothing goes in time-stamp order
-unordered : (s : Components) (f : ℕ) (outs : List Outgoing) → EachOf (λ (out : Outgoing). is_ordered (s.row f) None out ≡ true → least_stamp (s.row f) ≤ 0) outs
-unordered s f [] = tt
-unordered s f (out ∷ outs) = ((λ o. let p : false ≡ true = (and_parts (is_of_order Timestamp out.order) false (and_parts _ _ o).0).1 in absurd (cc)), unordered s f outs)
+each_unstamped_low : (s : Components) (f : ℕ) (outs : List Outgoing) → EachOf (λ (out : Outgoing). is_ordered (s.row f) None out ≡ true → least_stamp (s.row f) ≤ 0) outs
+each_unstamped_low s f [] = tt
+each_unstamped_low s f (out ∷ outs) = ((λ o. let p : false ≡ true = (and_parts (is_of_order Timestamp out.order) false (and_parts _ _ o).0).1 in absurd (cc)), each_unstamped_low s f outs)
 
 deletions_told : (s : Components) (f : ℕ) (kept : Kept s) (hs : List ℕ) → EachOf (λ h. ((s.directory.object h).exists && eqb (s.directory.object h).owner f) ≡ true) hs → EachOf (Told s.directory f) (deletions_sent hs)
 deletions_told s f kept [] own = tt
@@ -168,7 +168,7 @@ step_resign s f DeleteObjects kept none =
     let outs = deletions_sent (objects_of s.directory f) in
     let t = with_messages_sent s f None outs in
     let member = caller_joined (components_seen s) f (service.Resign DeleteObjects) none in
-    let may : EachOf (IsSendable s f None) outs = sendable s f None outs (unordered s f outs) (deletions_told s f kept (objects_of s.directory f) (EachOf-passed _ (numbers_below s.directory.next_object))) in
+    let may : EachOf (IsSendable s f None) outs = sendable s f None outs (each_unstamped_low s f outs) (deletions_told s f kept (objects_of s.directory f) (EachOf-passed _ (numbers_below s.directory.next_object))) in
     let sent = kept_sent_all s f None outs kept member may in
     let still : t.directory.joined f ≡ true = subst (λ (d : Directory). d.joined f ≡ true) (sym (sent_directory s f None outs)) member in
     record {

@@ -59,8 +59,8 @@ directory_unsubscribed d f class inv member = record {
 }
 
 -- a discovery is made where there is one to make
-made : (d : Directory) (f h : ℕ) → (d.object h).exists ≡ true → (d.object h).owner ≢ f → is_some (served_object d f (d.object h).class) ≡ true → d.known h f ≡ false → is_some (discovery_of d f h) ≡ true
-made d f h exists other served unknown = rw (exists, ne_eqb (d.object h).owner f other, unknown) (some (served_object d f (d.object h).class) served)
+made_discovery : (d : Directory) (f h : ℕ) → (d.object h).exists ≡ true → (d.object h).owner ≢ f → is_some (served_object d f (d.object h).class) ≡ true → d.known h f ≡ false → is_some (discovery_of d f h) ≡ true
+made_discovery d f h exists other served unknown = rw (exists, ne_eqb (d.object h).owner f other, unknown) (some (served_object d f (d.object h).class) served)
   where
     some : (o : Option ℕ) → is_some o ≡ true → is_some (option_map (discovery_at d h) o) ≡ true
     some None s = absurd (cc)
@@ -78,7 +78,7 @@ directory_subscribed d f class o inv member = record {
         → cond (eqb f f && is_some (discovery_of (with_subscribed d f class o) f h)) true (d.known h f) ≡ true
     here h j x other s = ⊎_elim
         (λ (y : d.known h f ≡ true). cond_both (eqb f f && is_some (discovery_of (with_subscribed d f class o) f h)) true (d.known h f) (λ b. b ≡ true) (λ _. refl) (λ _. y))
-        (λ (n : d.known h f ≡ false). rw (and_from _ _ (eq-eqb f f refl) (made (with_subscribed d f class o) f h x other s n)) refl)
+        (λ (n : d.known h f ≡ false). rw (and_from _ _ (eq-eqb f f refl) (made_discovery (with_subscribed d f class o) f h x other s n)) refl)
         (cases_Bool (d.known h f))
 
     there : (g : ℕ) → f ≢ g → (h : ℕ) → d.joined g ≡ true → (d.object h).exists ≡ true → (d.object h).owner ≢ g → is_some (served_object (with_subscribed d f class o) g (d.object h).class) ≡ true
@@ -127,7 +127,7 @@ directory_registered d f class name inv member = record {
         → cond (eqb d.next_object d.next_object && d.joined g && is_some (discovery_of (with_object d f class name) g d.next_object)) true ((with_object d f class name).known d.next_object g) ≡ true
     here g j x other s = told g d.next_object (⊎_elim
         (λ (y : (with_object d f class name).known d.next_object g ≡ true). inl y)
-        (λ (n : (with_object d f class name).known d.next_object g ≡ false). inr (and_from _ _ (and_from _ _ (eq-eqb d.next_object d.next_object refl) j) (made (with_object d f class name) g d.next_object x other s n)))
+        (λ (n : (with_object d f class name).known d.next_object g ≡ false). inr (and_from _ _ (and_from _ _ (eq-eqb d.next_object d.next_object refl) j) (made_discovery (with_object d f class name) g d.next_object x other s n)))
         (cases_Bool ((with_object d f class name).known d.next_object g)))
 
     there : (g h : ℕ) → d.next_object ≢ h → d.joined g ≡ true → ((with_object d f class name).object h).exists ≡ true → ((with_object d f class name).object h).owner ≢ g

@@ -51,25 +51,25 @@ wires_to next f o ds wire same nothing above = fun_ext (λ g. fun_ext (λ h. at 
         (cases_Bool (eqb f h))
 
 -- the tables afterwards
-abbrev pub subscribing : FederationValue → ℕ → ℕ → List ℕ → Directory
-subscribing old f class a = with_subscribed (state_of old).directory f class (Some a)
+abbrev pub directory_after_subscribe : FederationValue → ℕ → ℕ → List ℕ → Directory
+directory_after_subscribe old f class a = with_subscribed (state_of old).directory f class (Some a)
 
 abbrev pub declarations_after : FederationValue → ℕ → ℕ → List ℕ → DeclarationsValue
 declarations_after old f class a = record (declared.declarations_of old.declarations) { subscribed = upd2 (declared.declarations_of old.declarations).subscribed f class (Some a) }
 
 abbrev pub objects_after : FederationValue → ℕ → ℕ → List ℕ → RegistryValue
-objects_after old f class a = record (registry_of old.objects) { known = (with_discoveries_made (subscribing old f class a) f).known }
+objects_after old f class a = record (registry_of old.objects) { known = (with_discoveries_made (directory_after_subscribe old f class a) f).known }
 
 abbrev pub members_after : FederationValue → ℕ → (ℕ → List Message) → MemberTables
 members_after old f o = record (members_of old.members) { wire = wires_posted_below (To f) o (members_of old.members).next_federate (members_of old.members).wire }
 
 module _ (old : FederationValue) (f class : ℕ) (a : List ℕ) (d : DeclarationLists) (r : List Registered) (m : List MemberValue) (o : ℕ → List Message) where
   pub subscribed_state : DirectoryInv (state_of old).directory → declared.declarations_of d ≡ declarations_after old f class a → registry_of r ≡ objects_after old f class a → members_of m ≡ members_after old f o
-      → ((g : ℕ) → o g ≡ map message.Discovery (discoveries_of (subscribing old f class a) g f)) → o 0 ≡ [] → with_class_subscribed (state_of old) f (subscribing old f class a) ≡ state_of (record old { declarations = d; objects = r; members = m })
+      → ((g : ℕ) → o g ≡ map message.Discovery (discoveries_of (directory_after_subscribe old f class a) g f)) → o 0 ≡ [] → with_class_subscribed (state_of old) f (directory_after_subscribe old f class a) ≡ state_of (record old { declarations = d; objects = r; members = m })
   subscribed_state inv d_is r_is m_is out nothing =
-      ap (λ (w : ℕ → ℕ → List Message). record (state_of old) { directory = with_discoveries_made (subscribing old f class a) f; wire = w })
-      (wires_to (members_of old.members).next_federate f o (λ g. map message.Discovery (discoveries_of (subscribing old f class a) g f)) (members_of old.members).wire out nothing
-      (λ g above. ap (map message.Discovery) (no_owner (subscribing old f class a) g f (λ h exists. (inv.owners h exists).0) above)))
+      ap (λ (w : ℕ → ℕ → List Message). record (state_of old) { directory = with_discoveries_made (directory_after_subscribe old f class a) f; wire = w })
+      (wires_to (members_of old.members).next_federate f o (λ g. map message.Discovery (discoveries_of (directory_after_subscribe old f class a) g f)) (members_of old.members).wire out nothing
+      (λ g above. ap (map message.Discovery) (no_owner (directory_after_subscribe old f class a) g f (λ h exists. (inv.owners h exists).0) above)))
       ∙ sym (λ i. state_from old.catalogue (d_is i) (r_is i) (m_is i))
 
   pub subscribed_whole : IsWhole old → (members_of old.members).joined f ≡ true → declared.declarations_of d ≡ declarations_after old f class a → registry_of r ≡ objects_after old f class a → members_of m ≡ members_after old f o → IsWhole (record old { declarations = d; objects = r; members = m })

@@ -134,8 +134,8 @@ module _ (members : List MemberValue) (f : ℕ) (some : 0 < f) (within : f ≤ l
     wire = keep_wire i;
   })
 
-  pub left : (ks : List Control) → m.controls ≡ ks → members_of (set members (f - 1) (member_after_pick m ks)) ≡ with_first_picked t f ks
-  left [] is = changed members f (member_after_pick m []) some within ∙ (λ i. record {
+  pub tables_after_pick : (ks : List Control) → m.controls ≡ ks → members_of (set members (f - 1) (member_after_pick m ks)) ≡ with_first_picked t f ks
+  tables_after_pick [] is = changed members f (member_after_pick m []) some within ∙ (λ i. record {
     next_federate = t.next_federate;
     joined = keep (λ x. x.joined) i;
     name = keep (λ x. x.name) i;
@@ -144,7 +144,7 @@ module _ (members : List MemberValue) (f : ℕ) (some : 0 < f) (within : f ≤ l
     controls = keep (λ x. x.controls) i;
     wire = keep_wire i;
   })
-  left (k ∷ ks) is = changed members f (member_after_pick m (k ∷ ks)) some within ∙ (λ i. record {
+  tables_after_pick (k ∷ ks) is = changed members f (member_after_pick m (k ∷ ks)) some within ∙ (λ i. record {
     next_federate = t.next_federate;
     joined = keep (λ x. x.joined) i;
     name = keep (λ x. x.name) i;

@@ -17,9 +17,9 @@ pub record AreJoined (next g h : ℕ) : Type 0 where
   pub some_target : 0 < h
   pub target : h < next
 
-pub ends : (along : Direction) (next peer : ℕ) → IsEnd along next → 0 < peer → peer < next → AreJoined next (source along peer) (target along peer)
-ends (From f) next peer end some below = record { some_source = end.0; source = end.1; some_target = some; target = below }
-ends (To f) next peer end some below = record { some_source = some; source = below; some_target = end.0; target = end.1 }
+pub joined_ends : (along : Direction) (next peer : ℕ) → IsEnd along next → 0 < peer → peer < next → AreJoined next (source along peer) (target along peer)
+joined_ends (From f) next peer end some below = record { some_source = end.0; source = end.1; some_target = some; target = below }
+joined_ends (To f) next peer end some below = record { some_source = some; source = below; some_target = end.0; target = end.1 }
 
 -- a wire along the direction is the one with its peer
 ends_are : (along : Direction) (g h : ℕ) → is_along along g h ≡ true → (g ≡ source along (peer_along along g h)) × (h ≡ target along (peer_along along g h))
