@@ -153,10 +153,10 @@ module _ {X : Type 0} (t : ℕ → ℕ → X) (i : ℕ) (here there : ℕ → X)
   upd_new_else k l a b = rw (ne_eqb i k a, ne_eqb i l b) refl
 
 module _ {X : Type 0} (t : ℕ → ℕ → X) (i : ℕ) (x : X) where
-  pub clear_here : (k : ℕ) → upd_whole_column t i x k i ≡ x
+  pub upd_whole_column_here : (k : ℕ) → upd_whole_column t i x k i ≡ x
   unfolding upd_whole_column
-  clear_here k = rw (eq-eqb i i refl) refl
+  upd_whole_column_here k = rw (eq-eqb i i refl) refl
 
-  pub clear_else : (k l : ℕ) → i ≢ l → upd_whole_column t i x k l ≡ t k l
+  pub upd_whole_column_else : (k l : ℕ) → i ≢ l → upd_whole_column t i x k l ≡ t k l
   unfolding upd_whole_column
-  clear_else k l ne = rw (ne_eqb i l ne) refl
+  upd_whole_column_else k l ne = rw (ne_eqb i l ne) refl

@@ -49,15 +49,15 @@ item_numbered-set_other xs f (suc j) x some ne =
     item_numbered-suc (set xs (f - 1) x) j ∙ slice_get-set_other xs (f - 1) j x (λ same. ne (omega arith)) ∙ sym (item_numbered-suc xs j)
 
 -- the item at a number, read from its place
-pub numbered_read : {X : Type 0} (xs : List X) (f : ℕ) (x : X) → 0 < f → f ≤ length xs → x ≡ get_or xs (f - 1) x → item_numbered xs f ≡ Some x
-numbered_read xs zero x some within is = absurd (omega arith)
-numbered_read xs (suc k) x some within is =
+pub item_numbered_read : {X : Type 0} (xs : List X) (f : ℕ) (x : X) → 0 < f → f ≤ length xs → x ≡ get_or xs (f - 1) x → item_numbered xs f ≡ Some x
+item_numbered_read xs zero x some within is = absurd (omega arith)
+item_numbered_read xs (suc k) x some within is =
     let e : suc k - 1 ≡ k = omega arith in
     item_numbered-suc xs k ∙ slice_get_read xs (length xs) k x refl (omega arith) (rw e at is)
 
-pub numbered_past : {X : Type 0} (xs : List X) (f : ℕ) → length xs < f → item_numbered xs f ≡ None
-numbered_past xs zero past = refl
-numbered_past xs (suc k) past = item_numbered-suc xs k ∙ slice_get_past xs k (omega arith)
+pub item_numbered_past : {X : Type 0} (xs : List X) (f : ℕ) → length xs < f → item_numbered xs f ≡ None
+item_numbered_past xs zero past = refl
+item_numbered_past xs (suc k) past = item_numbered-suc xs k ∙ slice_get_past xs k (omega arith)
 
 -- one more item is at the next number
 pub item_numbered-push : {X : Type 0} (xs : List X) (x : X) (g : ℕ) → g ≢ length xs + 1 → item_numbered (xs ++ x ∷ []) g ≡ item_numbered xs g

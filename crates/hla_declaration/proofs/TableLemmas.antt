@@ -11,7 +11,7 @@ use Rattle.hla_declaration.specs.Members.{IsMember, IsCleared, new_declarer}
 use Rattle.hla_declaration.specs.Lists.{AreListsWhole}
 use Rattle.hla_declaration.specs.Declarations.{DeclarationsValue, table, declarations_of}
 use Rattle.hla_declaration.specs.declared.member.Member.{Member}
-use Rattle.hla_declaration.proofs.EntryLemmas.{item_numbered-set_same, item_numbered-set_other, numbered_read, numbered_past, item_numbered-push, item_numbered-push_last, entry-set, entry-replicate}
+use Rattle.hla_declaration.proofs.EntryLemmas.{item_numbered-set_same, item_numbered-set_other, item_numbered_read, item_numbered_past, item_numbered-push, item_numbered-push_last, entry-set, entry-replicate}
 
 -- what holds at f, and at each other number, holds at each
 by_number : (f : ℕ) (P : ℕ → Type 0) → P f → ((g : ℕ) → f ≢ g → P g) → (g : ℕ) → P g
@@ -27,7 +27,7 @@ module _ {X : Type 0} (absent : X) (row : Member → List X) (members : List Mem
     changed_there g ne k = ap (λ o. option_map_or (λ m. entry_at absent (row m) k) o absent) (item_numbered-set_other members f g new some ne)
 
     before_here : (k : ℕ) → table absent row members f k ≡ entry_at absent (row m) k
-    before_here k = ap (λ o. option_map_or (λ m. entry_at absent (row m) k) o absent) (numbered_read members f m some within is)
+    before_here k = ap (λ o. option_map_or (λ m. entry_at absent (row m) k) o absent) (item_numbered_read members f m some within is)
 
     -- a row that stays
     pub table_kept : row new ≡ row m → table absent row (set members (f - 1) new) ≡ table absent row members
@@ -58,7 +58,7 @@ module _ {X : Type 0} (absent : X) (row : Member → List X) (members : List Mem
   pub table_more : (new : Member) → ((class : ℕ) → entry_at absent (row new) class ≡ absent) → table absent row (members ++ new ∷ []) ≡ table absent row members
   table_more new nothing = fun_ext (λ g. fun_ext (λ k. by_number (length members + 1) (λ g. table absent row (members ++ new ∷ []) g k ≡ table absent row members g k)
       (ap (λ o. option_map_or (λ m. entry_at absent (row m) k) o absent) (item_numbered-push_last members new) ∙ nothing k
-      ∙ sym (ap (λ o. option_map_or (λ m. entry_at absent (row m) k) o absent) (numbered_past members (length members + 1) (omega arith))))
+      ∙ sym (ap (λ o. option_map_or (λ m. entry_at absent (row m) k) o absent) (item_numbered_past members (length members + 1) (omega arith))))
       (λ g ne. ap (λ o. option_map_or (λ m. entry_at absent (row m) k) o absent) (item_numbered-push members new g (λ e. ne (sym e)))) g))
 
 -- ---- all tables

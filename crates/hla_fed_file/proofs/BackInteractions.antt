@@ -26,14 +26,14 @@ use Rattle.hla_fed_file.specs.declared.place.Place.TheVariants as at
 use Rattle.hla_fed_file.specs.declared.reader.Reader.{Reader}
 use Rattle.hla_fed_file.proofs.ReadSteps.{alike, fits_left, fits_right, ignoring_reader, reader_at, pending, reader}
 use Rattle.hla_fed_file.proofs.ReadInteractions.{Waits, amended_class, behind_closes, behind_opens, class_amended, class_carried, first_of_class, inside, interaction_closes, parameter_closes}
-use Rattle.hla_fed_file.proofs.BackSteps.{Tail, at_next, back, between_token, head_token, kept_limit, list_back, name_token, none_left, ok_same, parameter_level_begun, was_named, went_deeper}
+use Rattle.hla_fed_file.proofs.BackSteps.{Tail, at_next, back, between_token, head_token, kept_limit, list_back, name_token, none_left, ok_same, parameter_level_begun, was_named, paren_opened_step}
 use Rattle.hla_fed_file.proofs.BackObjects.{Carries, OptionNext, Orders, Paren}
 
 -- Parameters.
 parameter_end_token : (token : text.Token) (d : ℕ) (l : List ℕ) (c : CatalogueValue) (next : Reader) → after_token (reader at.ParameterEnd d l c) token ≡ Ok next
     → (Fits token LeftParen × (d < 64) × (next ≡ reader (at.Head head.ParameterItem) (d + 1) l c)) ⊎ (Fits token RightParen × (after_close (reader at.ParameterEnd d l c) ≡ Ok next))
 unfolding after_open after_word after_quoted
-parameter_end_token text.Open d l c next ok = let p = went_deeper (at.Head head.ParameterItem) (reader at.ParameterEnd d l c) next ok in inl (tt, p.0, p.1)
+parameter_end_token text.Open d l c next ok = let p = paren_opened_step (at.Head head.ParameterItem) (reader at.ParameterEnd d l c) next ok in inl (tt, p.0, p.1)
 parameter_end_token text.Close d l c next ok = inr (tt, ok)
 parameter_end_token (text.Word w) d l c next ok = cc
 parameter_end_token (text.Quoted w) d l c next ok = cc

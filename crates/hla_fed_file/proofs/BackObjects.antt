@@ -25,7 +25,7 @@ use Rattle.hla_fed_file.specs.declared.place.Place.TheVariants as at
 use Rattle.hla_fed_file.specs.declared.reader.Reader.{Reader}
 use Rattle.hla_fed_file.proofs.ReadSteps.{fits_left, fits_right, half, ignoring_reader, reader_at, reader}
 use Rattle.hla_fed_file.proofs.ReadObjects.{EndsAttribute, with_options, attribute_ends, with_transport_option, class_closes, end_ends, kept_declares, kept_of, options_end, with_order_option, with_kept}
-use Rattle.hla_fed_file.proofs.BackSteps.{Tail, at_next, back, between_token, head_token, kept_limit, kept_room, level_begun, list_back, name_token, none_left, ok_same, was_named, went_deeper}
+use Rattle.hla_fed_file.proofs.BackSteps.{Tail, at_next, back, between_token, head_token, kept_limit, kept_room, level_begun, list_back, name_token, none_left, ok_same, was_named, paren_opened_step}
 
 -- Attributes.
 
@@ -43,7 +43,7 @@ attribute_end_token text.End d l kept c next ok = cc
 attribute_deeper : (p : Place) (d : ℕ) (l : List ℕ) (kept : Option Attribute) (c : CatalogueValue) (next : Reader) → EndsAttribute p → after_open (half p d l kept c) ≡ Ok next
     → (d < 64) × (next ≡ half (at.Head head.AttributeItem) (d + 1) l kept c)
 unfolding after_open
-attribute_deeper p d l kept c next e ok = went_deeper (at.Head head.AttributeItem) (half p d l kept c) next (sym (e.opens (half p d l kept c)) ∙ ok)
+attribute_deeper p d l kept c next e ok = paren_opened_step (at.Head head.AttributeItem) (half p d l kept c) next (sym (e.opens (half p d l kept c)) ∙ ok)
 
 -- the security levels of an attribute, and its end
 record LevelsRead (d : ℕ) (l : List ℕ) (kept : Option Attribute) (c : CatalogueValue) (ts : List Lexed) (final : CatalogueValue) : Type 0 where

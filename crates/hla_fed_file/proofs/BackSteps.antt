@@ -66,14 +66,14 @@ paren_opened_back : (b : Bool) (place : Place) (s next : Reader) → nat_le 64 s
 paren_opened_back true place s next e ok = cc
 paren_opened_back false place s next e ok = let less : s.depth < 64 = grind (arith, nat_tests) in (less, cc)
 
-pub went_deeper : (place : Place) (s next : Reader) → with_paren_opened place s ≡ Ok next → (s.depth < 64) × (next ≡ reader_at s place (s.depth + 1))
-went_deeper place s next ok = paren_opened_back (nat_le 64 s.depth) place s next refl ok
+pub paren_opened_step : (place : Place) (s next : Reader) → with_paren_opened place s ≡ Ok next → (s.depth < 64) × (next ≡ reader_at s place (s.depth + 1))
+paren_opened_step place s next ok = paren_opened_back (nat_le 64 s.depth) place s next refl ok
 
 -- where a list may begin or end
 pub between_token : (token : text.Token) (i : Lists) (d : ℕ) (l : List ℕ) (c : CatalogueValue) (next : Reader) → after_token (reader (at.Between i) d l c) token ≡ Ok next
     → (Fits token LeftParen × (d < 64) × (next ≡ reader (at.Head (head_in i)) (d + 1) l c)) ⊎ (Fits token RightParen × (after_close (reader (at.Between i) d l c) ≡ Ok next))
 unfolding after_open after_word after_quoted
-between_token text.Open i d l c next ok = let p = went_deeper (at.Head (head_in i)) (reader (at.Between i) d l c) next ok in inl (tt, p.0, p.1)
+between_token text.Open i d l c next ok = let p = paren_opened_step (at.Head (head_in i)) (reader (at.Between i) d l c) next ok in inl (tt, p.0, p.1)
 between_token text.Close i d l c next ok = inr (tt, ok)
 between_token (text.Word w) i d l c next ok = cc
 between_token (text.Quoted w) i d l c next ok = cc
@@ -89,27 +89,27 @@ pub record HeadRead (token : text.Token) (h : Head) (d : ℕ) (s next : Reader) 
   pub begins : place_behind_keyword h d (Some keyword) ≡ Some place
   pub then : next ≡ reader_at s place d
 
-begun_none : (h : Head) (d : ℕ) → place_behind_keyword h d None ≡ None
-begun_none head.File d = refl
-begun_none head.Part d = refl
-begun_none head.ObjectClass d = refl
-begun_none head.ObjectItem d = refl
-begun_none head.AttributeItem d = refl
-begun_none head.InteractionClass d = refl
-begun_none head.InteractionItem d = refl
-begun_none head.ParameterItem d = refl
+no_place_behind_keyword : (h : Head) (d : ℕ) → place_behind_keyword h d None ≡ None
+no_place_behind_keyword head.File d = refl
+no_place_behind_keyword head.Part d = refl
+no_place_behind_keyword head.ObjectClass d = refl
+no_place_behind_keyword head.ObjectItem d = refl
+no_place_behind_keyword head.AttributeItem d = refl
+no_place_behind_keyword head.InteractionClass d = refl
+no_place_behind_keyword head.InteractionItem d = refl
+no_place_behind_keyword head.ParameterItem d = refl
 
-went_to : (o : Option Place) (s next : Reader) → with_place o s ≡ Ok next → (place : Place) × (o ≡ Some place) × (next ≡ record s { place = place })
-went_to None s next ok = cc
-went_to (Some place) s next ok = (place, refl, cc)
+place_step : (o : Option Place) (s next : Reader) → with_place o s ≡ Ok next → (place : Place) × (o ≡ Some place) × (next ≡ record s { place = place })
+place_step None s next ok = cc
+place_step (Some place) s next ok = (place, refl, cc)
 
 head_word : (w : List ℕ) (k : Option Keyword) (h : Head) (d : ℕ) (s next : Reader) → keyword_of w ≡ k → with_place (place_behind_keyword h d k) (reader_at s (at.Head h) d) ≡ Ok next → HeadRead (text.Word w) h d s next
 head_word w None h d s next e ok =
-    let g = went_to (place_behind_keyword h d None) (reader_at s (at.Head h) d) next ok in
-    let bad : None ≡ Some g.0 = sym (begun_none h d) ∙ g.1 in
+    let g = place_step (place_behind_keyword h d None) (reader_at s (at.Head h) d) next ok in
+    let bad : None ≡ Some g.0 = sym (no_place_behind_keyword h d) ∙ g.1 in
     absurd (let no : ⊥ = cc in no)
 head_word w (Some k) h d s next e ok =
-    let g = went_to (place_behind_keyword h d (Some k)) (reader_at s (at.Head h) d) next ok in
+    let g = place_step (place_behind_keyword h d (Some k)) (reader_at s (at.Head h) d) next ok in
     record { keyword = k; fits = e; place = g.0; begins = g.1; then = g.2 }
 
 pub head_token : (token : text.Token) (h : Head) (d : ℕ) (s next : Reader) → after_token (reader_at s (at.Head h) d) token ≡ Ok next → HeadRead token h d s next
@@ -161,7 +161,7 @@ kept_room false false m n x y next h ok = let less : n < m = grind (arith, nat_t
 ignored_token : (token : text.Token) (s : Reader) (w : Within) (base d : ℕ) (next : Reader) → after_token (ignoring_reader s w base d) token ≡ Ok next
     → ((Fits token LeftParen × (d < 64) × (next ≡ ignoring_reader s w base (d + 1))) ⊎ (Fits token AnyName × (next ≡ ignoring_reader s w base d))) ⊎ (Fits token RightParen × (after_close (ignoring_reader s w base d) ≡ Ok next))
 unfolding after_open after_word after_quoted
-ignored_token text.Open s w base d next ok = let p = went_deeper (at.Ignored w base) (ignoring_reader s w base d) next ok in inl (inl (tt, p.0, p.1))
+ignored_token text.Open s w base d next ok = let p = paren_opened_step (at.Ignored w base) (ignoring_reader s w base d) next ok in inl (inl (tt, p.0, p.1))
 ignored_token text.Close s w base d next ok = inr (tt, ok)
 ignored_token (text.Word n) s w base d next ok = inl (inr (tt, cc))
 ignored_token (text.Quoted n) s w base d next ok = inl (inr (tt, cc))

@@ -424,7 +424,8 @@ impl Reader {
 
     /// Takes a keyword behind an opening parenthesis.
     fn begin(&mut self, head: Head, word: &[u8]) -> Result<(), FedFaultKind>
-        ensures { Moves result (with_place (place_behind_keyword head self.old.depth (keyword_of word.now)) self.old) self.new }
+        ensures { Moves result (with_place (place_behind_keyword head self.old.depth
+            (keyword_of word.now)) self.old) self.new }
     {
         match place_behind_keyword(head, self.depth, meaning(word)) {
             Some(place) => {

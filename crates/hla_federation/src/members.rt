@@ -207,7 +207,8 @@ impl Members {
         requires room { HasRoom along (item [] outbox) 1 (members_of self.old.shown).next_federate
             self.old.rooms }
         ensures { members_of self.new.shown ≡ record (members_of self.old.shown) {
-          wire = wires_posted_below along (item [] outbox) (members_of self.old.shown).next_federate (members_of self.old.shown).wire;
+          wire = wires_posted_below along (item [] outbox) (members_of self.old.shown).next_federate
+              (members_of self.old.shown).wire;
         } }
     {
         let mut outbox = outbox;
@@ -231,7 +232,8 @@ impl Members {
         requires serials { (members_of self.old.shown).serial federate + count ≤ largest_number }
         ensures ok { OnOk result (members_of self.new.shown ≡ record (members_of self.old.shown) {
           serial = upd (members_of self.old.shown).serial federate ((members_of self.old.shown).serial federate + count);
-          wire = wires_posted_below (From federate) (item [] outbox) (members_of self.old.shown).next_federate (members_of self.old.shown).wire;
+          wire = wires_posted_below (From federate) (item [] outbox) (members_of self.old.shown).next_federate
+              (members_of self.old.shown).wire;
         }) }
         ensures err { IfErr result (λ e. e ≡ Fault.OutOfMemory) }
         ensures unchanged { OnErr result (self.new.shown ≡ self.old.shown) }

@@ -192,7 +192,8 @@ impl Parts {
         requires within { federate ≤ max_joins }
         ensures same { self.new ≡ record self.old { objects = self.new.objects } }
         ensures known { (attributes : List ℕ) → registry_of self.new.objects ≡ record (registry_of self.old.objects) {
-          known = (with_discoveries_made (with_subscribed (state_of self.old).directory federate class (Some attributes)) federate).known;
+          known = (with_discoveries_made (with_subscribed (state_of self.old).directory federate class
+              (Some attributes)) federate).known;
         } }
     {
         let end = self.registry.next_object();

@@ -5,7 +5,7 @@ use Rattle.std.proofs.lemmas.List.{length-append}
 use Rattle.std.specs.Map.{values_of}
 use Rattle.hla_base.specs.Tables.{upd, upd2}
 use Rattle.hla_object_registry.specs.Registered.{Registered, unregistered_object, item_at, is_in, registry_of}
-use Rattle.hla_object_registry.proofs.Items.{numbered_within}
+use Rattle.hla_object_registry.proofs.Items.{item_numbered_within}
 use Rattle.hla_object_registry.proofs.Changes.{one_more, one_known, one_changed, IsWithdrawn, object_after_withdrawal, one_withdrawn}
 use Rattle.std.specs.Option.{option_map}
 use Rattle.std.specs.declared.vec.Vec.{Vec}
@@ -64,7 +64,7 @@ module _ (es : Entries) (h : ℕ) (v : Entry) (some : 0 < h) (within : h - 1 < l
   is_there = (key_at es (h - 1) v at).1
 
   item_there : item_at unregistered_object (registered_objects es) h ≡ registered_object (key, v)
-  item_there = ap (λ o. unwrap_or o unregistered_object) (numbered_within (registered_objects es) h (λ z. absurd (omega arith)) ∙ sym (slice_get-registered es (h - 1)) ∙ ap (option_map registered_object) is_there)
+  item_there = ap (λ o. unwrap_or o unregistered_object) (item_numbered_within (registered_objects es) h (λ z. absurd (omega arith)) ∙ sym (slice_get-registered es (h - 1)) ∙ ap (option_map registered_object) is_there)
 
   short : h ≤ length (registered_objects es)
   short = omega (arith, within, length-registered es)
@@ -101,6 +101,6 @@ entry_withdrawn f n old new v at within before =
     let back : n ≡ suc n - 1 = omega arith in
     let there : slice_get (values_of new) (suc n - 1) ≡ Some v = subst (λ m. slice_get (values_of new) m ≡ Some v) back at in
     let k = key_at new n v at in
-    let x : item_at unregistered_object (registered_objects new) (suc n) ≡ registered_object (k.0, v) = ap (λ o. unwrap_or o unregistered_object) (numbered_within (registered_objects new) (suc n) (λ z. absurd (omega arith)) ∙ ap (slice_get (registered_objects new)) (sym back) ∙ sym (slice_get-registered new n) ∙ ap (option_map registered_object) k.1) in
+    let x : item_at unregistered_object (registered_objects new) (suc n) ≡ registered_object (k.0, v) = ap (λ o. unwrap_or o unregistered_object) (item_numbered_within (registered_objects new) (suc n) (λ z. absurd (omega arith)) ∙ ap (slice_get (registered_objects new)) (sym back) ∙ sym (slice_get-registered new n) ∙ ap (option_map registered_object) k.1) in
     subst (IsWithdrawn f (n + 1) (registered_objects old)) (ap (λ (r : Registered). set (registered_objects new) n (object_after_withdrawal f r)) x ∙ sym (registered-set new n k.0 v _ k.1))
     (one_withdrawn f n (registered_objects old) (registered_objects new) before (omega (arith, within, length-registered new)))

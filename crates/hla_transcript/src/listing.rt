@@ -165,7 +165,8 @@ fn object_classes(
     attributes: &[Attribute],
 ) -> Result<(), Fault>
     requires { length classes.now ≤ max_classes }
-    ensures ok { OnOk result (text.new ≡ text.old ++ numbered_texts (object_text attributes.now) classes.now) }
+    ensures ok { OnOk result (text.new ≡ text.old ++ numbered_texts (object_text attributes.now)
+        classes.now) }
     ensures err { IfErr result (λ e. e ≡ Fault.OutOfMemory) }
 {
     for (place, class) in classes.iter().enumerate() {

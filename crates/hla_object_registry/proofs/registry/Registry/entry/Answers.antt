@@ -2,7 +2,7 @@ use Rattle.std.proofs.Common.{◌≡◌, ◌-◌, Option, Some, None, refl, sym,
 use Rattle.std.specs.Option.{option_map}
 use Rattle.std.specs.Map.Iter.{deref_pair}
 use Rattle.hla_object_registry.specs.Entries.{registered_object}
-use Rattle.hla_object_registry.proofs.Items.{numbered_within}
+use Rattle.hla_object_registry.proofs.Items.{item_numbered_within}
 use Rattle.hla_object_registry.proofs.EntryLemmas.{slice_get-registered}
 use Rattle.hla_object_registry.proofs.registry.Registry.entry.Goals as goal
 
@@ -16,4 +16,4 @@ returns-else-object-eq0 c =
     ∙ ap (option_map registered_object) c.get_index.ensures.entry
     ∙ slice_get-registered c.self.inside.entries.entries (c.args.object - 1)
     ∙ ap (λ rs. slice_get rs (c.args.object - 1)) c.self.view_is
-    ∙ sym (numbered_within c.args.self.now c.args.object c.if-object-eq0.false)
+    ∙ sym (item_numbered_within c.args.self.now c.args.object c.if-object-eq0.false)
