@@ -182,14 +182,14 @@ command_by opening.Unbuilt word words = Err kind.UnknownWord
 command_by opening.Federate word words = read_then (call_in words) (λ c. Ok (command.Federate word c.0, c.1))
 
 -- a command takes all words
-abbrev pub whole : Command × List (List ℕ) → Result (Option Command) ScriptFaultKind
-whole (c, []) = Ok (Some c)
-whole (c, word ∷ words) = Err kind.ExtraWord
+abbrev pub whole_command : Command × List (List ℕ) → Result (Option Command) ScriptFaultKind
+whole_command (c, []) = Ok (Some c)
+whole_command (c, word ∷ words) = Err kind.ExtraWord
 
 -- what the words of a line ask for; a blank line asks for nothing
 abbrev pub command_in : List (List ℕ) → Result (Option Command) ScriptFaultKind
 command_in [] = Ok None
-command_in (word ∷ words) = read_then (command_by (opening_of word) word words) whole
+command_in (word ∷ words) = read_then (command_by (opening_of word) word words) whole_command
 
 -- a space, a tab or visible ASCII
 unfoldable pub is_plain : ℕ → Bool

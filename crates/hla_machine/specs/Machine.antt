@@ -190,8 +190,8 @@ Allowed c step out o = MayEnd c step out o × IsChoice step out o
 abbrev pub with_central_directory : Central → Directory → Central
 with_central_directory c d = record c { directory = d }
 
-abbrev pub ask : Central → ℕ → AdvanceKind → ℕ → Central
-ask c f k a = with_central_row c f (row_after_request (c.row f) k a)
+abbrev pub after_request : Central → ℕ → AdvanceKind → ℕ → Central
+after_request c f k a = with_central_row c f (row_after_request (c.row f) k a)
 
 -- a federate leaves: what is for it goes, and what it sent stays
 abbrev pub after_leaving : Central → ℕ → Central
@@ -260,11 +260,11 @@ after_call c f (service.EnableTimeRegulation time lookahead) o = after_enter c f
 after_call c f service.DisableTimeRegulation o = with_central_row c f (record (c.row f) { regulating = Disabled })
 after_call c f service.EnableTimeConstrained o = with_central_row c f (record (c.row f) { constrained = Pending })
 after_call c f service.DisableTimeConstrained o = after_cease c f o
-after_call c f (service.TimeAdvanceRequest time) o = ask c f kind.TimeAdvance time
-after_call c f (service.TimeAdvanceRequestAvailable time) o = ask c f kind.TimeAdvanceAvailable time
-after_call c f (service.NextEventRequest time) o = ask c f kind.NextEvent time
-after_call c f (service.NextEventRequestAvailable time) o = ask c f kind.NextEventAvailable time
-after_call c f (service.FlushQueueRequest time) o = ask c f kind.FlushQueue time
+after_call c f (service.TimeAdvanceRequest time) o = after_request c f kind.TimeAdvance time
+after_call c f (service.TimeAdvanceRequestAvailable time) o = after_request c f kind.TimeAdvanceAvailable time
+after_call c f (service.NextEventRequest time) o = after_request c f kind.NextEvent time
+after_call c f (service.NextEventRequestAvailable time) o = after_request c f kind.NextEventAvailable time
+after_call c f (service.FlushQueueRequest time) o = after_request c f kind.FlushQueue time
 after_call c f (service.ModifyLookahead lookahead) o = with_central_row c f (record (c.row f) { lookahead = lookahead })
 after_call c f service.EnableAsynchronousDelivery o = with_central_row c f (record (c.row f) { asynchronous = true })
 after_call c f service.DisableAsynchronousDelivery o = with_central_row c f (record (c.row f) { asynchronous = false })

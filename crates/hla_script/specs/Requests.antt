@@ -143,20 +143,20 @@ update_of c object name values = ask_then (object_class_of c name) (λ k. ask_th
 abbrev pub interaction_of : CatalogueValue → List ℕ → List NameValuePair → Result Service Fault
 interaction_of c name values = ask_then (interaction_class_of c name) (λ k. ask_then (named_pairs (handle_named c (class.Interaction k)) values) (λ ps. Ok (service.SendInteraction k ps None)))
 
-abbrev pub calls : Result Service Fault → Result (Option Service) Fault
-calls called = ask_then called (λ s. Ok (Some s))
+abbrev pub optional_call : Result Service Fault → Result (Option Service) Fault
+optional_call called = ask_then called (λ s. Ok (Some s))
 
 -- the service that a federate calls; a tick calls none
 abbrev pub service_of : CatalogueValue → Call → Result (Option Service) Fault
 service_of c call.Tick = Ok None
 service_of c (call.Resign way) = Ok (Some (service.Resign way))
-service_of c (call.DeclareObject d name names) = calls (object_declaration c d name names)
-service_of c (call.WithdrawObject d name) = calls (object_withdrawal c d name)
-service_of c (call.DeclareInteraction d name) = calls (interaction_declaration c d name)
-service_of c (call.WithdrawInteraction d name) = calls (interaction_withdrawal c d name)
-service_of c (call.Register name object) = calls (registration c name object)
-service_of c (call.Update object name values) = calls (update_of c object name values)
-service_of c (call.Send name values) = calls (interaction_of c name values)
+service_of c (call.DeclareObject d name names) = optional_call (object_declaration c d name names)
+service_of c (call.WithdrawObject d name) = optional_call (object_withdrawal c d name)
+service_of c (call.DeclareInteraction d name) = optional_call (interaction_declaration c d name)
+service_of c (call.WithdrawInteraction d name) = optional_call (interaction_withdrawal c d name)
+service_of c (call.Register name object) = optional_call (registration c name object)
+service_of c (call.Update object name values) = optional_call (update_of c object name values)
+service_of c (call.Send name values) = optional_call (interaction_of c name values)
 service_of c (call.Delete object) = Ok (Some (service.DeleteObjectInstance (object_number object) None))
 service_of c (call.ObjectHandle name) = Ok (Some (service.GetObjectInstanceHandle name))
 service_of c (call.ObjectName object) = Ok (Some (service.GetObjectInstanceName (object_number object)))
