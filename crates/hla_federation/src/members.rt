@@ -33,11 +33,11 @@ impl Model for Members {
     ghost use Rattle.hla_base.specs.Limits.{max_joins, largest_number};
     ghost use Rattle.std.specs.Prelude.{length, ◌≤◌, ◌-◌, vec_len, vec_capacity};
     ghost use Rattle.hla_federation.specs.Tables.MemberValue.{RoomyMembers};
-    ghost use Rattle.hla_federation.specs.Tables.Members.{roomy};
+    ghost use Rattle.hla_federation.specs.Tables.Members.{roomy_members};
 
     ghost Value = { RoomyMembers };
 
-    ghost view = { λ m. roomy m.members.items (vec_capacity m.members - vec_len m.members) };
+    ghost view = { λ m. roomy_members m.members.items (vec_capacity m.members - vec_len m.members) };
 
     ghost invariant = { λ m. length m.members.items ≤ max_joins };
 }

@@ -32,9 +32,9 @@ impl Model for Registry {
 
     ghost Value = { List Registered };
 
-    ghost use Rattle.hla_object_registry.specs.Entries.{registered, AreEntriesKept};
+    ghost use Rattle.hla_object_registry.specs.Entries.{registered_objects, AreEntriesKept};
 
-    ghost view = { λ r. registered r.entries.entries };
+    ghost view = { λ r. registered_objects r.entries.entries };
 
     ghost invariant = { λ r. AreEntriesKept r.entries.entries };
 }
