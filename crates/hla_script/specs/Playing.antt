@@ -101,7 +101,7 @@ pub record IsPlayedFrom (fed script : List ℕ) (old new : Option (List ℕ)) (r
 
 -- why a script was not played to its end: the FED file is tested first, and a text at fault prints nothing
 abbrev pub StopsBy : List ℕ → List ℕ → Option (List ℕ) → Option (List ℕ) → PlayFault → Type 0
-StopsBy fed script old new (stop.Fed e) = reading.ReadsAs (Err e) (reading.read_of fed) × Appends old new []
+StopsBy fed script old new (stop.Fed e) = reading.ReadsAs (Err e) (reading.reading_of fed) × Appends old new []
 StopsBy fed script old new (stop.Script e) = ((c : CatalogueValue) × Describes fed c) × ParsesAs (Err e) (script_of script) × Appends old new []
 StopsBy fed script old new stop.Write = Unit {0}
 StopsBy fed script old new stop.Memory = Unit {0}

@@ -70,7 +70,7 @@ IsListed fed old new = (c : CatalogueValue) × Describes fed c × Appends old ne
 
 -- why nothing was listed to its end; a text at fault prints nothing
 abbrev pub StopsListing : List ℕ → Option (List ℕ) → Option (List ℕ) → ListFault → Type 0
-StopsListing fed old new (stop.Fed e) = reading.ReadsAs (Err e) (reading.read_of fed) × Appends old new []
+StopsListing fed old new (stop.Fed e) = reading.ReadsAs (Err e) (reading.reading_of fed) × Appends old new []
 StopsListing fed old new stop.Write = (c : CatalogueValue) × Describes fed c
 StopsListing fed old new stop.Memory = ((c : CatalogueValue) × Describes fed c) × Appends old new []
 
