@@ -3,7 +3,7 @@ use Rattle.std.proofs.Common.{◌≡◌, ◌≢◌, ◌⊎◌, ℕ, zero, suc, �
 use Rattle.std.proofs.lemmas.Bool.{cases_eq, cases_lt, cond_both, and_parts}
 use Rattle.std.proofs.lemmas.Bool.Decides.{nat_tests}
 use Rattle.std.proofs.Math.Path.{fun_ext}
-use Rattle.hla_base.specs.Tables.{forever, upd, upd2, upd_row, upd_column, upd_new, clear, is_other, least, greatest}
+use Rattle.hla_base.specs.Tables.{forever, upd, upd2, upd_row, upd_column, upd_new, upd_whole_column, is_other, least, greatest}
 
 pub upd_at : {X : Type 0} (t : ℕ → X) (i : ℕ) (x : X) (j : ℕ) → (upd t i x j ≡ x) × (i ≡ j) ⊎ (upd t i x j ≡ t j) × (i ≢ j)
 unfolding upd
@@ -153,10 +153,10 @@ module _ {X : Type 0} (t : ℕ → ℕ → X) (i : ℕ) (here there : ℕ → X)
   upd_new_else k l a b = rw (ne_eqb i k a, ne_eqb i l b) refl
 
 module _ {X : Type 0} (t : ℕ → ℕ → X) (i : ℕ) (x : X) where
-  pub clear_here : (k : ℕ) → clear t i x k i ≡ x
-  unfolding clear
-  clear_here k = rw (eq-eqb i i refl) refl
+  pub upd_whole_column_here : (k : ℕ) → upd_whole_column t i x k i ≡ x
+  unfolding upd_whole_column
+  upd_whole_column_here k = rw (eq-eqb i i refl) refl
 
-  pub clear_else : (k l : ℕ) → i ≢ l → clear t i x k l ≡ t k l
-  unfolding clear
-  clear_else k l ne = rw (ne_eqb i l ne) refl
+  pub upd_whole_column_else : (k l : ℕ) → i ≢ l → upd_whole_column t i x k l ≡ t k l
+  unfolding upd_whole_column
+  upd_whole_column_else k l ne = rw (ne_eqb i l ne) refl

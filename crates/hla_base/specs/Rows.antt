@@ -119,8 +119,8 @@ row_after_request r kind a = record r {
 }
 
 -- Enable Time Regulation, from the entry e on
-abbrev pub regulating_from : TimeRow → ℕ → ℕ → TimeRow
-regulating_from r lookahead e = record r {
+abbrev pub row_with_entry : TimeRow → ℕ → ℕ → TimeRow
+row_with_entry r lookahead e = record r {
   lookahead = lookahead;
   floor = e;
   regulating = Pending;
@@ -129,11 +129,11 @@ regulating_from r lookahead e = record r {
 }
 
 -- ---- the row after a callback
-abbrev pub regulates : TimeRow → TimeRow
-regulates r = record r { regulating = Enabled; time = r.regulation_time }
+abbrev pub row_after_regulation_enabled : TimeRow → TimeRow
+row_after_regulation_enabled r = record r { regulating = Enabled; time = r.regulation_time }
 
-abbrev pub constrains : TimeRow → TimeRow
-constrains r = record r { constrained = Enabled; bar = r.time }
+abbrev pub row_after_constraint_enabled : TimeRow → TimeRow
+row_after_constraint_enabled r = record r { constrained = Enabled; bar = r.time }
 
 -- the bar after a pick or a grant at t: a strict request leaves nothing at t
 abbrev pub bar_after : TimeRow → AdvanceKind → ℕ → ℕ

@@ -27,8 +27,8 @@ unfoldable pub upd_new : {X : Type 0} → (ℕ → ℕ → X) → ℕ → (ℕ �
 upd_new t i here there = λ k l. cond (eqb i k) (here l) (cond (eqb i l) (there k) (t k l))
 
 -- the table with x at each (g, i)
-unfoldable pub clear : {X : Type 0} → (ℕ → ℕ → X) → ℕ → X → ℕ → ℕ → X
-clear t i x = λ k l. cond (eqb i l) x (t k l)
+unfoldable pub upd_whole_column : {X : Type 0} → (ℕ → ℕ → X) → ℕ → X → ℕ → ℕ → X
+upd_whole_column t i x = λ k l. cond (eqb i l) x (t k l)
 
 -- the least of the first n entries, and forever where there are none
 unfoldable pub least : ℕ → (ℕ → ℕ) → ℕ

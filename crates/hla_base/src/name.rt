@@ -26,16 +26,16 @@ impl Model for ExecutionName {
 
     ghost Value = { List ℕ };
 
-    ghost use Rattle.hla_base.specs.Name.{IsName, padded};
+    ghost use Rattle.hla_base.specs.Name.{IsName, padded_name};
 
     ghost view = { λ n. take n.len n.bytes };
 
     ghost invariant = { λ n. IsName n.bytes n.len };
 
-    ghost inverse = { λ bs. record { bytes = padded bs; len = length bs } };
+    ghost inverse = { λ bs. record { bytes = padded_name bs; len = length bs } };
 
     ghost inverse_ok = { λ n h.
-        let e : (padded (take n.len n.bytes), length (take n.len n.bytes)) ≡ (n.bytes, n.len) = Prim.cc in
+        let e : (padded_name (take n.len n.bytes), length (take n.len n.bytes)) ≡ (n.bytes, n.len) = Prim.cc in
         ap (λ (p : List ℕ × ℕ). record { bytes = p.0; len = p.1 }) e };
 }
 

@@ -8,12 +8,12 @@ abbrev front_len : List ℕ → ℕ
 front_len bytes = prefix_len (λ b. not (is_gap b)) bytes
 
 -- bytes that continue a word begin none
-continued : (bytes : List ℕ) → words_from true bytes ≡ words_from false (drop (front_len bytes) bytes)
+rest_of_word : (bytes : List ℕ) → words_from true bytes ≡ words_from false (drop (front_len bytes) bytes)
 unfolding words_from
-continued [] = refl
-continued (b ∷ bytes) = elim (is_gap b) as (λ v. is_gap b ≡ v → words_from true (b ∷ bytes) ≡ words_from false (drop (front_len (b ∷ bytes)) (b ∷ bytes))) [
+rest_of_word [] = refl
+rest_of_word (b ∷ bytes) = elim (is_gap b) as (λ v. is_gap b ≡ v → words_from true (b ∷ bytes) ≡ words_from false (drop (front_len (b ∷ bytes)) (b ∷ bytes))) [
   | true ↦ λ e. rw e (rw e refl)
-  | false ↦ λ e. let one : 1 + front_len bytes ≡ suc (front_len bytes) = omega arith in rw e (rw one (continued bytes))
+  | false ↦ λ e. let one : 1 + front_len bytes ≡ suc (front_len bytes) = omega arith in rw e (rw one (rest_of_word bytes))
 ] refl
 
 -- gaps in front begin no word
@@ -31,7 +31,7 @@ unfolding words_from
 takes_word [] some = absurd (omega arith)
 takes_word (b ∷ bytes) some = elim (is_gap b) as (λ v. is_gap b ≡ v → words_from false (b ∷ bytes) ≡ take (front_len (b ∷ bytes)) (b ∷ bytes) ∷ words_from false (drop (front_len (b ∷ bytes)) (b ∷ bytes))) [
   | true ↦ λ e. let none : 0 < 0 = rw e at some in absurd (omega arith)
-  | false ↦ λ e. let one : 1 + front_len bytes ≡ suc (front_len bytes) = omega arith in rw e (rw one (ap (λ (ws : List (List ℕ)). take (suc (front_len bytes)) (b ∷ bytes) ∷ ws) (continued bytes)))
+  | false ↦ λ e. let one : 1 + front_len bytes ≡ suc (front_len bytes) = omega arith in rw e (rw one (ap (λ (ws : List (List ℕ)). take (suc (front_len bytes)) (b ∷ bytes) ∷ ws) (rest_of_word bytes)))
 ] refl
 
 -- behind the gaps in front there is a word or nothing

@@ -37,8 +37,8 @@ opening_of word =
     else opening.Federate
 
 -- which declaration a word makes or withdraws, if it is one of their words
-unfoldable pub declaring_of : List ℕ → Option Verb
-declaring_of word =
+unfoldable pub declaration_verb_of : List ℕ → Option Verb
+declaration_verb_of word =
     if bytes_eq word (codes "publishObject") then Some (verb.DeclareObject declaration.Publication)
     else if bytes_eq word (codes "unpublishObject") then Some (verb.WithdrawObject declaration.Publication)
     else if bytes_eq word (codes "subscribeObject") then Some (verb.DeclareObject declaration.Subscription)
@@ -60,7 +60,7 @@ verb_of word =
     else if bytes_eq word (codes "delete") then Some verb.Delete
     else if bytes_eq word (codes "objectHandle") then Some verb.ObjectHandle
     else if bytes_eq word (codes "objectName") then Some verb.ObjectName
-    else declaring_of word
+    else declaration_verb_of word
 
 -- the action of a resignation that a word names, if it names one
 unfoldable pub action_of : List ℕ → Option ResignAction
@@ -182,14 +182,14 @@ command_by opening.Unbuilt word words = Err kind.UnknownWord
 command_by opening.Federate word words = read_then (call_in words) (λ c. Ok (command.Federate word c.0, c.1))
 
 -- a command takes all words
-abbrev pub whole : Command × List (List ℕ) → Result (Option Command) ScriptFaultKind
-whole (c, []) = Ok (Some c)
-whole (c, word ∷ words) = Err kind.ExtraWord
+abbrev pub whole_command : Command × List (List ℕ) → Result (Option Command) ScriptFaultKind
+whole_command (c, []) = Ok (Some c)
+whole_command (c, word ∷ words) = Err kind.ExtraWord
 
 -- what the words of a line ask for; a blank line asks for nothing
 abbrev pub command_in : List (List ℕ) → Result (Option Command) ScriptFaultKind
 command_in [] = Ok None
-command_in (word ∷ words) = read_then (command_by (opening_of word) word words) whole
+command_in (word ∷ words) = read_then (command_by (opening_of word) word words) whole_command
 
 -- a space, a tab or visible ASCII
 unfoldable pub is_plain : ℕ → Bool

@@ -1,7 +1,7 @@
 //! The words that scripts know.
 
 ghost use Rattle.std.specs.Prelude.{◌≡◌};
-ghost use Rattle.hla_commands.specs.Script.{opening_of, declaring_of, verb_of, action_of};
+ghost use Rattle.hla_commands.specs.Script.{opening_of, declaration_verb_of, verb_of, action_of};
 
 use crate::lines::Declaration;
 use hla_machine::ResignAction;
@@ -60,9 +60,9 @@ pub enum Verb {
 
 impl Verb {
     /// Which declaration a word makes or withdraws, if it is one of their words.
-    #[tactic(auto, unfolding(crate::specs::Script::declaring_of))]
-    fn declaring(word: &[u8]) -> Option<Verb>
-        ensures { result ≡ declaring_of word.now }
+    #[tactic(auto, unfolding(crate::specs::Script::declaration_verb_of))]
+    fn declaration_verb(word: &[u8]) -> Option<Verb>
+        ensures { result ≡ declaration_verb_of word.now }
     {
         if word == b"publishObject".as_slice() {
             Some(Verb::DeclareObject(Declaration::Publication))
@@ -107,7 +107,7 @@ impl Verb {
         } else if word == b"objectName".as_slice() {
             Some(Verb::ObjectName)
         } else {
-            Verb::declaring(word)
+            Verb::declaration_verb(word)
         }
     }
 }

@@ -15,7 +15,7 @@ use Rattle.hla_machine.specs.Central.{SentEvent}
 use Rattle.hla_machine.specs.CentralInvariant.{CentralInv}
 use Rattle.hla_order_queues.specs.declared.control.Control.{Control}
 use Rattle.hla_order_queues.specs.declared.control.Control.TheVariants.{ToDiscover, ToRetract}
-use Rattle.hla_order_queues.specs.Queues.{is_before, occurs}
+use Rattle.hla_order_queues.specs.Queues.{is_before, occurrences}
 use Rattle.hla_null_message.specs.Wires.{events, discoveries}
 use Rattle.hla_components.specs.Components.{Components}
 use Rattle.hla_local.specs.Promising.{promise_of}
@@ -58,7 +58,7 @@ IsInSerialOrder g (e ∷ es) = (e.sender ≡ g → e.ordered ≡ false → After
 
 -- how often a copy is on its way to f
 abbrev pub places_in : (ℕ → ℕ → List Message) → (ℕ → List Event) → (ℕ → List Event) → ℕ → ℕ → ℕ → ℕ
-places_in wire tso ro g m f = occurs g m (events (wire g f)) + (occurs g m (tso f) + occurs g m (ro f))
+places_in wire tso ro g m f = occurrences g m (events (wire g f)) + (occurrences g m (tso f) + occurrences g m (ro f))
 
 -- each copy is at most once on its way, with a serial that was given out, and those in receive order in the order of serials
 pub record CopyInv (serial : ℕ → ℕ) (wire : ℕ → ℕ → List Message) (tso ro : ℕ → List Event) : Type 0 where
@@ -81,7 +81,7 @@ Carries regulates last_announced k g t x [] v = regulates ≡ true → v ≤ las
 Carries regulates last_announced k g t x (message.Event e ∷ ms) v = (e.ordered ≡ true → v ≤ e.stamp) × (e.sender ≡ g) × Carries regulates last_announced k g t x ms v
 Carries regulates last_announced k g t x (message.Null j w ∷ ms) v = (j ≤ k) × Carries regulates last_announced k g t x ms (cond (eqb j k) (max v w) v)
 -- a retraction stands behind its event, and its stamp t m is above the bound and those nulls
-Carries regulates last_announced k g t x (message.Retraction m ∷ ms) v = (v < t m) × (m < x) × (occurs g m (events ms) ≡ 0) × Carries regulates last_announced k g t x ms v
+Carries regulates last_announced k g t x (message.Retraction m ∷ ms) v = (v < t m) × (m < x) × (occurrences g m (events ms) ≡ 0) × Carries regulates last_announced k g t x ms v
 Carries regulates last_announced k g t x (message.Discovery d ∷ ms) v = Carries regulates last_announced k g t x ms v
 
 -- ---- rows

@@ -13,8 +13,8 @@ use Rattle.hla_base.specs.declared.row.AdvanceKind.TheVariants as kind
 use Rattle.hla_base.specs.declared.row.TimeRow.{TimeRow}
 use Rattle.hla_null_message.specs.declared.message.Message.{Message}
 use Rattle.hla_null_message.specs.declared.message.Message.TheVariants as message
-use Rattle.hla_base.specs.Tables.{forever, upd, upd2, upd_row, upd_column, upd_new, clear, or_else, numbers_below}
-use Rattle.hla_base.specs.Rows.{is_regulator, is_disabled, is_none_of, row_after_request, regulating_from, regulates, constrains, row_after_pick, row_after_grant, new_row}
+use Rattle.hla_base.specs.Tables.{forever, upd, upd2, upd_row, upd_column, upd_new, upd_whole_column, or_else, numbers_below}
+use Rattle.hla_base.specs.Rows.{is_regulator, is_disabled, is_none_of, row_after_request, row_with_entry, row_after_regulation_enabled, row_after_constraint_enabled, row_after_pick, row_after_grant, new_row}
 use Rattle.hla_lbts.specs.Peers.{null_bound}
 use Rattle.hla_fed_file.specs.Lookup.{object_class_named, interaction_class_named, attribute_named, parameter_named}
 use Rattle.hla_callbacks.specs.declared.callback.Callback.{Callback}
@@ -35,7 +35,7 @@ use Rattle.hla_machine.specs.declared.step.Outcome.{Outcome}
 use Rattle.hla_machine.specs.declared.step.Outcome.TheVariants as outcome
 use Rattle.hla_machine.specs.declared.step.Choice.{Choice}
 use Rattle.hla_machine.specs.declared.step.Choice.TheVariants as choice
-use Rattle.hla_machine.specs.Directory.{Directory, Outgoing, name_or_default, objects_of, interaction_sent, update_sent, deletion_sent, deletions_sent, content_for, discoveries_of, discovered_by, discovered_by_all, with_member, without_member, with_published, with_subscribed, with_published_interaction, with_subscribed_interaction, with_object, without_object}
+use Rattle.hla_machine.specs.Directory.{Directory, Outgoing, name_or_default, objects_of, interaction_sent, update_sent, deletion_sent, deletions_sent, content_for, discoveries_of, with_discoveries_made, with_object_discovered, with_member, without_member, with_published, with_subscribed, with_published_interaction, with_subscribed_interaction, with_object, without_object}
 use Rattle.hla_machine.specs.Central.{SentEvent}
 use Rattle.hla_machine.specs.Sends.{is_ordered, kept_stamp, sent_event, sent_handle, is_told}
 use Rattle.hla_machine.specs.Refusals.{Seen, refusal, is_known}
@@ -105,13 +105,13 @@ put_discoveries ds ms = ms ++ map message.Discovery ds
 -- f is to discover what fits its subscriptions now, each object on the wire from its owner
 abbrev pub with_class_subscribed : Components → ℕ → Directory → Components
 with_class_subscribed s f d = record s {
-  directory = discovered_by d f;
+  directory = with_discoveries_made d f;
   wire = λ g. upd (s.wire g) f (put_discoveries (discoveries_of d g f) (s.wire g f));
 }
 
 abbrev pub with_object_registered : Components → ℕ → ℕ → Directory → Components
 with_object_registered s f h d = record s {
-  directory = discovered_by_all d h;
+  directory = with_object_discovered d h;
   wire = upd_row s.wire s.directory.joined f (λ g. put_discoveries (discoveries_of d f g));
 }
 
@@ -122,7 +122,7 @@ with_null_announced s f v = record s { last_announced = upd s.last_announced f v
 -- a new epoch begins, and the peers learn of it at once
 abbrev pub with_regulation_enabled : Components → ℕ → ℕ → ℕ → Components
 with_regulation_enabled s f lookahead e = record s {
-  row = upd s.row f (regulating_from (s.row f) lookahead e);
+  row = upd s.row f (row_with_entry (s.row f) lookahead e);
   last_announced = upd s.last_announced f e;
   epoch = upd s.epoch f (s.epoch f + 1);
   bound = upd_column s.bound s.directory.joined f (λ b. min b e);
@@ -157,7 +157,7 @@ with_federate_gone s f = record s {
   tso = upd s.tso f [];
   ro = upd s.ro f [];
   controls = upd s.controls f [];
-  wire = clear (upd_row s.wire s.directory.joined f (λ _. with_last_null s f)) f [];
+  wire = upd_whole_column (upd_row s.wire s.directory.joined f (λ _. with_last_null s f)) f [];
 }
 
 abbrev pub with_federate_resigned : Components → ℕ → ResignAction → Components
@@ -287,7 +287,7 @@ callback_outcome k s = answer_outcome (answer.Ticked (Some k)) s
 abbrev pub constrain_outcome : Components → ℕ → Outcomes
 constrain_outcome s f = let early = filter (is_below (s.row f).time) (s.tso f) in
     chosen_outcome (answer.Ticked (Some (callback.TimeConstrainedEnabled (s.row f).time))) (choice.Moved (handles_of early))
-    (record s { row = upd s.row f (constrains (s.row f)); tso = upd s.tso f (filter (λ e. not (is_below (s.row f).time e)) (s.tso f)); ro = upd s.ro f (s.ro f ++ early) })
+    (record s { row = upd s.row f (row_after_constraint_enabled (s.row f)); tso = upd s.tso f (filter (λ e. not (is_below (s.row f).time e)) (s.tso f)); ro = upd s.ro f (s.ro f ++ early) })
 
 abbrev pub control_outcome : Components → ℕ → Control → List Control → Outcomes
 control_outcome s f (ToDiscover from d) rest = callback_outcome (callback.DiscoverObjectInstance d.object d.class d.name) (record s { controls = upd s.controls f rest })
@@ -297,7 +297,7 @@ abbrev pub pick_outcome : Components → ℕ → Pick → Outcomes
 pick_outcome s f NoPick = answer_outcome (answer.Ticked None) s
 pick_outcome s f (PickControl k rest) = control_outcome s f k rest
 pick_outcome s f (PickRo e rest) = callback_outcome (event_callback (delivery_of e) e) (record s { ro = upd s.ro f rest })
-pick_outcome s f PickRegulates = callback_outcome (callback.TimeRegulationEnabled (s.row f).regulation_time) (with_row s f (regulates (s.row f)))
+pick_outcome s f PickRegulates = callback_outcome (callback.TimeRegulationEnabled (s.row f).regulation_time) (with_row s f (row_after_regulation_enabled (s.row f)))
 pick_outcome s f PickConstrains = constrain_outcome s f
 pick_outcome s f (PickTso q e rest) = callback_outcome (event_callback (delivery.TimeStamp e.stamp) e) (record s { row = upd s.row f (row_after_pick (s.row f) q e.stamp); tso = upd s.tso f rest })
 pick_outcome s f (PickGrant q t) = callback_outcome (callback.TimeAdvanceGrant t) (with_row s f (row_after_grant (s.row f) q t))

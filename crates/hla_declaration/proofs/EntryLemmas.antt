@@ -5,11 +5,11 @@ use Rattle.std.proofs.lemmas.Option.{slice_get-get_or, slice_get_past, slice_get
 use Rattle.std.proofs.lemmas.List.{get_or-replicate, length-replicate}
 use Rattle.std.proofs.lemmas.Bool.{cases_eq, cases_lt}
 use Rattle.std.proofs.lemmas.Bool.Decides.{nat_tests}
-use Rattle.hla_fed_file.specs.Lookup.{numbered}
+use Rattle.hla_fed_file.specs.Lookup.{item_numbered}
 use Rattle.hla_declaration.specs.Entries.{entry_at}
 
-pub numbered-suc : {X : Type 0} (xs : List X) (k : ℕ) → numbered xs (suc k) ≡ slice_get xs k
-numbered-suc xs k =
+pub item_numbered-suc : {X : Type 0} (xs : List X) (k : ℕ) → item_numbered xs (suc k) ≡ slice_get xs k
+item_numbered-suc xs k =
     let some : (suc k == 0) ≡ false = grind (arith, nat_tests) in
     let e : suc k - 1 ≡ k = omega arith in
     rw (some, e) refl
@@ -37,42 +37,42 @@ slice_get-push_last [] x = refl
 slice_get-push_last (y ∷ ys) x = slice_get-push_last ys x
 
 -- the item that was put at a number, and the others
-pub numbered-set_same : {X : Type 0} (xs : List X) (f : ℕ) (x : X) → 0 < f → f ≤ length xs → numbered (set xs (f - 1) x) f ≡ Some x
-numbered-set_same xs zero x some within = absurd (omega arith)
-numbered-set_same xs (suc k) x some within =
+pub item_numbered-set_same : {X : Type 0} (xs : List X) (f : ℕ) (x : X) → 0 < f → f ≤ length xs → item_numbered (set xs (f - 1) x) f ≡ Some x
+item_numbered-set_same xs zero x some within = absurd (omega arith)
+item_numbered-set_same xs (suc k) x some within =
     let e : suc k - 1 ≡ k = omega arith in
-    numbered-suc (set xs (suc k - 1) x) k ∙ rw e (slice_get-set_same xs k x (omega arith))
+    item_numbered-suc (set xs (suc k - 1) x) k ∙ rw e (slice_get-set_same xs k x (omega arith))
 
-pub numbered-set_other : {X : Type 0} (xs : List X) (f g : ℕ) (x : X) → 0 < f → f ≢ g → numbered (set xs (f - 1) x) g ≡ numbered xs g
-numbered-set_other xs f zero x some ne = refl
-numbered-set_other xs f (suc j) x some ne =
-    numbered-suc (set xs (f - 1) x) j ∙ slice_get-set_other xs (f - 1) j x (λ same. ne (omega arith)) ∙ sym (numbered-suc xs j)
+pub item_numbered-set_other : {X : Type 0} (xs : List X) (f g : ℕ) (x : X) → 0 < f → f ≢ g → item_numbered (set xs (f - 1) x) g ≡ item_numbered xs g
+item_numbered-set_other xs f zero x some ne = refl
+item_numbered-set_other xs f (suc j) x some ne =
+    item_numbered-suc (set xs (f - 1) x) j ∙ slice_get-set_other xs (f - 1) j x (λ same. ne (omega arith)) ∙ sym (item_numbered-suc xs j)
 
 -- the item at a number, read from its place
-pub numbered_read : {X : Type 0} (xs : List X) (f : ℕ) (x : X) → 0 < f → f ≤ length xs → x ≡ get_or xs (f - 1) x → numbered xs f ≡ Some x
-numbered_read xs zero x some within is = absurd (omega arith)
-numbered_read xs (suc k) x some within is =
+pub item_numbered_read : {X : Type 0} (xs : List X) (f : ℕ) (x : X) → 0 < f → f ≤ length xs → x ≡ get_or xs (f - 1) x → item_numbered xs f ≡ Some x
+item_numbered_read xs zero x some within is = absurd (omega arith)
+item_numbered_read xs (suc k) x some within is =
     let e : suc k - 1 ≡ k = omega arith in
-    numbered-suc xs k ∙ slice_get_read xs (length xs) k x refl (omega arith) (rw e at is)
+    item_numbered-suc xs k ∙ slice_get_read xs (length xs) k x refl (omega arith) (rw e at is)
 
-pub numbered_past : {X : Type 0} (xs : List X) (f : ℕ) → length xs < f → numbered xs f ≡ None
-numbered_past xs zero past = refl
-numbered_past xs (suc k) past = numbered-suc xs k ∙ slice_get_past xs k (omega arith)
+pub item_numbered_past : {X : Type 0} (xs : List X) (f : ℕ) → length xs < f → item_numbered xs f ≡ None
+item_numbered_past xs zero past = refl
+item_numbered_past xs (suc k) past = item_numbered-suc xs k ∙ slice_get_past xs k (omega arith)
 
 -- one more item is at the next number
-pub numbered-push : {X : Type 0} (xs : List X) (x : X) (g : ℕ) → g ≢ length xs + 1 → numbered (xs ++ x ∷ []) g ≡ numbered xs g
-numbered-push xs x zero ne = refl
-numbered-push xs x (suc k) ne = numbered-suc (xs ++ x ∷ []) k ∙ slice_get-push xs x k (λ e. ne (omega arith)) ∙ sym (numbered-suc xs k)
+pub item_numbered-push : {X : Type 0} (xs : List X) (x : X) (g : ℕ) → g ≢ length xs + 1 → item_numbered (xs ++ x ∷ []) g ≡ item_numbered xs g
+item_numbered-push xs x zero ne = refl
+item_numbered-push xs x (suc k) ne = item_numbered-suc (xs ++ x ∷ []) k ∙ slice_get-push xs x k (λ e. ne (omega arith)) ∙ sym (item_numbered-suc xs k)
 
-pub numbered-push_last : {X : Type 0} (xs : List X) (x : X) → numbered (xs ++ x ∷ []) (length xs + 1) ≡ Some x
-numbered-push_last xs x =
+pub item_numbered-push_last : {X : Type 0} (xs : List X) (x : X) → item_numbered (xs ++ x ∷ []) (length xs + 1) ≡ Some x
+item_numbered-push_last xs x =
     let e : length xs + 1 ≡ suc (length xs) = omega arith in
-    rw e (numbered-suc (xs ++ x ∷ []) (length xs) ∙ slice_get-push_last xs x)
+    rw e (item_numbered-suc (xs ++ x ∷ []) (length xs) ∙ slice_get-push_last xs x)
 
 -- where nothing stands at any place, nothing stands at any number
 pub entry_absent : {X : Type 0} (absent : X) (xs : List X) → ((k : ℕ) → k < length xs → get_or xs k absent ≡ absent) → (n : ℕ) → entry_at absent xs n ≡ absent
 entry_absent absent xs nothing zero = refl
-entry_absent absent xs nothing (suc k) = rw (numbered-suc xs k)
+entry_absent absent xs nothing (suc k) = rw (item_numbered-suc xs k)
     (⊎_elim (λ (within : k < length xs). rw (slice_get-get_or xs k absent within) (nothing k within))
     (λ (past : length xs ≤ k). rw (slice_get_past xs k past) refl)
     (cases_lt k (length xs)))
@@ -82,6 +82,6 @@ entry-replicate absent count n = entry_absent absent (replicate count absent) (�
 
 pub entry-set : {X : Type 0} (absent : X) (xs : List X) (k : ℕ) (x : X) → 0 < k → k ≤ length xs → (l : ℕ) → entry_at absent (set xs (k - 1) x) l ≡ cond (eqb k l) x (entry_at absent xs l)
 entry-set absent xs k x some within l = ⊎_elim
-    (λ (e : k ≡ l). let y : eqb k l ≡ true = grind (arith, nat_tests) in rw (y, ← e, numbered-set_same xs k x some within) refl)
-    (λ (ne : k ≢ l). let n : eqb k l ≡ false = grind (arith, nat_tests) in rw (n, numbered-set_other xs k l x some ne) refl)
+    (λ (e : k ≡ l). let y : eqb k l ≡ true = grind (arith, nat_tests) in rw (y, ← e, item_numbered-set_same xs k x some within) refl)
+    (λ (ne : k ≢ l). let n : eqb k l ≡ false = grind (arith, nat_tests) in rw (n, item_numbered-set_other xs k l x some ne) refl)
     (cases_eq k l)

@@ -38,16 +38,16 @@ receivers_none served sender nobody =
     let absent : receiver_at served sender 0 ≡ None = rw nobody (same_cond (not (eqb sender 0)) None) in
     rw absent refl
 
-grown : (served : ℕ → Option ℕ) (n sender : ℕ) → receivers_of served (n + 1) sender ≡ receivers_of served n sender ++ filter_map (receiver_at served sender) ((n + 1) ∷ [])
+receivers_with_next : (served : ℕ → Option ℕ) (n sender : ℕ) → receivers_of served (n + 1) sender ≡ receivers_of served n sender ++ filter_map (receiver_at served sender) ((n + 1) ∷ [])
 unfolding numbers_below
-grown served n sender = rw (add-one (n + 1)) (filter_map-append (receiver_at served sender) (numbers_below (n + 1)) ((n + 1) ∷ []))
+receivers_with_next served n sender = rw (add-one (n + 1)) (filter_map-append (receiver_at served sender) (numbers_below (n + 1)) ((n + 1) ∷ []))
 
 module _ (served : ℕ → Option ℕ) (n sender : ℕ) (o : Option Receiver) (is : o ≡ receiver_at served sender (n + 1)) where
   pub one_more : (r : Receiver) → o ≡ Some r → receivers_of served (n + 1) sender ≡ receivers_of served n sender ++ r ∷ []
-  one_more r some = grown served n sender ∙ rw (sym is ∙ some) refl
+  one_more r some = receivers_with_next served n sender ∙ rw (sym is ∙ some) refl
 
   pub none_more : o ≡ None → receivers_of served (n + 1) sender ≡ receivers_of served n sender
-  none_more none = grown served n sender ∙ rw (sym is ∙ none, append-nil) refl
+  none_more none = receivers_with_next served n sender ∙ rw (sym is ∙ none, append-nil) refl
 
 -- ---- what callers may rely on: a receiver is one of the federates, and not the sender
 receiver_is : (b : Bool) (served : Option ℕ) (g : ℕ) (r : Receiver) → cond b (option_map (λ k. record { federate = g; class = k }) served) None ≡ Some r
@@ -74,7 +74,7 @@ module _ (served : ℕ → Option ℕ) (sender : ℕ) (nobody : served 0 ≡ Non
   all_receivers (suc n) =
       let before : All (IsReceiver (n + 1) sender) (receivers_of served n sender) =
       All-weaker (IsReceiver n sender) (IsReceiver (n + 1) sender) (λ r h. record { some = h.some; joined = omega (arith, h.joined); other = h.other }) (receivers_of served n sender) (all_receivers n) in
-      rw (← add-one n, grown served n sender)
+      rw (← add-one n, receivers_with_next served n sender)
       (All-append (IsReceiver (n + 1) sender) (receivers_of served n sender) (filter_map (receiver_at served sender) ((n + 1) ∷ [])) before (last_receivers (n + 1) (receiver_at served sender (n + 1)) refl))
 
 module _ (c : CatalogueValue) (d : DeclarationLists) (class sender : ℕ) where

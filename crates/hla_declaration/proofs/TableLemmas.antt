@@ -11,7 +11,7 @@ use Rattle.hla_declaration.specs.Members.{IsMember, IsCleared, new_declarer}
 use Rattle.hla_declaration.specs.Lists.{AreListsWhole}
 use Rattle.hla_declaration.specs.Declarations.{DeclarationsValue, table, declarations_of}
 use Rattle.hla_declaration.specs.declared.member.Member.{Member}
-use Rattle.hla_declaration.proofs.EntryLemmas.{numbered-set_same, numbered-set_other, numbered_read, numbered_past, numbered-push, numbered-push_last, entry-set, entry-replicate}
+use Rattle.hla_declaration.proofs.EntryLemmas.{item_numbered-set_same, item_numbered-set_other, item_numbered_read, item_numbered_past, item_numbered-push, item_numbered-push_last, entry-set, entry-replicate}
 
 -- what holds at f, and at each other number, holds at each
 by_number : (f : ℕ) (P : ℕ → Type 0) → P f → ((g : ℕ) → f ≢ g → P g) → (g : ℕ) → P g
@@ -21,13 +21,13 @@ by_number f P here there g = ⊎_elim (λ (e : f ≡ g). subst P e here) (λ (ne
 module _ {X : Type 0} (absent : X) (row : Member → List X) (members : List Member) where
   module _ (f : ℕ) (m new : Member) (some : 0 < f) (within : f ≤ length members) (is : m ≡ get_or members (f - 1) m) where
     changed_here : (k : ℕ) → table absent row (set members (f - 1) new) f k ≡ entry_at absent (row new) k
-    changed_here k = ap (λ o. option_map_or (λ m. entry_at absent (row m) k) o absent) (numbered-set_same members f new some within)
+    changed_here k = ap (λ o. option_map_or (λ m. entry_at absent (row m) k) o absent) (item_numbered-set_same members f new some within)
 
     changed_there : (g : ℕ) → f ≢ g → (k : ℕ) → table absent row (set members (f - 1) new) g k ≡ table absent row members g k
-    changed_there g ne k = ap (λ o. option_map_or (λ m. entry_at absent (row m) k) o absent) (numbered-set_other members f g new some ne)
+    changed_there g ne k = ap (λ o. option_map_or (λ m. entry_at absent (row m) k) o absent) (item_numbered-set_other members f g new some ne)
 
     before_here : (k : ℕ) → table absent row members f k ≡ entry_at absent (row m) k
-    before_here k = ap (λ o. option_map_or (λ m. entry_at absent (row m) k) o absent) (numbered_read members f m some within is)
+    before_here k = ap (λ o. option_map_or (λ m. entry_at absent (row m) k) o absent) (item_numbered_read members f m some within is)
 
     -- a row that stays
     pub table_kept : row new ≡ row m → table absent row (set members (f - 1) new) ≡ table absent row members
@@ -57,9 +57,9 @@ module _ {X : Type 0} (absent : X) (row : Member → List X) (members : List Mem
   -- one more row, with nothing
   pub table_more : (new : Member) → ((class : ℕ) → entry_at absent (row new) class ≡ absent) → table absent row (members ++ new ∷ []) ≡ table absent row members
   table_more new nothing = fun_ext (λ g. fun_ext (λ k. by_number (length members + 1) (λ g. table absent row (members ++ new ∷ []) g k ≡ table absent row members g k)
-      (ap (λ o. option_map_or (λ m. entry_at absent (row m) k) o absent) (numbered-push_last members new) ∙ nothing k
-      ∙ sym (ap (λ o. option_map_or (λ m. entry_at absent (row m) k) o absent) (numbered_past members (length members + 1) (omega arith))))
-      (λ g ne. ap (λ o. option_map_or (λ m. entry_at absent (row m) k) o absent) (numbered-push members new g (λ e. ne (sym e)))) g))
+      (ap (λ o. option_map_or (λ m. entry_at absent (row m) k) o absent) (item_numbered-push_last members new) ∙ nothing k
+      ∙ sym (ap (λ o. option_map_or (λ m. entry_at absent (row m) k) o absent) (item_numbered_past members (length members + 1) (omega arith))))
+      (λ g ne. ap (λ o. option_map_or (λ m. entry_at absent (row m) k) o absent) (item_numbered-push members new g (λ e. ne (sym e)))) g))
 
 -- ---- all tables
 abbrev tables_with : ℕ → ℕ → ℕ → (ℕ → ℕ → Option (List ℕ)) → (ℕ → ℕ → Option (List ℕ)) → (ℕ → ℕ → Bool) → (ℕ → ℕ → Bool) → DeclarationsValue

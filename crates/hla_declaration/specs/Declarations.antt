@@ -1,7 +1,7 @@
 -- What the federates of an execution publish and subscribe (HLA 1.3, declaration management)
 use Rattle.std.specs.Prelude.{◌≡◌, ℕ, ◌<◌, Bool, false, Option, None, List, length}
 use Rattle.std.specs.Option.{option_map_or}
-use Rattle.hla_fed_file.specs.Lookup.{numbered}
+use Rattle.hla_fed_file.specs.Lookup.{item_numbered}
 use Rattle.hla_declaration.specs.Entries.{entry_at}
 use Rattle.hla_declaration.specs.Lists.{DeclarationLists}
 use Rattle.hla_declaration.specs.declared.member.Member.{Member}
@@ -18,7 +18,7 @@ pub record DeclarationsValue : Type 0 where
 
 -- what the federate with a number has at a class
 abbrev pub table : {X : Type 0} → X → (Member → List X) → List Member → ℕ → ℕ → X
-table absent row members f class = option_map_or (λ m. entry_at absent (row m) class) (numbered members f) absent
+table absent row members f class = option_map_or (λ m. entry_at absent (row m) class) (item_numbered members f) absent
 
 -- the tables that lists stand for
 abbrev pub declarations_of : DeclarationLists → DeclarationsValue

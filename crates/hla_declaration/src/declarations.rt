@@ -5,7 +5,7 @@ ghost use Rattle.std.specs.Option.{option_map_or, option_copied};
 ghost use Rattle.hla_base.specs.Limits.{max_classes, max_joins};
 ghost use Rattle.hla_base.specs.declared.fault.Fault.TheVariants.{OutOfMemory};
 ghost use Rattle.hla_base.specs.Tables.{upd, upd2};
-ghost use Rattle.hla_fed_file.specs.Lookup.{numbered, contains_number};
+ghost use Rattle.hla_fed_file.specs.Lookup.{item_numbered, contains_number};
 ghost use Rattle.hla_declaration.specs.Declarations.{declarations_of, IsBounded};
 
 use crate::member::Member;
@@ -68,7 +68,7 @@ impl Declarations {
 
     /// What a federate declares; `None` where no federate has the number.
     pub(crate) fn member(&self, federate: FederateNo) -> Option<&Member>
-        ensures { option_copied result ≡ numbered self.now.members federate }
+        ensures { option_copied result ≡ item_numbered self.now.members federate }
     {
         if federate == 0 {
             return None;

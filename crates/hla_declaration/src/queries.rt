@@ -10,7 +10,7 @@ use hla_base::{AttributeNo, ClassNo, FederateNo, List};
 
 impl Declarations {
     /// The attributes that a federate publishes of an object class; `None` where it does not publish it.
-    fn published(&self, federate: FederateNo, class: ClassNo) -> Option<&List<AttributeNo>>
+    fn publication(&self, federate: FederateNo, class: ClassNo) -> Option<&List<AttributeNo>>
         ensures { option_copied result ≡ (declarations_of self.now).published federate class }
     {
         match self.member(federate) {
@@ -20,7 +20,7 @@ impl Declarations {
     }
 
     /// The attributes that a federate subscribes of an object class; `None` where it does not subscribe it.
-    fn subscribed(&self, federate: FederateNo, class: ClassNo) -> Option<&List<AttributeNo>>
+    fn subscription(&self, federate: FederateNo, class: ClassNo) -> Option<&List<AttributeNo>>
         ensures { option_copied result ≡ (declarations_of self.now).subscribed federate class }
     {
         match self.member(federate) {
@@ -33,14 +33,14 @@ impl Declarations {
     pub fn publishes_object_class(&self, federate: FederateNo, class: ClassNo) -> bool
         ensures { result ≡ is_some ((declarations_of self.now).published federate class) }
     {
-        self.published(federate, class).is_some()
+        self.publication(federate, class).is_some()
     }
 
     /// Whether a federate subscribes an object class; no for a number of no federate or of no class.
     pub fn subscribes_object_class(&self, federate: FederateNo, class: ClassNo) -> bool
         ensures { result ≡ is_some ((declarations_of self.now).subscribed federate class) }
     {
-        self.subscribed(federate, class).is_some()
+        self.subscription(federate, class).is_some()
     }
 
     /// Whether a federate publishes an interaction class; no for a number of no federate or of no class.
@@ -73,7 +73,7 @@ impl Declarations {
         ensures { result ≡ option_map_or (contains_number attribute)
             ((declarations_of self.now).published federate class) false }
     {
-        match self.published(federate, class) {
+        match self.publication(federate, class) {
             Some(published) => published.as_slice().contains(&attribute),
             None => false,
         }
@@ -89,7 +89,7 @@ impl Declarations {
         ensures { result ≡ option_map_or (contains_number attribute)
             ((declarations_of self.now).subscribed federate class) false }
     {
-        match self.subscribed(federate, class) {
+        match self.subscription(federate, class) {
             Some(subscribed) => subscribed.as_slice().contains(&attribute),
             None => false,
         }
@@ -100,7 +100,7 @@ impl Declarations {
         ensures { result.now ≡ option_map_or (λ xs. xs) ((declarations_of self.now).published federate
             class) [] }
     {
-        match self.published(federate, class) {
+        match self.publication(federate, class) {
             Some(attributes) => attributes.as_slice(),
             None => &[],
         }

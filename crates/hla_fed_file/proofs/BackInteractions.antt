@@ -7,7 +7,7 @@ use Rattle.hla_fed_file.specs.Lexical.{Lexed, tokens}
 use Rattle.hla_fed_file.specs.Keywords.{keyword_of}
 use Rattle.hla_fed_file.specs.CatalogueValue.{CatalogueValue}
 use Rattle.hla_fed_file.specs.Declaring.{innermost, with_interaction_class, with_parameter, has_parameter_named}
-use Rattle.hla_fed_file.specs.Reading.{reading, after_token, opened, closed, worded, after_quoted, named_at, begun, class_option, Step}
+use Rattle.hla_fed_file.specs.Reading.{reading, after_token, after_open, after_close, after_word, after_quoted, after_name_at, place_behind_keyword, class_option, Step}
 use Rattle.hla_fed_file.specs.Grammar.{Symbol, LeftParen, RightParen, Means, Named, AnyName, Fits, Options, Bare, Ordered, SecLevels, NoLevel, ALevel, InteractionItems, NoEntry, AParameter, ALevelList, ASubclass, space_then, options_then, levels_then, interaction_items_then, transport_of, order_of, interaction_items_declare, IsShort, levels_fit, ParameterFits, interaction_items_fit}
 use Rattle.hla_fed_file.specs.declared.declared.InteractionClass.{InteractionClass}
 use Rattle.hla_fed_file.specs.declared.declared.Order.{Order}
@@ -24,16 +24,16 @@ use Rattle.hla_fed_file.specs.declared.place.Within.TheVariants as within
 use Rattle.hla_fed_file.specs.declared.place.Place.{Place}
 use Rattle.hla_fed_file.specs.declared.place.Place.TheVariants as at
 use Rattle.hla_fed_file.specs.declared.reader.Reader.{Reader}
-use Rattle.hla_fed_file.proofs.ReadSteps.{alike, fits_left, fits_right, ignoring, moved, pending, reader}
+use Rattle.hla_fed_file.proofs.ReadSteps.{alike, fits_left, fits_right, ignoring_reader, reader_at, pending, reader}
 use Rattle.hla_fed_file.proofs.ReadInteractions.{Waits, amended_class, behind_closes, behind_opens, class_amended, class_carried, first_of_class, inside, interaction_closes, parameter_closes}
-use Rattle.hla_fed_file.proofs.BackSteps.{Tail, at_next, back, between_token, head_token, kept_limit, list_back, name_token, none_left, ok_same, parameter_level_begun, was_named, went_deeper}
+use Rattle.hla_fed_file.proofs.BackSteps.{Tail, at_next, back, between_token, head_token, kept_limit, list_back, name_token, none_left, ok_same, parameter_level_begun, was_named, paren_opened_step}
 use Rattle.hla_fed_file.proofs.BackObjects.{Carries, OptionNext, Orders, Paren}
 
 -- Parameters.
 parameter_end_token : (token : text.Token) (d : ℕ) (l : List ℕ) (c : CatalogueValue) (next : Reader) → after_token (reader at.ParameterEnd d l c) token ≡ Ok next
-    → (Fits token LeftParen × (d < 64) × (next ≡ reader (at.Head head.ParameterItem) (d + 1) l c)) ⊎ (Fits token RightParen × (closed (reader at.ParameterEnd d l c) ≡ Ok next))
-unfolding opened worded after_quoted
-parameter_end_token text.Open d l c next ok = let p = went_deeper (at.Head head.ParameterItem) (reader at.ParameterEnd d l c) next ok in inl (tt, p.0, p.1)
+    → (Fits token LeftParen × (d < 64) × (next ≡ reader (at.Head head.ParameterItem) (d + 1) l c)) ⊎ (Fits token RightParen × (after_close (reader at.ParameterEnd d l c) ≡ Ok next))
+unfolding after_open after_word after_quoted
+parameter_end_token text.Open d l c next ok = let p = paren_opened_step (at.Head head.ParameterItem) (reader at.ParameterEnd d l c) next ok in inl (tt, p.0, p.1)
 parameter_end_token text.Close d l c next ok = inr (tt, ok)
 parameter_end_token (text.Word w) d l c next ok = cc
 parameter_end_token (text.Quoted w) d l c next ok = cc
@@ -65,11 +65,11 @@ parameter_levels (suc n) d l c (t ∷ k ∷ ts) final few h =
           record { levels = NoLevel; fit = tt; tail = record { rest = k ∷ ts; fewer = omega arith; spelled = λ ss sp. (p.0, sp); read = at_next _ _ (k ∷ ts) final behind b.read } }
       | inl p ↦
           let s = reader at.ParameterEnd (d + 1) l c in
-          let w = back (moved s (at.Head head.ParameterItem) (d + 1 + 1)) k ts final refl (at_next _ _ (k ∷ ts) final p.2 b.read) in
+          let w = back (reader_at s (at.Head head.ParameterItem) (d + 1 + 1)) k ts final refl (at_next _ _ (k ∷ ts) final p.2 b.read) in
           let q = head_token k.token head.ParameterItem (d + 1 + 1) s w.next w.step in
           let z = parameter_level_begun q.keyword (d + 1 + 1) q.place q.begins in
           let fits : Fits k.token (Means word.SecLevel) = rw z.0 at q.fits in
-          let there : w.next ≡ ignoring s within.Parameter (d + 1 + 1) (d + 1 + 1) = q.then ∙ ap (λ (place : Place). moved s place (d + 1 + 1)) z.1 in
+          let there : w.next ≡ ignoring_reader s within.Parameter (d + 1 + 1) (d + 1 + 1) = q.then ∙ ap (λ (place : Place). reader_at s place (d + 1 + 1)) z.1 in
           let a = list_back s within.Parameter (d + 1) ts final (at_next _ _ ts final there w.read) in
           let fewer : length a.tail.rest ≤ n = omega (arith, a.tail.fewer) in
           let r = parameter_levels n d l c a.tail.rest final fewer a.tail.read in
@@ -89,7 +89,7 @@ record ParameterRead (d : ℕ) (l : List ℕ) (c : CatalogueValue) (ts : List Le
   fit : levels_fit (d + 1) levels
   tail : Tail (λ ss. Named name ∷ levels_then levels (RightParen ∷ ss)) ts (reader (at.Between lists.InteractionItems) d l (with_parameter l name c)) final
 
-parameter_named : (n : List ℕ) (d : ℕ) (l : List ℕ) (c : CatalogueValue) (next : Reader) → named_at name.Parameter (reader (at.Name name.Parameter) d l c) n ≡ Ok next
+parameter_named : (n : List ℕ) (d : ℕ) (l : List ℕ) (c : CatalogueValue) (next : Reader) → after_name_at name.Parameter (reader (at.Name name.Parameter) d l c) n ≡ Ok next
     → ParameterFits l n c × (next ≡ reader at.ParameterEnd d l (with_parameter l n c))
 parameter_named n d l c next ok =
     let more = record c { parameters = c.parameters ++ record { class = innermost l; name = n } ∷ [] } in
@@ -133,7 +133,7 @@ class_named_word w kw d l k c next e ok = cc
 
 class_named_token : (token : text.Token) (d : ℕ) (l : List ℕ) (k : InteractionClass) (c : CatalogueValue) (next : Reader) → after_token (pending (at.ClassOptions stage.Named) d l k c) token ≡ Ok next
     → OptionNext token next (pending_carried d l k c) (pending_ordered d l k c)
-unfolding worded after_quoted
+unfolding after_word after_quoted
 class_named_token text.Open d l k c next ok = Paren (inl tt)
 class_named_token text.Close d l k c next ok = Paren (inr tt)
 class_named_token (text.Word w) d l k c next ok = class_named_word w (keyword_of w) d l k c next refl ok
@@ -144,7 +144,7 @@ class_named_token text.End d l k c next ok = cc
 
 class_carried_token : (token : text.Token) (d : ℕ) (l : List ℕ) (k : InteractionClass) (c : CatalogueValue) (next : Reader) → after_token (pending (at.ClassOptions stage.Carried) d l k c) token ≡ Ok next
     → (Fits token LeftParen ⊎ Fits token RightParen) ⊎ ((o : Order) × Fits token (Means (word.Ordered o)) × (next ≡ pending_ordered d l k c o))
-unfolding worded after_quoted
+unfolding after_word after_quoted
 class_carried_token text.Open d l k c next ok = inl (inl tt)
 class_carried_token text.Close d l k c next ok = inl (inr tt)
 class_carried_token (text.Word w) d l k c next ok = only_order w (keyword_of w) refl ok
@@ -160,7 +160,7 @@ class_carried_token text.End d l k c next ok = cc
 
 class_ordered_token : (token : text.Token) (d : ℕ) (l : List ℕ) (k : InteractionClass) (c : CatalogueValue) (next : Reader) → after_token (pending (at.ClassOptions stage.Ordered) d l k c) token ≡ Ok next
     → (Fits token LeftParen ⊎ Fits token RightParen) ⊎ (Fits token AnyName × (next ≡ inside d k c))
-unfolding worded after_quoted
+unfolding after_word after_quoted
 class_ordered_token text.Open d l k c next ok = inl (inl tt)
 class_ordered_token text.Close d l k c next ok = inl (inr tt)
 class_ordered_token (text.Word w) d l k c next ok = inr (tt, cc)
@@ -250,7 +250,7 @@ data InteractionItemBegins (k : Keyword) (d : ℕ) (place : Place) : Type 0 wher
   BeginsParameter : (keyword : k ≡ word.Parameter) (there : place ≡ at.Name name.Parameter) → InteractionItemBegins k d place
   BeginsLevels : (keyword : k ≡ word.SecLevel) (there : place ≡ at.Ignored within.InteractionClass d) → InteractionItemBegins k d place
 
-interaction_item_begun : (k : Keyword) (d : ℕ) (place : Place) → begun head.InteractionItem d (Some k) ≡ Some place → InteractionItemBegins k d place
+interaction_item_begun : (k : Keyword) (d : ℕ) (place : Place) → place_behind_keyword head.InteractionItem d (Some k) ≡ Some place → InteractionItemBegins k d place
 interaction_item_begun word.Class d place h = BeginsSubclass refl cc
 interaction_item_begun word.Parameter d place h = BeginsParameter refl cc
 interaction_item_begun word.SecLevel d place h = BeginsLevels refl cc
@@ -261,7 +261,7 @@ pub record InteractionBody (d : ℕ) (l : List ℕ) (c : CatalogueValue) (ts : L
   pub items : InteractionItems
   pub fit : interaction_items_fit d l items c
   pub after : Reader
-  pub closing : closed (reader (at.Between lists.InteractionItems) d l (interaction_items_declare l items c)) ≡ Ok after
+  pub closing : after_close (reader (at.Between lists.InteractionItems) d l (interaction_items_declare l items c)) ≡ Ok after
   pub tail : Tail (λ ss. interaction_items_then items (RightParen ∷ ss)) ts after final
 
 pub interaction_body : (n : ℕ) (d : ℕ) (l : List ℕ) (c : CatalogueValue) (ts : List Lexed) (final : CatalogueValue) → length ts ≤ n → 0 < length l → reading (reader (at.Between lists.InteractionItems) d l c) ts ≡ Ok final → InteractionBody d l c ts final
@@ -279,13 +279,13 @@ interaction_body (suc n) d l c (t ∷ k ∷ ts) final few some h =
       | inr p ↦ record { items = NoEntry; fit = tt; after = b.next; closing = p.1; tail = record { rest = k ∷ ts; fewer = omega arith; spelled = λ ss sp. (p.0, sp); read = b.read } }
       | inl p ↦
           let s = reader (at.Between lists.InteractionItems) d l c in
-          let w = back (moved s (at.Head head.InteractionItem) (d + 1)) k ts final refl (at_next _ _ (k ∷ ts) final p.2 b.read) in
+          let w = back (reader_at s (at.Head head.InteractionItem) (d + 1)) k ts final refl (at_next _ _ (k ∷ ts) final p.2 b.read) in
           let q = head_token k.token head.InteractionItem (d + 1) s w.next w.step in
           let short_enough : length ts ≤ n = omega arith in
           elim (interaction_item_begun q.keyword (d + 1) q.place q.begins) [
             | BeginsSubclass kw there ↦
                 let fits : Fits k.token (Means word.Class) = rw kw at q.fits in
-                let at_name : w.next ≡ reader (at.Name name.InteractionClass) (d + 1) l c = q.then ∙ ap (λ (place : Place). moved s place (d + 1)) there in
+                let at_name : w.next ≡ reader (at.Name name.InteractionClass) (d + 1) l c = q.then ∙ ap (λ (place : Place). reader_at s place (d + 1)) there in
                 let a = subclass_back (d + 1) l c ts final (at_next _ _ ts final at_name w.read) in
                 let inner = (length c.interaction_classes + 1) ∷ l in
                 let opened = with_interaction_class l a.name (transport_of a.options) (order_of a.options) c in
@@ -305,7 +305,7 @@ interaction_body (suc n) d l c (t ∷ k ∷ ts) final few some h =
                 }
             | BeginsParameter kw there ↦
                 let fits : Fits k.token (Means word.Parameter) = rw kw at q.fits in
-                let at_name : w.next ≡ reader (at.Name name.Parameter) (d + 1) l c = q.then ∙ ap (λ (place : Place). moved s place (d + 1)) there in
+                let at_name : w.next ≡ reader (at.Name name.Parameter) (d + 1) l c = q.then ∙ ap (λ (place : Place). reader_at s place (d + 1)) there in
                 let a = parameter_back d l c ts final (at_next _ _ ts final at_name w.read) in
                 let declared = with_parameter l a.name c in
                 let fewer : length a.tail.rest ≤ n = omega (arith, a.tail.fewer) in
@@ -320,7 +320,7 @@ interaction_body (suc n) d l c (t ∷ k ∷ ts) final few some h =
                 }
             | BeginsLevels kw there ↦
                 let fits : Fits k.token (Means word.SecLevel) = rw kw at q.fits in
-                let in_list : w.next ≡ ignoring s within.InteractionClass (d + 1) (d + 1) = q.then ∙ ap (λ (place : Place). moved s place (d + 1)) there in
+                let in_list : w.next ≡ ignoring_reader s within.InteractionClass (d + 1) (d + 1) = q.then ∙ ap (λ (place : Place). reader_at s place (d + 1)) there in
                 let a = list_back s within.InteractionClass d ts final (at_next _ _ ts final in_list w.read) in
                 let fewer : length a.tail.rest ≤ n = omega (arith, a.tail.fewer) in
                 let others = interaction_body n d l c a.tail.rest final fewer some a.tail.read in

@@ -6,7 +6,7 @@ use Rattle.hla_fed_file.specs.Lexical.{Lexed, tokens}
 use Rattle.hla_fed_file.specs.Keywords.{keyword_of}
 use Rattle.hla_fed_file.specs.CatalogueValue.{CatalogueValue}
 use Rattle.hla_fed_file.specs.Declaring.{innermost, with_object_class, with_attribute, has_attribute_named}
-use Rattle.hla_fed_file.specs.Reading.{reading, after_token, opened, closed, worded, after_quoted, named_at, begun, attribute_option, is_done}
+use Rattle.hla_fed_file.specs.Reading.{reading, after_token, after_open, after_close, after_word, after_quoted, after_name_at, place_behind_keyword, attribute_option, is_done}
 use Rattle.hla_fed_file.specs.Grammar.{Symbol, LeftParen, RightParen, Means, Named, AnyName, Fits, Options, Bare, Ordered, SecLevels, NoLevel, ALevel, ObjectItems, NoItem, AnAttribute, ASecLevel, AClass, space_then, options_then, levels_then, object_items_then, transport_of, order_of, object_items_declare, IsShort, levels_fit, AttributeFits, object_items_fit}
 use Rattle.hla_fed_file.specs.declared.declared.Attribute.{Attribute}
 use Rattle.hla_fed_file.specs.declared.declared.Order.{Order}
@@ -23,15 +23,15 @@ use Rattle.hla_fed_file.specs.declared.place.Within.TheVariants as within
 use Rattle.hla_fed_file.specs.declared.place.Place.{Place}
 use Rattle.hla_fed_file.specs.declared.place.Place.TheVariants as at
 use Rattle.hla_fed_file.specs.declared.reader.Reader.{Reader}
-use Rattle.hla_fed_file.proofs.ReadSteps.{fits_left, fits_right, half, ignoring, moved, reader}
-use Rattle.hla_fed_file.proofs.ReadObjects.{EndsAttribute, amended, attribute_ends, carried, class_closes, end_ends, kept_declares, kept_of, options_end, ordered, with_kept}
-use Rattle.hla_fed_file.proofs.BackSteps.{Tail, at_next, back, between_token, head_token, kept_limit, kept_room, level_begun, list_back, name_token, none_left, ok_same, was_named, went_deeper}
+use Rattle.hla_fed_file.proofs.ReadSteps.{fits_left, fits_right, half, ignoring_reader, reader_at, reader}
+use Rattle.hla_fed_file.proofs.ReadObjects.{EndsAttribute, with_options, attribute_ends, with_transport_option, class_closes, end_ends, kept_declares, kept_of, options_end, with_order_option, with_kept}
+use Rattle.hla_fed_file.proofs.BackSteps.{Tail, at_next, back, between_token, head_token, kept_limit, kept_room, level_begun, list_back, name_token, none_left, ok_same, was_named, paren_opened_step}
 
 -- Attributes.
 
 -- behind a token at a place in which an attribute may end
 attribute_end_token : (token : text.Token) (d : ℕ) (l : List ℕ) (kept : Option Attribute) (c : CatalogueValue) (next : Reader) → after_token (half at.AttributeEnd d l kept c) token ≡ Ok next → Fits token LeftParen ⊎ Fits token RightParen
-unfolding worded after_quoted
+unfolding after_word after_quoted
 attribute_end_token text.Open d l kept c next ok = inl tt
 attribute_end_token text.Close d l kept c next ok = inr tt
 attribute_end_token (text.Word w) d l kept c next ok = cc
@@ -40,10 +40,10 @@ attribute_end_token text.Bad d l kept c next ok = cc
 attribute_end_token text.Unclosed d l kept c next ok = cc
 attribute_end_token text.End d l kept c next ok = cc
 
-attribute_deeper : (p : Place) (d : ℕ) (l : List ℕ) (kept : Option Attribute) (c : CatalogueValue) (next : Reader) → EndsAttribute p → opened (half p d l kept c) ≡ Ok next
+attribute_deeper : (p : Place) (d : ℕ) (l : List ℕ) (kept : Option Attribute) (c : CatalogueValue) (next : Reader) → EndsAttribute p → after_open (half p d l kept c) ≡ Ok next
     → (d < 64) × (next ≡ half (at.Head head.AttributeItem) (d + 1) l kept c)
-unfolding opened
-attribute_deeper p d l kept c next e ok = went_deeper (at.Head head.AttributeItem) (half p d l kept c) next (sym (e.opens (half p d l kept c)) ∙ ok)
+unfolding after_open
+attribute_deeper p d l kept c next e ok = paren_opened_step (at.Head head.AttributeItem) (half p d l kept c) next (sym (e.opens (half p d l kept c)) ∙ ok)
 
 -- the security levels of an attribute, and its end
 record LevelsRead (d : ℕ) (l : List ℕ) (kept : Option Attribute) (c : CatalogueValue) (ts : List Lexed) (final : CatalogueValue) : Type 0 where
@@ -84,11 +84,11 @@ levels_back (suc n) p d l kept c (t ∷ k ∷ ts) final few e nd (inl left) h =
     let f = fits_left t.token (half p (d + 1) l kept c) left in
     let o = attribute_deeper p (d + 1) l kept c b.next e (sym f.1 ∙ b.step) in
     let s = half at.AttributeEnd (d + 1) l kept c in
-    let w = back (moved s (at.Head head.AttributeItem) (d + 1 + 1)) k ts final refl (at_next _ _ (k ∷ ts) final o.1 b.read) in
+    let w = back (reader_at s (at.Head head.AttributeItem) (d + 1 + 1)) k ts final refl (at_next _ _ (k ∷ ts) final o.1 b.read) in
     let q = head_token k.token head.AttributeItem (d + 1 + 1) s w.next w.step in
     let z = level_begun q.keyword (d + 1 + 1) q.place q.begins in
     let fits : Fits k.token (Means word.SecLevel) = rw z.0 at q.fits in
-    let there : w.next ≡ ignoring s within.Attribute (d + 1 + 1) (d + 1 + 1) = q.then ∙ ap (λ (place : Place). moved s place (d + 1 + 1)) z.1 in
+    let there : w.next ≡ ignoring_reader s within.Attribute (d + 1 + 1) (d + 1 + 1) = q.then ∙ ap (λ (place : Place). reader_at s place (d + 1 + 1)) z.1 in
     let a = list_back s within.Attribute (d + 1) ts final (at_next _ _ ts final there w.read) in
     let fewer : length a.tail.rest ≤ n = omega (arith, a.tail.fewer) in
     let r = levels_back n at.AttributeEnd d l kept c a.tail.rest final fewer end_ends refl (ends_or_opens (d + 1) l kept c a.tail.rest final a.tail.read) a.tail.read in
@@ -106,10 +106,10 @@ pub data OptionNext (token : text.Token) (next : Reader) (at_carried : Transport
   Orders : (o : Order) (fits : Fits token (Means (word.Ordered o))) (then : next ≡ at_ordered o) → OptionNext token next at_carried at_ordered
 
 abbrev half_carried : ℕ → List ℕ → Option Attribute → CatalogueValue → Transport → Reader
-half_carried d l kept c t = half (at.AttributeOptions stage.Carried) d l (carried (Some t) kept) c
+half_carried d l kept c t = half (at.AttributeOptions stage.Carried) d l (with_transport_option (Some t) kept) c
 
 abbrev half_ordered : ℕ → List ℕ → Option Attribute → CatalogueValue → Order → Reader
-half_ordered d l kept c o = half (at.AttributeOptions stage.Ordered) d l (ordered o kept) c
+half_ordered d l kept c o = half (at.AttributeOptions stage.Ordered) d l (with_order_option o kept) c
 
 named_word : (w : List ℕ) (k : Option Keyword) (d : ℕ) (l : List ℕ) (kept : Option Attribute) (c : CatalogueValue) (next : Reader) → keyword_of w ≡ k
     → attribute_option stage.Named k (half (at.AttributeOptions stage.Named) d l kept c) ≡ Ok next → OptionNext (text.Word w) next (half_carried d l kept c) (half_ordered d l kept c)
@@ -119,7 +119,7 @@ named_word w k d l kept c next e ok = cc
 
 named_token : (token : text.Token) (d : ℕ) (l : List ℕ) (kept : Option Attribute) (c : CatalogueValue) (next : Reader) → after_token (half (at.AttributeOptions stage.Named) d l kept c) token ≡ Ok next
     → OptionNext token next (half_carried d l kept c) (half_ordered d l kept c)
-unfolding worded after_quoted
+unfolding after_word after_quoted
 named_token text.Open d l kept c next ok = Paren (inl tt)
 named_token text.Close d l kept c next ok = Paren (inr tt)
 named_token (text.Word w) d l kept c next ok = named_word w (keyword_of w) d l kept c next refl ok
@@ -130,7 +130,7 @@ named_token text.End d l kept c next ok = cc
 
 carried_token : (token : text.Token) (d : ℕ) (l : List ℕ) (kept : Option Attribute) (c : CatalogueValue) (next : Reader) → after_token (half (at.AttributeOptions stage.Carried) d l kept c) token ≡ Ok next
     → (Fits token LeftParen ⊎ Fits token RightParen) ⊎ ((o : Order) × Fits token (Means (word.Ordered o)) × (next ≡ half_ordered d l kept c o))
-unfolding worded after_quoted
+unfolding after_word after_quoted
 carried_token text.Open d l kept c next ok = inl (inl tt)
 carried_token text.Close d l kept c next ok = inl (inr tt)
 carried_token (text.Word w) d l kept c next ok = only_order w (keyword_of w) refl ok
@@ -146,7 +146,7 @@ carried_token text.End d l kept c next ok = cc
 
 ordered_token : (token : text.Token) (d : ℕ) (l : List ℕ) (kept : Option Attribute) (c : CatalogueValue) (next : Reader) → after_token (half (at.AttributeOptions stage.Ordered) d l kept c) token ≡ Ok next
     → (Fits token LeftParen ⊎ Fits token RightParen) ⊎ (Fits token AnyName × (next ≡ half at.AttributeEnd d l kept c))
-unfolding worded after_quoted
+unfolding after_word after_quoted
 ordered_token text.Open d l kept c next ok = inl (inl tt)
 ordered_token text.Close d l kept c next ok = inl (inr tt)
 ordered_token (text.Word w) d l kept c next ok = inr (tt, cc)
@@ -160,7 +160,7 @@ record OptionsRead (before : Options → List Symbol → List Symbol) (d : ℕ) 
   options : Options
   levels : SecLevels
   fit : levels_fit (d + 1) levels
-  tail : Tail (λ ss. before options (levels_then levels (RightParen ∷ ss))) ts (reader (at.Between lists.ObjectItems) d l (with_kept (amended options kept) c)) final
+  tail : Tail (λ ss. before options (levels_then levels (RightParen ∷ ss))) ts (reader (at.Between lists.ObjectItems) d l (with_kept (with_options options kept) c)) final
 
 -- a routing space, or none
 record SpaceRead (o : Order) (d : ℕ) (l : List ℕ) (kept : Option Attribute) (c : CatalogueValue) (ts : List Lexed) (final : CatalogueValue) : Type 0 where
@@ -190,13 +190,13 @@ carried_back : (t : Transport) (d : ℕ) (l : List ℕ) (kept : Option Attribute
 carried_back t d l kept c u [] final fits h = absurd (none_left (half_carried (d + 1) l kept c t) final refl h)
 carried_back t d l kept c u (v ∷ ts) final fits h =
     let b = back (half_carried (d + 1) l kept c t) v ts final refl h in
-    elim (carried_token v.token (d + 1) l (carried (Some t) kept) c b.next b.step) [
+    elim (carried_token v.token (d + 1) l (with_transport_option (Some t) kept) c b.next b.step) [
       | inl paren ↦
-          let r = levels_back (length (v ∷ ts)) (at.AttributeOptions stage.Carried) d l (carried (Some t) kept) c (v ∷ ts) final (omega arith) (options_end (Bare (Some t))) refl paren h in
+          let r = levels_back (length (v ∷ ts)) (at.AttributeOptions stage.Carried) d l (with_transport_option (Some t) kept) c (v ∷ ts) final (omega arith) (options_end (Bare (Some t))) refl paren h in
           let less : length r.tail.rest ≤ length (u ∷ v ∷ ts) = omega (arith, r.tail.fewer) in
           record { options = Bare (Some t); levels = r.levels; fit = r.fit; tail = record { rest = r.tail.rest; fewer = less; spelled = λ ss sp. (fits, r.tail.spelled ss sp); read = r.tail.read } }
       | inr p ↦
-          let r = space_back p.0 d l (ordered p.0 (carried (Some t) kept)) c ts final (at_next _ _ ts final p.2 b.read) in
+          let r = space_back p.0 d l (with_order_option p.0 (with_transport_option (Some t) kept)) c ts final (at_next _ _ ts final p.2 b.read) in
           let less : length r.tail.rest ≤ length (u ∷ v ∷ ts) = omega (arith, r.tail.fewer) in
           record { options = Ordered (Some t) p.0 r.space; levels = r.levels; fit = r.fit; tail = record { rest = r.tail.rest; fewer = less; spelled = λ ss sp. (fits, (p.1, r.tail.spelled ss sp)); read = r.tail.read } }
     ]
@@ -211,7 +211,7 @@ options_back d l kept c (t ∷ ts) final h =
           record { options = Bare None; levels = r.levels; fit = r.fit; tail = r.tail }
       | Carries u fits then ↦ carried_back u d l kept c t ts final fits (at_next _ _ ts final then b.read)
       | Orders o fits then ↦
-          let r = space_back o d l (ordered o kept) c ts final (at_next _ _ ts final then b.read) in
+          let r = space_back o d l (with_order_option o kept) c ts final (at_next _ _ ts final then b.read) in
           let less : length r.tail.rest ≤ length (t ∷ ts) = omega (arith, r.tail.fewer) in
           record { options = Ordered None o r.space; levels = r.levels; fit = r.fit; tail = record { rest = r.tail.rest; fewer = less; spelled = λ ss sp. (fits, r.tail.spelled ss sp); read = r.tail.read } }
     ]
@@ -226,7 +226,7 @@ record AttributeRead (d : ℕ) (l : List ℕ) (c : CatalogueValue) (ts : List Le
   fit : levels_fit (d + 1) levels
   tail : Tail (λ ss. Named name ∷ options_then options (levels_then levels (RightParen ∷ ss))) ts (reader (at.Between lists.ObjectItems) d l (with_attribute l name (transport_of options) (order_of options) c)) final
 
-attribute_named : (n : List ℕ) (d : ℕ) (l : List ℕ) (c : CatalogueValue) (next : Reader) → named_at name.Attribute (reader (at.Name name.Attribute) d l c) n ≡ Ok next
+attribute_named : (n : List ℕ) (d : ℕ) (l : List ℕ) (c : CatalogueValue) (next : Reader) → after_name_at name.Attribute (reader (at.Name name.Attribute) d l c) n ≡ Ok next
     → AttributeFits l n c × (next ≡ half (at.AttributeOptions stage.Named) d l (kept_of l n c) c)
 attribute_named n d l c next ok =
     let k = kept_room (has_attribute_named c l n) (nat_le max_attributes (length c.attributes)) max_attributes (length c.attributes) (half (at.AttributeOptions stage.Named) d l None c)
@@ -278,7 +278,7 @@ data ObjectItemBegins (k : Keyword) (d : ℕ) (place : Place) : Type 0 where
   BeginsAttribute : (keyword : k ≡ word.Attribute) (there : place ≡ at.Name name.Attribute) → ObjectItemBegins k d place
   BeginsLevel : (keyword : k ≡ word.SecLevel) (there : place ≡ at.Ignored within.ObjectClass d) → ObjectItemBegins k d place
 
-object_item_begun : (k : Keyword) (d : ℕ) (place : Place) → begun head.ObjectItem d (Some k) ≡ Some place → ObjectItemBegins k d place
+object_item_begun : (k : Keyword) (d : ℕ) (place : Place) → place_behind_keyword head.ObjectItem d (Some k) ≡ Some place → ObjectItemBegins k d place
 object_item_begun word.Class d place h = BeginsClass refl cc
 object_item_begun word.Attribute d place h = BeginsAttribute refl cc
 object_item_begun word.SecLevel d place h = BeginsLevel refl cc
@@ -289,7 +289,7 @@ pub record ObjectBody (d : ℕ) (l : List ℕ) (c : CatalogueValue) (ts : List L
   pub items : ObjectItems
   pub fit : object_items_fit d l items c
   pub after : Reader
-  pub closing : closed (reader (at.Between lists.ObjectItems) d l (object_items_declare l items c)) ≡ Ok after
+  pub closing : after_close (reader (at.Between lists.ObjectItems) d l (object_items_declare l items c)) ≡ Ok after
   pub tail : Tail (λ ss. object_items_then items (RightParen ∷ ss)) ts after final
 
 pub object_body : (n : ℕ) (d : ℕ) (l : List ℕ) (c : CatalogueValue) (ts : List Lexed) (final : CatalogueValue) → length ts ≤ n → 0 < length l → reading (reader (at.Between lists.ObjectItems) d l c) ts ≡ Ok final → ObjectBody d l c ts final
@@ -307,13 +307,13 @@ object_body (suc n) d l c (t ∷ k ∷ ts) final few some h =
       | inr p ↦ record { items = NoItem; fit = tt; after = b.next; closing = p.1; tail = record { rest = k ∷ ts; fewer = omega arith; spelled = λ ss sp. (p.0, sp); read = b.read } }
       | inl p ↦
           let s = reader (at.Between lists.ObjectItems) d l c in
-          let w = back (moved s (at.Head head.ObjectItem) (d + 1)) k ts final refl (at_next _ _ (k ∷ ts) final p.2 b.read) in
+          let w = back (reader_at s (at.Head head.ObjectItem) (d + 1)) k ts final refl (at_next _ _ (k ∷ ts) final p.2 b.read) in
           let q = head_token k.token head.ObjectItem (d + 1) s w.next w.step in
           let short_enough : length ts ≤ n = omega arith in
           elim (object_item_begun q.keyword (d + 1) q.place q.begins) [
             | BeginsClass kw there ↦
                 let fits : Fits k.token (Means word.Class) = rw kw at q.fits in
-                let at_name : w.next ≡ reader (at.Name name.ObjectClass) (d + 1) l c = q.then ∙ ap (λ (place : Place). moved s place (d + 1)) there in
+                let at_name : w.next ≡ reader (at.Name name.ObjectClass) (d + 1) l c = q.then ∙ ap (λ (place : Place). reader_at s place (d + 1)) there in
                 let a = class_back (d + 1) l c ts final (at_next _ _ ts final at_name w.read) in
                 let inner = (length c.object_classes + 1) ∷ l in
                 let opened = with_object_class l a.name c in
@@ -333,7 +333,7 @@ object_body (suc n) d l c (t ∷ k ∷ ts) final few some h =
                 }
             | BeginsAttribute kw there ↦
                 let fits : Fits k.token (Means word.Attribute) = rw kw at q.fits in
-                let at_name : w.next ≡ reader (at.Name name.Attribute) (d + 1) l c = q.then ∙ ap (λ (place : Place). moved s place (d + 1)) there in
+                let at_name : w.next ≡ reader (at.Name name.Attribute) (d + 1) l c = q.then ∙ ap (λ (place : Place). reader_at s place (d + 1)) there in
                 let a = attribute_back d l c ts final (at_next _ _ ts final at_name w.read) in
                 let declared = with_attribute l a.name (transport_of a.options) (order_of a.options) c in
                 let fewer : length a.tail.rest ≤ n = omega (arith, a.tail.fewer) in
@@ -348,7 +348,7 @@ object_body (suc n) d l c (t ∷ k ∷ ts) final few some h =
                 }
             | BeginsLevel kw there ↦
                 let fits : Fits k.token (Means word.SecLevel) = rw kw at q.fits in
-                let in_list : w.next ≡ ignoring s within.ObjectClass (d + 1) (d + 1) = q.then ∙ ap (λ (place : Place). moved s place (d + 1)) there in
+                let in_list : w.next ≡ ignoring_reader s within.ObjectClass (d + 1) (d + 1) = q.then ∙ ap (λ (place : Place). reader_at s place (d + 1)) there in
                 let a = list_back s within.ObjectClass d ts final (at_next _ _ ts final in_list w.read) in
                 let fewer : length a.tail.rest ≤ n = omega (arith, a.tail.fewer) in
                 let others = object_body n d l c a.tail.rest final fewer some a.tail.read in

@@ -4,7 +4,7 @@ use Rattle.std.proofs.Common.{◌≡◌, ℕ, false, List, [], ◌∷◌, length
 use Rattle.hla_fed_file.specs.Lexical as text
 use Rattle.hla_fed_file.specs.Lexical.{Lexed, tokens}
 use Rattle.hla_fed_file.specs.CatalogueValue.{CatalogueValue, empty_catalogue}
-use Rattle.hla_fed_file.specs.Reading.{reading, opened, closed, worded, start, read_of}
+use Rattle.hla_fed_file.specs.Reading.{reading, after_open, after_close, after_word, start, reading_of}
 use Rattle.hla_fed_file.specs.Grammar.{Symbol, TheEnd, Fits, Spells, Parts, NoPart, ALabel, AnIgnored, Objects, Interactions, parts_then, file_of, object_classes_declare, interaction_classes_declare, parts_declare, parts_fit, Describes}
 use Rattle.hla_fed_file.specs.declared.place.Keyword.TheVariants as word
 use Rattle.hla_fed_file.specs.declared.place.Head.TheVariants as head
@@ -18,7 +18,7 @@ use Rattle.hla_fed_file.proofs.ReadInteractions.{interaction_classes_read}
 
 -- Parts and files.
 parts_read : (p : Parts) (c : CatalogueValue) (ts : List Lexed) (ss : List Symbol) → parts_fit p c → Spells ts (parts_then p ss) → Reads (reader (at.Between lists.Parts) 1 [] c) (reader (at.Between lists.Parts) 1 [] (parts_declare p c)) ts ss
-unfolding closed
+unfolding after_close
 parts_read NoPart c ts ss fit sp = record { rest = ts; spelled = sp; same = refl }
 parts_read (ALabel n others) c ts ss fit sp =
     let a = begin_read word.Label lists.Parts (at.Name name.Label) 1 [] c ts _ (omega arith) refl sp in
@@ -55,7 +55,7 @@ end_read d c (t ∷ ts) sp = ends_there t.token t.line ts sp
     ends_there token line ts h = absurd h
 
 file_read : (p : Parts) (ts : List Lexed) → parts_fit p empty_catalogue → Spells ts (file_of p) → reading start ts ≡ Ok (parts_declare p empty_catalogue)
-unfolding opened closed worded
+unfolding after_open after_close after_word
 file_read p ts fit sp =
     let a = left_read start (reader (at.Head head.File) 1 [] empty_catalogue) ts _ refl sp in
     let b = keyword_read word.Fed (reader (at.Head head.File) 1 [] empty_catalogue) (reader (at.Between lists.Parts) 1 [] empty_catalogue) a.rest _ (λ w h. rw h refl) a.spelled in
@@ -65,8 +65,8 @@ file_read p ts fit sp =
     a.same ∙ b.same ∙ k.same ∙ e.same ∙ end_read 0 c e.rest e.spelled
 
 -- what the grammar relates to a catalogue is read as that one
-pub described_read : (text : List ℕ) (c : CatalogueValue) → Describes text c → read_of text ≡ Ok c
-unfolding read_of
+pub described_read : (text : List ℕ) (c : CatalogueValue) → Describes text c → reading_of text ≡ Ok c
+unfolding reading_of
 described_read text c d =
     let small : nat_lt max_fed_file (length text) ≡ false = le-ltb _ _ d.short in
     rw small (file_read d.parts (tokens text) d.fits d.is_file ∙ ap (λ (x : CatalogueValue). Ok x) d.declares)

@@ -25,8 +25,8 @@ number_added (e ∷ es) k v h = elim (bytes_eq k.items e.0.items) as (λ b. cond
 ] h
 
 -- a name that has no number is added
-pub noted : (ns : Numbered) (name : List ℕ) (n : ℕ) → None ≡ number_named ns name → with_number ns name n ≡ ns ++ (name, n) ∷ []
-noted ns name n h = rw (sym h) refl
+pub new_name_last : (ns : Numbered) (name : List ℕ) (n : ℕ) → None ≡ number_named ns name → with_number ns name n ≡ ns ++ (name, n) ∷ []
+new_name_last ns name n h = rw (sym h) refl
 
 pub noted_before : (ns : Numbered) (name : List ℕ) (n m : ℕ) → Some m ≡ number_named ns name → with_number ns name n ≡ ns
 noted_before ns name n m h = rw (sym h) refl
@@ -71,7 +71,7 @@ known_before ns m n true q name e h =
 known_before ns m n false q name e h = sym (or_else-None (number_named ns name))
 
 one_more_path : (ns : Numbered) (q name : List ℕ) (n : ℕ) (found : Option ℕ) → number_named ns q ≡ found → number_named (with_number ns q n) name ≡ or_else (number_named ns name) (cond (bytes_eq q name) (Some n) None)
-one_more_path ns q name n None h = ap (λ all. number_named all name) (noted ns q n (sym h)) ∙ number_in-append ns q n name ∙ ap (λ b. or_else (number_named ns name) (cond b (Some n) None)) (bytes_eq-comm name q)
+one_more_path ns q name n None h = ap (λ all. number_named all name) (new_name_last ns q n (sym h)) ∙ number_in-append ns q n name ∙ ap (λ b. or_else (number_named ns name) (cond b (Some n) None)) (bytes_eq-comm name q)
 one_more_path ns q name n (Some m) h = ap (λ all. number_named all name) (noted_before ns q n m (sym h)) ∙ known_before ns m n (bytes_eq q name) q name refl h
 
 -- the index of one more class

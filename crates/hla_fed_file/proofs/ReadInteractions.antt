@@ -4,7 +4,7 @@ use Rattle.std.proofs.Common.{◌≡◌, ℕ, ◌+◌, ◌<◌, ◌==◌, Bool, 
 use Rattle.hla_fed_file.specs.Lexical.{Lexed}
 use Rattle.hla_fed_file.specs.CatalogueValue.{CatalogueValue}
 use Rattle.hla_fed_file.specs.Declaring.{interaction_class, with_interaction_class, with_parameter, has_parameter_named}
-use Rattle.hla_fed_file.specs.Reading.{reading, opened, closed, worded, after_quoted, named_at, Step}
+use Rattle.hla_fed_file.specs.Reading.{reading, after_open, after_close, after_word, after_quoted, after_name_at, Step}
 use Rattle.hla_fed_file.specs.Grammar.{Symbol, LeftParen, RightParen, Means, Named, Spells, Options, Bare, Ordered, SecLevels, NoLevel, ALevel, InteractionItems, NoEntry, AParameter, ALevelList, ASubclass, InteractionClasses, NoTop, ATop, transport_then, space_then, options_then, levels_then, interaction_items_then, interaction_classes_then, transport_of, order_of, interaction_items_declare, interaction_classes_declare, IsShort, levels_fit, ParameterFits, interaction_items_fit, interaction_classes_fit}
 use Rattle.hla_fed_file.specs.declared.declared.InteractionClass.{InteractionClass}
 use Rattle.hla_fed_file.specs.declared.declared.Order.{Order}
@@ -21,7 +21,7 @@ use Rattle.hla_fed_file.specs.declared.place.Stage.TheVariants as stage
 use Rattle.hla_fed_file.specs.declared.place.Within.TheVariants as within
 use Rattle.hla_fed_file.specs.declared.place.Place.TheVariants as at
 use Rattle.hla_fed_file.specs.declared.reader.Reader.{Reader}
-use Rattle.hla_fed_file.proofs.ReadSteps.{Reads, above_zero, alike, any_read, below_limit, deepens, down, fits_left, fits_right, keyword_read, list_read, name_read, pending, reader, right_read}
+use Rattle.hla_fed_file.proofs.ReadSteps.{Reads, above_zero, alike, any_read, below_limit, paren_opened, down, fits_left, fits_right, keyword_read, list_read, name_read, pending, reader, right_read}
 use Rattle.hla_fed_file.proofs.ReadObjects.{begin_read, item_opens, stage_of}
 
 -- Interaction classes.
@@ -47,13 +47,13 @@ pub data BehindOptions (k : InteractionClass) (d : ℕ) (l : List ℕ) (c : Cata
   Declared : BehindOptions k d l c (inside d k c)
 
 -- such readers open and close alike
-pub behind_opens : (k : InteractionClass) (d : ℕ) (l : List ℕ) (c : CatalogueValue) (s : Reader) → BehindOptions k d l c s → opened s ≡ opened (inside d k c)
-unfolding opened
+pub behind_opens : (k : InteractionClass) (d : ℕ) (l : List ℕ) (c : CatalogueValue) (s : Reader) → BehindOptions k d l c s → after_open s ≡ after_open (inside d k c)
+unfolding after_open
 behind_opens k d l c s (Waits o) = refl
 behind_opens k d l c s Declared = refl
 
-pub behind_closes : (k : InteractionClass) (d : ℕ) (l : List ℕ) (c : CatalogueValue) (s : Reader) → BehindOptions k d l c s → closed s ≡ closed (inside d k c)
-unfolding closed
+pub behind_closes : (k : InteractionClass) (d : ℕ) (l : List ℕ) (c : CatalogueValue) (s : Reader) → BehindOptions k d l c s → after_close s ≡ after_close (inside d k c)
+unfolding after_close
 behind_closes k d l c s (Waits o) = refl
 behind_closes k d l c s Declared = refl
 
@@ -65,19 +65,19 @@ record ClassOptionsRead (s : Reader) (k : InteractionClass) (d : ℕ) (l : List 
 
 class_transport_read : (t : Option Transport) (d : ℕ) (l : List ℕ) (k : InteractionClass) (c : CatalogueValue) (ts : List Lexed) (ss : List Symbol) → Spells ts (transport_then t ss)
     → Reads (pending (at.ClassOptions stage.Named) d l k c) (pending (at.ClassOptions (stage_of t)) d l (class_carried t k) c) ts ss
-unfolding worded
+unfolding after_word
 class_transport_read None d l k c ts ss sp = record { rest = ts; spelled = sp; same = refl }
 class_transport_read (Some t) d l k c ts ss sp = keyword_read (word.Carried t) _ (pending (at.ClassOptions stage.Carried) d l (class_carried (Some t) k) c) ts ss (λ w h. rw h refl) sp
 
 class_order_read : (t : Option Transport) (o : Order) (d : ℕ) (l : List ℕ) (k : InteractionClass) (c : CatalogueValue) (ts : List Lexed) (ss : List Symbol) → Spells ts (Means (word.Ordered o) ∷ ss)
     → Reads (pending (at.ClassOptions (stage_of t)) d l k c) (pending (at.ClassOptions stage.Ordered) d l (record k { order = o }) c) ts ss
-unfolding worded
+unfolding after_word
 class_order_read None o d l k c ts ss sp = keyword_read (word.Ordered o) _ (pending (at.ClassOptions stage.Ordered) d l (record k { order = o }) c) ts ss (λ w h. rw h refl) sp
 class_order_read (Some t) o d l k c ts ss sp = keyword_read (word.Ordered o) _ (pending (at.ClassOptions stage.Ordered) d l (record k { order = o }) c) ts ss (λ w h. rw h refl) sp
 
 class_space_read : (space : Bool) (d : ℕ) (l : List ℕ) (k : InteractionClass) (c : CatalogueValue) (ts : List Lexed) (ss : List Symbol) → Spells ts (space_then space ss)
     → ClassOptionsRead (pending (at.ClassOptions stage.Ordered) d l k c) k d l c ts ss
-unfolding worded after_quoted
+unfolding after_word after_quoted
 class_space_read false d l k c ts ss sp = record { after = pending (at.ClassOptions stage.Ordered) d l k c; behind = Waits stage.Ordered; reads = record { rest = ts; spelled = sp; same = refl } }
 class_space_read true d l k c ts ss sp = record { after = inside d k c; behind = Declared; reads = any_read _ (inside d k c) ts ss (λ w. refl) (λ w. refl) sp }
 
@@ -92,14 +92,14 @@ class_options_read (Ordered t o space) d l k c ts ss sp =
     record { after = e.after; behind = e.behind; reads = record { rest = e.reads.rest; spelled = e.reads.spelled; same = a.same ∙ b.same ∙ e.reads.same } }
 
 -- behind options only a parenthesis stands
-same_left : (s s' : Reader) (ts : List Lexed) (ss : List Symbol) → opened s ≡ opened s' → Spells ts (LeftParen ∷ ss) → reading s ts ≡ reading s' ts
+same_left : (s s' : Reader) (ts : List Lexed) (ss : List Symbol) → after_open s ≡ after_open s' → Spells ts (LeftParen ∷ ss) → reading s ts ≡ reading s' ts
 same_left s s' [] ss e sp = absurd sp
 same_left s s' (t ∷ ts) ss e sp =
     let f = fits_left t.token s sp.0 in
     let g = fits_left t.token s' sp.0 in
     alike s s' t ts f.0 (f.1 ∙ e ∙ sym g.1)
 
-same_right : (s s' : Reader) (ts : List Lexed) (ss : List Symbol) → closed s ≡ closed s' → Spells ts (RightParen ∷ ss) → reading s ts ≡ reading s' ts
+same_right : (s s' : Reader) (ts : List Lexed) (ss : List Symbol) → after_close s ≡ after_close s' → Spells ts (RightParen ∷ ss) → reading s ts ≡ reading s' ts
 same_right s s' [] ss e sp = absurd sp
 same_right s s' (t ∷ ts) ss e sp =
     let f = fits_right t.token s sp.0 in
@@ -118,7 +118,7 @@ abbrev pub first_of_class : CatalogueValue → List ℕ → List ℕ → Interac
 first_of_class c l n = interaction_class c l n transport.Reliable order.Receive
 
 interaction_named : (n : List ℕ) (d : ℕ) (l : List ℕ) (c : CatalogueValue) → length c.interaction_classes < max_classes
-    → named_at name.InteractionClass (reader (at.Name name.InteractionClass) d l c) n ≡ Ok (pending (at.ClassOptions stage.Named) d l (first_of_class c l n) c)
+    → after_name_at name.InteractionClass (reader (at.Name name.InteractionClass) d l c) n ≡ Ok (pending (at.ClassOptions stage.Named) d l (first_of_class c l n) c)
 interaction_named n d l c h = let e : nat_le max_classes (length c.interaction_classes) ≡ false = below_limit _ _ h in rw e refl
 
 pub amended_class : (o : Options) (l n : List ℕ) (c : CatalogueValue) → class_amended o (first_of_class c l n) ≡ interaction_class c l n (transport_of o) (order_of o)
@@ -140,17 +140,17 @@ class_head_read n o i d l c ts ss short room sp =
     record { rest = b.reads.rest; spelled = b.reads.spelled; same = a.same ∙ b.reads.same ∙ behind ∙ whole }
 
 -- behind a class in a class
-pub interaction_closes : (d n : ℕ) (l : List ℕ) (c : CatalogueValue) → 0 < length l → closed (reader (at.Between lists.InteractionItems) (d + 1) (n ∷ l) c) ≡ Ok (reader (at.Between lists.InteractionItems) d l c)
-unfolding closed
+pub interaction_closes : (d n : ℕ) (l : List ℕ) (c : CatalogueValue) → 0 < length l → after_close (reader (at.Between lists.InteractionItems) (d + 1) (n ∷ l) c) ≡ Ok (reader (at.Between lists.InteractionItems) d l c)
+unfolding after_close
 interaction_closes d n l c h = let e : (length l == 0) ≡ false = above_zero _ h in rw (e, down d) refl
 
 -- the security levels of a parameter, and its end
-parameter_end_opens : (d : ℕ) (l : List ℕ) (c : CatalogueValue) → d < 64 → opened (reader at.ParameterEnd d l c) ≡ Ok (reader (at.Head head.ParameterItem) (d + 1) l c)
-unfolding opened
-parameter_end_opens d l c h = deepens (at.Head head.ParameterItem) (reader at.ParameterEnd d l c) h
+parameter_end_opens : (d : ℕ) (l : List ℕ) (c : CatalogueValue) → d < 64 → after_open (reader at.ParameterEnd d l c) ≡ Ok (reader (at.Head head.ParameterItem) (d + 1) l c)
+unfolding after_open
+parameter_end_opens d l c h = paren_opened (at.Head head.ParameterItem) (reader at.ParameterEnd d l c) h
 
-pub parameter_closes : (d : ℕ) (l : List ℕ) (c : CatalogueValue) → closed (reader at.ParameterEnd (d + 1) l c) ≡ Ok (reader (at.Between lists.InteractionItems) d l c)
-unfolding closed
+pub parameter_closes : (d : ℕ) (l : List ℕ) (c : CatalogueValue) → after_close (reader at.ParameterEnd (d + 1) l c) ≡ Ok (reader (at.Between lists.InteractionItems) d l c)
+unfolding after_close
 parameter_closes d l c = ap (λ (n : ℕ). Ok (reader (at.Between lists.InteractionItems) n l c)) (down d)
 
 parameter_levels_read : (v : SecLevels) (d : ℕ) (l : List ℕ) (c : CatalogueValue) (ts : List Lexed) (ss : List Symbol) → levels_fit (d + 1) v → Spells ts (levels_then v (RightParen ∷ ss))
@@ -198,7 +198,7 @@ interaction_items_read (ASubclass n options body others) d l c ts ss h fit sp =
 
 pub interaction_classes_read : (k : InteractionClasses) (c : CatalogueValue) (ts : List Lexed) (ss : List Symbol) → interaction_classes_fit k c → Spells ts (interaction_classes_then k ss)
     → Reads (reader (at.Between lists.InteractionClasses) 2 [] c) (reader (at.Between lists.InteractionClasses) 2 [] (interaction_classes_declare k c)) ts ss
-unfolding closed
+unfolding after_close
 interaction_classes_read NoTop c ts ss fit sp = record { rest = ts; spelled = sp; same = refl }
 interaction_classes_read (ATop n options body others) c ts ss fit sp =
     let inner = (length c.interaction_classes + 1) ∷ [] in

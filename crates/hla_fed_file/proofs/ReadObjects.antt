@@ -5,7 +5,7 @@ use Rattle.std.specs.Option.{option_map}
 use Rattle.hla_fed_file.specs.Lexical.{Lexed}
 use Rattle.hla_fed_file.specs.CatalogueValue.{CatalogueValue}
 use Rattle.hla_fed_file.specs.Declaring.{innermost, with_object_class, with_attribute, has_attribute_named}
-use Rattle.hla_fed_file.specs.Reading.{reading, opened, opened_at, closed, closed_at, worded, after_quoted, named_at, begun, deeper, shallower, attribute_declared, head_in, Step}
+use Rattle.hla_fed_file.specs.Reading.{reading, after_open, after_open_at, after_close, after_close_at, after_word, after_quoted, after_name_at, place_behind_keyword, with_paren_opened, with_paren_closed, with_attribute_declared, head_in, Step}
 use Rattle.hla_fed_file.specs.Grammar.{Symbol, LeftParen, RightParen, Means, Named, Spells, Options, Bare, Ordered, SecLevels, NoLevel, ALevel, ObjectItems, NoItem, AnAttribute, ASecLevel, AClass, ObjectClasses, NoClass, TopClass, transport_then, space_then, options_then, levels_then, object_items_then, object_classes_then, transport_of, order_of, object_items_declare, object_classes_declare, IsShort, levels_fit, AttributeFits, object_items_fit, object_classes_fit}
 use Rattle.hla_fed_file.specs.declared.declared.Attribute.{Attribute}
 use Rattle.hla_fed_file.specs.declared.declared.Order.{Order}
@@ -25,24 +25,24 @@ use Rattle.hla_fed_file.specs.declared.place.Within.TheVariants as within
 use Rattle.hla_fed_file.specs.declared.place.Place.{Place}
 use Rattle.hla_fed_file.specs.declared.place.Place.TheVariants as at
 use Rattle.hla_fed_file.specs.declared.reader.Reader.{Reader}
-use Rattle.hla_fed_file.proofs.ReadSteps.{Reads, above_zero, any_read, below_limit, deepens, down, half, keyword_read, left_read, list_read, name_read, reader, right_read}
+use Rattle.hla_fed_file.proofs.ReadSteps.{Reads, above_zero, any_read, below_limit, paren_opened, down, half, keyword_read, left_read, list_read, name_read, reader, right_read}
 
 -- Options.
 abbrev pub stage_of : Option Transport → Stage
 stage_of None = stage.Named
 stage_of (Some t) = stage.Carried
 
-abbrev pub carried : Option Transport → Option Attribute → Option Attribute
-carried None kept = kept
-carried (Some t) kept = option_map {T = Attribute} {U = Attribute} (λ a. record a { transport = t }) kept
+abbrev pub with_transport_option : Option Transport → Option Attribute → Option Attribute
+with_transport_option None kept = kept
+with_transport_option (Some t) kept = option_map {T = Attribute} {U = Attribute} (λ a. record a { transport = t }) kept
 
-abbrev pub ordered : Order → Option Attribute → Option Attribute
-ordered o kept = option_map {T = Attribute} {U = Attribute} (λ a. record a { order = o }) kept
+abbrev pub with_order_option : Order → Option Attribute → Option Attribute
+with_order_option o kept = option_map {T = Attribute} {U = Attribute} (λ a. record a { order = o }) kept
 
 -- an attribute behind its options, and its place
-abbrev pub amended : Options → Option Attribute → Option Attribute
-amended (Bare t) kept = carried t kept
-amended (Ordered t o space) kept = ordered o (carried t kept)
+abbrev pub with_options : Options → Option Attribute → Option Attribute
+with_options (Bare t) kept = with_transport_option t kept
+with_options (Ordered t o space) kept = with_order_option o (with_transport_option t kept)
 
 abbrev pub space_place : Bool → Place
 space_place true = at.AttributeEnd
@@ -53,36 +53,36 @@ options_place (Bare t) = at.AttributeOptions (stage_of t)
 options_place (Ordered t o space) = space_place space
 
 transport_read : (t : Option Transport) (d : ℕ) (l : List ℕ) (kept : Option Attribute) (c : CatalogueValue) (ts : List Lexed) (ss : List Symbol) → Spells ts (transport_then t ss)
-    → Reads (half (at.AttributeOptions stage.Named) d l kept c) (half (at.AttributeOptions (stage_of t)) d l (carried t kept) c) ts ss
-unfolding worded
+    → Reads (half (at.AttributeOptions stage.Named) d l kept c) (half (at.AttributeOptions (stage_of t)) d l (with_transport_option t kept) c) ts ss
+unfolding after_word
 transport_read None d l kept c ts ss sp = record { rest = ts; spelled = sp; same = refl }
-transport_read (Some t) d l kept c ts ss sp = keyword_read (word.Carried t) _ (half (at.AttributeOptions stage.Carried) d l (carried (Some t) kept) c) ts ss (λ w h. rw h refl) sp
+transport_read (Some t) d l kept c ts ss sp = keyword_read (word.Carried t) _ (half (at.AttributeOptions stage.Carried) d l (with_transport_option (Some t) kept) c) ts ss (λ w h. rw h refl) sp
 
 order_read : (t : Option Transport) (o : Order) (d : ℕ) (l : List ℕ) (kept : Option Attribute) (c : CatalogueValue) (ts : List Lexed) (ss : List Symbol) → Spells ts (Means (word.Ordered o) ∷ ss)
-    → Reads (half (at.AttributeOptions (stage_of t)) d l kept c) (half (at.AttributeOptions stage.Ordered) d l (ordered o kept) c) ts ss
-unfolding worded
-order_read None o d l kept c ts ss sp = keyword_read (word.Ordered o) _ (half (at.AttributeOptions stage.Ordered) d l (ordered o kept) c) ts ss (λ w h. rw h refl) sp
-order_read (Some t) o d l kept c ts ss sp = keyword_read (word.Ordered o) _ (half (at.AttributeOptions stage.Ordered) d l (ordered o kept) c) ts ss (λ w h. rw h refl) sp
+    → Reads (half (at.AttributeOptions (stage_of t)) d l kept c) (half (at.AttributeOptions stage.Ordered) d l (with_order_option o kept) c) ts ss
+unfolding after_word
+order_read None o d l kept c ts ss sp = keyword_read (word.Ordered o) _ (half (at.AttributeOptions stage.Ordered) d l (with_order_option o kept) c) ts ss (λ w h. rw h refl) sp
+order_read (Some t) o d l kept c ts ss sp = keyword_read (word.Ordered o) _ (half (at.AttributeOptions stage.Ordered) d l (with_order_option o kept) c) ts ss (λ w h. rw h refl) sp
 
 space_read : (space : Bool) (d : ℕ) (l : List ℕ) (kept : Option Attribute) (c : CatalogueValue) (ts : List Lexed) (ss : List Symbol) → Spells ts (space_then space ss)
     → Reads (half (at.AttributeOptions stage.Ordered) d l kept c) (half (space_place space) d l kept c) ts ss
-unfolding worded after_quoted
+unfolding after_word after_quoted
 space_read false d l kept c ts ss sp = record { rest = ts; spelled = sp; same = refl }
 space_read true d l kept c ts ss sp = any_read _ (half at.AttributeEnd d l kept c) ts ss (λ w. refl) (λ w. refl) sp
 
 options_read : (o : Options) (d : ℕ) (l : List ℕ) (kept : Option Attribute) (c : CatalogueValue) (ts : List Lexed) (ss : List Symbol) → Spells ts (options_then o ss)
-    → Reads (half (at.AttributeOptions stage.Named) d l kept c) (half (options_place o) d l (amended o kept) c) ts ss
+    → Reads (half (at.AttributeOptions stage.Named) d l kept c) (half (options_place o) d l (with_options o kept) c) ts ss
 options_read (Bare t) d l kept c ts ss sp = transport_read t d l kept c ts ss sp
 options_read (Ordered t o space) d l kept c ts ss sp =
     let a = transport_read t d l kept c ts _ sp in
-    let b = order_read t o d l (carried t kept) c a.rest _ a.spelled in
-    let e = space_read space d l (ordered o (carried t kept)) c b.rest ss b.spelled in
+    let b = order_read t o d l (with_transport_option t kept) c a.rest _ a.spelled in
+    let e = space_read space d l (with_order_option o (with_transport_option t kept)) c b.rest ss b.spelled in
     record { rest = e.rest; spelled = e.spelled; same = a.same ∙ b.same ∙ e.same }
 
 -- a place in which an attribute may end
 pub record EndsAttribute (p : Place) : Type 0 where
-  pub opens : (s : Reader) → opened_at p s ≡ deeper (at.Head head.AttributeItem) s
-  pub closes : (s : Reader) → closed_at p s ≡ Ok (shallower (at.Between lists.ObjectItems) (attribute_declared s))
+  pub opens : (s : Reader) → after_open_at p s ≡ with_paren_opened (at.Head head.AttributeItem) s
+  pub closes : (s : Reader) → after_close_at p s ≡ Ok (with_paren_closed (at.Between lists.ObjectItems) (with_attribute_declared s))
 
 pub options_end : (o : Options) → EndsAttribute (options_place o)
 options_end (Bare None) = record { opens = λ s. refl; closes = λ s. refl }
@@ -98,14 +98,14 @@ abbrev pub with_kept : Option Attribute → CatalogueValue → CatalogueValue
 with_kept None c = c
 with_kept (Some a) c = record c { attributes = c.attributes ++ a ∷ [] }
 
-pub attribute_ends : (p : Place) (d : ℕ) (l : List ℕ) (kept : Option Attribute) (c : CatalogueValue) → EndsAttribute p → closed (half p (d + 1) l kept c) ≡ Ok (reader (at.Between lists.ObjectItems) d l (with_kept kept c))
-unfolding closed
+pub attribute_ends : (p : Place) (d : ℕ) (l : List ℕ) (kept : Option Attribute) (c : CatalogueValue) → EndsAttribute p → after_close (half p (d + 1) l kept c) ≡ Ok (reader (at.Between lists.ObjectItems) d l (with_kept kept c))
+unfolding after_close
 attribute_ends p d l None c e = e.closes (half p (d + 1) l None c) ∙ ap (λ (n : ℕ). Ok (reader (at.Between lists.ObjectItems) n l c)) (down d)
 attribute_ends p d l (Some a) c e = e.closes (half p (d + 1) l (Some a) c) ∙ ap (λ (n : ℕ). Ok (reader (at.Between lists.ObjectItems) n l (with_kept (Some a) c))) (down d)
 
-pub attribute_opens : (p : Place) (d : ℕ) (l : List ℕ) (kept : Option Attribute) (c : CatalogueValue) → EndsAttribute p → d < 64 → opened (half p d l kept c) ≡ Ok (half (at.Head head.AttributeItem) (d + 1) l kept c)
-unfolding opened
-attribute_opens p d l kept c e h = e.opens (half p d l kept c) ∙ deepens (at.Head head.AttributeItem) (half p d l kept c) h
+pub attribute_opens : (p : Place) (d : ℕ) (l : List ℕ) (kept : Option Attribute) (c : CatalogueValue) → EndsAttribute p → d < 64 → after_open (half p d l kept c) ≡ Ok (half (at.Head head.AttributeItem) (d + 1) l kept c)
+unfolding after_open
+attribute_opens p d l kept c e h = e.opens (half p d l kept c) ∙ paren_opened (at.Head head.AttributeItem) (half p d l kept c) h
 
 -- the security levels of an attribute, and its end
 levels_read : (v : SecLevels) (p : Place) (d : ℕ) (l : List ℕ) (kept : Option Attribute) (c : CatalogueValue) (ts : List Lexed) (ss : List Symbol) → EndsAttribute p → levels_fit (d + 1) v → Spells ts (levels_then v (RightParen ∷ ss))
@@ -127,7 +127,7 @@ attribute_kept true d l n c room = refl
 attribute_kept false d l n c room = let e : nat_le max_attributes (length c.attributes) ≡ false = below_limit _ _ (room refl) in rw e refl
 
 pub kept_declares : (b : Bool) (l n : List ℕ) (o : Options) (c : CatalogueValue)
-    → with_kept (amended o (cond b None (Some (record { class = innermost l; name = n; transport = transport.Reliable; order = order.Receive })))) c
+    → with_kept (with_options o (cond b None (Some (record { class = innermost l; name = n; transport = transport.Reliable; order = order.Receive })))) c
     ≡ cond b c (record c { attributes = c.attributes ++ record { class = innermost l; name = n; transport = transport_of o; order = order_of o } ∷ [] })
 kept_declares true l n (Bare None) c = refl
 kept_declares true l n (Bare (Some t)) c = refl
@@ -139,14 +139,14 @@ kept_declares false l n (Ordered None o space) c = refl
 kept_declares false l n (Ordered (Some t) o space) c = refl
 
 -- an item of a class begins
-pub item_opens : (d : ℕ) (l : List ℕ) (c : CatalogueValue) (i : Lists) → d < 64 → opened (reader (at.Between i) d l c) ≡ Ok (reader (at.Head (head_in i)) (d + 1) l c)
-unfolding opened
-item_opens d l c i h = deepens (at.Head (head_in i)) (reader (at.Between i) d l c) h
+pub item_opens : (d : ℕ) (l : List ℕ) (c : CatalogueValue) (i : Lists) → d < 64 → after_open (reader (at.Between i) d l c) ≡ Ok (reader (at.Head (head_in i)) (d + 1) l c)
+unfolding after_open
+item_opens d l c i h = paren_opened (at.Head (head_in i)) (reader (at.Between i) d l c) h
 
 -- a parenthesis and a keyword
-pub begin_read : (k : Keyword) (i : Lists) (place : Place) (d : ℕ) (l : List ℕ) (c : CatalogueValue) (ts : List Lexed) (ss : List Symbol) → d < 64 → begun (head_in i) (d + 1) (Some k) ≡ Some place
+pub begin_read : (k : Keyword) (i : Lists) (place : Place) (d : ℕ) (l : List ℕ) (c : CatalogueValue) (ts : List Lexed) (ss : List Symbol) → d < 64 → place_behind_keyword (head_in i) (d + 1) (Some k) ≡ Some place
     → Spells ts (LeftParen ∷ Means k ∷ ss) → Reads (reader (at.Between i) d l c) (reader place (d + 1) l c) ts ss
-unfolding worded
+unfolding after_word
 begin_read k i place d l c ts ss h begins sp =
     let a = left_read _ _ ts _ (item_opens d l c i h) sp in
     let b = keyword_read k (reader (at.Head (head_in i)) (d + 1) l c) (reader place (d + 1) l c) a.rest ss (λ n e. rw (e, begins) refl) a.spelled in
@@ -158,18 +158,18 @@ attribute_read n o v d l c ts ss h short room fit sp =
     let a = begin_read word.Attribute lists.ObjectItems (at.Name name.Attribute) d l c ts _ h refl sp in
     let b = name_read name.Attribute n (d + 1) l c (half (at.AttributeOptions stage.Named) (d + 1) l (kept_of l n c) c) a.rest _ short (attribute_kept (has_attribute_named c l n) (d + 1) l n c room) a.spelled in
     let e = options_read o (d + 1) l (kept_of l n c) c b.rest _ b.spelled in
-    let r = levels_read v (options_place o) d l (amended o (kept_of l n c)) c e.rest ss (options_end o) fit e.spelled in
+    let r = levels_read v (options_place o) d l (with_options o (kept_of l n c)) c e.rest ss (options_end o) fit e.spelled in
     let declares = kept_declares (has_attribute_named c l n) l n o c in
     record { rest = r.rest; spelled = r.spelled; same = a.same ∙ b.same ∙ e.same ∙ r.same ∙ ap (λ (c' : CatalogueValue). reading (reader (at.Between lists.ObjectItems) d l c') r.rest) declares }
 
 -- the name of an object class
 class_named : (n : List ℕ) (d : ℕ) (l : List ℕ) (c : CatalogueValue) → length c.object_classes < max_classes
-    → named_at name.ObjectClass (reader (at.Name name.ObjectClass) d l c) n ≡ Ok (reader (at.Between lists.ObjectItems) d ((length c.object_classes + 1) ∷ l) (with_object_class l n c))
+    → after_name_at name.ObjectClass (reader (at.Name name.ObjectClass) d l c) n ≡ Ok (reader (at.Between lists.ObjectItems) d ((length c.object_classes + 1) ∷ l) (with_object_class l n c))
 class_named n d l c h = let e : nat_le max_classes (length c.object_classes) ≡ false = below_limit _ _ h in rw e refl
 
 -- behind a class in a class
-pub class_closes : (d n : ℕ) (l : List ℕ) (c : CatalogueValue) → 0 < length l → closed (reader (at.Between lists.ObjectItems) (d + 1) (n ∷ l) c) ≡ Ok (reader (at.Between lists.ObjectItems) d l c)
-unfolding closed
+pub class_closes : (d n : ℕ) (l : List ℕ) (c : CatalogueValue) → 0 < length l → after_close (reader (at.Between lists.ObjectItems) (d + 1) (n ∷ l) c) ≡ Ok (reader (at.Between lists.ObjectItems) d l c)
+unfolding after_close
 class_closes d n l c h = let e : (length l == 0) ≡ false = above_zero _ h in rw (e, down d) refl
 
 pub object_items_read : (i : ObjectItems) (d : ℕ) (l : List ℕ) (c : CatalogueValue) (ts : List Lexed) (ss : List Symbol) → 0 < length l → object_items_fit d l i c → Spells ts (object_items_then i ss)
@@ -196,7 +196,7 @@ object_items_read (AClass n body others) d l c ts ss h fit sp =
 
 pub object_classes_read : (k : ObjectClasses) (c : CatalogueValue) (ts : List Lexed) (ss : List Symbol) → object_classes_fit k c → Spells ts (object_classes_then k ss)
     → Reads (reader (at.Between lists.ObjectClasses) 2 [] c) (reader (at.Between lists.ObjectClasses) 2 [] (object_classes_declare k c)) ts ss
-unfolding closed
+unfolding after_close
 object_classes_read NoClass c ts ss fit sp = record { rest = ts; spelled = sp; same = refl }
 object_classes_read (TopClass n body others) c ts ss fit sp =
     let inner = (length c.object_classes + 1) ∷ [] in

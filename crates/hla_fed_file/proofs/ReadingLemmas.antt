@@ -4,7 +4,7 @@ use Rattle.std.proofs.Common.{◌≡◌, ℕ, true, false, List, Result, Ok, Err
 use Rattle.hla_fed_file.specs.Lexical as text
 use Rattle.hla_fed_file.specs.Lexical.{Lexed, tokens, tokens_from, Between}
 use Rattle.hla_fed_file.specs.Tokens.{stream, is_end}
-use Rattle.hla_fed_file.specs.Reading.{reading, after_token, ending_of, start, read_of, ReadsAs, Fails, IsFirstFault}
+use Rattle.hla_fed_file.specs.Reading.{reading, after_token, ending_of, start, reading_of, ReadsAs, Fails, IsFirstFault}
 use Rattle.hla_fed_file.specs.CatalogueValue.{CatalogueValue}
 use Rattle.hla_fed_file.specs.declared.fault.FedFaultKind.{FedFaultKind}
 use Rattle.hla_fed_file.specs.declared.fault.FedFaultKind.TheVariants as kind
@@ -48,8 +48,8 @@ ends_at s line text.Unclosed rest ts all e h so_far = cc
 ends_at s line text.End rest ts all e h so_far = sym so_far ∙ ap (reading s) e
 
 -- a text that is too long
-pub too_long : (bytes : List ℕ) → max_fed_file < length bytes → read_of bytes ≡ Err (record { line = 1; kind = kind.TooLarge })
-unfolding read_of
+pub too_long : (bytes : List ℕ) → max_fed_file < length bytes → reading_of bytes ≡ Err (record { line = 1; kind = kind.TooLarge })
+unfolding reading_of
 too_long bytes h = let large : nat_lt max_fed_file (length bytes) ≡ true = lt-ltb _ _ h in rw large refl
 
 own_fault : (line : ℕ) (k : FedFaultKind) → IsFirstFault line k (Err (record { line = line; kind = k }))
@@ -81,17 +81,17 @@ fails_with kind.TrailingText s line token rest ts all t e err so_far = fails_at 
 fails_with kind.TooLarge s line token rest ts all t e err so_far = fails_at s kind.TooLarge line token rest ts all t e err so_far
 
 -- a text that is not too long
-pub read_whole : (bytes : List ℕ) → length bytes ≤ max_fed_file → read_of bytes ≡ reading start (tokens bytes)
-unfolding read_of
+pub read_whole : (bytes : List ℕ) → length bytes ≤ max_fed_file → reading_of bytes ≡ reading start (tokens bytes)
+unfolding reading_of
 read_whole bytes h = let small : nat_lt max_fed_file (length bytes) ≡ false = le-ltb _ _ h in rw small refl
 
 -- its end, and its first fault
-pub ends_whole : (bytes : List ℕ) (line : ℕ) (first s : Reader) (r : All) → first ≡ start → length bytes ≤ max_fed_file → reading first (tokens bytes) ≡ ending_of line s → r ≡ ending_of line s → ReadsAs r (read_of bytes)
+pub ends_whole : (bytes : List ℕ) (line : ℕ) (first s : Reader) (r : All) → first ≡ start → length bytes ≤ max_fed_file → reading first (tokens bytes) ≡ ending_of line s → r ≡ ending_of line s → ReadsAs r (reading_of bytes)
 ends_whole bytes line first s r begins h e answer =
-    let all : read_of bytes ≡ r = read_whole bytes h ∙ ap (λ from. reading from (tokens bytes)) (sym begins) ∙ e ∙ sym answer in
+    let all : reading_of bytes ≡ r = read_whole bytes h ∙ ap (λ from. reading from (tokens bytes)) (sym begins) ∙ e ∙ sym answer in
     rw all (gives_own r)
 
-pub fails_whole : (bytes : List ℕ) (first : Reader) (e : FedFault) → first ≡ start → length bytes ≤ max_fed_file → IsFirstFault e.line e.kind (reading first (tokens bytes)) → ReadsAs (Err e) (read_of bytes)
+pub fails_whole : (bytes : List ℕ) (first : Reader) (e : FedFault) → first ≡ start → length bytes ≤ max_fed_file → IsFirstFault e.line e.kind (reading first (tokens bytes)) → ReadsAs (Err e) (reading_of bytes)
 fails_whole bytes first e begins h fault = rw (read_whole bytes h, ← begins) fault
 
 pub ruleset steps = (goes_on, ends_at)

@@ -7,7 +7,7 @@ use Rattle.hla_fed_file.specs.Lexical.{Lexed, tokens}
 use Rattle.hla_fed_file.specs.Tokens.{is_end}
 use Rattle.hla_fed_file.specs.CatalogueValue.{CatalogueValue, empty_catalogue}
 use Rattle.hla_fed_file.specs.Declaring.{with_object_class, with_interaction_class}
-use Rattle.hla_fed_file.specs.Reading.{reading, after_token, opened, closed, worded, after_quoted, named_at, begun, goes, Outcome, start, read_of, Step}
+use Rattle.hla_fed_file.specs.Reading.{reading, after_token, after_open, after_close, after_word, after_quoted, after_name_at, place_behind_keyword, outcome_after, Outcome, start, reading_of, Step}
 use Rattle.hla_fed_file.specs.Grammar.{LeftParen, RightParen, Means, Named, TheEnd, Fits, Spells, ObjectClasses, NoClass, TopClass, InteractionClasses, NoTop, ATop, Parts, NoPart, ALabel, AnIgnored, Objects, Interactions, object_classes_then, interaction_classes_then, parts_then, file_of, transport_of, order_of, object_items_declare, interaction_items_declare, object_classes_declare, interaction_classes_declare, parts_declare, IsShort, object_classes_fit, interaction_classes_fit, parts_fit, Describes}
 use Rattle.hla_fed_file.specs.declared.fault.FedFaultKind.TheVariants as kind
 use Rattle.hla_fed_file.specs.declared.place.Keyword.{Keyword}
@@ -19,17 +19,17 @@ use Rattle.hla_fed_file.specs.declared.place.Within.TheVariants as within
 use Rattle.hla_fed_file.specs.declared.place.Place.{Place}
 use Rattle.hla_fed_file.specs.declared.place.Place.TheVariants as at
 use Rattle.hla_fed_file.specs.declared.reader.Reader.{Reader}
-use Rattle.hla_fed_file.proofs.ReadSteps.{moved, reader}
+use Rattle.hla_fed_file.proofs.ReadSteps.{reader_at, reader}
 use Rattle.hla_fed_file.proofs.BackSteps.{Tail, at_next, back, between_token, head_token, list_back, name_token, none_left, ok_same, was_named}
 use Rattle.hla_fed_file.proofs.BackObjects.{class_back, object_body}
 use Rattle.hla_fed_file.proofs.BackInteractions.{interaction_body, subclass_back}
 
 -- Lists of classes.
-object_class_begun : (k : Keyword) (d : ℕ) (place : Place) → begun head.ObjectClass d (Some k) ≡ Some place → (k ≡ word.Class) × (place ≡ at.Name name.ObjectClass)
+object_class_begun : (k : Keyword) (d : ℕ) (place : Place) → place_behind_keyword head.ObjectClass d (Some k) ≡ Some place → (k ≡ word.Class) × (place ≡ at.Name name.ObjectClass)
 object_class_begun word.Class d place h = (refl, cc)
 object_class_begun k d place h = cc
 
-interaction_class_begun : (k : Keyword) (d : ℕ) (place : Place) → begun head.InteractionClass d (Some k) ≡ Some place → (k ≡ word.Class) × (place ≡ at.Name name.InteractionClass)
+interaction_class_begun : (k : Keyword) (d : ℕ) (place : Place) → place_behind_keyword head.InteractionClass d (Some k) ≡ Some place → (k ≡ word.Class) × (place ≡ at.Name name.InteractionClass)
 interaction_class_begun word.Class d place h = (refl, cc)
 interaction_class_begun k d place h = cc
 
@@ -38,12 +38,12 @@ record ObjectClassesRead (c : CatalogueValue) (ts : List Lexed) (final : Catalog
   fit : object_classes_fit classes c
   tail : Tail (λ ss. object_classes_then classes (RightParen ∷ ss)) ts (reader (at.Between lists.Parts) 1 [] (object_classes_declare classes c)) final
 
-classes_close : (c : CatalogueValue) → closed (reader (at.Between lists.ObjectClasses) 2 [] c) ≡ Ok (reader (at.Between lists.Parts) 1 [] c)
-unfolding closed
+classes_close : (c : CatalogueValue) → after_close (reader (at.Between lists.ObjectClasses) 2 [] c) ≡ Ok (reader (at.Between lists.Parts) 1 [] c)
+unfolding after_close
 classes_close c = refl
 
-top_closes : (n : ℕ) (c : CatalogueValue) → closed (reader (at.Between lists.ObjectItems) 3 (n ∷ []) c) ≡ Ok (reader (at.Between lists.ObjectClasses) 2 [] c)
-unfolding closed
+top_closes : (n : ℕ) (c : CatalogueValue) → after_close (reader (at.Between lists.ObjectItems) 3 (n ∷ []) c) ≡ Ok (reader (at.Between lists.ObjectClasses) 2 [] c)
+unfolding after_close
 top_closes n c = refl
 
 object_classes_back : (n : ℕ) (c : CatalogueValue) (ts : List Lexed) (final : CatalogueValue) → length ts ≤ n → reading (reader (at.Between lists.ObjectClasses) 2 [] c) ts ≡ Ok final → ObjectClassesRead c ts final
@@ -65,11 +65,11 @@ object_classes_back (suc n) c (t ∷ k ∷ ts) final few h =
           record { classes = NoClass; fit = tt; tail = record { rest = k ∷ ts; fewer = omega arith; spelled = λ ss sp. (p.0, sp); read = at_next _ _ (k ∷ ts) final behind b.read } }
       | inl p ↦
           let s = reader (at.Between lists.ObjectClasses) 2 [] c in
-          let w = back (moved s (at.Head head.ObjectClass) 3) k ts final refl (at_next _ _ (k ∷ ts) final p.2 b.read) in
+          let w = back (reader_at s (at.Head head.ObjectClass) 3) k ts final refl (at_next _ _ (k ∷ ts) final p.2 b.read) in
           let q = head_token k.token head.ObjectClass 3 s w.next w.step in
           let z = object_class_begun q.keyword 3 q.place q.begins in
           let fits : Fits k.token (Means word.Class) = rw z.0 at q.fits in
-          let at_name : w.next ≡ reader (at.Name name.ObjectClass) 3 [] c = q.then ∙ ap (λ (place : Place). moved s place 3) z.1 in
+          let at_name : w.next ≡ reader (at.Name name.ObjectClass) 3 [] c = q.then ∙ ap (λ (place : Place). reader_at s place 3) z.1 in
           let a = class_back 3 [] c ts final (at_next _ _ ts final at_name w.read) in
           let inner = (length c.object_classes + 1) ∷ [] in
           let opened = with_object_class [] a.name c in
@@ -92,12 +92,12 @@ record InteractionClassesRead (c : CatalogueValue) (ts : List Lexed) (final : Ca
   fit : interaction_classes_fit classes c
   tail : Tail (λ ss. interaction_classes_then classes (RightParen ∷ ss)) ts (reader (at.Between lists.Parts) 1 [] (interaction_classes_declare classes c)) final
 
-interactions_close : (c : CatalogueValue) → closed (reader (at.Between lists.InteractionClasses) 2 [] c) ≡ Ok (reader (at.Between lists.Parts) 1 [] c)
-unfolding closed
+interactions_close : (c : CatalogueValue) → after_close (reader (at.Between lists.InteractionClasses) 2 [] c) ≡ Ok (reader (at.Between lists.Parts) 1 [] c)
+unfolding after_close
 interactions_close c = refl
 
-top_interaction_closes : (n : ℕ) (c : CatalogueValue) → closed (reader (at.Between lists.InteractionItems) 3 (n ∷ []) c) ≡ Ok (reader (at.Between lists.InteractionClasses) 2 [] c)
-unfolding closed
+top_interaction_closes : (n : ℕ) (c : CatalogueValue) → after_close (reader (at.Between lists.InteractionItems) 3 (n ∷ []) c) ≡ Ok (reader (at.Between lists.InteractionClasses) 2 [] c)
+unfolding after_close
 top_interaction_closes n c = refl
 
 interaction_classes_back : (n : ℕ) (c : CatalogueValue) (ts : List Lexed) (final : CatalogueValue) → length ts ≤ n → reading (reader (at.Between lists.InteractionClasses) 2 [] c) ts ≡ Ok final → InteractionClassesRead c ts final
@@ -119,11 +119,11 @@ interaction_classes_back (suc n) c (t ∷ k ∷ ts) final few h =
           record { classes = NoTop; fit = tt; tail = record { rest = k ∷ ts; fewer = omega arith; spelled = λ ss sp. (p.0, sp); read = at_next _ _ (k ∷ ts) final behind b.read } }
       | inl p ↦
           let s = reader (at.Between lists.InteractionClasses) 2 [] c in
-          let w = back (moved s (at.Head head.InteractionClass) 3) k ts final refl (at_next _ _ (k ∷ ts) final p.2 b.read) in
+          let w = back (reader_at s (at.Head head.InteractionClass) 3) k ts final refl (at_next _ _ (k ∷ ts) final p.2 b.read) in
           let q = head_token k.token head.InteractionClass 3 s w.next w.step in
           let z = interaction_class_begun q.keyword 3 q.place q.begins in
           let fits : Fits k.token (Means word.Class) = rw z.0 at q.fits in
-          let at_name : w.next ≡ reader (at.Name name.InteractionClass) 3 [] c = q.then ∙ ap (λ (place : Place). moved s place 3) z.1 in
+          let at_name : w.next ≡ reader (at.Name name.InteractionClass) 3 [] c = q.then ∙ ap (λ (place : Place). reader_at s place 3) z.1 in
           let a = subclass_back 3 [] c ts final (at_next _ _ ts final at_name w.read) in
           let inner = (length c.interaction_classes + 1) ∷ [] in
           let opened = with_interaction_class [] a.name (transport_of a.options) (order_of a.options) c in
@@ -143,7 +143,7 @@ interaction_classes_back (suc n) c (t ∷ k ∷ ts) final few h =
 
 -- Parts and files.
 label_token : (token : text.Token) (c : CatalogueValue) (next : Reader) → after_token (reader at.LabelEnd 2 [] c) token ≡ Ok next → Fits token RightParen × (next ≡ reader (at.Between lists.Parts) 1 [] c)
-unfolding opened closed worded after_quoted
+unfolding after_open after_close after_word after_quoted
 label_token text.Open c next ok = cc
 label_token text.Close c next ok = (tt, cc)
 label_token (text.Word w) c next ok = cc
@@ -157,7 +157,7 @@ record LabelRead (c : CatalogueValue) (ts : List Lexed) (final : CatalogueValue)
   short : IsShort name
   tail : Tail (λ ss. Named name ∷ RightParen ∷ ss) ts (reader (at.Between lists.Parts) 1 [] c) final
 
-label_named : (n : List ℕ) (c : CatalogueValue) (next : Reader) → named_at name.Label (reader (at.Name name.Label) 2 [] c) n ≡ Ok next → next ≡ reader at.LabelEnd 2 [] c
+label_named : (n : List ℕ) (c : CatalogueValue) (next : Reader) → after_name_at name.Label (reader (at.Name name.Label) 2 [] c) n ≡ Ok next → next ≡ reader at.LabelEnd 2 [] c
 label_named n c next ok = cc
 
 label_back : (c : CatalogueValue) (ts : List Lexed) (final : CatalogueValue) → reading (reader (at.Name name.Label) 2 [] c) ts ≡ Ok final → LabelRead c ts final
@@ -181,7 +181,7 @@ data PartBegins (k : Keyword) (d : ℕ) (place : Place) : Type 0 where
   BeginsObjects : (keyword : k ≡ word.Objects) (there : place ≡ at.Between lists.ObjectClasses) → PartBegins k d place
   BeginsInteractions : (keyword : k ≡ word.Interactions) (there : place ≡ at.Between lists.InteractionClasses) → PartBegins k d place
 
-part_begun : (k : Keyword) (d : ℕ) (place : Place) → begun head.Part d (Some k) ≡ Some place → PartBegins k d place
+part_begun : (k : Keyword) (d : ℕ) (place : Place) → place_behind_keyword head.Part d (Some k) ≡ Some place → PartBegins k d place
 part_begun word.Label d place h = BeginsLabel refl cc
 part_begun word.Ignored d place h = BeginsIgnored refl cc
 part_begun word.Objects d place h = BeginsObjects refl cc
@@ -193,8 +193,8 @@ record PartsRead (c : CatalogueValue) (ts : List Lexed) (final : CatalogueValue)
   fit : parts_fit parts c
   tail : Tail (λ ss. parts_then parts (RightParen ∷ ss)) ts (reader at.Done 0 [] (parts_declare parts c)) final
 
-file_closes : (c : CatalogueValue) → closed (reader (at.Between lists.Parts) 1 [] c) ≡ Ok (reader at.Done 0 [] c)
-unfolding closed
+file_closes : (c : CatalogueValue) → after_close (reader (at.Between lists.Parts) 1 [] c) ≡ Ok (reader at.Done 0 [] c)
+unfolding after_close
 file_closes c = refl
 
 parts_back : (n : ℕ) (c : CatalogueValue) (ts : List Lexed) (final : CatalogueValue) → length ts ≤ n → reading (reader (at.Between lists.Parts) 1 [] c) ts ≡ Ok final → PartsRead c ts final
@@ -216,13 +216,13 @@ parts_back (suc n) c (t ∷ k ∷ ts) final few h =
           record { parts = NoPart; fit = tt; tail = record { rest = k ∷ ts; fewer = omega arith; spelled = λ ss sp. (p.0, sp); read = at_next _ _ (k ∷ ts) final behind b.read } }
       | inl p ↦
           let s = reader (at.Between lists.Parts) 1 [] c in
-          let w = back (moved s (at.Head head.Part) 2) k ts final refl (at_next _ _ (k ∷ ts) final p.2 b.read) in
+          let w = back (reader_at s (at.Head head.Part) 2) k ts final refl (at_next _ _ (k ∷ ts) final p.2 b.read) in
           let q = head_token k.token head.Part 2 s w.next w.step in
           let few_left : length ts ≤ n = omega arith in
           elim (part_begun q.keyword 2 q.place q.begins) [
             | BeginsLabel kw there ↦
                 let fits : Fits k.token (Means word.Label) = rw kw at q.fits in
-                let a = label_back c ts final (at_next _ _ ts final (q.then ∙ ap (λ (place : Place). moved s place 2) there) w.read) in
+                let a = label_back c ts final (at_next _ _ ts final (q.then ∙ ap (λ (place : Place). reader_at s place 2) there) w.read) in
                 let fewer : length a.tail.rest ≤ n = omega (arith, a.tail.fewer) in
                 let others = parts_back n c a.tail.rest final fewer a.tail.read in
                 let less : length others.tail.rest ≤ length (t ∷ k ∷ ts) = omega (arith, a.tail.fewer, others.tail.fewer) in
@@ -233,7 +233,7 @@ parts_back (suc n) c (t ∷ k ∷ ts) final few h =
                 }
             | BeginsIgnored kw there ↦
                 let fits : Fits k.token (Means word.Ignored) = rw kw at q.fits in
-                let a = list_back s within.File 1 ts final (at_next _ _ ts final (q.then ∙ ap (λ (place : Place). moved s place 2) there) w.read) in
+                let a = list_back s within.File 1 ts final (at_next _ _ ts final (q.then ∙ ap (λ (place : Place). reader_at s place 2) there) w.read) in
                 let fewer : length a.tail.rest ≤ n = omega (arith, a.tail.fewer) in
                 let others = parts_back n c a.tail.rest final fewer a.tail.read in
                 let less : length others.tail.rest ≤ length (t ∷ k ∷ ts) = omega (arith, a.tail.fewer, others.tail.fewer) in
@@ -244,7 +244,7 @@ parts_back (suc n) c (t ∷ k ∷ ts) final few h =
                 }
             | BeginsObjects kw there ↦
                 let fits : Fits k.token (Means word.Objects) = rw kw at q.fits in
-                let a = object_classes_back n c ts final few_left (at_next _ _ ts final (q.then ∙ ap (λ (place : Place). moved s place 2) there) w.read) in
+                let a = object_classes_back n c ts final few_left (at_next _ _ ts final (q.then ∙ ap (λ (place : Place). reader_at s place 2) there) w.read) in
                 let fewer : length a.tail.rest ≤ n = omega (arith, a.tail.fewer) in
                 let others = parts_back n (object_classes_declare a.classes c) a.tail.rest final fewer a.tail.read in
                 let less : length others.tail.rest ≤ length (t ∷ k ∷ ts) = omega (arith, a.tail.fewer, others.tail.fewer) in
@@ -255,7 +255,7 @@ parts_back (suc n) c (t ∷ k ∷ ts) final few h =
                 }
             | BeginsInteractions kw there ↦
                 let fits : Fits k.token (Means word.Interactions) = rw kw at q.fits in
-                let a = interaction_classes_back n c ts final few_left (at_next _ _ ts final (q.then ∙ ap (λ (place : Place). moved s place 2) there) w.read) in
+                let a = interaction_classes_back n c ts final few_left (at_next _ _ ts final (q.then ∙ ap (λ (place : Place). reader_at s place 2) there) w.read) in
                 let fewer : length a.tail.rest ≤ n = omega (arith, a.tail.fewer) in
                 let others = parts_back n (interaction_classes_declare a.classes c) a.tail.rest final fewer a.tail.read in
                 let less : length others.tail.rest ≤ length (t ∷ k ∷ ts) = omega (arith, a.tail.fewer, others.tail.fewer) in
@@ -268,7 +268,7 @@ parts_back (suc n) c (t ∷ k ∷ ts) final few h =
     ]
 
 start_token : (token : text.Token) (next : Reader) → after_token start token ≡ Ok next → Fits token LeftParen × (next ≡ reader (at.Head head.File) 1 [] empty_catalogue)
-unfolding opened closed worded after_quoted
+unfolding after_open after_close after_word after_quoted
 start_token text.Open next ok = (tt, cc)
 start_token text.Close next ok = cc
 start_token (text.Word w) next ok = cc
@@ -277,12 +277,12 @@ start_token text.Bad next ok = cc
 start_token text.Unclosed next ok = cc
 start_token text.End next ok = cc
 
-file_begun : (k : Keyword) (d : ℕ) (place : Place) → begun head.File d (Some k) ≡ Some place → (k ≡ word.Fed) × (place ≡ at.Between lists.Parts)
+file_begun : (k : Keyword) (d : ℕ) (place : Place) → place_behind_keyword head.File d (Some k) ≡ Some place → (k ≡ word.Fed) × (place ≡ at.Between lists.Parts)
 file_begun word.Fed d place h = (refl, cc)
 file_begun k d place h = cc
 
 done_token : (token : text.Token) (c : CatalogueValue) (next : Reader) → after_token (reader at.Done 0 [] c) token ≡ Ok next → ⊥
-unfolding opened closed worded after_quoted
+unfolding after_open after_close after_word after_quoted
 done_token text.Open c next ok = cc
 done_token text.Close c next ok = cc
 done_token (text.Word w) c next ok = cc
@@ -297,7 +297,7 @@ done_back c [] final h = cc
 done_back c (t ∷ ts) final h = at_end t.token t.line (after_token (reader at.Done 0 [] c) t.token) refl h
   where
     at_end : (token : text.Token) (line : ℕ) (r : Step) → after_token (reader at.Done 0 [] c) token ≡ r
-        → cond (is_end token) (Ok c) (goes line r (λ s'. reading s' ts)) ≡ Ok final → Fits token TheEnd × (c ≡ final)
+        → cond (is_end token) (Ok c) (outcome_after line r (λ s'. reading s' ts)) ≡ Ok final → Fits token TheEnd × (c ≡ final)
     at_end text.End line r e h = (tt, cc)
     at_end token line (Ok s') e h = absurd (done_token token c s' e)
     at_end token line (Err k) e h = cc
@@ -311,11 +311,11 @@ file_back (t ∷ []) final h =
 file_back (t ∷ k ∷ ts) final h =
     let b = back start t (k ∷ ts) final refl h in
     let p = start_token t.token b.next b.step in
-    let w = back (moved start (at.Head head.File) 1) k ts final refl (at_next _ _ (k ∷ ts) final p.1 b.read) in
+    let w = back (reader_at start (at.Head head.File) 1) k ts final refl (at_next _ _ (k ∷ ts) final p.1 b.read) in
     let q = head_token k.token head.File 1 start w.next w.step in
     let z = file_begun q.keyword 1 q.place q.begins in
     let fits : Fits k.token (Means word.Fed) = rw z.0 at q.fits in
-    let a = parts_back (length ts) empty_catalogue ts final (omega arith) (at_next _ _ ts final (q.then ∙ ap (λ (place : Place). moved start place 1) z.1) w.read) in
+    let a = parts_back (length ts) empty_catalogue ts final (omega arith) (at_next _ _ ts final (q.then ∙ ap (λ (place : Place). reader_at start place 1) z.1) w.read) in
     let e = done_back (parts_declare a.parts empty_catalogue) a.tail.rest final a.tail.read in
     (a.parts, (p.0, (fits, a.tail.spelled _ e.0)), a.fit, e.1)
 
@@ -324,8 +324,8 @@ short_text bytes true r c h ok = cc
 short_text bytes false r c h ok = let few : length bytes ≤ max_fed_file = grind (arith, nat_tests) in (few, ok)
 
 -- what is read is what the grammar relates to the text
-pub read_described : (text : List ℕ) (c : CatalogueValue) → read_of text ≡ Ok c → Describes text c
-unfolding read_of
+pub read_described : (text : List ℕ) (c : CatalogueValue) → reading_of text ≡ Ok c → Describes text c
+unfolding reading_of
 read_described text c ok =
     let s = short_text text (nat_lt max_fed_file (length text)) (reading start (tokens text)) c refl ok in
     let f = file_back (tokens text) c s.1 in

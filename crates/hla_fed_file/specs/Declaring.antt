@@ -16,13 +16,13 @@ innermost [] = 0
 innermost (class ∷ around) = class
 
 -- a path and one more name, with a dot between them
-abbrev pub joined : List ℕ → List ℕ → List ℕ
-joined [] name = name
-joined (b ∷ path) name = (b ∷ path) ++ 46 ∷ name
+abbrev pub extended_path : List ℕ → List ℕ → List ℕ
+extended_path [] name = name
+extended_path (b ∷ path) name = (b ∷ path) ++ 46 ∷ name
 
 -- the next object class
 abbrev pub object_class : CatalogueValue → List ℕ → List ℕ → ObjectClass
-object_class c lineage name = record { path = joined (object_path c (innermost lineage)) name; lineage = (length c.object_classes + 1) ∷ lineage }
+object_class c lineage name = record { path = extended_path (object_path c (innermost lineage)) name; lineage = (length c.object_classes + 1) ∷ lineage }
 
 abbrev pub with_object_class : List ℕ → List ℕ → CatalogueValue → CatalogueValue
 with_object_class lineage name c = record c { object_classes = c.object_classes ++ object_class c lineage name ∷ [] }
@@ -30,7 +30,7 @@ with_object_class lineage name c = record c { object_classes = c.object_classes 
 -- the next interaction class
 abbrev pub interaction_class : CatalogueValue → List ℕ → List ℕ → Transport → Order → InteractionClass
 interaction_class c lineage name transport order = record {
-  path = joined (interaction_path c (innermost lineage)) name;
+  path = extended_path (interaction_path c (innermost lineage)) name;
   lineage = (length c.interaction_classes + 1) ∷ lineage;
   transport = transport;
   order = order;

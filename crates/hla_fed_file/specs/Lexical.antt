@@ -48,16 +48,16 @@ pub data Mode : Type 0 where
   InQuoted : Mode
 
 -- the byte only continues what is begun; the quote that ends a quoted name does too
-abbrev pub continues : Mode → ℕ → Bool
-continues Between b = false
-continues InWord b = is_word b
-continues InComment b = is_comment b
-continues InQuoted b = is_quoted b
+abbrev pub is_inside : Mode → ℕ → Bool
+is_inside Between b = false
+is_inside InWord b = is_word b
+is_inside InComment b = is_comment b
+is_inside InQuoted b = is_quoted b
 
 -- a quoted name, of the bytes behind the first quote and the tokens behind the last
-abbrev pub quoted : ℕ → List ℕ → List ℕ → List Lexed → List Lexed
-quoted line name [] later = record { line = line; token = Unclosed } ∷ []
-quoted line name (b ∷ bytes) later = if b == 34 then record { line = line; token = Quoted name } ∷ later else record { line = line; token = Bad } ∷ []
+abbrev pub quoted_name : ℕ → List ℕ → List ℕ → List Lexed → List Lexed
+quoted_name line name [] later = record { line = line; token = Unclosed } ∷ []
+quoted_name line name (b ∷ bytes) later = if b == 34 then record { line = line; token = Quoted name } ∷ later else record { line = line; token = Bad } ∷ []
 
 -- what stands behind the bytes in front that pass a test
 abbrev pub drop_while : (ℕ → Bool) → List ℕ → List ℕ
@@ -65,26 +65,26 @@ drop_while test [] = []
 drop_while test (b ∷ bytes) = if test b then drop_while test bytes else b ∷ bytes
 
 -- a bad byte stands in front
-abbrev pub starts_bad : List ℕ → Bool
-starts_bad [] = false
-starts_bad (b ∷ bytes) = is_bad b
+abbrev pub has_bad_front : List ℕ → Bool
+has_bad_front [] = false
+has_bad_front (b ∷ bytes) = is_bad b
 
 -- a bare word, of its bytes, the bytes and the tokens behind them; a bad byte in a word is at fault before the word is tested
 abbrev pub word : ℕ → List ℕ → List ℕ → List Lexed → List Lexed
-word line name bytes later = if starts_bad bytes then record { line = line; token = Bad } ∷ [] else record { line = line; token = Word name } ∷ later
+word line name bytes later = if has_bad_front bytes then record { line = line; token = Bad } ∷ [] else record { line = line; token = Word name } ∷ later
 
 -- the tokens of a text from a line on
 unfoldable pub tokens_from : Mode → ℕ → List ℕ → List Lexed
 tokens_from mode line [] = record { line = line; token = End } ∷ []
 tokens_from InQuoted line (b ∷ bytes) = if is_quoted b then tokens_from InQuoted line bytes else tokens_from Between line bytes
 tokens_from mode line (b ∷ bytes) =
-    if continues mode b then tokens_from mode line bytes
+    if is_inside mode b then tokens_from mode line bytes
     else if b == 10 then tokens_from Between (line + 1) bytes
     else if is_blank b then tokens_from Between line bytes
     else if b == 59 then tokens_from InComment line bytes
     else if b == 40 then record { line = line; token = Open } ∷ tokens_from Between line bytes
     else if b == 41 then record { line = line; token = Close } ∷ tokens_from Between line bytes
-    else if b == 34 then quoted line (take_while is_quoted bytes) (drop_while is_quoted bytes) (tokens_from InQuoted line bytes)
+    else if b == 34 then quoted_name line (take_while is_quoted bytes) (drop_while is_quoted bytes) (tokens_from InQuoted line bytes)
     else if is_bad b then record { line = line; token = Bad } ∷ []
     else word line (take_while is_word (b ∷ bytes)) (drop_while is_word (b ∷ bytes)) (tokens_from InWord line bytes)
 

@@ -13,8 +13,8 @@ use Rattle.hla_base.specs.Tables.{or_else}
 use Rattle.hla_fed_file.specs.CatalogueValue.{CatalogueValue}
 
 -- the item with a number; numbers count from 1
-abbrev pub numbered : {X : Type 0} → List X → ℕ → Option X
-numbered xs n = if n == 0 then None else slice_get xs (n - 1)
+abbrev pub item_numbered : {X : Type 0} → List X → ℕ → Option X
+item_numbered xs n = if n == 0 then None else slice_get xs (n - 1)
 
 -- the number of a place
 abbrev pub number_at : Option ℕ → Option ℕ
@@ -24,43 +24,43 @@ abbrev pub contains_number : ℕ → List ℕ → Bool
 contains_number n ns = list_any (λ k. k == n) ns
 
 abbrev pub is_object_class : CatalogueValue → ℕ → Bool
-is_object_class c class = is_some (numbered c.object_classes class)
+is_object_class c class = is_some (item_numbered c.object_classes class)
 
 abbrev pub is_interaction_class : CatalogueValue → ℕ → Bool
-is_interaction_class c class = is_some (numbered c.interaction_classes class)
+is_interaction_class c class = is_some (item_numbered c.interaction_classes class)
 
 -- the class and those around it, innermost first; nothing where no class has the number
 abbrev pub object_lineage : CatalogueValue → ℕ → List ℕ
-object_lineage c class = option_map_or (λ (k : ObjectClass). k.lineage) (numbered c.object_classes class) []
+object_lineage c class = option_map_or (λ (k : ObjectClass). k.lineage) (item_numbered c.object_classes class) []
 
 abbrev pub interaction_lineage : CatalogueValue → ℕ → List ℕ
-interaction_lineage c class = option_map_or (λ (k : InteractionClass). k.lineage) (numbered c.interaction_classes class) []
+interaction_lineage c class = option_map_or (λ (k : InteractionClass). k.lineage) (item_numbered c.interaction_classes class) []
 
 abbrev pub object_path : CatalogueValue → ℕ → List ℕ
-object_path c class = option_map_or (λ (k : ObjectClass). k.path) (numbered c.object_classes class) []
+object_path c class = option_map_or (λ (k : ObjectClass). k.path) (item_numbered c.object_classes class) []
 
 abbrev pub interaction_path : CatalogueValue → ℕ → List ℕ
-interaction_path c class = option_map_or (λ (k : InteractionClass). k.path) (numbered c.interaction_classes class) []
+interaction_path c class = option_map_or (λ (k : InteractionClass). k.path) (item_numbered c.interaction_classes class) []
 
 abbrev pub attribute_name : CatalogueValue → ℕ → List ℕ
-attribute_name c attribute = option_map_or (λ (a : Attribute). a.name) (numbered c.attributes attribute) []
+attribute_name c attribute = option_map_or (λ (a : Attribute). a.name) (item_numbered c.attributes attribute) []
 
 abbrev pub parameter_name : CatalogueValue → ℕ → List ℕ
-parameter_name c parameter = option_map_or (λ (p : Parameter). p.name) (numbered c.parameters parameter) []
+parameter_name c parameter = option_map_or (λ (p : Parameter). p.name) (item_numbered c.parameters parameter) []
 
 -- whether a class declares an attribute or inherits it
 abbrev pub has_attribute : CatalogueValue → ℕ → ℕ → Bool
-has_attribute c class attribute = option_map_or (λ (a : Attribute). contains_number a.class (object_lineage c class)) (numbered c.attributes attribute) false
+has_attribute c class attribute = option_map_or (λ (a : Attribute). contains_number a.class (object_lineage c class)) (item_numbered c.attributes attribute) false
 
 abbrev pub has_parameter : CatalogueValue → ℕ → ℕ → Bool
-has_parameter c class parameter = option_map_or (λ (p : Parameter). contains_number p.class (interaction_lineage c class)) (numbered c.parameters parameter) false
+has_parameter c class parameter = option_map_or (λ (p : Parameter). contains_number p.class (interaction_lineage c class)) (item_numbered c.parameters parameter) false
 
 -- the order of an attribute's updates, or of a class's interactions
 abbrev pub attribute_order : CatalogueValue → ℕ → Order
-attribute_order c attribute = option_map_or (λ (a : Attribute). a.order) (numbered c.attributes attribute) Receive
+attribute_order c attribute = option_map_or (λ (a : Attribute). a.order) (item_numbered c.attributes attribute) Receive
 
 abbrev pub interaction_order : CatalogueValue → ℕ → Order
-interaction_order c class = option_map_or (λ (k : InteractionClass). k.order) (numbered c.interaction_classes class) Receive
+interaction_order c class = option_map_or (λ (k : InteractionClass). k.order) (item_numbered c.interaction_classes class) Receive
 
 -- the path ends with a dot and the name
 abbrev pub ends_with_name : List ℕ → List ℕ → Bool

@@ -304,7 +304,7 @@ impl Catalogue {
     }
 
     /// An equal catalogue, or `OutOfMemory` where a growth was refused.
-    fn copied(&self) -> Result<Catalogue, Fault>
+    fn duplicate(&self) -> Result<Catalogue, Fault>
         ensures ok { IfOk result (λ c. c ≡ self.now) }
         ensures err { IfErr result (λ e. e ≡ Fault.OutOfMemory) }
     {
@@ -338,7 +338,7 @@ impl Clone for Catalogue {
     ghost is_clone = { λ c d. d ≡ c };
 
     fn clone(&self) -> Result<Catalogue, AllocError> {
-        match self.copied() {
+        match self.duplicate() {
             Ok(copy) => Ok(copy),
             Err(_) => Err(AllocError),
         }

@@ -44,11 +44,11 @@ pub(crate) struct Groups {
 }
 
 impl Model for Groups {
-    ghost use Rattle.hla_fed_file.specs.Groups.{Grouped, grouped};
+    ghost use Rattle.hla_fed_file.specs.Groups.{GroupsValue, groups_of};
 
-    ghost Value = { Grouped };
+    ghost Value = { GroupsValue };
 
-    ghost view = { λ n. grouped n.groups.entries };
+    ghost view = { λ n. groups_of n.groups.entries };
 }
 
 impl Groups {

@@ -2,7 +2,7 @@
 
 ghost use Rattle.std.specs.Prelude.{◌≡◌, false, ◌+◌, ◌<◌, ◌≤◌, ◌^◌, ◌∷◌, ℕ, length, drop};
 ghost use Rattle.std.specs.List.{take_while, prefix_len};
-ghost use Rattle.hla_fed_file.specs.Lexical.{is_blank, is_bad, is_word, is_quoted, is_comment, starts_bad, tokens_from, Between, Lexed, drop_while};
+ghost use Rattle.hla_fed_file.specs.Lexical.{is_blank, is_bad, is_word, is_quoted, is_comment, has_bad_front, tokens_from, Between, Lexed, drop_while};
 ghost use Rattle.hla_fed_file.specs.Tokens.{view, stream, is_end, IsFront, StartsWord};
 
 use bstr::ByteSlice;
@@ -137,7 +137,7 @@ fn skip(text: &[u8], line: usize) -> (&[u8], usize)
 
 /// The quoted name whose first quote stands before the text.
 #[tactic(auto, using(crate::proofs::Lexing::fronts))]
-fn quoted_at(text: &[u8]) -> (Token<'_>, &[u8])
+fn quoted_name_at(text: &[u8]) -> (Token<'_>, &[u8])
     ensures stream { (line : ℕ) → stream line (view result.0) result.1.now ≡ tokens_from Between line
         (34 ∷ text.now) }
     ensures shorter { length result.1.now ≤ length text.now }
@@ -151,8 +151,8 @@ fn quoted_at(text: &[u8]) -> (Token<'_>, &[u8])
 }
 
 /// Whether a byte that may not stand in a word is in front.
-fn starts_bad(text: &[u8]) -> bool
-    ensures { result ≡ starts_bad text.now }
+fn has_bad_front(text: &[u8]) -> bool
+    ensures { result ≡ has_bad_front text.now }
 {
     match text.split_first() {
         Some((byte, _)) => is_bad(*byte),
@@ -169,7 +169,7 @@ fn word_at(text: &[u8]) -> (Token<'_>, &[u8])
     ensures shorter { length result.1.now < length text.now }
 {
     let (name, rest) = split_word(text);
-    if starts_bad(rest) {
+    if has_bad_front(rest) {
         (Token::Bad, rest)
     } else {
         (Token::Word(name), rest)
@@ -193,7 +193,7 @@ fn token_at(text: &[u8], line: usize) -> (Token<'_>, &[u8])
             } else if byte == b')' {
                 (Token::Close, rest)
             } else if byte == b'"' {
-                quoted_at(rest)
+                quoted_name_at(rest)
             } else if is_bad(byte) {
                 (Token::Bad, rest)
             } else {

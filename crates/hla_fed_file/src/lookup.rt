@@ -5,7 +5,7 @@ ghost use Rattle.std.specs.Prelude.{◌≡◌, ◌≤◌, ◌<◌, length, posit
 ghost use Rattle.hla_fed_file.specs.declared.declared.ObjectClass.{ObjectClass};
 ghost use Rattle.hla_fed_file.specs.declared.declared.InteractionClass.{InteractionClass};
 ghost use Rattle.std.specs.Option.{option_copied};
-ghost use Rattle.hla_fed_file.specs.Lookup.{numbered, number_at, ends_with_name, contains_number, object_class_named, interaction_class_named, attribute_named, parameter_named, object_path, interaction_path, object_lineage, interaction_lineage, attribute_name, parameter_name, is_object_class, is_interaction_class, has_attribute, has_parameter, attribute_order, interaction_order, deletion_order};
+ghost use Rattle.hla_fed_file.specs.Lookup.{item_numbered, number_at, ends_with_name, contains_number, object_class_named, interaction_class_named, attribute_named, parameter_named, object_path, interaction_path, object_lineage, interaction_lineage, attribute_name, parameter_name, is_object_class, is_interaction_class, has_attribute, has_parameter, attribute_order, interaction_order, deletion_order};
 
 use crate::catalogue::Catalogue;
 use crate::declared::{Attribute, InteractionClass, ObjectClass, Order, Parameter};
@@ -13,8 +13,8 @@ use crate::names::number_of;
 use hla_base::{AttributeNo, ClassNo, ParameterNo};
 
 /// The item of a number; numbers count from 1.
-fn numbered<T>(items: &[T], number: u32) -> Option<&T>
-    ensures { option_copied result ≡ numbered items.now number }
+fn item_numbered<T>(items: &[T], number: u32) -> Option<&T>
+    ensures { option_copied result ≡ item_numbered items.now number }
 {
     if number == 0 {
         None
@@ -38,30 +38,30 @@ fn ends_with_name(path: &[u8], name: &[u8]) -> bool
 impl Catalogue {
     /// The object class of a number.
     fn object(&self, class: ClassNo) -> Option<&ObjectClass>
-        ensures { option_copied result ≡ numbered self.now.object_classes class }
+        ensures { option_copied result ≡ item_numbered self.now.object_classes class }
     {
-        numbered(self.object_classes(), class)
+        item_numbered(self.object_classes(), class)
     }
 
     /// The interaction class of a number.
     fn interaction(&self, class: ClassNo) -> Option<&InteractionClass>
-        ensures { option_copied result ≡ numbered self.now.interaction_classes class }
+        ensures { option_copied result ≡ item_numbered self.now.interaction_classes class }
     {
-        numbered(self.interaction_classes(), class)
+        item_numbered(self.interaction_classes(), class)
     }
 
     /// The attribute of a number.
     fn attribute_at(&self, attribute: AttributeNo) -> Option<&Attribute>
-        ensures { option_copied result ≡ numbered self.now.attributes attribute }
+        ensures { option_copied result ≡ item_numbered self.now.attributes attribute }
     {
-        numbered(self.attributes(), attribute)
+        item_numbered(self.attributes(), attribute)
     }
 
     /// The parameter of a number.
     fn parameter_at(&self, parameter: ParameterNo) -> Option<&Parameter>
-        ensures { option_copied result ≡ numbered self.now.parameters parameter }
+        ensures { option_copied result ≡ item_numbered self.now.parameters parameter }
     {
-        numbered(self.parameters(), parameter)
+        item_numbered(self.parameters(), parameter)
     }
 
     /// Whether there is an object class of this number.

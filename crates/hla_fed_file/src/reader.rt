@@ -1,8 +1,8 @@
 //! One step of reading for each token.
 
 ghost use Rattle.std.specs.Prelude.{◌≡◌, ◌∷◌, ◌+◌, Ok, Err, IfOk, IfErr, drop, length};
-ghost use Rattle.hla_fed_file.specs.Reading.{Moves, deeper, shallower, attribute_declared, class_declared, head_in, opened, class_left, list_closed, place_behind, closed, named_at, named, begun, goes_to, attribute_option, class_option, worded, after_quoted, after_token, start, ending_of};
-ghost use Rattle.hla_fed_file.specs.Declaring.{innermost, joined};
+ghost use Rattle.hla_fed_file.specs.Reading.{Moves, with_paren_opened, with_paren_closed, with_attribute_declared, with_class_declared, head_in, after_open, with_class_left, with_list_closed, place_behind, after_close, after_name_at, after_name, place_behind_keyword, with_place, attribute_option, class_option, after_word, after_quoted, after_token, start, ending_of};
+ghost use Rattle.hla_fed_file.specs.Declaring.{innermost, extended_path};
 ghost use Rattle.hla_fed_file.specs.Keywords.{keyword_of};
 ghost use Rattle.hla_fed_file.specs.Tokens.{view};
 
@@ -59,8 +59,8 @@ fn place_behind(within: Within) -> Place
 }
 
 /// The place behind a keyword.
-fn begun(head: Head, depth: u32, keyword: Option<Keyword>) -> Option<Place>
-    ensures { result ≡ begun head depth keyword }
+fn place_behind_keyword(head: Head, depth: u32, keyword: Option<Keyword>) -> Option<Place>
+    ensures { result ≡ place_behind_keyword head depth keyword }
 {
     match (head, keyword?) {
         (Head::File, Keyword::Fed) => Some(Place::Between(Lists::Parts)),
@@ -98,8 +98,8 @@ fn innermost(lineage: &[ClassNo]) -> ClassNo
 }
 
 /// A path and one more name, with a dot between them; or that a growth was refused.
-fn joined(alloc: Global, path: &[u8], name: &[u8]) -> Result<List<u8>, FedFaultKind>
-    ensures ok { IfOk result (λ all. all ≡ joined path.now name.now) }
+fn extended_path(alloc: Global, path: &[u8], name: &[u8]) -> Result<List<u8>, FedFaultKind>
+    ensures ok { IfOk result (λ all. all ≡ extended_path path.now name.now) }
     ensures err { IfErr result (λ e. e ≡ FedFaultKind.OutOfMemory) }
 {
     let mut all = Vec::new(alloc);
@@ -132,7 +132,7 @@ fn lineage_of(
 }
 
 /// The classes around the innermost one; or that a growth was refused.
-fn around(alloc: Global, lineage: &[ClassNo]) -> Result<List<ClassNo>, FedFaultKind>
+fn classes_around(alloc: Global, lineage: &[ClassNo]) -> Result<List<ClassNo>, FedFaultKind>
     ensures ok { IfOk result (λ all. all ≡ drop 1 lineage.now) }
     ensures err { IfErr result (λ e. e ≡ FedFaultKind.OutOfMemory) }
 {
@@ -163,7 +163,7 @@ impl Reader {
 
     /// Goes behind an opening parenthesis that may stand here.
     fn deepen(&mut self, place: Place) -> Result<(), FedFaultKind>
-        ensures { Moves result (deeper place self.old) self.new }
+        ensures { Moves result (with_paren_opened place self.old) self.new }
     {
         if self.depth >= MAX_FED_NESTING {
             return Err(FedFaultKind::TooLarge);
@@ -175,7 +175,7 @@ impl Reader {
 
     /// Goes behind a closing parenthesis.
     fn rise(&mut self, place: Place)
-        ensures { self.new ≡ shallower place self.old }
+        ensures { self.new ≡ with_paren_closed place self.old }
     {
         self.place = place;
         self.depth = self.depth.saturating_sub(1);
@@ -183,7 +183,7 @@ impl Reader {
 
     /// Declares the attribute that was read, unless it is ignored.
     fn declare_attribute(&mut self) -> Result<(), FedFaultKind>
-        ensures { Moves result (Ok (attribute_declared self.old)) self.new }
+        ensures { Moves result (Ok (with_attribute_declared self.old)) self.new }
     {
         if let Some(attribute) = self.attribute.take() {
             // Its name was refused where there was no room.
@@ -197,7 +197,7 @@ impl Reader {
 
     /// Declares the interaction class whose options end, and goes on in it.
     fn declare_class(&mut self) -> Result<(), FedFaultKind>
-        ensures { Moves result (Ok (class_declared self.old)) self.new }
+        ensures { Moves result (Ok (with_class_declared self.old)) self.new }
     {
         if let Some(class) = self.class.take() {
             let Ok(lineage) = class.lineage.copy() else {
@@ -215,9 +215,9 @@ impl Reader {
     }
 
     /// Takes an opening parenthesis.
-    #[tactic(auto, unfolding(crate::specs::Reading::opened))]
+    #[tactic(auto, unfolding(crate::specs::Reading::after_open))]
     fn open(&mut self) -> Result<(), FedFaultKind>
-        ensures { Moves result (opened self.old) self.new }
+        ensures { Moves result (after_open self.old) self.new }
     {
         match self.place {
             Place::Start => self.deepen(Place::Head(Head::File)),
@@ -240,9 +240,9 @@ impl Reader {
 
     /// Leaves a class, for the class around it or for the list of classes.
     fn leave_class(&mut self, alloc: Global, top: Lists, inner: Lists) -> Result<(), FedFaultKind>
-        ensures { Moves result (Ok (class_left top inner self.old)) self.new }
+        ensures { Moves result (Ok (with_class_left top inner self.old)) self.new }
     {
-        self.lineage = around(alloc, self.lineage.as_slice())?;
+        self.lineage = classes_around(alloc, self.lineage.as_slice())?;
         let lists = if self.lineage.is_empty() { top } else { inner };
         self.rise(Place::Between(lists));
         Ok(())
@@ -250,7 +250,7 @@ impl Reader {
 
     /// Ends a list of lists.
     fn close_list(&mut self, alloc: Global, lists: Lists) -> Result<(), FedFaultKind>
-        ensures { Moves result (Ok (list_closed lists self.old)) self.new }
+        ensures { Moves result (Ok (with_list_closed lists self.old)) self.new }
     {
         match lists {
             Lists::Parts => self.rise(Place::Done),
@@ -268,9 +268,9 @@ impl Reader {
     }
 
     /// Takes a closing parenthesis.
-    #[tactic(auto, unfolding(crate::specs::Reading::closed))]
+    #[tactic(auto, unfolding(crate::specs::Reading::after_close))]
     fn close(&mut self, alloc: Global) -> Result<(), FedFaultKind>
-        ensures { Moves result (closed self.old) self.new }
+        ensures { Moves result (after_close self.old) self.new }
     {
         match self.place {
             Place::Start => return Err(FedFaultKind::ExpectedOpen),
@@ -296,14 +296,14 @@ impl Reader {
 
     /// Takes the name of an object class.
     fn open_object_class(&mut self, alloc: Global, name: &[u8]) -> Result<(), FedFaultKind>
-        ensures { Moves result (named_at Naming.ObjectClass self.old name.now) self.new }
+        ensures { Moves result (after_name_at Naming.ObjectClass self.old name.now) self.new }
     {
         let count = self.catalogue.object_classes().len();
         if count >= MAX_CLASSES {
             return Err(FedFaultKind::TooLarge);
         }
         let outer = innermost(self.lineage.as_slice());
-        let path = joined(alloc, self.catalogue.object_path(outer), name)?;
+        let path = extended_path(alloc, self.catalogue.object_path(outer), name)?;
         let lineage = lineage_of(alloc, count as u32 + 1, self.lineage.as_slice())?;
         let Ok(inner) = lineage.copy() else {
             return Err(FedFaultKind::OutOfMemory);
@@ -322,14 +322,14 @@ impl Reader {
 
     /// Takes the name of an interaction class.
     fn open_interaction_class(&mut self, alloc: Global, name: &[u8]) -> Result<(), FedFaultKind>
-        ensures { Moves result (named_at Naming.InteractionClass self.old name.now) self.new }
+        ensures { Moves result (after_name_at Naming.InteractionClass self.old name.now) self.new }
     {
         let count = self.catalogue.interaction_classes().len();
         if count >= MAX_CLASSES {
             return Err(FedFaultKind::TooLarge);
         }
         let outer = innermost(self.lineage.as_slice());
-        let path = joined(alloc, self.catalogue.interaction_path(outer), name)?;
+        let path = extended_path(alloc, self.catalogue.interaction_path(outer), name)?;
         let lineage = lineage_of(alloc, count as u32 + 1, self.lineage.as_slice())?;
         self.class = Some(InteractionClass {
             path,
@@ -343,7 +343,7 @@ impl Reader {
 
     /// Takes the name of an attribute.
     fn open_attribute(&mut self, alloc: Global, name: &[u8]) -> Result<(), FedFaultKind>
-        ensures { Moves result (named_at Naming.Attribute self.old name.now) self.new }
+        ensures { Moves result (after_name_at Naming.Attribute self.old name.now) self.new }
     {
         if self
             .catalogue
@@ -372,7 +372,7 @@ impl Reader {
 
     /// Takes the name of a parameter.
     fn open_parameter(&mut self, alloc: Global, name: &[u8]) -> Result<(), FedFaultKind>
-        ensures { Moves result (named_at Naming.Parameter self.old name.now) self.new }
+        ensures { Moves result (after_name_at Naming.Parameter self.old name.now) self.new }
     {
         if self
             .catalogue
@@ -400,9 +400,9 @@ impl Reader {
     }
 
     /// Takes a name where one must stand.
-    #[tactic(auto, unfolding(crate::specs::Reading::named))]
-    fn name(&mut self, alloc: Global, naming: Naming, name: &[u8]) -> Result<(), FedFaultKind>
-        ensures { Moves result (named naming self.old name.now) self.new }
+    #[tactic(auto, unfolding(crate::specs::Reading::after_name))]
+    fn take_name(&mut self, alloc: Global, naming: Naming, name: &[u8]) -> Result<(), FedFaultKind>
+        ensures { Moves result (after_name naming self.old name.now) self.new }
     {
         if name.is_empty() {
             return Err(FedFaultKind::ExpectedName);
@@ -424,9 +424,10 @@ impl Reader {
 
     /// Takes a keyword behind an opening parenthesis.
     fn begin(&mut self, head: Head, word: &[u8]) -> Result<(), FedFaultKind>
-        ensures { Moves result (goes_to (begun head self.old.depth (keyword_of word.now)) self.old) self.new }
+        ensures { Moves result (with_place (place_behind_keyword head self.old.depth
+            (keyword_of word.now)) self.old) self.new }
     {
-        match begun(head, self.depth, meaning(word)) {
+        match place_behind_keyword(head, self.depth, meaning(word)) {
             Some(place) => {
                 self.place = place;
                 Ok(())
@@ -489,14 +490,14 @@ impl Reader {
     }
 
     /// Takes a bare word.
-    #[tactic(auto, unfolding(crate::specs::Reading::worded))]
-    fn word(&mut self, alloc: Global, word: &[u8]) -> Result<(), FedFaultKind>
-        ensures { Moves result (worded self.old word.now) self.new }
+    #[tactic(auto, unfolding(crate::specs::Reading::after_word))]
+    fn take_word(&mut self, alloc: Global, word: &[u8]) -> Result<(), FedFaultKind>
+        ensures { Moves result (after_word self.old word.now) self.new }
     {
         match self.place {
             Place::Ignored(_, _) => Ok(()),
             Place::Head(head) => self.begin(head, word),
-            Place::Name(naming) => self.name(alloc, naming, word),
+            Place::Name(naming) => self.take_name(alloc, naming, word),
             Place::AttributeOptions(stage) => self.attribute_option(stage, word),
             Place::ClassOptions(stage) => self.class_option(stage, word),
             Place::Start | Place::Between(_) => Err(FedFaultKind::ExpectedOpen),
@@ -509,12 +510,12 @@ impl Reader {
 
     /// Takes a quoted name.
     #[tactic(auto, unfolding(crate::specs::Reading::after_quoted))]
-    fn quoted(&mut self, alloc: Global, name: &[u8]) -> Result<(), FedFaultKind>
+    fn take_quoted_name(&mut self, alloc: Global, name: &[u8]) -> Result<(), FedFaultKind>
         ensures { Moves result (after_quoted self.old name.now) self.new }
     {
         match self.place {
             Place::Ignored(_, _) => Ok(()),
-            Place::Name(naming) => self.name(alloc, naming, name),
+            Place::Name(naming) => self.take_name(alloc, naming, name),
             Place::AttributeOptions(Stage::Ordered) => {
                 self.place = Place::AttributeEnd;
                 Ok(())
@@ -539,8 +540,8 @@ impl Reader {
         match token {
             Token::Open => self.open(),
             Token::Close => self.close(alloc),
-            Token::Word(word) => self.word(alloc, word),
-            Token::Quoted(name) => self.quoted(alloc, name),
+            Token::Word(word) => self.take_word(alloc, word),
+            Token::Quoted(name) => self.take_quoted_name(alloc, name),
             Token::Bad => Err(FedFaultKind::BadByte),
             Token::Unclosed | Token::End => Err(FedFaultKind::UnexpectedEnd),
         }

@@ -2,7 +2,7 @@
 
 ghost use Rattle.std.specs.Prelude.{◌≤◌, length, Ok, IfOk};
 ghost use Rattle.hla_base.specs.Limits.{max_fed_file};
-ghost use Rattle.hla_fed_file.specs.Reading.{reading, read_of, ReadsAs, Takes};
+ghost use Rattle.hla_fed_file.specs.Reading.{reading, reading_of, ReadsAs, Takes};
 ghost use Rattle.hla_fed_file.specs.Lexical.{tokens};
 ghost use Rattle.hla_fed_file.specs.Grammar.{Describes};
 ghost use Rattle.hla_fed_file.specs.CatalogueValue.{CatalogueValue};
@@ -37,7 +37,7 @@ fn take_all(reader: &mut Reader, alloc: Global, text: &[u8]) -> Result<usize, Fe
 
 /// Reads a text token by token.
 fn read_tokens(alloc: Global, text: &[u8]) -> Result<Catalogue, FedFault>
-    ensures { ReadsAs result (read_of text.now) }
+    ensures { ReadsAs result (reading_of text.now) }
 {
     if text.len() > MAX_FED_FILE {
         return Err(FedFault {
@@ -59,7 +59,7 @@ fn read_tokens(alloc: Global, text: &[u8]) -> Result<Catalogue, FedFault>
 #[tactic(auto, using(crate::proofs::Sound::sound))]
 pub fn read(alloc: Global, text: &[u8]) -> Result<Catalogue, FedFault>
     // The catalogue, or the first fault: tokens are tested in their order.
-    ensures exact { ReadsAs result (read_of text.now) }
+    ensures exact { ReadsAs result (reading_of text.now) }
 
     // What is read is a file of the grammar within the limits, and declares the catalogue.
     ensures found { IfOk result (Describes text.now) }

@@ -39,7 +39,7 @@ impl Federation {
     ghost use Rattle.hla_federation.specs.Steps.State.{state_of, IsBuilt, AreBuilt};
     ghost use Rattle.hla_federation.specs.Steps.Memory.{IsRefusedWith};
     ghost use Rattle.hla_components.specs.Headline.{happening, happenings};
-    ghost use Rattle.hla_federation.specs.Steps.Soundness.{IsSound, AreSteps, remembered};
+    ghost use Rattle.hla_federation.specs.Steps.Soundness.{IsSound, AreSteps, remembered_steps};
 
     /// An execution that no federate has joined yet; it takes no memory.
     pub fn new(alloc: Global, catalogue: Catalogue) -> Federation
@@ -52,7 +52,7 @@ impl Federation {
 
     /// What each federation keeps, for a caller's own proofs: its lists are whole, the components' invariant holds of the
     /// state that they stand for, and a list of steps leads to that state from a new execution. It does nothing.
-    pub fn keeps(&self)
+    pub fn soundness(&self)
         ensures { IsSound self.now }
     {
         let _parts = &self.parts;
@@ -90,12 +90,12 @@ impl Federation {
         ensures steps { IfOk result (λ answers. AreSteps (state_of self.old) steps.now answers.items
             (state_of self.new)) }
         ensures machine { IfOk result (λ answers. IsRun (central (state_of self.old))
-            (happenings (state_of self.old) (remembered steps.now answers.items))
+            (happenings (state_of self.old) (remembered_steps steps.now answers.items))
             (central (state_of self.new))) }
         ensures laws { IfOk result (λ answers. IsLawful (central (state_of self.old))
-            (happenings (state_of self.old) (remembered steps.now answers.items))) }
+            (happenings (state_of self.old) (remembered_steps steps.now answers.items))) }
         ensures discoveries { IfOk result (λ answers. IsDiscoveredInTurn (central (state_of self.old))
-            (happenings (state_of self.old) (remembered steps.now answers.items))) }
+            (happenings (state_of self.old) (remembered_steps steps.now answers.items))) }
         ensures err { IfErr result (λ e. e ≡ Fault.OutOfMemory) }
         ensures unchanged { OnErr result (self.new ≡ self.old) }
     {

@@ -69,7 +69,7 @@ impl Parts {
             return Err(fault);
         }
         let serial = self.members.next_serial(federate);
-        let objects = self.registry.owned_by(self.alloc, federate)?;
+        let objects = self.registry.objects_owned_by(self.alloc, federate)?;
         let mut outbox = Outbox::new(self.alloc)?;
         self.address_removals(&mut outbox, federate, serial, objects.as_slice())?;
         self.members

@@ -88,7 +88,7 @@ impl Parts {
         requires { MayCall self.now federate }
         ensures { Answers self.now (step.Call federate (service.GetObjectInstanceHandle name.now)) result }
     {
-        match self.registry.named(federate, name) {
+        match self.registry.object_named(federate, name) {
             Some(number) => Ok(Answer::Handle(number)),
             None => Err(Fault::ObjectNotKnown),
         }

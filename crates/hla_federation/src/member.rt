@@ -9,7 +9,7 @@ ghost use Rattle.hla_base.specs.Tables.{upd};
 ghost use Rattle.hla_federation.specs.Tables.MemberValue.{item};
 ghost use Rattle.hla_federation.specs.Tables.Members.{carried_of, member_receiving, new_member, resigned_member, AreQuiet, HasRoomFor, IsUnretracting, IsSmall};
 ghost use Rattle.hla_federation.specs.Steps.Memory.{arrival_takes_memory};
-ghost use Rattle.hla_federation.specs.Steps.Picking.{picked_at, left_at};
+ghost use Rattle.hla_federation.specs.Steps.Picking.{next_callback, member_after_pick};
 
 use crate::incoming::Incoming;
 use crate::messages::{callback_of, carried_event};
@@ -184,8 +184,8 @@ impl Member {
 
     /// It picks up the first of its controls, or else the message that has waited longest, if there is any.
     pub fn pick_up(&mut self) -> Option<Callback>
-        ensures callback { result ≡ picked_at self.old.shown.controls self.old.shown.received }
-        ensures state { self.new.shown ≡ left_at self.old.shown self.old.shown.controls }
+        ensures callback { result ≡ next_callback self.old.shown.controls self.old.shown.received }
+        ensures state { self.new.shown ≡ member_after_pick self.old.shown self.old.shown.controls }
     {
         match self.controls.pop_front() {
             Some(Control::ToDiscover { discovery, .. }) => Some(Callback::DiscoverObjectInstance {

@@ -6,11 +6,11 @@ ghost use Rattle.std.specs.Str.{bytes_eq};
 ghost use Rattle.hla_base.specs.Limits.{max_joins, largest_number};
 ghost use Rattle.hla_base.specs.declared.fault.Fault.TheVariants.{OutOfMemory};
 ghost use Rattle.hla_base.specs.Tables.{upd, upd2, numbers_below};
-ghost use Rattle.hla_federation.specs.Tables.Members.{members_of, room_in, IsEnd, AreQuiet, new_member, with_member_admitted, with_member_withdrawn, with_first_picked, HasRoom, posted_below, IsUnretracting, IsSmall, carried_of, with_arrival};
+ghost use Rattle.hla_federation.specs.Tables.Members.{members_of, room_in, IsEnd, AreQuiet, new_member, with_member_admitted, with_member_withdrawn, with_first_picked, HasRoom, wires_posted_below, IsUnretracting, IsSmall, carried_of, with_arrival};
 ghost use Rattle.hla_federation.specs.declared.direction.Direction.TheVariants.{From};
 ghost use Rattle.hla_federation.specs.Tables.MemberValue.{item, RoomyMember};
 ghost use Rattle.hla_federation.specs.Steps.Memory.{arrival_takes_memory};
-ghost use Rattle.hla_federation.specs.Steps.Picking.{picked_at};
+ghost use Rattle.hla_federation.specs.Steps.Picking.{next_callback};
 
 use crate::direction::Direction;
 use crate::member::Member;
@@ -33,11 +33,11 @@ impl Model for Members {
     ghost use Rattle.hla_base.specs.Limits.{max_joins, largest_number};
     ghost use Rattle.std.specs.Prelude.{length, ◌≤◌, ◌-◌, vec_len, vec_capacity};
     ghost use Rattle.hla_federation.specs.Tables.MemberValue.{RoomyMembers};
-    ghost use Rattle.hla_federation.specs.Tables.Members.{roomy};
+    ghost use Rattle.hla_federation.specs.Tables.Members.{roomy_members};
 
     ghost Value = { RoomyMembers };
 
-    ghost view = { λ m. roomy m.members.items (vec_capacity m.members - vec_len m.members) };
+    ghost view = { λ m. roomy_members m.members.items (vec_capacity m.members - vec_len m.members) };
 
     ghost invariant = { λ m. length m.members.items ≤ max_joins };
 }
@@ -207,7 +207,8 @@ impl Members {
         requires room { HasRoom along (item [] outbox) 1 (members_of self.old.shown).next_federate
             self.old.rooms }
         ensures { members_of self.new.shown ≡ record (members_of self.old.shown) {
-          wire = posted_below along (item [] outbox) (members_of self.old.shown).next_federate (members_of self.old.shown).wire;
+          wire = wires_posted_below along (item [] outbox) (members_of self.old.shown).next_federate
+              (members_of self.old.shown).wire;
         } }
     {
         let mut outbox = outbox;
@@ -231,7 +232,8 @@ impl Members {
         requires serials { (members_of self.old.shown).serial federate + count ≤ largest_number }
         ensures ok { OnOk result (members_of self.new.shown ≡ record (members_of self.old.shown) {
           serial = upd (members_of self.old.shown).serial federate ((members_of self.old.shown).serial federate + count);
-          wire = posted_below (From federate) (item [] outbox) (members_of self.old.shown).next_federate (members_of self.old.shown).wire;
+          wire = wires_posted_below (From federate) (item [] outbox) (members_of self.old.shown).next_federate
+              (members_of self.old.shown).wire;
         }) }
         ensures err { IfErr result (λ e. e ≡ Fault.OutOfMemory) }
         ensures unchanged { OnErr result (self.new.shown ≡ self.old.shown) }
@@ -266,7 +268,7 @@ impl Members {
     pub fn pick_up(&mut self, federate: FederateNo) -> Option<Callback>
         requires some { 0 < federate }
         requires within { federate < (members_of self.old.shown).next_federate }
-        ensures callback { result ≡ picked_at ((members_of self.old.shown).controls federate)
+        ensures callback { result ≡ next_callback ((members_of self.old.shown).controls federate)
             ((members_of self.old.shown).ro federate) }
         ensures state { members_of self.new.shown ≡ with_first_picked (members_of self.old.shown) federate
             ((members_of self.old.shown).controls federate) }

@@ -7,11 +7,11 @@ ghost use Rattle.hla_base.specs.Limits.{max_joins};
 ghost use Rattle.hla_base.specs.declared.fault.Fault.TheVariants.{OutOfMemory};
 ghost use Rattle.hla_fed_file.specs.Lookup.{object_lineage};
 ghost use Rattle.hla_null_message.specs.declared.message.Message.TheVariants as message;
-ghost use Rattle.hla_machine.specs.Directory.{discovery_of, discoveries_of, discovered_by, with_subscribed};
+ghost use Rattle.hla_machine.specs.Directory.{discovery_of, discoveries_of, with_discoveries_made, with_subscribed};
 ghost use Rattle.hla_machine.specs.declared.service.Service.TheVariants as service;
 ghost use Rattle.hla_machine.specs.declared.step.Step.TheVariants as step;
 ghost use Rattle.hla_object_registry.specs.Registered.{registry_of};
-ghost use Rattle.hla_federation.specs.Steps.Discovering.{AreFederates, discovery_to, known_among};
+ghost use Rattle.hla_federation.specs.Steps.Discovering.{AreFederates, discovery_to, with_known_among};
 ghost use Rattle.hla_federation.specs.Steps.Sending.{HasAdded, messages_among};
 ghost use Rattle.hla_federation.specs.Steps.Soundness.{IsSound, MayCall};
 ghost use Rattle.hla_federation.specs.Steps.State.{state_of, IsWhole, Ends};
@@ -74,7 +74,7 @@ impl Parts {
         requires registered { object < (registry_of self.old.objects).next_object }
         ensures same { self.new ≡ record self.old { objects = self.new.objects } }
         ensures known { registry_of self.new.objects ≡ record (registry_of self.old.objects) {
-          known = known_among receivers.now object (registry_of self.old.objects).known;
+          known = with_known_among receivers.now object (registry_of self.old.objects).known;
         } }
     {
         for receiver in receivers {
@@ -149,7 +149,7 @@ impl Parts {
             (discovery_of (with_subscribed (state_of self.now).directory federate class (Some attributes))
             federate object) }
     {
-        if !self.registry.exists(object)
+        if !self.registry.has_object(object)
             || self.registry.owner(object) == federate
             || self.registry.was_made_known(object, federate)
         {
@@ -192,7 +192,8 @@ impl Parts {
         requires within { federate ≤ max_joins }
         ensures same { self.new ≡ record self.old { objects = self.new.objects } }
         ensures known { (attributes : List ℕ) → registry_of self.new.objects ≡ record (registry_of self.old.objects) {
-          known = (discovered_by (with_subscribed (state_of self.old).directory federate class (Some attributes)) federate).known;
+          known = (with_discoveries_made (with_subscribed (state_of self.old).directory federate class
+              (Some attributes)) federate).known;
         } }
     {
         let end = self.registry.next_object();

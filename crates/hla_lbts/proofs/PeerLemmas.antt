@@ -7,7 +7,7 @@ use Rattle.std.proofs.Math.ListN.{replicate}
 use Rattle.std.proofs.Math.Path.{fun_ext}
 use Rattle.hla_base.specs.Tables.{forever, upd}
 use Rattle.hla_lbts.specs.declared.row.PeerRow.{PeerRow}
-use Rattle.hla_lbts.specs.Peers.{PeersValue, silent, peers_of, null_bound}
+use Rattle.hla_lbts.specs.Peers.{PeersValue, silent_peer, peers_of, null_bound}
 
 abbrev pub tables : (ℕ → ℕ) → (ℕ → ℕ) → PeersValue
 tables bound known_epoch = record { bound = bound; known_epoch = known_epoch }
@@ -15,18 +15,18 @@ tables bound known_epoch = record { bound = bound; known_epoch = known_epoch }
 same_tables : (a b k l : ℕ → ℕ) → a ≡ b → k ≡ l → tables a k ≡ tables b l
 same_tables a b k l e f = ap (λ t. tables t k) e ∙ ap (tables b) f
 
-set_here : (f : PeerRow → ℕ) (rows : List PeerRow) (i g : ℕ) (row : PeerRow) → i < length rows → i ≡ g → f (get_or (set rows i row) g silent) ≡ cond (eqb i g) (f row) (f (get_or rows g silent))
+set_here : (f : PeerRow → ℕ) (rows : List PeerRow) (i g : ℕ) (row : PeerRow) → i < length rows → i ≡ g → f (get_or (set rows i row) g silent_peer) ≡ cond (eqb i g) (f row) (f (get_or rows g silent_peer))
 set_here f rows i g row within same =
     let y : eqb i g ≡ true = grind (arith, nat_tests) in
-    rw y (ap (λ k. f (get_or (set rows i row) k silent)) (sym same) ∙ ap f (get_or-set_same rows i row silent within))
+    rw y (ap (λ k. f (get_or (set rows i row) k silent_peer)) (sym same) ∙ ap f (get_or-set_same rows i row silent_peer within))
 
-set_there : (f : PeerRow → ℕ) (rows : List PeerRow) (i g : ℕ) (row : PeerRow) → (i ≡ g → ⊥) → f (get_or (set rows i row) g silent) ≡ cond (eqb i g) (f row) (f (get_or rows g silent))
+set_there : (f : PeerRow → ℕ) (rows : List PeerRow) (i g : ℕ) (row : PeerRow) → (i ≡ g → ⊥) → f (get_or (set rows i row) g silent_peer) ≡ cond (eqb i g) (f row) (f (get_or rows g silent_peer))
 set_there f rows i g row apart =
     let n : eqb i g ≡ false = grind (arith, nat_tests) in
     let other : g ≢ i = λ e. apart (sym e) in
-    rw n (ap f (get_or-set_other rows i g row silent other))
+    rw n (ap f (get_or-set_other rows i g row silent_peer other))
 
-column_set : (f : PeerRow → ℕ) (rows : List PeerRow) (i : ℕ) (row : PeerRow) → i < length rows → (λ g. f (get_or (set rows i row) g silent)) ≡ upd (λ g. f (get_or rows g silent)) i (f row)
+column_set : (f : PeerRow → ℕ) (rows : List PeerRow) (i : ℕ) (row : PeerRow) → i < length rows → (λ g. f (get_or (set rows i row) g silent_peer)) ≡ upd (λ g. f (get_or rows g silent_peer)) i (f row)
 unfolding upd
 column_set f rows i row within = fun_ext (λ g. ⊎_elim (λ e. set_here f rows i g row within e) (λ ne. set_there f rows i g row ne) (cases_eq i g))
 
@@ -44,15 +44,15 @@ unfolding upd
 upd-same t i = fun_ext (λ g. kept_at (eqb i g) t i g refl)
 
 -- rows of which nothing is known
-silent_at : (n g : ℕ) → get_or (replicate n silent) g silent ≡ silent
-silent_at n g = elim (cases_lt g n) [ inl low ↦ get_or-replicate n g silent silent low | inr past ↦ get_or_past (replicate n silent) g silent (rw length-replicate past) ]
+silent_at : (n g : ℕ) → get_or (replicate n silent_peer) g silent_peer ≡ silent_peer
+silent_at n g = elim (cases_lt g n) [ inl low ↦ get_or-replicate n g silent_peer silent_peer low | inr past ↦ get_or_past (replicate n silent_peer) g silent_peer (rw length-replicate past) ]
 
-pub peers_of-silent : (n : ℕ) → peers_of (replicate n silent) ≡ tables (λ _. forever) (λ _. 0)
+pub peers_of-silent : (n : ℕ) → peers_of (replicate n silent_peer) ≡ tables (λ _. forever) (λ _. 0)
 peers_of-silent n = same_tables _ _ _ _ (fun_ext (λ g. ap (λ (r : PeerRow). r.bound) (silent_at n g))) (fun_ext (λ g. ap (λ (r : PeerRow). r.epoch) (silent_at n g)))
 
 -- ---- a null message
-pub raised : (known bound epoch value : ℕ) → epoch ≡ known → max bound value ≡ null_bound known bound epoch value
-raised known bound epoch value same = let y : eqb epoch known ≡ true = grind (arith, nat_tests) in rw y
+pub raised_bound : (known bound epoch value : ℕ) → epoch ≡ known → max bound value ≡ null_bound known bound epoch value
+raised_bound known bound epoch value same = let y : eqb epoch known ≡ true = grind (arith, nat_tests) in rw y
 
-pub ignored : (known bound epoch value : ℕ) → (epoch ≡ known → ⊥) → bound ≡ null_bound known bound epoch value
-ignored known bound epoch value apart = let n : eqb epoch known ≡ false = grind (arith, nat_tests) in rw n
+pub ignored_bound : (known bound epoch value : ℕ) → (epoch ≡ known → ⊥) → bound ≡ null_bound known bound epoch value
+ignored_bound known bound epoch value apart = let n : eqb epoch known ≡ false = grind (arith, nat_tests) in rw n

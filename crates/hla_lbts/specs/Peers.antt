@@ -7,14 +7,14 @@ pub record PeersValue : Type 0 where
   pub bound : ℕ → ℕ  -- what a peer sends in time-stamp order is not below it; forever for a number of no peer
   pub known_epoch : ℕ → ℕ  -- how often it has enabled regulation
 
-abbrev pub silent : PeerRow
-silent = record { epoch = 0; bound = forever }
+abbrev pub silent_peer : PeerRow
+silent_peer = record { epoch = 0; bound = forever }
 
 -- the tables that rows stand for
 abbrev pub peers_of : List PeerRow → PeersValue
 peers_of rows = record {
-  bound = λ g. (slice_index_or rows g silent).bound;
-  known_epoch = λ g. (slice_index_or rows g silent).epoch;
+  bound = λ g. (slice_index_or rows g silent_peer).bound;
+  known_epoch = λ g. (slice_index_or rows g silent_peer).epoch;
 }
 
 -- the bound after a null message with a value: one of the epoch that is known raises it, one of another does not

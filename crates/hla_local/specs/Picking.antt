@@ -6,7 +6,7 @@ use Rattle.hla_base.specs.declared.row.AdvanceRequest.{AdvanceRequest}
 use Rattle.hla_base.specs.declared.row.TimeRow.{TimeRow}
 use Rattle.hla_base.specs.Limits.{max_joins}
 use Rattle.hla_base.specs.Tables.{least}
-use Rattle.hla_base.specs.Rows.{is_next, is_flush, is_pending, is_advancing, is_constrained, reach, grant_time, least_of, regulates, constrains, row_after_pick, row_after_grant}
+use Rattle.hla_base.specs.Rows.{is_next, is_flush, is_pending, is_advancing, is_constrained, reach, grant_time, least_of, row_after_regulation_enabled, row_after_constraint_enabled, row_after_pick, row_after_grant}
 use Rattle.hla_lbts.specs.Peers.{peers_of}
 use Rattle.hla_local.specs.LocalValue.{LocalValue}
 use Rattle.hla_local.specs.declared.picked.NextPick.{NextPick}
@@ -98,8 +98,8 @@ abbrev pub local_picking : LocalValue → Pick → LocalValue
 local_picking l NoPick = l
 local_picking l (PickControl k rest) = record l { controls = rest }
 local_picking l (PickRo e rest) = record l { ro = rest }
-local_picking l PickRegulates = record l { row = regulates l.row }
-local_picking l PickConstrains = record l { row = constrains l.row; tso = filter (λ e. not (is_below l.row.time e)) l.tso; ro = l.ro ++ filter (is_below l.row.time) l.tso }
+local_picking l PickRegulates = record l { row = row_after_regulation_enabled l.row }
+local_picking l PickConstrains = record l { row = row_after_constraint_enabled l.row; tso = filter (λ e. not (is_below l.row.time e)) l.tso; ro = l.ro ++ filter (is_below l.row.time) l.tso }
 local_picking l (PickTso q e rest) = record l { row = row_after_pick l.row q e.stamp; tso = rest }
 local_picking l (PickGrant q t) = record l { row = row_after_grant l.row q t }
 

@@ -46,7 +46,7 @@ impl Local {
         ensures err { IfErr result (λ m. m ≡ message.Event event) }
         ensures unchanged { OnErr result (self.new ≡ self.old) }
     {
-        if event.ordered && self.state.keeps_order() {
+        if event.ordered && self.state.is_order_kept() {
             return match self.ordered.insert(event) {
                 Ok(()) => Ok(()),
                 Err(event) => Err(Message::Event(event)),

@@ -3,7 +3,7 @@
 ghost use Rattle.std.specs.Prelude.{◌≡◌, ◌≤◌, ◌<◌, ◌+◌, ◌*◌, ◌++◌, [], ℕ, min, OnOk, OnErr, IfErr};
 ghost use Rattle.hla_base.specs.Limits.{max_joins, max_time, max_enablings, largest_number};
 ghost use Rattle.hla_base.specs.Tables.{forever, upd, least};
-ghost use Rattle.hla_base.specs.Rows.{row_after_request, regulating_from, bar_of};
+ghost use Rattle.hla_base.specs.Rows.{row_after_request, row_with_entry, bar_of};
 ghost use Rattle.hla_base.specs.declared.fault.Fault.TheVariants.{OutOfMemory};
 ghost use Rattle.hla_base.specs.declared.row.Role.TheVariants.{Disabled, Pending};
 ghost use Rattle.hla_lbts.specs.Peers.{peers_of};
@@ -150,7 +150,7 @@ impl Local {
         requires few { self.old.row.enablings < max_enablings }
         requires epochs { self.old.epoch < largest_number }
         ensures { self.new ≡ record self.old {
-          row = regulating_from self.old.row lookahead entry;
+          row = row_with_entry self.old.row lookahead entry;
           last_announced = entry;
           epoch = self.old.epoch + 1;
         } }

@@ -14,7 +14,7 @@ use Rattle.hla_machine.specs.declared.step.Answer.{Answer}
 use Rattle.hla_machine.specs.declared.step.Outcome.{Outcome}
 use Rattle.hla_machine.specs.declared.step.Outcome.TheVariants as outcome
 use Rattle.hla_machine.specs.declared.step.Choice.{Choice}
-use Rattle.hla_machine.specs.Directory.{Directory, Outgoing, receives, content_for, objects_of, update_sent, interaction_sent, deletion_sent, deletions_sent}
+use Rattle.hla_machine.specs.Directory.{Directory, Outgoing, is_receiver, content_for, objects_of, update_sent, interaction_sent, deletion_sent, deletions_sent}
 use Rattle.hla_machine.specs.Central.{Central, Copy, with_copies, is_key}
 use Rattle.hla_machine.specs.Sends.{copy_for, after_message, after_messages}
 use Rattle.hla_machine.specs.CentralInvariant.{CentralInv}
@@ -58,22 +58,22 @@ copy_here joined bag f m copy g none = rw (eq-eqb f f refl, eq-eqb m m refl, non
     end true None = refl
     end true (Some k) = refl
 
-made : (b : Bool) (x : Option Content) (make : Content → Copy) → (b && is_some x) ≡ true → ((y : Content) → (make y).content ≡ y) → (k : Copy) × (when b (option_map make x) ≡ Some k) × (x ≡ Some k.content)
-made true (Some x) make e same = (make x, refl, λ i. Some (sym (same x) i))
-made true None make e same = absurd (cc)
-made false x make e same = absurd (cc)
+made_copy : (b : Bool) (x : Option Content) (make : Content → Copy) → (b && is_some x) ≡ true → ((y : Content) → (make y).content ≡ y) → (k : Copy) × (when b (option_map make x) ≡ Some k) × (x ≡ Some k.content)
+made_copy true (Some x) make e same = (make x, refl, λ i. Some (sym (same x) i))
+made_copy true None make e same = absurd (cc)
+made_copy false x make e same = absurd (cc)
 
-unmade : (b : Bool) (x : Option Content) (make : Content → Copy) → (b && is_some x) ≡ false → when b (option_map make x) ≡ None
-unmade true (Some x) make e = absurd (cc)
-unmade true None make e = refl
-unmade false x make e = refl
+unmade_copy : (b : Bool) (x : Option Content) (make : Content → Copy) → (b && is_some x) ≡ false → when b (option_map make x) ≡ None
+unmade_copy true (Some x) make e = absurd (cc)
+unmade_copy true None make e = refl
+unmade_copy false x make e = refl
 
 message_sent : (c : Central) (f : ℕ) (stamp : Option ℕ) (out : Outgoing) → NoneAhead c f → IsSentTo c.directory (after_message c f stamp out).bag f (c.serial f) out
 message_sent c f stamp out none = record {
   receivers = λ g is.
-      let w = made (is_other c.directory.joined f g) (content_for c.directory out.body g) _ is (λ y. refl) in
+      let w = made_copy (is_other c.directory.joined f g) (content_for c.directory out.body g) _ is (λ y. refl) in
       (w.0, copy_here c.directory.joined c.bag f (c.serial f) (copy_for c.directory (c.row f) stamp out) g (none (c.serial f) g (omega arith)) ∙ w.1, w.2);
-  others = λ g is. copy_here c.directory.joined c.bag f (c.serial f) (copy_for c.directory (c.row f) stamp out) g (none (c.serial f) g (omega arith)) ∙ unmade (is_other c.directory.joined f g) (content_for c.directory out.body g) _ is;
+  others = λ g is. copy_here c.directory.joined c.bag f (c.serial f) (copy_for c.directory (c.row f) stamp out) g (none (c.serial f) g (omega arith)) ∙ unmade_copy (is_other c.directory.joined f g) (content_for c.directory out.body g) _ is;
 }
 
 sent_in : (d : Directory) (to bag : ℕ → ℕ → ℕ → Option Copy) (f m : ℕ) (out : Outgoing) → ((g : ℕ) → to f m g ≡ bag f m g) → IsSentTo d bag f m out → IsSentTo d to f m out
@@ -100,12 +100,12 @@ left_sent d b f m [] are = tt
 left_sent d b f m (out ∷ outs) are = (
   record {
     receivers = λ g r. let w = are.0.receivers g r in (w.0, upd_other (b.bag f m) f None g (differs g r) ∙ w.1, w.2);
-    others = by_number f (λ g. receives d f out.body g ≡ false → upd (b.bag f m) f None g ≡ None) (λ _. upd_same (b.bag f m) f None) (λ g ne r. upd_other (b.bag f m) f None g ne ∙ are.0.others g r);
+    others = by_number f (λ g. is_receiver d f out.body g ≡ false → upd (b.bag f m) f None g ≡ None) (λ _. upd_same (b.bag f m) f None) (λ g ne r. upd_other (b.bag f m) f None g ne ∙ are.0.others g r);
   },
   left_sent d b f (m + 1) outs are.1,
 )
   where
-    differs : (g : ℕ) → receives d f out.body g ≡ true → f ≡ g → ⊥
+    differs : (g : ℕ) → is_receiver d f out.body g ≡ true → f ≡ g → ⊥
     differs g r same = let p = and_parts _ _ r in own d.joined f g p.0 same
 
 call_sent : (c : Central) (f : ℕ) (s : Service) (o : Choice) → CentralInv c → AreSentTo c.directory (after_call c f s o).bag f (c.serial f) (messages_of c.directory f s)

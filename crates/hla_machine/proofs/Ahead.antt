@@ -7,7 +7,7 @@ use Rattle.hla_base.specs.declared.content.Content.TheVariants as content
 use Rattle.hla_base.specs.declared.row.AdvanceRequest.{AdvanceRequest}
 use Rattle.hla_base.specs.declared.row.TimeRow.{TimeRow}
 use Rattle.hla_base.specs.Tables.{or_else}
-use Rattle.hla_base.specs.Rows.{is_next, is_flush, is_constrained, is_pending, new_row, regulating_from, regulates, row_after_grant, first_or}
+use Rattle.hla_base.specs.Rows.{is_next, is_flush, is_constrained, is_pending, new_row, row_with_entry, row_after_regulation_enabled, row_after_grant, first_or}
 use Rattle.hla_callbacks.specs.declared.callback.Callback.{Callback}
 use Rattle.hla_callbacks.specs.declared.callback.Callback.TheVariants as callback
 use Rattle.hla_callbacks.specs.declared.callback.Delivery.{Delivery}
@@ -45,8 +45,8 @@ given_parts c (Tick g) (outcome.Failed x) o f k may gives =
     (subst (λ k. (c.directory.joined g ≡ true) × MayPickUp c g k o × (after_pick c g x o ≡ after_pick c g k o)) gives.1 (ticker_joined (central_seen c) g may.0, may.1, refl))
 given_parts c step out o f k may gives = absurd gives
 
-pub given : (c : Central) (h : Happening) (f : ℕ) (k : Callback) → MayEnd c h.step h.outcome h.choice → GivesCallback h.step h.outcome f k → Given c h f k
-given c h f k may gives = let p = given_parts c h.step h.outcome h.choice f k may gives in record { member = p.0; may = p.1; follows = p.2 }
+pub given_of : (c : Central) (h : Happening) (f : ℕ) (k : Callback) → MayEnd c h.step h.outcome h.choice → GivesCallback h.step h.outcome f k → Given c h f k
+given_of c h f k may gives = let p = given_parts c h.step h.outcome h.choice f k may gives in record { member = p.0; may = p.1; follows = p.2 }
 
 -- a pick in time-stamp order
 pub record Taken (c d : Central) (f : ℕ) (e : EventHandle) (s : ℕ) : Type 0 where
@@ -71,8 +71,8 @@ taken_pick c f (callback.ReceiveInteraction class values event d) e s o may is =
 taken_pick c f (callback.RemoveObjectInstance object event d) e s o may is = taken_delivery c f (content.Removal object) event e d s may is.0 is.1
 taken_pick c f k e s o may is = absurd is
 
-pub taken : (c : Central) (h : Happening) (f : ℕ) (e : EventHandle) (s : ℕ) → MayEnd c h.step h.outcome h.choice → Picks h f e s → Taken c (next_state c h) f e s
-taken c h f e s may p = let g = given c h f p.given may p.gives in subst (λ d. Taken c d f e s) (sym g.follows) (taken_pick c f p.given e s h.choice g.may p.brings)
+pub taken_of : (c : Central) (h : Happening) (f : ℕ) (e : EventHandle) (s : ℕ) → MayEnd c h.step h.outcome h.choice → Picks h f e s → Taken c (next_state c h) f e s
+taken_of c h f e s may p = let g = given_of c h f p.given may p.gives in subst (λ d. Taken c d f e s) (sym g.follows) (taken_pick c f p.given e s h.choice g.may p.brings)
 
 pub pick_ahead : (c d : Central) (f : ℕ) (e : EventHandle) (s : ℕ) → IsKept c → Taken c d f e s → (c.row f).time ≤ s
 pick_ahead c d f e s k t = ⊎_elim
@@ -130,9 +130,9 @@ module _ (c : Central) (k : IsKept c) (f : ℕ) (t : Timely (c.row f)) where
     first = λ q p e i. absurd (cc);
     late = λ p. absurd (cc);
   })
-  timely_turn r m (Entered lookahead e idle low is) = subst Timely (sym is) (timely_idle (regulating_from (c.row f) lookahead e) idle
+  timely_turn r m (Entered lookahead e idle low is) = subst Timely (sym is) (timely_idle (row_with_entry (c.row f) lookahead e) idle
       (λ _. cond_both (is_constrained (c.row f)) (c.row f).time (e - lookahead) (λ x. (c.row f).time ≤ x) (λ _. omega arith) (λ _. omega arith)))
-  timely_turn r m (Regulated was is) = subst Timely (sym is) (timely_idle (regulates (c.row f)) ((k.rows f).idle was) (λ p. absurd (cc)))
+  timely_turn r m (Regulated was is) = subst Timely (sym is) (timely_idle (row_after_regulation_enabled (c.row f)) ((k.rows f).idle was) (λ p. absurd (cc)))
   timely_turn r m (Rested idle rests same_time same_role same_regulation) = timely_idle r rests (λ p. let l = t.late (rw (← same_role) p) in omega (arith, same_time, same_regulation))
   timely_turn r m (Picked q e s x asks con copy may is) = subst Timely (sym is) (record {
     asked = t.asked;
@@ -188,7 +188,7 @@ pub run_ahead : (c : Central) (h : Happening) (f : ℕ) → Happens c h → IsAh
 run_ahead c h f is =
     let r = reachable c h is in
     record {
-      picks = λ e s p. pick_ahead c (next_state c h) f e s r.kept (taken c h f e s is.allowed.0 p);
-      grants = λ v g. let w = (given c h f (callback.TimeAdvanceGrant v) is.allowed.0 g).may in granted_ahead c r.kept f (r.timely f) w.0 v w.1 w.2;
+      picks = λ e s p. pick_ahead c (next_state c h) f e s r.kept (taken_of c h f e s is.allowed.0 p);
+      grants = λ v g. let w = (given_of c h f (callback.TimeAdvanceGrant v) is.allowed.0 g).may in granted_ahead c r.kept f (r.timely f) w.0 v w.1 w.2;
       time = λ was now. time_grows c r.kept f (r.timely f) _ _ (step_turn c h.step h.outcome h.choice is.allowed.0 r.kept f) was now;
     }

@@ -26,8 +26,8 @@ use Rattle.hla_machine.specs.declared.step.Outcome.{Outcome}
 use Rattle.hla_machine.specs.declared.step.Outcome.TheVariants as outcome
 use Rattle.hla_machine.specs.declared.step.Choice.{Choice}
 use Rattle.hla_machine.specs.declared.step.Choice.TheVariants as choice
-use Rattle.hla_machine.specs.Directory.{Directory, Outgoing, content_for, receives, objects_of, deletions_sent, deletion_sent, update_sent, interaction_sent, with_member}
-use Rattle.hla_machine.specs.Central.{Central, new_central, no_event, Copy, CopyOrder, Ro, Tso, Demoted, SentEvent, at_key, with_copies, is_key, demoted_order, demoted}
+use Rattle.hla_machine.specs.Directory.{Directory, Outgoing, content_for, is_receiver, objects_of, deletions_sent, deletion_sent, update_sent, interaction_sent, with_member}
+use Rattle.hla_machine.specs.Central.{Central, new_central, no_event, Copy, CopyOrder, Ro, Tso, Demoted, SentEvent, at_key, with_copies, is_key, demoted_order, demoted_copy}
 use Rattle.hla_machine.specs.Callbacks.{with_demoted, is_among, after_delivery, after_constraint, after_pick}
 use Rattle.hla_machine.specs.Sends.{after_message, after_messages, sent_event, copy_for, is_ordered, kept_stamp, is_retractable, is_told, owed_to_receivers}
 use Rattle.hla_machine.specs.Machine.{central_seen, MayEnd, after, after_done, after_call, after_resign, after_carry, after_retract, after_enter, after_cease, after_leaving, after_arrival, after_retraction_arrival}
@@ -71,11 +71,11 @@ still_ro Ro h = refl
 still_ro Tso h = absurd (cc)
 still_ro Demoted h = absurd (cc)
 
-thin_map : (o : Option Copy) (k : Copy) → option_map demoted o ≡ Some k → (j : Copy) × (o ≡ Some j) × (k.stamp ≡ j.stamp) × (k.order ≡ Tso → j.order ≡ Tso) × (k.order ≡ Ro → j.order ≡ Ro)
-thin_map o k is = let w = option_map-some demoted o k is in
+thin_map : (o : Option Copy) (k : Copy) → option_map demoted_copy o ≡ Some k → (j : Copy) × (o ≡ Some j) × (k.stamp ≡ j.stamp) × (k.order ≡ Tso → j.order ≡ Tso) × (k.order ≡ Ro → j.order ≡ Ro)
+thin_map o k is = let w = option_map-some demoted_copy o k is in
     (w.0, w.1, subst (λ (x : Copy). x.stamp ≡ w.0.stamp) w.2 refl, subst (λ (x : Copy). x.order ≡ Tso → w.0.order ≡ Tso) w.2 (never_tso w.0.order), subst (λ (x : Copy). x.order ≡ Ro → w.0.order ≡ Ro) w.2 (still_ro w.0.order))
 
-pub thin_demoted : (a : ℕ → ℕ → ℕ → Option Copy) (g m f : ℕ) → IsThinner (at_key a g m f (option_map demoted (a g m f))) a
+pub thin_demoted : (a : ℕ → ℕ → ℕ → Option Copy) (g m f : ℕ) → IsThinner (at_key a g m f (option_map demoted_copy (a g m f))) a
 thin_demoted a g m f = by_key g m _
     (by_number f _ (λ k is. thin_map (a g m f) k (rw at_key_here at is))
     (λ l ne k is. let k2 : (is_key g m g m ≡ false) ⊎ (f ≢ l) = inr ne in (k, rw at_key_else at is, refl, (λ t. t), (λ t. t))))
@@ -139,13 +139,13 @@ copy_is d r stamp out f k is =
 
 -- what is kept of a message that may be retracted
 event_is : (d : Directory) (r : TimeRow) (g : ℕ) (stamp : Option ℕ) (out : Outgoing) → (sent_event d r g stamp out).retractable ≡ true
-    → ((sent_event d r g stamp out).stamp ≡ kept_stamp r stamp out) × ((f : ℕ) → receives d g out.body f ≡ true → (sent_event d r g stamp out).receivers f ≡ true)
-event_is d r g stamp out = cond_both (is_retractable r stamp out) (record { stamp = kept_stamp r stamp out; retractable = true; retracted = false; receivers = receives d g out.body }) no_event
-    (λ (e : SentEvent). e.retractable ≡ true → (e.stamp ≡ kept_stamp r stamp out) × ((f : ℕ) → receives d g out.body f ≡ true → e.receivers f ≡ true))
+    → ((sent_event d r g stamp out).stamp ≡ kept_stamp r stamp out) × ((f : ℕ) → is_receiver d g out.body f ≡ true → (sent_event d r g stamp out).receivers f ≡ true)
+event_is d r g stamp out = cond_both (is_retractable r stamp out) (record { stamp = kept_stamp r stamp out; retractable = true; retracted = false; receivers = is_receiver d g out.body }) no_event
+    (λ (e : SentEvent). e.retractable ≡ true → (e.stamp ≡ kept_stamp r stamp out) × ((f : ℕ) → is_receiver d g out.body f ≡ true → e.receivers f ≡ true))
     (λ _ _. (refl, λ f h. h)) (λ _ n. absurd (cc))
 
 event_live : (d : Directory) (r : TimeRow) (g : ℕ) (stamp : Option ℕ) (out : Outgoing) → (sent_event d r g stamp out).retracted ≡ false
-event_live d r g stamp out = cond_both (is_retractable r stamp out) (record { stamp = kept_stamp r stamp out; retractable = true; retracted = false; receivers = receives d g out.body }) no_event
+event_live d r g stamp out = cond_both (is_retractable r stamp out) (record { stamp = kept_stamp r stamp out; retractable = true; retracted = false; receivers = is_receiver d g out.body }) no_event
     (λ (e : SentEvent). e.retracted ≡ false) (λ _. refl) (λ _. refl)
 
 send_laws : (c : Central) (f : ℕ) (stamp : Option ℕ) (out : Outgoing) → CentralInv c → CentralInv (after_message c f stamp out)
@@ -307,7 +307,7 @@ call_laws c f s o none laws = laws
 -- ---- other steps
 arrived_laws : (c : Central) (g f m : ℕ) → CentralInv c → CentralInv (after_arrival c g f m)
 arrived_laws c g f m laws = thinner_laws c c.row _ laws
-    (cond_both (is_disabled (c.row f).constrained) (at_key c.bag g m f (option_map demoted (c.bag g m f))) c.bag (λ b. IsThinner b c.bag) (λ _. thin_demoted c.bag g m f) (λ _. thin_same c.bag))
+    (cond_both (is_disabled (c.row f).constrained) (at_key c.bag g m f (option_map demoted_copy (c.bag g m f))) c.bag (λ b. IsThinner b c.bag) (λ _. thin_demoted c.bag g m f) (λ _. thin_same c.bag))
 
 carry_laws : (c : Central) (g f : ℕ) (x : Carried) → CentralInv c → CentralInv (after_carry c g f x)
 carry_laws c g f carried.Nothing laws = laws

@@ -29,7 +29,7 @@ use Rattle.hla_machine.specs.declared.step.Outcome.TheVariants as outcome
 use Rattle.hla_machine.specs.declared.step.Choice.{Choice}
 use Rattle.hla_machine.specs.declared.step.Choice.TheVariants as choice
 use Rattle.hla_machine.specs.Directory.{Outgoing, deletion_sent, deletions_sent, objects_of, update_sent, interaction_sent}
-use Rattle.hla_machine.specs.Central.{Central, new_central, Copy, Ro, at_key, demoted}
+use Rattle.hla_machine.specs.Central.{Central, new_central, Copy, Ro, at_key, demoted_copy}
 use Rattle.hla_machine.specs.Callbacks.{IsCopy, IsFirstRo, IsDiscovered, MayDeliver, MayPickUp, with_demoted, after_delivery, after_constraint, after_pick}
 use Rattle.hla_machine.specs.CentralInvariant.{CentralInv}
 use Rattle.hla_machine.specs.Sends.{copy_for, after_message, after_messages}
@@ -38,7 +38,7 @@ use Rattle.hla_machine.specs.Runs.{Happening, IsRun}
 use Rattle.hla_machine.specs.History.{GivesCallback, Names, NamesPlain, SpeaksOf, Hears, HearsPlain, IsOnItsWay, Happens, HappenAfter, next_state}
 use Rattle.hla_machine.proofs.Bags.{at_key_here}
 use Rattle.hla_machine.proofs.CentralInvariant.{IsThinner, thin_same, thin_removed, thin_demoted, thin_moved, copies_cases, laws_after, laws_start}
-use Rattle.hla_machine.proofs.Ahead.{given}
+use Rattle.hla_machine.proofs.Ahead.{given_of}
 
 -- ---- what a step brings into the bag
 -- what is in the bag after a step was there before, in receive order if it is so now, or is new and another's; serials grow
@@ -113,8 +113,8 @@ call_brings c f (service.EnableTimeRegulation time lookahead) o = enter_brings c
 call_brings c f service.DisableTimeConstrained o = cease_brings c f o
 call_brings c f s o = same_bag c _ refl refl
 
-arrival_thin : (c : Central) (g f m : ℕ) → IsThinner (cond (is_disabled (c.row f).constrained) (at_key c.bag g m f (option_map demoted (c.bag g m f))) c.bag) c.bag
-arrival_thin c g f m = cond_both (is_disabled (c.row f).constrained) (at_key c.bag g m f (option_map demoted (c.bag g m f))) c.bag (λ b. IsThinner b c.bag) (λ _. thin_demoted c.bag g m f) (λ _. thin_same c.bag)
+arrival_thin : (c : Central) (g f m : ℕ) → IsThinner (cond (is_disabled (c.row f).constrained) (at_key c.bag g m f (option_map demoted_copy (c.bag g m f))) c.bag) c.bag
+arrival_thin c g f m = cond_both (is_disabled (c.row f).constrained) (at_key c.bag g m f (option_map demoted_copy (c.bag g m f))) c.bag (λ b. IsThinner b c.bag) (λ _. thin_demoted c.bag g m f) (λ _. thin_same c.bag)
 
 carry_brings : (c : Central) (g f : ℕ) (x : Carried) → Brought c (after_carry c g f x)
 carry_brings c g f (carried.Event e) = calm c _ refl (arrival_thin c g f e.serial)
@@ -152,10 +152,10 @@ step_brings c (Tick f) (outcome.Failed k) o = pick_brings c f k o
 step_brings c step out o = same_bag c _ refl refl
 
 -- ---- what is given was in the bag, and is gone
-delivered : (c : Central) (f : ℕ) (x : Content) (e : EventHandle) (d : Delivery) → MayDeliver c f x e d → (k : Copy) × IsCopy c f e k
-delivered c f x e delivery.Receive may = (_, may.2)
-delivered c f x e (delivery.Demoted s) may = (_, may.2)
-delivered c f x e (delivery.TimeStamp s) may = (_, may.2)
+delivered_copy : (c : Central) (f : ℕ) (x : Content) (e : EventHandle) (d : Delivery) → MayDeliver c f x e d → (k : Copy) × IsCopy c f e k
+delivered_copy c f x e delivery.Receive may = (_, may.2)
+delivered_copy c f x e (delivery.Demoted s) may = (_, may.2)
+delivered_copy c f x e (delivery.TimeStamp s) may = (_, may.2)
 
 gone_after : (c : Central) (f : ℕ) (e : EventHandle) (d : Delivery) → (after_delivery c f e d).bag e.sender e.serial f ≡ None
 gone_after c f e delivery.Receive = at_key_here c.bag e.sender e.serial f None
@@ -170,7 +170,7 @@ pub record Heard (c d : Central) (f : ℕ) (e : EventHandle) : Type 0 where
 
 heard_delivery : (c : Central) (f : ℕ) (x : Content) (event e : EventHandle) (d : Delivery) → MayDeliver c f x event d → event ≡ e → Heard c (after_delivery c f event d) f e
 heard_delivery c f x event e d may same = subst (λ (e : EventHandle). Heard c (after_delivery c f event d) f e) same
-    (let w = delivered c f x event d may in record { copy = w.0; was = w.1; gone = gone_after c f event d })
+    (let w = delivered_copy c f x event d may in record { copy = w.0; was = w.1; gone = gone_after c f event d })
 
 heard_pick : (c : Central) (f : ℕ) (k : Callback) (e : EventHandle) (o : Choice) → MayPickUp c f k o → Names k e → Heard c (after_pick c f k o) f e
 heard_pick c f (callback.ReflectAttributeValues object values event d) e o may is = heard_delivery c f (content.Reflection object values) event e d may is
@@ -178,8 +178,8 @@ heard_pick c f (callback.ReceiveInteraction class values event d) e o may is = h
 heard_pick c f (callback.RemoveObjectInstance object event d) e o may is = heard_delivery c f (content.Removal object) event e d may is
 heard_pick c f k e o may is = absurd is
 
-heard : (c : Central) (h : Happening) (f : ℕ) (e : EventHandle) → MayEnd c h.step h.outcome h.choice → Hears h f e → Heard c (next_state c h) f e
-heard c h f e may p = let g = given c h f p.given may p.gives in subst (λ (d : Central). Heard c d f e) (sym g.follows) (heard_pick c f p.given e h.choice g.may p.names)
+heard_of : (c : Central) (h : Happening) (f : ℕ) (e : EventHandle) → MayEnd c h.step h.outcome h.choice → Hears h f e → Heard c (next_state c h) f e
+heard_of c h f e may p = let g = given_of c h f p.given may p.gives in subst (λ (d : Central). Heard c d f e) (sym g.follows) (heard_pick c f p.given e h.choice g.may p.names)
 
 -- ---- runs
 -- nothing in the bag is its receiver's own
@@ -219,27 +219,27 @@ absent_run c (h ∷ hs) d f e run none low =
 
 -- ---- the laws
 pub heard_on_its_way : (c : Central) (h : Happening) (f : ℕ) (e : EventHandle) → Happens c h → Hears h f e → IsOnItsWay c f e
-heard_on_its_way c h f e is p = let x = heard c h f e is.allowed.0 p in (x.copy, x.was)
+heard_on_its_way c h f e is p = let x = heard_of c h f e is.allowed.0 p in (x.copy, x.was)
 
 pub heard_from_another : (c : Central) (h : Happening) (f : ℕ) (e : EventHandle) → Happens c h → Hears h f e → e.sender ≢ f
 heard_from_another c h f e is p same =
     let w = others_run (new_central is.catalogue) is.before c is.run (others_start is.catalogue) in
-    let x = heard c h f e is.allowed.0 p in
+    let x = heard_of c h f e is.allowed.0 p in
     let own : c.bag e.sender e.serial e.sender ≡ Some x.copy = subst (λ (f : ℕ). c.bag e.sender e.serial f ≡ Some x.copy) (sym same) x.was in
     w.others e.sender e.serial x.copy own
 
 pub heard_once : (c : Central) (h : Happening) (between : List Happening) (d : Central) (i : Happening) (f : ℕ) (e : EventHandle) → HappenAfter c h between d i → Hears h f e → Hears i f e → ⊥
 heard_once c h between d i f e later first second =
     let w = others_run (new_central later.first.catalogue) later.first.before c later.first.run (others_start later.first.catalogue) in
-    let x = heard c h f e later.first.allowed.0 first in
+    let x = heard_of c h f e later.first.allowed.0 first in
     let low = le_trans (w.laws.unused e.sender e.serial f x.copy x.was) ((step_brings c h.step h.outcome h.choice).serials e.sender) in
     let none = absent_run (next_state c h) between d f e later.run x.gone low in
-    let y = heard d i f e later.allowed.0 second in
+    let y = heard_of d i f e later.allowed.0 second in
     let both : None ≡ Some y.copy = sym none ∙ y.was in
     absurd (cc)
 
 pub given_to_a_member : (c : Central) (h : Happening) (f : ℕ) (k : Callback) → Happens c h → GivesCallback h.step h.outcome f k → c.directory.joined f ≡ true
-given_to_a_member c h f k is gives = (given c h f k is.allowed.0 gives).member
+given_to_a_member c h f k is gives = (given_of c h f k is.allowed.0 gives).member
 
 -- ---- receive order
 -- e is the first of its sender that waits for f in receive order
@@ -285,8 +285,8 @@ no_turn : (c : Central) (h : Happening) (between : List Happening) (d : Central)
     → e.sender ≡ x.sender → x.serial < e.serial → ⊥
 no_turn c h between d i f e x later first second same before =
     let w = others_run (new_central later.first.catalogue) later.first.before c later.first.run (others_start later.first.catalogue) in
-    let gh = given c h f first.given later.first.allowed.0 first.gives in
-    let gi = given d i f second.given later.allowed.0 second.gives in
+    let gh = given_of c h f first.given later.first.allowed.0 first.gives in
+    let gi = given_of d i f second.given later.allowed.0 second.gives in
     let a = plain_pick c f first.given e h.choice gh.may first.names in
     let b = plain_pick d f second.given x i.choice gi.may second.names in
     let used = w.laws.unused e.sender e.serial f a.copy a.was in
@@ -324,4 +324,4 @@ none_waits c f (callback.RemoveObjectInstance object event d) h o may is g = sub
 none_waits c f k h o may is g = absurd is
 
 pub discovered_before : (c : Central) (h : Happening) (f : ℕ) (k : Callback) (object : ℕ) → Happens c h → GivesCallback h.step h.outcome f k → SpeaksOf k object → (g : ℕ) → All (λ (d : Discovery). d.object ≢ object) (c.discoveries g f)
-discovered_before c h f k object is gives speaks g = none_waits c f k object h.choice (given c h f k is.allowed.0 gives).may speaks g
+discovered_before c h f k object is gives speaks g = none_waits c f k object h.choice (given_of c h f k is.allowed.0 gives).may speaks g

@@ -24,7 +24,7 @@ use Rattle.hla_machine.specs.declared.step.Outcome.TheVariants as outcome
 use Rattle.hla_machine.specs.declared.step.Choice.{Choice}
 use Rattle.hla_machine.specs.declared.step.Choice.TheVariants as choice
 use Rattle.hla_machine.specs.Directory.{Outgoing, deletion_sent, deletions_sent, objects_of, update_sent, interaction_sent}
-use Rattle.hla_machine.specs.Central.{Central, Copy, Ro, Tso, Demoted, SentEvent, at_key, is_key, with_copies, demoted}
+use Rattle.hla_machine.specs.Central.{Central, Copy, Ro, Tso, Demoted, SentEvent, at_key, is_key, with_copies, demoted_copy}
 use Rattle.hla_machine.specs.Callbacks.{IsCopy, MayDeliver, MayPickUp, is_among, with_demoted, after_delivery, after_constraint, after_pick}
 use Rattle.hla_machine.specs.Sends.{after_message, after_messages, copy_for}
 use Rattle.hla_machine.specs.Refusals.{refusal}
@@ -52,7 +52,7 @@ copies_stay joined bag g m copy h n f ne = ⊎_elim
     (λ (e : is_key g m h n ≡ false). rw e refl)
     (cases_Bool (is_key g m h n))
 
-pub demoted_cases : (bag : ℕ → ℕ → ℕ → Option Copy) (f : ℕ) (events : List EventHandle) (h n l : ℕ) → (with_demoted bag f events h n l ≡ option_map demoted (bag h n l)) ⊎ (with_demoted bag f events h n l ≡ bag h n l)
+pub demoted_cases : (bag : ℕ → ℕ → ℕ → Option Copy) (f : ℕ) (events : List EventHandle) (h n l : ℕ) → (with_demoted bag f events h n l ≡ option_map demoted_copy (bag h n l)) ⊎ (with_demoted bag f events h n l ≡ bag h n l)
 unfolding with_demoted
 demoted_cases bag f events h n l = ⊎_elim
     (λ (y : (eqb f l && is_among events h n) ≡ true). inl (rw y refl))
@@ -73,7 +73,7 @@ module _ (g m f : ℕ) (k : Copy) (tso : k.order ≡ Tso) where
   module _ (c : Central) (kept : IsKept c) (owing : Owing c.sent c.owed) (is : c.bag g m f ≡ Some k) (G : Callback → Type 0) where
     pub data Fate (d : Central) : Type 0 where
       Stays : d.bag g m f ≡ Some k → Fate d
-      Moves : d.bag g m f ≡ Some (demoted k) → Fate d
+      Moves : d.bag g m f ≡ Some (demoted_copy k) → Fate d
       Back : (c.sent g m).retracted ≡ true → Fate d
       Out : c.directory.joined f ≡ true → d.directory.joined f ≡ false → Fate d
       Taken : (x : Callback) → G x → Brings x (record { sender = g; serial = m }) k.stamp → Fate d
@@ -89,7 +89,7 @@ module _ (g m f : ℕ) (k : Copy) (tso : k.order ≡ Tso) where
 
     moved_fate : (d : Central) (a : ℕ) (events : List EventHandle) → d.bag ≡ with_demoted c.bag a events → Fate d
     moved_fate d a events follows = ⊎_elim
-        (λ (y : with_demoted c.bag a events g m f ≡ option_map demoted (c.bag g m f)). Moves (rw (follows, y, is) refl))
+        (λ (y : with_demoted c.bag a events g m f ≡ option_map demoted_copy (c.bag g m f)). Moves (rw (follows, y, is) refl))
         (λ (n : with_demoted c.bag a events g m f ≡ c.bag g m f). Stays (rw (follows, n) is))
         (demoted_cases c.bag a events g m f)
 
@@ -113,14 +113,14 @@ module _ (g m f : ℕ) (k : Copy) (tso : k.order ≡ Tso) where
 
     arrived_fate : (a b n : ℕ) → Fate (after_arrival c a b n)
     arrived_fate a b n = ⊎_elim (λ s. Stays s) (λ s. Moves s)
-        (cond_both (is_disabled (c.row b).constrained) (at_key c.bag a n b (option_map demoted (c.bag a n b))) c.bag (λ (to : ℕ → ℕ → ℕ → Option Copy). (to g m f ≡ Some k) ⊎ (to g m f ≡ Some (demoted k)))
+        (cond_both (is_disabled (c.row b).constrained) (at_key c.bag a n b (option_map demoted_copy (c.bag a n b))) c.bag (λ (to : ℕ → ℕ → ℕ → Option Copy). (to g m f ≡ Some k) ⊎ (to g m f ≡ Some (demoted_copy k)))
         (λ _. ⊎_elim
-        (λ (y : (a ≡ g) × (n ≡ m) × (b ≡ f) × (at_key c.bag a n b (option_map demoted (c.bag a n b)) g m f ≡ option_map demoted (c.bag a n b))). inr (y.3 ∙ at_same a n b y.0 y.1 y.2))
-        (λ (e : at_key c.bag a n b (option_map demoted (c.bag a n b)) g m f ≡ c.bag g m f). inl (e ∙ is))
-        (at_cases c.bag a n b (option_map demoted (c.bag a n b)) g m f))
+        (λ (y : (a ≡ g) × (n ≡ m) × (b ≡ f) × (at_key c.bag a n b (option_map demoted_copy (c.bag a n b)) g m f ≡ option_map demoted_copy (c.bag a n b))). inr (y.3 ∙ at_same a n b y.0 y.1 y.2))
+        (λ (e : at_key c.bag a n b (option_map demoted_copy (c.bag a n b)) g m f ≡ c.bag g m f). inl (e ∙ is))
+        (at_cases c.bag a n b (option_map demoted_copy (c.bag a n b)) g m f))
         (λ _. inl is))
       where
-        at_same : (a n b : ℕ) → a ≡ g → n ≡ m → b ≡ f → option_map demoted (c.bag a n b) ≡ Some (demoted k)
+        at_same : (a n b : ℕ) → a ≡ g → n ≡ m → b ≡ f → option_map demoted_copy (c.bag a n b) ≡ Some (demoted_copy k)
         at_same a n b e e2 e3 = rw (e, e2, e3, is) refl
 
     carry_fate : (a b : ℕ) (x : Carried) → MayCarry c a b x → Fate (after_carry c a b x)

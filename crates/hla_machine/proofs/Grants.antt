@@ -15,7 +15,7 @@ use Rattle.hla_machine.proofs.Rows.{flush_not_strict}
 use Rattle.hla_machine.proofs.Keeps.{IsKept}
 use Rattle.hla_machine.proofs.Runs.{step_keeps, start_keeps}
 use Rattle.hla_machine.proofs.News.{step_change}
-use Rattle.hla_machine.proofs.Ahead.{given}
+use Rattle.hla_machine.proofs.Ahead.{given_of}
 use Rattle.hla_machine.proofs.Fates.{Fate, Stays, Moves, Back, Out, Taken, step_fate}
 use Rattle.hla_machine.proofs.Retractions.{IsSound, step_onward, sound_start}
 
@@ -80,7 +80,7 @@ grant_after_all c between d h f t q e s later grants con asks waits low =
     let start : Whole (new_central later.catalogue) = record { kept = start_keeps later.catalogue; sound = sound_start later.catalogue } in
     let w = whole_run (new_central later.catalogue) later.before c later.start start in
     let k = waits.0 in
-    let g = given d h f (callback.TimeAdvanceGrant t) later.allowed.0 grants in
+    let g = given_of d h f (callback.TimeAdvanceGrant t) later.allowed.0 grants in
     let may = g.may in
     let same : may.0 ≡ q = (let both : Some may.0 ≡ Some q = sym may.1 ∙ asks in cc) in
     let grant : MayGrant d f t q = subst (λ (q : AdvanceRequest). MayGrant d f t q) same may.2 in

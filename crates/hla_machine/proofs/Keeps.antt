@@ -10,7 +10,7 @@ use Rattle.hla_base.specs.Rows.{is_regulator, is_constrained, is_enabled, is_dis
 use Rattle.hla_base.specs.declared.row.Role.{Role}
 use Rattle.hla_base.specs.declared.row.Role.TheVariants.{Disabled, Pending, Enabled}
 use Rattle.hla_machine.specs.Directory.{Outgoing, content_for}
-use Rattle.hla_machine.specs.Central.{Central, Copy, CopyOrder, Ro, Tso, Demoted, SentEvent, BelowTso, BelowOut, with_copies, is_key, at_key, demoted_order, demoted}
+use Rattle.hla_machine.specs.Central.{Central, Copy, CopyOrder, Ro, Tso, Demoted, SentEvent, BelowTso, BelowOut, with_copies, is_key, at_key, demoted_order, demoted_copy}
 use Rattle.hla_machine.specs.Callbacks.{with_demoted, is_among}
 use Rattle.hla_machine.specs.Sends.{is_ordered, kept_stamp, copy_for, after_message}
 use Rattle.hla_base.proofs.Tables.{by_number, upd_same, upd_other, upd_each, upd2_other}
@@ -52,9 +52,9 @@ never_tso Ro h = cc
 never_tso Tso h = cc
 never_tso Demoted h = cc
 
-pub not_demoted : (o : Option Copy) (k : Copy) → option_map demoted o ≡ Some k → k.order ≡ Tso → ⊥
+pub not_demoted : (o : Option Copy) (k : Copy) → option_map demoted_copy o ≡ Some k → k.order ≡ Tso → ⊥
 not_demoted None k e t = cc
-not_demoted (Some x) k e t = let same : demoted x ≡ k = cc in never_tso x.order (subst (λ (k : Copy). k.order ≡ Tso) (sym same) t)
+not_demoted (Some x) k e t = let same : demoted_copy x ≡ k = cc in never_tso x.order (subst (λ (k : Copy). k.order ≡ Tso) (sym same) t)
 
 pub fewer_removed : (bag : Bag) (g m f : ℕ) → NoMore (at_key bag g m f None) bag
 unfolding at_key
@@ -63,7 +63,7 @@ fewer_removed bag g m f h n l k is tso = ⊎_elim
     (λ (n' : (is_key g m h n && eqb f l) ≡ false). rw n' at is)
     (cases_Bool (is_key g m h n && eqb f l))
 
-pub fewer_demoted : (bag : Bag) (g m f : ℕ) → NoMore (at_key bag g m f (option_map demoted (bag g m f))) bag
+pub fewer_demoted : (bag : Bag) (g m f : ℕ) → NoMore (at_key bag g m f (option_map demoted_copy (bag g m f))) bag
 unfolding at_key
 fewer_demoted bag g m f h n l k is tso = ⊎_elim
     (λ (y : (is_key g m h n && eqb f l) ≡ true). absurd (not_demoted (bag g m f) k (rw y at is) tso))

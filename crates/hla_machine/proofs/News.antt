@@ -21,15 +21,15 @@ use Rattle.hla_machine.specs.declared.step.Outcome.TheVariants as outcome
 use Rattle.hla_machine.specs.declared.step.Choice.{Choice}
 use Rattle.hla_machine.specs.declared.step.Choice.TheVariants as choice
 use Rattle.hla_machine.specs.Directory.{Outgoing, deletion_sent, deletions_sent, objects_of, update_sent, interaction_sent}
-use Rattle.hla_machine.specs.Central.{Central, Copy, Tso, SentEvent, at_key, demoted}
+use Rattle.hla_machine.specs.Central.{Central, Copy, Tso, SentEvent, at_key, demoted_copy}
 use Rattle.hla_machine.specs.Callbacks.{with_demoted, after_delivery, after_constraint, after_pick}
 use Rattle.hla_machine.specs.Sends.{after_message, after_messages}
 use Rattle.hla_machine.specs.Refusals.{refusal}
-use Rattle.hla_machine.specs.Machine.{central_seen, MayAnswer, MayDo, MayEnd, after_leaving, joined_by, after_retract, after_enter, after_cease, after_call, after_carry, after_done, after}
+use Rattle.hla_machine.specs.Machine.{central_seen, MayAnswer, MayDo, MayEnd, after_leaving, after_join, after_retract, after_enter, after_cease, after_call, after_carry, after_done, after}
 use Rattle.hla_base.proofs.Tables.{upd_each, upd2_each}
 use Rattle.hla_machine.proofs.Tests.{clear_call}
 use Rattle.hla_machine.proofs.Keeps.{IsKept, NoMore, fewer_removed, fewer_demoted, fewer_moved, keeps_sent, new_or_old}
-use Rattle.hla_machine.proofs.Services.{EachHigh, unordered, high_stamps, left_fewer, same_bag}
+use Rattle.hla_machine.proofs.Services.{EachHigh, each_high_unstamped, high_stamps, left_fewer, same_bag}
 
 -- each unretracted copy in time-stamp order is at or above its constrained receiver's bar, or was there before
 abbrev pub News : Central → Central → Type 0
@@ -87,7 +87,7 @@ left_change c b f ch = record {
   joins = record { up = ch.joins.up; old = λ l low j. ch.joins.old l low (upd_each b.directory.joined f false (λ l x. x ≡ true → b.directory.joined l ≡ true) (λ e. absurd (cc)) (λ l ne e. e) l j) };
 }
 
-join_change : (c : Central) (name : List ℕ) → Change c (joined_by c name)
+join_change : (c : Central) (name : List ℕ) → Change c (after_join c name)
 join_change c name = record {
   news = no_news c;
   joins = record { up = omega arith; old = λ l low j. upd_each c.directory.joined c.directory.next_federate true (λ l x. l < c.directory.next_federate → x ≡ true → c.directory.joined l ≡ true) (λ low e. absurd (omega arith)) (λ l ne low e. e) l low j };
@@ -105,7 +105,7 @@ cease_change c f (choice.Moved events) = calm c _ (fewer_change c (with_demoted 
 cease_change c f o = calm c _ (no_news c) (refl, refl)
 
 call_change : (c : Central) (f : ℕ) (s : Service) (a : Answer) (o : Choice) → refusal (central_seen c) (Call f s) ≡ None → MayAnswer c f s a o → IsKept c → Change c (after_call c f s o)
-call_change c f (service.Resign DeleteObjects) a o none may k = let outs = deletions_sent (objects_of c.directory f) in left_change c (after_messages c f None outs) f (sends_change c f None outs (unordered (c.row f) outs) k)
+call_change c f (service.Resign DeleteObjects) a o none may k = let outs = deletions_sent (objects_of c.directory f) in left_change c (after_messages c f None outs) f (sends_change c f None outs (each_high_unstamped (c.row f) outs) k)
 call_change c f (service.Resign NoAction) a o none may k = left_change c c f (calm c c (no_news c) (refl, refl))
 call_change c f (service.UpdateAttributeValues object values stamp) a o none may k = let x = clear_call (central_seen c) f (service.UpdateAttributeValues object values stamp) none in let outs = update_sent c.directory object values in
     let x1 = x.1 in let x2 = x1.1 in let x3 = x2.1 in let x4 = x3.1 in sends_change c f stamp outs (high_stamps (c.row f) stamp outs x4.0) k
@@ -118,8 +118,8 @@ call_change c f (service.EnableTimeRegulation time lookahead) a o none may k = e
 call_change c f service.DisableTimeConstrained a o none may k = cease_change c f o
 call_change c f s a o none may k = calm c _ (no_news c) (refl, refl)
 
-arrived_fewer : (c : Central) (g f m : ℕ) → NoMore (cond (is_disabled (c.row f).constrained) (at_key c.bag g m f (option_map demoted (c.bag g m f))) c.bag) c.bag
-arrived_fewer c g f m = cond_both (is_disabled (c.row f).constrained) (at_key c.bag g m f (option_map demoted (c.bag g m f))) c.bag (λ b. NoMore b c.bag) (λ _. fewer_demoted c.bag g m f) (λ _. same_bag c.bag)
+arrived_fewer : (c : Central) (g f m : ℕ) → NoMore (cond (is_disabled (c.row f).constrained) (at_key c.bag g m f (option_map demoted_copy (c.bag g m f))) c.bag) c.bag
+arrived_fewer c g f m = cond_both (is_disabled (c.row f).constrained) (at_key c.bag g m f (option_map demoted_copy (c.bag g m f))) c.bag (λ b. NoMore b c.bag) (λ _. fewer_demoted c.bag g m f) (λ _. same_bag c.bag)
 
 carry_change : (c : Central) (g f : ℕ) (x : Carried) → Change c (after_carry c g f x)
 carry_change c g f (carried.Event e) = calm c _ (fewer_change c _ (arrived_fewer c g f e.serial)) (refl, refl)

@@ -13,7 +13,7 @@ use Rattle.hla_base.specs.declared.content.Content.TheVariants as content
 use Rattle.hla_base.specs.declared.number.EventHandle.{EventHandle}
 use Rattle.hla_base.specs.Limits.{max_time, max_enablings}
 use Rattle.hla_base.specs.Tables.{upd, or_else, greatest, when}
-use Rattle.hla_base.specs.Rows.{is_strict, is_next, is_flush, is_constrained, new_row, width, row_after_request, regulating_from, regulates, constrains, row_after_pick, first_or, grant_time, row_after_grant, bar_after, keep_if, RowNumbers, bar_of}
+use Rattle.hla_base.specs.Rows.{is_strict, is_next, is_flush, is_constrained, new_row, width, row_after_request, row_with_entry, row_after_regulation_enabled, row_after_constraint_enabled, row_after_pick, first_or, grant_time, row_after_grant, bar_after, keep_if, RowNumbers, bar_of}
 use Rattle.hla_callbacks.specs.declared.callback.Callback.{Callback}
 use Rattle.hla_callbacks.specs.declared.callback.Callback.TheVariants as callback
 use Rattle.hla_callbacks.specs.declared.callback.Delivery.{Delivery}
@@ -109,7 +109,7 @@ requested_low r kind a low n =
     max_low x y z a b = omega (arith, a, b)
 
 entered_low : (r : TimeRow) (lookahead e : ℕ) → lookahead ≤ max_time → e ≤ 2 * max_time → (is_constrained r ≡ false → e - lookahead ≤ max_time) → r.enablings < max_enablings
-    → RowNumbers r → RowNumbers (regulating_from r lookahead e)
+    → RowNumbers r → RowNumbers (row_with_entry r lookahead e)
 entered_low r lookahead e low high free more n = record {
   time = n.time;
   lookahead = low;
@@ -121,7 +121,7 @@ entered_low r lookahead e low high free more n = record {
   first = n.first;
 }
 
-regulates_low : (r : TimeRow) → RowNumbers r → RowNumbers (regulates r)
+regulates_low : (r : TimeRow) → RowNumbers r → RowNumbers (row_after_regulation_enabled r)
 regulates_low r n = record {
   time = n.regulation;
   lookahead = n.lookahead;
@@ -133,7 +133,7 @@ regulates_low r n = record {
   first = n.first;
 }
 
-constrains_low : (r : TimeRow) → RowNumbers r → RowNumbers (constrains r)
+constrains_low : (r : TimeRow) → RowNumbers r → RowNumbers (row_after_constraint_enabled r)
 constrains_low r n = record {
   time = n.time;
   lookahead = n.lookahead;
@@ -260,7 +260,7 @@ enter_numbers c f time lookahead (choice.Entry e) all clear may =
     let more = ltb-true _ _ (not-is-false _ t3.1.1.1.0) in
     let low = low_low c (time + lookahead) (2 * max_time) all (omega (arith, late, look)) (omega arith) in
     let high : e ≤ 2 * max_time = ⊎_elim (λ l. le_trans l low) (λ w. let l = some_wake_low c f e all w in omega (arith, l)) may.1 in
-    set_numbers c f (regulating_from (c.row f) lookahead e) all (entered_low (c.row f) lookahead e look high
+    set_numbers c f (row_with_entry (c.row f) lookahead e) all (entered_low (c.row f) lookahead e look high
     (λ free. ⊎_elim
     (λ l. entry_free c f time lookahead e all late (λ y. zero_low free y t3.1.1.0) l)
     (λ w. let l = some_wake_low c f e all w in omega (arith, l))

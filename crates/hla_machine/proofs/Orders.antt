@@ -19,7 +19,7 @@ use Rattle.hla_machine.proofs.Keeps.{IsKept, fewer_removed}
 use Rattle.hla_machine.proofs.Runs.{row_after_is}
 use Rattle.hla_machine.proofs.Turns.{Turn, Fresh, Calm, Asked, Entered, Regulated, Rested, Picked, Granted, step_turn}
 use Rattle.hla_machine.proofs.News.{Change, step_change}
-use Rattle.hla_machine.proofs.Ahead.{Taken, taken, pick_ahead, Reachable, reachable, reachable_step, reachable_run, time_grows}
+use Rattle.hla_machine.proofs.Ahead.{Taken, taken_of, pick_ahead, Reachable, reachable, reachable_step, reachable_run, time_grows}
 
 -- the state after a pick
 picked_row : (c d : Central) (f : ℕ) (e : EventHandle) (s : ℕ) (t : Taken c d f e s) → d.row f ≡ row_after_pick (c.row f) t.request s
@@ -205,14 +205,14 @@ pub stamps_never_fall : (c : Central) (h : Happening) (between : List Happening)
 stamps_never_fall c h between d i f e x s t after calm first second =
     let may = after.first.allowed.0 in
     let r = reachable c h after.first in
-    let y = taken c h f e s may first in
+    let y = taken_of c h f e s may first in
     let un = calm y.request y.asks in
     let m = y.may.1 un in
     let w = within_start f s s (λ g m x. s ≤ x) (λ g m x l. l) (λ g m x l. l) c (next_state c h) e y un (le_reach y.request.kind s)
     (λ g n k is live tso. m.first g n k (fewer_removed c.bag e.sender e.serial f g n f k is tso) live tso) in
     let r2 = reachable_step c h may r in
     let p = phase_run f s s (λ g m x. s ≤ x) (λ g m x l. l) (λ g m x l. l) (next_state c h) between d after.run r2 (next_low c h f may r.kept y.constrained) (Still w) in
-    phase_pick f s s (λ g m x. s ≤ x) (λ g m x l. l) (λ g m x l. l) d (next_state d i) x t (reachable_run (next_state c h) between d after.run r2).kept p (taken d i f x t after.allowed.0 second)
+    phase_pick f s s (λ g m x. s ≤ x) (λ g m x l. l) (λ g m x l. l) d (next_state d i) x t (reachable_run (next_state c h) between d after.run r2).kept p (taken_of d i f x t after.allowed.0 second)
 
 -- ---- keys
 strict_not_flush : (k : AdvanceKind) → is_strict k ≡ true → is_flush k ≡ false
@@ -247,7 +247,7 @@ pub keys_rise : (c : Central) (h : Happening) (between : List Happening) (d : Ce
 keys_rise c h between d i f e x s t after strict one first second =
     let may = after.first.allowed.0 in
     let r = reachable c h after.first in
-    let y = taken c h f e s may first in
+    let y = taken_of c h f e s may first in
     let is_so = strict y.request y.asks in
     let un = strict_not_flush y.request.kind is_so in
     let m = y.may.1 un in
@@ -255,7 +255,7 @@ keys_rise c h between d i f e x s t after strict one first second =
     (λ g n k is live tso. waits m is_so g n k is (fewer_removed c.bag e.sender e.serial f g n f k is tso) live tso) in
     let r2 = reachable_step c h may r in
     let p = later_run f s (s + 1) (After e s) (λ g m x l. inl (omega arith)) (after_least e s) (next_state c h) between d after.run r2 one w in
-    later_pick f s (s + 1) (After e s) (λ g m x l. inl (omega arith)) (after_least e s) d (next_state d i) x t (reachable_run (next_state c h) between d after.run r2).kept p (taken d i f x t after.allowed.0 second)
+    later_pick f s (s + 1) (After e s) (λ g m x l. inl (omega arith)) (after_least e s) d (next_state d i) x t (reachable_run (next_state c h) between d after.run r2).kept p (taken_of d i f x t after.allowed.0 second)
   where
     waits : {q : AdvanceRequest} → MayPick c f q e s → is_strict q.kind ≡ true → (g n : ℕ) (k : Copy) → at_key c.bag e.sender e.serial f None g n f ≡ Some k → c.bag g n f ≡ Some k → (c.sent g n).retracted ≡ false → k.order ≡ Tso → After e s g n k.stamp
     waits m is_so g n k is was live tso = ⊎_elim

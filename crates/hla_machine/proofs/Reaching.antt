@@ -24,7 +24,7 @@ use Rattle.hla_machine.specs.declared.step.Outcome.TheVariants as outcome
 use Rattle.hla_machine.specs.declared.step.Choice.{Choice}
 use Rattle.hla_machine.specs.declared.step.Choice.TheVariants as choice
 use Rattle.hla_machine.specs.Directory.{Outgoing, deletion_sent, deletions_sent, objects_of, update_sent, interaction_sent}
-use Rattle.hla_machine.specs.Central.{Central, Copy, Ro, Tso, Demoted, SentEvent, at_key, is_key, with_copies, demoted}
+use Rattle.hla_machine.specs.Central.{Central, Copy, Ro, Tso, Demoted, SentEvent, at_key, is_key, with_copies, demoted_copy}
 use Rattle.hla_machine.specs.Callbacks.{IsCopy, MayDeliver, MayPickUp, is_among, with_demoted, after_delivery, after_constraint, after_pick}
 use Rattle.hla_machine.specs.Sends.{after_message, after_messages, copy_for}
 use Rattle.hla_machine.specs.Refusals.{refusal}
@@ -38,7 +38,7 @@ use Rattle.hla_machine.proofs.Tests.{caller_joined}
 use Rattle.hla_machine.proofs.CentralInvariant.{laws_after, laws_start}
 use Rattle.hla_machine.proofs.Fates.{Owing, at_cases, copies_stay, demoted_cases, handle_is}
 use Rattle.hla_machine.proofs.Retractions.{IsSound, step_onward, sound_start}
-use Rattle.hla_machine.proofs.Ahead.{given}
+use Rattle.hla_machine.proofs.Ahead.{given_of}
 
 -- a copy lies in the bag
 abbrev Lies : (ℕ → ℕ → ℕ → Option Copy) → ℕ → ℕ → ℕ → Type 0
@@ -70,7 +70,7 @@ module _ (g m f : ℕ) where
 
     moved_course : (d : Central) (a : ℕ) (events : List EventHandle) → d.bag ≡ with_demoted c.bag a events → Course d
     moved_course d a events follows = ⊎_elim
-        (λ (y : with_demoted c.bag a events g m f ≡ option_map demoted (c.bag g m f)). Lasts (demoted is.0, rw (follows, y, is.1) refl))
+        (λ (y : with_demoted c.bag a events g m f ≡ option_map demoted_copy (c.bag g m f)). Lasts (demoted_copy is.0, rw (follows, y, is.1) refl))
         (λ (n : with_demoted c.bag a events g m f ≡ c.bag g m f). Lasts (is.0, rw (follows, n) is.1))
         (demoted_cases c.bag a events g m f)
 
@@ -92,17 +92,17 @@ module _ (g m f : ℕ) where
     call_course a service.DisableTimeConstrained o = cease_course a o
     call_course a s o = Lasts is
 
-    arrived_lies : (a b n : ℕ) → Lies (at_key c.bag a n b (option_map demoted (c.bag a n b))) g m f
+    arrived_lies : (a b n : ℕ) → Lies (at_key c.bag a n b (option_map demoted_copy (c.bag a n b))) g m f
     arrived_lies a b n = ⊎_elim
-        (λ (y : (a ≡ g) × (n ≡ m) × (b ≡ f) × (at_key c.bag a n b (option_map demoted (c.bag a n b)) g m f ≡ option_map demoted (c.bag a n b))). (demoted is.0, y.3 ∙ at_same a n b y.0 y.1 y.2))
-        (λ (e : at_key c.bag a n b (option_map demoted (c.bag a n b)) g m f ≡ c.bag g m f). (is.0, e ∙ is.1))
-        (at_cases c.bag a n b (option_map demoted (c.bag a n b)) g m f)
+        (λ (y : (a ≡ g) × (n ≡ m) × (b ≡ f) × (at_key c.bag a n b (option_map demoted_copy (c.bag a n b)) g m f ≡ option_map demoted_copy (c.bag a n b))). (demoted_copy is.0, y.3 ∙ at_same a n b y.0 y.1 y.2))
+        (λ (e : at_key c.bag a n b (option_map demoted_copy (c.bag a n b)) g m f ≡ c.bag g m f). (is.0, e ∙ is.1))
+        (at_cases c.bag a n b (option_map demoted_copy (c.bag a n b)) g m f)
       where
-        at_same : (a n b : ℕ) → a ≡ g → n ≡ m → b ≡ f → option_map demoted (c.bag a n b) ≡ Some (demoted is.0)
+        at_same : (a n b : ℕ) → a ≡ g → n ≡ m → b ≡ f → option_map demoted_copy (c.bag a n b) ≡ Some (demoted_copy is.0)
         at_same a n b e e2 e3 = rw (e, e2, e3, is.1) refl
 
     arrived_course : (a b n : ℕ) → Course (after_arrival c a b n)
-    arrived_course a b n = Lasts (cond_both (is_disabled (c.row b).constrained) (at_key c.bag a n b (option_map demoted (c.bag a n b))) c.bag (λ (to : ℕ → ℕ → ℕ → Option Copy). Lies to g m f)
+    arrived_course a b n = Lasts (cond_both (is_disabled (c.row b).constrained) (at_key c.bag a n b (option_map demoted_copy (c.bag a n b))) c.bag (λ (to : ℕ → ℕ → ℕ → Option Copy). Lies to g m f)
         (λ _. arrived_lies a b n) (λ _. is))
 
     carry_course : (a b : ℕ) (x : Carried) → MayCarry c a b x → Course (after_carry c a b x)
@@ -177,8 +177,8 @@ reach_run c (h ∷ hs) d f e run w is =
     by_course later (Given x gives names) = inr (inl (record { given = x; gives = gives; names = names }))
 
 -- what is on its way to a federate stays so, or is settled
-pub reaches : (c : Central) (hs : List Happening) (d : Central) (f : ℕ) (e : EventHandle) → HasHistory c → IsRun c hs d → IsOnItsWay c f e → IsOnItsWay d f e ⊎ IsSettled c hs f e
-reaches c hs d f e is run way =
+pub settled_or_on_its_way : (c : Central) (hs : List Happening) (d : Central) (f : ℕ) (e : EventHandle) → HasHistory c → IsRun c hs d → IsOnItsWay c f e → IsOnItsWay d f e ⊎ IsSettled c hs f e
+settled_or_on_its_way c hs d f e is run way =
     reach_run c hs d f e run (reliable_run (new_central is.catalogue) is.before c is.run (record { laws = laws_start is.catalogue; sound = sound_start is.catalogue })) way
 
 pub reliable_at : (c : Central) (h : Happening) → Happens c h → CentralInv c

@@ -41,15 +41,15 @@ pub record Registers (d e : Directory) : Type 0 where
   pub next : d.next_object ≤ e.next_object
   pub names : (h : ℕ) → h < d.next_object → (e.object h).name ≡ (d.object h).name
 
-stays : (d : Directory) → Registers d d
-stays d = record { next = omega arith; names = λ h low. refl }
+registers_none : (d : Directory) → Registers d d
+registers_none d = record { next = omega arith; names = λ h low. refl }
 
 sent_directory : (c : Central) (f : ℕ) (stamp : Option ℕ) (outs : List Outgoing) → (after_messages c f stamp outs).directory ≡ c.directory
 sent_directory c f stamp [] = refl
 sent_directory c f stamp (out ∷ outs) = sent_directory (after_message c f stamp out) f stamp outs
 
 sent_registers : (c : Central) (f : ℕ) (stamp : Option ℕ) (outs : List Outgoing) → Registers c.directory (after_messages c f stamp outs).directory
-sent_registers c f stamp outs = subst (λ (d : Directory). Registers c.directory d) (sym (sent_directory c f stamp outs)) (stays c.directory)
+sent_registers c f stamp outs = subst (λ (d : Directory). Registers c.directory d) (sym (sent_directory c f stamp outs)) (registers_none c.directory)
 
 object_registers : (d : Directory) (f class : ℕ) (name : List ℕ) → Registers d (with_object d f class name)
 object_registers d f class name = record {
@@ -68,14 +68,14 @@ deleted_registers c f h stamp =
     }
 
 enter_registers : (c : Central) (f lookahead : ℕ) (o : Choice) → Registers c.directory (after_enter c f lookahead o).directory
-enter_registers c f lookahead choice.None = stays c.directory
-enter_registers c f lookahead (choice.Entry e) = stays c.directory
-enter_registers c f lookahead (choice.Moved events) = stays c.directory
+enter_registers c f lookahead choice.None = registers_none c.directory
+enter_registers c f lookahead (choice.Entry e) = registers_none c.directory
+enter_registers c f lookahead (choice.Moved events) = registers_none c.directory
 
 cease_registers : (c : Central) (f : ℕ) (o : Choice) → Registers c.directory (after_cease c f o).directory
-cease_registers c f choice.None = stays c.directory
-cease_registers c f (choice.Entry e) = stays c.directory
-cease_registers c f (choice.Moved events) = stays c.directory
+cease_registers c f choice.None = registers_none c.directory
+cease_registers c f (choice.Entry e) = registers_none c.directory
+cease_registers c f (choice.Moved events) = registers_none c.directory
 
 call_registers : (c : Central) (f : ℕ) (s : Service) (o : Choice) → Registers c.directory (after_call c f s o).directory
 call_registers c f (service.Resign DeleteObjects) o = let s = sent_registers c f None (deletions_sent (objects_of c.directory f)) in record { next = s.next; names = s.names }
@@ -88,52 +88,52 @@ call_registers c f service.DisableTimeConstrained o = cease_registers c f o
 call_registers c f s o = record { next = omega arith; names = λ h low. refl }
 
 carry_registers : (c : Central) (g f : ℕ) (x : Carried) → Registers c.directory (after_carry c g f x).directory
-carry_registers c g f (carried.Event e) = stays c.directory
-carry_registers c g f (carried.Removal e) = stays c.directory
-carry_registers c g f (carried.Retraction e) = stays c.directory
-carry_registers c g f x = stays c.directory
+carry_registers c g f (carried.Event e) = registers_none c.directory
+carry_registers c g f (carried.Removal e) = registers_none c.directory
+carry_registers c g f (carried.Retraction e) = registers_none c.directory
+carry_registers c g f x = registers_none c.directory
 
 delivery_registers : (c : Central) (f : ℕ) (h : Callback) (o : Choice) → Registers c.directory (after_pick c f h o).directory
 delivery_registers c f (callback.ReflectAttributeValues object values event d) o = given d
   where
     given : (d : Delivery) → Registers c.directory (after_delivery c f event d).directory
-    given delivery.Receive = stays c.directory
-    given (delivery.Demoted s) = stays c.directory
-    given (delivery.TimeStamp s) = stays c.directory
+    given delivery.Receive = registers_none c.directory
+    given (delivery.Demoted s) = registers_none c.directory
+    given (delivery.TimeStamp s) = registers_none c.directory
 delivery_registers c f (callback.ReceiveInteraction class values event d) o = given d
   where
     given : (d : Delivery) → Registers c.directory (after_delivery c f event d).directory
-    given delivery.Receive = stays c.directory
-    given (delivery.Demoted s) = stays c.directory
-    given (delivery.TimeStamp s) = stays c.directory
+    given delivery.Receive = registers_none c.directory
+    given (delivery.Demoted s) = registers_none c.directory
+    given (delivery.TimeStamp s) = registers_none c.directory
 delivery_registers c f (callback.RemoveObjectInstance object event d) o = given d
   where
     given : (d : Delivery) → Registers c.directory (after_delivery c f event d).directory
-    given delivery.Receive = stays c.directory
-    given (delivery.Demoted s) = stays c.directory
-    given (delivery.TimeStamp s) = stays c.directory
+    given delivery.Receive = registers_none c.directory
+    given (delivery.Demoted s) = registers_none c.directory
+    given (delivery.TimeStamp s) = registers_none c.directory
 delivery_registers c f (callback.TimeConstrainedEnabled time) o = chosen o
   where
     chosen : (o : Choice) → Registers c.directory (after_constraint c f o).directory
-    chosen choice.None = stays c.directory
-    chosen (choice.Entry e) = stays c.directory
-    chosen (choice.Moved events) = stays c.directory
-delivery_registers c f k o = stays c.directory
+    chosen choice.None = registers_none c.directory
+    chosen (choice.Entry e) = registers_none c.directory
+    chosen (choice.Moved events) = registers_none c.directory
+delivery_registers c f k o = registers_none c.directory
 
 done_registers : (c : Central) (step : Step) (a : Answer) (o : Choice) → Registers c.directory (after_done c step a o).directory
 done_registers c (Join name) a o = record { next = omega arith; names = λ h low. refl }
 done_registers c (Call f s) a o = call_registers c f s o
 done_registers c (Carry from to) (answer.Carried x) o = carry_registers c from to x
 done_registers c (Tick f) (answer.Ticked (Some k)) o = delivery_registers c f k o
-done_registers c step a o = stays c.directory
+done_registers c step a o = registers_none c.directory
 
 step_registers : (c : Central) (step : Step) (out : Outcome) (o : Choice) → Registers c.directory (after c step out o).directory
 step_registers c step (outcome.Done a) o = done_registers c step a o
 step_registers c (Tick f) (outcome.Failed k) o = delivery_registers c f k o
-step_registers c step out o = stays c.directory
+step_registers c step out o = registers_none c.directory
 
 run_registers : (c : Central) (hs : List Happening) (d : Central) → IsRun c hs d → Registers c.directory d.directory
-run_registers c [] d run = subst (λ (d : Central). Registers c.directory d.directory) run (stays c.directory)
+run_registers c [] d run = subst (λ (d : Central). Registers c.directory d.directory) run (registers_none c.directory)
 run_registers c (h ∷ hs) d run =
     let a = step_registers c h.step h.outcome h.choice in
     let b = run_registers (next_state c h) hs d run.1 in
@@ -160,15 +160,15 @@ registered_call c f (service.RegisterObjectInstance class given) o number name n
     }
 registered_call c f s o number name none may = absurd may
 
-registered : (c : Central) (step : Step) (o : Choice) (number : ℕ) (name : List ℕ) → MayEnd c step (outcome.Done (answer.Registered number name)) o
+registered_of : (c : Central) (step : Step) (o : Choice) (number : ℕ) (name : List ℕ) → MayEnd c step (outcome.Done (answer.Registered number name)) o
     → Registered c (record { step = step; outcome = outcome.Done (answer.Registered number name); choice = o }) number name
-registered c (Call f s) o number name may = registered_call c f s o number name may.0 may.1
-registered c step o number name may = absurd may.1
+registered_of c (Call f s) o number name may = registered_call c f s o number name may.0 may.1
+registered_of c step o number name may = absurd may.1
 
 registered_at : (c : Central) (h : Happening) (number : ℕ) (name : List ℕ) → MayEnd c h.step h.outcome h.choice → h.outcome ≡ outcome.Done (answer.Registered number name) → Registered c h number name
 registered_at c h number name may is =
     let m = subst (λ (out : Outcome). MayEnd c h.step out h.choice) is may in
-    subst (λ (out : Outcome). Registered c (record { step = h.step; outcome = out; choice = h.choice }) number name) (sym is) (registered c h.step h.choice number name m)
+    subst (λ (out : Outcome). Registered c (record { step = h.step; outcome = out; choice = h.choice }) number name) (sym is) (registered_of c h.step h.choice number name m)
 
 -- a name that no object has is not that of an object with a number below
 other_name : (d : Directory) (name : List ℕ) (n h : ℕ) → list_any (λ h. not (eqb h 0) && bytes_eq (d.object h).name name) (numbers_below n) ≡ false → 0 < h → h < n → (d.object h).name ≢ name

@@ -46,8 +46,8 @@ pub record Onward (c d : Central) : Type 0 where
   pub kept : IsSound d
   pub stays : (g m : ℕ) → (c.sent g m).retracted ≡ true → (d.sent g m).retracted ≡ true
 
-unmoved : (c : Central) → IsSound c → Onward c c
-unmoved c k = record { kept = k; stays = λ g m e. e }
+onward_same : (c : Central) → IsSound c → Onward c c
+onward_same c k = record { kept = k; stays = λ g m e. e }
 
 -- a step that changes none of it
 level : (c d : Central) → IsSound c → d.serial ≡ c.serial → d.sent ≡ c.sent → d.owed ≡ c.owed → Onward c d
@@ -88,7 +88,7 @@ one_onward c a stamp out k = record {
 }
 
 sends_onward : (c : Central) (a : ℕ) (stamp : Option ℕ) (outs : List Outgoing) → IsSound c → Onward c (after_messages c a stamp outs)
-sends_onward c a stamp [] k = unmoved c k
+sends_onward c a stamp [] k = onward_same c k
 sends_onward c a stamp (out ∷ outs) k =
     let one = one_onward c a stamp out k in
     let rest = sends_onward (after_message c a stamp out) a stamp outs one.kept in
@@ -141,18 +141,18 @@ less_owed t a n b g m f l = ⊎_elim
 
 enter_onward : (c : Central) (a lookahead : ℕ) (o : Choice) → IsSound c → Onward c (after_enter c a lookahead o)
 enter_onward c a lookahead (choice.Entry e) k = level c _ k refl refl refl
-enter_onward c a lookahead o k = unmoved c k
+enter_onward c a lookahead o k = onward_same c k
 
 cease_onward : (c : Central) (a : ℕ) (o : Choice) → IsSound c → Onward c (after_cease c a o)
 cease_onward c a (choice.Moved events) k = level c _ k refl refl refl
-cease_onward c a o k = unmoved c k
+cease_onward c a o k = onward_same c k
 
 is_able : (r : TimeRow) (e : SentEvent) → may_retract r e ≡ true → e.retractable ≡ true
 is_able r e h = let p = and_parts (is_enabled r.regulating && e.retractable && not e.retracted) _ h in let q = and_parts (is_enabled r.regulating && e.retractable) _ p.0 in (and_parts (is_enabled r.regulating) e.retractable q.0).1
 
 call_onward : (c : Central) (a : ℕ) (s : Service) (o : Choice) → refusal (central_seen c) (Call a s) ≡ None → IsSound c → Onward c (after_call c a s o)
 call_onward c a (service.Resign DeleteObjects) o none k = let outs = deletions_sent (objects_of c.directory a) in left_onward c (after_messages c a None outs) a (sends_onward c a None outs k)
-call_onward c a (service.Resign NoAction) o none k = left_onward c c a (unmoved c k)
+call_onward c a (service.Resign NoAction) o none k = left_onward c c a (onward_same c k)
 call_onward c a (service.UpdateAttributeValues object values stamp) o none k = sends_onward c a stamp (update_sent c.directory object values) k
 call_onward c a (service.SendInteraction class values stamp) o none k = sends_onward c a stamp (interaction_sent c.directory class values) k
 call_onward c a (service.DeleteObjectInstance object stamp) o none k = let on = sends_onward c a stamp (deletion_sent c.directory object) k in record { kept = on.kept; stays = on.stays }
@@ -169,7 +169,7 @@ carry_onward c a b (carried.Retraction e) k = record {
   kept = record { used = k.used; able = k.able; owes = λ g m f l. k.owes g m f (less_owed c.owed a e.serial b g m f l) };
   stays = λ g m e. e;
 }
-carry_onward c a b x k = unmoved c k
+carry_onward c a b x k = onward_same c k
 
 deliver_onward : (c : Central) (a : ℕ) (e : EventHandle) (d : Delivery) → IsSound c → Onward c (after_delivery c a e d)
 deliver_onward c a e delivery.Receive k = level c _ k refl refl refl
@@ -178,7 +178,7 @@ deliver_onward c a e (delivery.TimeStamp s) k = level c _ k refl refl refl
 
 constrain_onward : (c : Central) (a : ℕ) (o : Choice) → IsSound c → Onward c (after_constraint c a o)
 constrain_onward c a (choice.Moved events) k = level c _ k refl refl refl
-constrain_onward c a o k = unmoved c k
+constrain_onward c a o k = onward_same c k
 
 pick_onward : (c : Central) (a : ℕ) (x : Callback) (o : Choice) → IsSound c → Onward c (after_pick c a x o)
 pick_onward c a (callback.ReflectAttributeValues object values event d) o k = deliver_onward c a event d k
@@ -192,12 +192,12 @@ done_onward c (Join name) a o none k = level c _ k refl refl refl
 done_onward c (Call f s) a o none k = call_onward c f s o none k
 done_onward c (Carry from to) (answer.Carried x) o none k = carry_onward c from to x k
 done_onward c (Tick f) (answer.Ticked (Some x)) o none k = pick_onward c f x o k
-done_onward c step a o none k = unmoved c k
+done_onward c step a o none k = onward_same c k
 
 pub step_onward : (c : Central) (step : Step) (out : Outcome) (o : Choice) → MayEnd c step out o → IsSound c → Onward c (after c step out o)
 step_onward c step (outcome.Done a) o may k = done_onward c step a o may.0 k
 step_onward c (Tick f) (outcome.Failed x) o may k = pick_onward c f x o k
-step_onward c step out o may k = unmoved c k
+step_onward c step out o may k = onward_same c k
 
 pub sound_start : (catalogue : CatalogueValue) → IsSound (new_central catalogue)
 sound_start catalogue = record { used = λ g m e. absurd (cc); able = λ g m e. absurd (cc); owes = λ g m f l. absurd (omega arith) }

@@ -7,14 +7,14 @@ use Rattle.hla_base.specs.declared.row.AdvanceRequest.{AdvanceRequest}
 use Rattle.hla_base.specs.declared.row.Role.TheVariants.{Disabled, Pending}
 use Rattle.hla_base.specs.declared.row.TimeRow.{TimeRow}
 use Rattle.hla_base.specs.Tables.{when, or_else}
-use Rattle.hla_base.specs.Rows.{is_strict, is_next, is_flush, is_regulator, is_constrained, is_pending, next_request, keep_if, width, new_row, least_stamp, least_stamp_in, row_after_request, regulating_from, regulates, constrains, row_after_pick, row_after_grant, bar_after, first_or, reach}
+use Rattle.hla_base.specs.Rows.{is_strict, is_next, is_flush, is_regulator, is_constrained, is_pending, next_request, keep_if, width, new_row, least_stamp, least_stamp_in, row_after_request, row_with_entry, row_after_regulation_enabled, row_after_constraint_enabled, row_after_pick, row_after_grant, bar_after, first_or, reach}
 use Rattle.hla_machine.specs.Central.{BelowWake, BelowRequest, BelowOut}
 
 -- up to where the picks of an advance may have raised the bar of a regulator
-abbrev pub covered : ℕ → ℕ → Option AdvanceRequest → Option ℕ → ℕ
-covered floor lookahead None first = floor
-covered floor lookahead (Some q) None = floor
-covered floor lookahead (Some q) (Some p) = cond (is_next q.kind) (max floor (p + width lookahead q.kind)) floor
+abbrev pub highest_bar : ℕ → ℕ → Option AdvanceRequest → Option ℕ → ℕ
+highest_bar floor lookahead None first = floor
+highest_bar floor lookahead (Some q) None = floor
+highest_bar floor lookahead (Some q) (Some p) = cond (is_next q.kind) (max floor (p + width lookahead q.kind)) floor
 
 pub record RowLaw (r : TimeRow) : Type 0 where
   pub idle : is_pending r.regulating ≡ true → r.advance ≡ None
@@ -25,7 +25,7 @@ pub record RowLaw (r : TimeRow) : Type 0 where
   pub floored : is_regulator r ≡ true → r.time ≤ r.floor
   pub entered : is_pending r.regulating ≡ true → r.regulation_time ≤ r.floor
   pub asked : (q : AdvanceRequest) → r.advance ≡ Some q → (is_next q.kind || is_flush q.kind) ≡ false → q.asked + width r.lookahead q.kind ≤ r.floor
-  pub covers : is_constrained r ≡ true → is_regulator r ≡ true → r.bar ≤ covered r.floor r.lookahead r.advance r.first_pick
+  pub covers : is_constrained r ≡ true → is_regulator r ≡ true → r.bar ≤ highest_bar r.floor r.lookahead r.advance r.first_pick
 
 -- ---- kinds
 pub next_not_flush : (k : AdvanceKind) → is_next k ≡ true → is_flush k ≡ false
@@ -82,7 +82,7 @@ least_out below r (Some q) true v h (inr w) = ⊎_elim
 pub out_least : (below : ℕ → Type 0) (r : TimeRow) (v : ℕ) → RowLaw r → BelowOut below r v → v ≤ least_stamp r
 out_least below r v law h = least_out below r r.advance (is_constrained r) v law.firsts h
 
-covered_le : (floor lookahead : ℕ) (o : Option AdvanceRequest) (first : Option ℕ) → ((q : AdvanceRequest) (p : ℕ) → o ≡ Some q → first ≡ Some p → p ≤ q.asked) → covered floor lookahead o first ≤ least_stamp_in floor lookahead o
+covered_le : (floor lookahead : ℕ) (o : Option AdvanceRequest) (first : Option ℕ) → ((q : AdvanceRequest) (p : ℕ) → o ≡ Some q → first ≡ Some p → p ≤ q.asked) → highest_bar floor lookahead o first ≤ least_stamp_in floor lookahead o
 covered_le floor lookahead None first h = omega arith
 covered_le floor lookahead (Some q) None h = omega arith
 covered_le floor lookahead (Some q) (Some p) h = cond_both (is_next q.kind) (max floor (p + width lookahead q.kind)) floor (λ x. x ≤ max floor (q.asked + width lookahead q.kind)) (λ _. omega (arith, h q p refl refl)) (λ _. omega arith)
@@ -91,13 +91,13 @@ covered_le floor lookahead (Some q) (Some p) h = cond_both (is_next q.kind) (max
 pub bar_least : (r : TimeRow) → RowLaw r → is_constrained r ≡ true → is_regulator r ≡ true → r.bar ≤ least_stamp r
 bar_least r law c g = le_trans (law.covers c g) (covered_le r.floor r.lookahead r.advance r.first_pick law.firsts)
 
-covered_floor : (floor lookahead : ℕ) (o : Option AdvanceRequest) (first : Option ℕ) → floor ≤ covered floor lookahead o first
+covered_floor : (floor lookahead : ℕ) (o : Option AdvanceRequest) (first : Option ℕ) → floor ≤ highest_bar floor lookahead o first
 covered_floor floor lookahead None first = omega arith
 covered_floor floor lookahead (Some q) None = omega arith
 covered_floor floor lookahead (Some q) (Some p) = cond_both (is_next q.kind) (max floor (p + width lookahead q.kind)) floor (λ x. floor ≤ x) (λ _. omega arith) (λ _. omega arith)
 
 idle_covered : (r : TimeRow) → RowLaw r → r.advance ≡ None → is_constrained r ≡ true → is_regulator r ≡ true → r.bar ≤ r.floor
-idle_covered r law idle c g = subst (λ o. r.bar ≤ covered r.floor r.lookahead o r.first_pick) idle (law.covers c g)
+idle_covered r law idle c g = subst (λ o. r.bar ≤ highest_bar r.floor r.lookahead o r.first_pick) idle (law.covers c g)
 
 -- ---- the row after each change
 pub law_new : RowLaw new_row
@@ -201,7 +201,7 @@ law_lookahead r lookahead law idle = record {
 }
 
 -- enabling regulation from the entry e on
-pub law_entered : (r : TimeRow) (lookahead e : ℕ) → RowLaw r → r.advance ≡ None → r.time ≤ e → (is_constrained r ≡ true → r.bar ≤ e) → RowLaw (regulating_from r lookahead e)
+pub law_entered : (r : TimeRow) (lookahead e : ℕ) → RowLaw r → r.advance ≡ None → r.time ≤ e → (is_constrained r ≡ true → r.bar ≤ e) → RowLaw (row_with_entry r lookahead e)
 law_entered r lookahead e law idle late above = record {
   idle = λ _. idle;
   resting = λ _. idle;
@@ -214,7 +214,7 @@ law_entered r lookahead e law idle late above = record {
   covers = λ c _. le_trans (above c) (covered_floor e lookahead r.advance r.first_pick);
 }
 
-pub law_regulates : (r : TimeRow) → RowLaw r → is_pending r.regulating ≡ true → is_regulator r ≡ true → RowLaw (regulates r)
+pub law_regulates : (r : TimeRow) → RowLaw r → is_pending r.regulating ≡ true → is_regulator r ≡ true → RowLaw (row_after_regulation_enabled r)
 law_regulates r law was g = record {
   idle = λ e. absurd (cc);
   resting = law.resting;
@@ -227,7 +227,7 @@ law_regulates r law was g = record {
   covers = λ c _. law.covers c g;
 }
 
-pub law_constrains : (r : TimeRow) → RowLaw r → is_pending r.constrained ≡ true → is_pending r.regulating ≡ false → RowLaw (constrains r)
+pub law_constrains : (r : TimeRow) → RowLaw r → is_pending r.constrained ≡ true → is_pending r.regulating ≡ false → RowLaw (row_after_constraint_enabled r)
 law_constrains r law was free = record {
   idle = law.idle;
   resting = λ e. absurd (cc);
@@ -248,20 +248,20 @@ picked_firsts k first s p old new = cond_both (is_flush k.kind) first (or_else f
     second None old l is = let same : s ≡ p = cc in omega arith
     second (Some x) old l is = old p is
 
-picked_covers : (r : TimeRow) (q : AdvanceRequest) (s : ℕ) (first : Option ℕ) → r.bar ≤ covered r.floor r.lookahead (Some q) first
+picked_covers : (r : TimeRow) (q : AdvanceRequest) (s : ℕ) (first : Option ℕ) → r.bar ≤ highest_bar r.floor r.lookahead (Some q) first
     → (is_flush q.kind ≡ false → s ≤ q.asked) → (is_flush q.kind ≡ false → is_next q.kind ≡ true → (p : ℕ) → first ≡ Some p → s ≡ p)
     → ((is_next q.kind || is_flush q.kind) ≡ false → q.asked + width r.lookahead q.kind ≤ r.floor)
-    → cond (is_flush q.kind) r.bar (bar_after r q.kind s) ≤ covered r.floor r.lookahead (Some q) (cond (is_flush q.kind) first (or_else first (Some s)))
+    → cond (is_flush q.kind) r.bar (bar_after r q.kind s) ≤ highest_bar r.floor r.lookahead (Some q) (cond (is_flush q.kind) first (or_else first (Some s)))
 picked_covers r q s first low asked at ahead = ⊎_elim
     (λ (y : is_flush q.kind ≡ true). rw y low)
     (λ (n : is_flush q.kind ≡ false). rw n (⊎_elim (λ (y : is_next q.kind ≡ true). nexts y first low (at n y)) (λ (m : is_next q.kind ≡ false). others m first low (asked n) (ahead (rw (m, n) refl))) (cases_Bool (is_next q.kind))))
     (cases_Bool (is_flush q.kind))
   where
-    nexts : is_next q.kind ≡ true → (first : Option ℕ) → r.bar ≤ covered r.floor r.lookahead (Some q) first → ((p : ℕ) → first ≡ Some p → s ≡ p) → bar_after r q.kind s ≤ covered r.floor r.lookahead (Some q) (or_else first (Some s))
+    nexts : is_next q.kind ≡ true → (first : Option ℕ) → r.bar ≤ highest_bar r.floor r.lookahead (Some q) first → ((p : ℕ) → first ≡ Some p → s ≡ p) → bar_after r q.kind s ≤ highest_bar r.floor r.lookahead (Some q) (or_else first (Some s))
     nexts y None low same = rw y (omega (arith, low, reach_width q.kind s r.lookahead))
     nexts y (Some p) low same = let low2 : r.bar ≤ max r.floor (p + width r.lookahead q.kind) = rw y at low in rw y (omega (arith, low2, same p refl, reach_width q.kind s r.lookahead))
 
-    others : is_next q.kind ≡ false → (first : Option ℕ) → r.bar ≤ covered r.floor r.lookahead (Some q) first → s ≤ q.asked → q.asked + width r.lookahead q.kind ≤ r.floor → bar_after r q.kind s ≤ covered r.floor r.lookahead (Some q) (or_else first (Some s))
+    others : is_next q.kind ≡ false → (first : Option ℕ) → r.bar ≤ highest_bar r.floor r.lookahead (Some q) first → s ≤ q.asked → q.asked + width r.lookahead q.kind ≤ r.floor → bar_after r q.kind s ≤ highest_bar r.floor r.lookahead (Some q) (or_else first (Some s))
     others m None low l h = rw m (omega (arith, low, reach_width q.kind s r.lookahead))
     others m (Some p) low l h = let low2 : r.bar ≤ r.floor = rw m at low in rw m (omega (arith, low2, reach_width q.kind s r.lookahead))
 
@@ -278,11 +278,11 @@ law_picked r q s law asks within at = record {
   floored = law.floored;
   entered = law.entered;
   asked = law.asked;
-  covers = λ c g. subst (λ o. cond (is_flush q.kind) r.bar (bar_after r q.kind s) ≤ covered r.floor r.lookahead o (cond (is_flush q.kind) r.first_pick (or_else r.first_pick (Some s)))) (sym asks)
-      (picked_covers r q s r.first_pick (subst (λ o. r.bar ≤ covered r.floor r.lookahead o r.first_pick) asks (law.covers c g)) within at (law.asked q asks));
+  covers = λ c g. subst (λ o. cond (is_flush q.kind) r.bar (bar_after r q.kind s) ≤ highest_bar r.floor r.lookahead o (cond (is_flush q.kind) r.first_pick (or_else r.first_pick (Some s)))) (sym asks)
+      (picked_covers r q s r.first_pick (subst (λ o. r.bar ≤ highest_bar r.floor r.lookahead o r.first_pick) asks (law.covers c g)) within at (law.asked q asks));
 }
 
-covered_grant : (floor lookahead : ℕ) (q : AdvanceRequest) (first : Option ℕ) (t : ℕ) → (is_next q.kind ≡ true → (p : ℕ) → first ≡ Some p → p ≤ t) → covered floor lookahead (Some q) first ≤ max floor (t + width lookahead q.kind)
+covered_grant : (floor lookahead : ℕ) (q : AdvanceRequest) (first : Option ℕ) (t : ℕ) → (is_next q.kind ≡ true → (p : ℕ) → first ≡ Some p → p ≤ t) → highest_bar floor lookahead (Some q) first ≤ max floor (t + width lookahead q.kind)
 covered_grant floor lookahead q None t h = omega arith
 covered_grant floor lookahead q (Some p) t h = cond_both (is_next q.kind) (max floor (p + width lookahead q.kind)) floor (λ x. x ≤ max floor (t + width lookahead q.kind)) (λ y. omega (arith, h y p refl)) (λ _. omega arith)
 
@@ -301,7 +301,7 @@ law_granted r q t law asks first = record {
 }
   where
     low : is_constrained r ≡ true → is_regulator r ≡ true → r.bar ≤ max r.floor (t + width r.lookahead q.kind)
-    low c g = le_trans (subst (λ o. r.bar ≤ covered r.floor r.lookahead o r.first_pick) asks (law.covers c g)) (covered_grant r.floor r.lookahead q r.first_pick t (first c))
+    low c g = le_trans (subst (λ o. r.bar ≤ highest_bar r.floor r.lookahead o r.first_pick) asks (law.covers c g)) (covered_grant r.floor r.lookahead q r.first_pick t (first c))
 
 -- ---- what a federate may still send doesn't fall
 -- where the row allows no less at rest

@@ -11,7 +11,7 @@ use Rattle.hla_base.specs.declared.row.Role.{Role}
 use Rattle.hla_base.specs.declared.row.Role.TheVariants.{Disabled, Pending, Enabled}
 use Rattle.hla_base.specs.declared.row.TimeRow.{TimeRow}
 use Rattle.hla_base.specs.Tables.{upd}
-use Rattle.hla_base.specs.Rows.{is_next, is_flush, is_constrained, is_disabled, is_pending, regulates, constrains, row_after_pick, row_after_grant, bar_after, first_or, reach}
+use Rattle.hla_base.specs.Rows.{is_next, is_flush, is_constrained, is_disabled, is_pending, row_after_regulation_enabled, row_after_constraint_enabled, row_after_pick, row_after_grant, bar_after, first_or, reach}
 use Rattle.hla_fed_file.specs.CatalogueValue.{CatalogueValue}
 use Rattle.hla_callbacks.specs.declared.callback.Callback.{Callback}
 use Rattle.hla_callbacks.specs.declared.callback.Callback.TheVariants as callback
@@ -30,7 +30,7 @@ use Rattle.hla_machine.specs.declared.step.Outcome.TheVariants as outcome
 use Rattle.hla_machine.specs.declared.step.Choice.{Choice}
 use Rattle.hla_machine.specs.declared.step.Choice.TheVariants as choice
 use Rattle.hla_machine.specs.Directory.{deletion_sent, update_sent, interaction_sent}
-use Rattle.hla_machine.specs.Central.{Central, new_central, Copy, Tso, BelowBound, demoted, at_key}
+use Rattle.hla_machine.specs.Central.{Central, new_central, Copy, Tso, BelowBound, demoted_copy, at_key}
 use Rattle.hla_machine.specs.Callbacks.{IsCopy, MayPickIn, is_among, MayDeliver, MayPickUp, MayGrant, MayConstrain, with_demoted, row_after, with_central_row, after_delivery, after_constraint, after_pick}
 use Rattle.hla_machine.specs.Refusals.{refusal}
 use Rattle.hla_machine.specs.Machine.{central_seen, MayAnswer, MayDo, MayEnd, after_call, after_arrival, after_carry, after_done, after}
@@ -85,7 +85,7 @@ module _ (c : Central) (k : IsKept c) where
   fewer_keeps to fewer = keeps_low c.directory.next_federate c.directory.joined c.row c.serial c.bag to c.sent c.sent fewer (low_fewer to c.bag c.sent fewer) k
 
   arrived_keeps : (g f m : ℕ) → IsKept (after_arrival c g f m)
-  arrived_keeps g f m = fewer_keeps _ (cond_both (is_disabled (c.row f).constrained) (at_key c.bag g m f (option_map demoted (c.bag g m f))) c.bag (λ b. NoMore b c.bag) (λ _. fewer_demoted c.bag g m f) (λ _. same_bag c.bag))
+  arrived_keeps g f m = fewer_keeps _ (cond_both (is_disabled (c.row f).constrained) (at_key c.bag g m f (option_map demoted_copy (c.bag g m f))) c.bag (λ b. NoMore b c.bag) (λ _. fewer_demoted c.bag g m f) (λ _. same_bag c.bag))
 
   carry_keeps : (g f : ℕ) (x : Carried) → IsKept (after_carry c g f x)
   carry_keeps g f carried.Nothing = k
@@ -125,10 +125,10 @@ module _ (c : Central) (k : IsKept c) where
         let w = may.3 in
         subst (λ (r : TimeRow). IsKept (record c { row = upd c.row f r; bag = at_key c.bag e.sender e.serial f None })) (sym (row_after_is (c.row f) (c.row f).advance w.0 (λ q. row_after_pick (c.row f) q s) w.1)) (tso_keeps w.0 e s x w.1 may.0 may.2 w.2)
 
-    regulate_keeps : is_pending (c.row f).regulating ≡ true → IsKept (with_central_row c f (regulates (c.row f)))
+    regulate_keeps : is_pending (c.row f).regulating ≡ true → IsKept (with_central_row c f (row_after_regulation_enabled (c.row f)))
     regulate_keeps was =
         let reg = pending_regulator (c.row f).regulating was in
-        keeps_row c.directory.next_federate c.directory.joined c.row c.serial c.bag c.bag c.sent f (regulates (c.row f)) k (record {
+        keeps_row c.directory.next_federate c.directory.joined c.row c.serial c.bag c.bag c.sent f (row_after_regulation_enabled (c.row f)) k (record {
           fewer = same_bag c.bag;
           member = member;
           law = law_regulates (c.row f) (k.rows f) was reg;
@@ -150,11 +150,11 @@ module _ (c : Central) (k : IsKept c) where
         let idle = (k.rows f).resting was in
         let bound : BelowBound c f (c.row f).time = subst (λ t. BelowBound c f t) may.0 may.3 in
         let below = may.4 in
-        keeps_row c.directory.next_federate c.directory.joined c.row c.serial c.bag to c.sent f (constrains (c.row f)) k (record {
+        keeps_row c.directory.next_federate c.directory.joined c.row c.serial c.bag to c.sent f (row_after_constraint_enabled (c.row f)) k (record {
           fewer = fewer;
           member = member;
           law = law_constrains (c.row f) (k.rows f) was may.2;
-          out = λ reg v l ne lc same. out_idle _ _ (c.row f) (constrains (c.row f)) v idle (omega arith) (old_out c.directory.next_federate c.directory.joined c.row c.serial c.bag to c.sent f (c.row f) k reg v l ne lc same);
+          out = λ reg v l ne lc same. out_idle _ _ (c.row f) (row_after_constraint_enabled (c.row f)) v idle (omega arith) (old_out c.directory.next_federate c.directory.joined c.row c.serial c.bag to c.sent f (c.row f) k reg v l ne lc same);
           bar = λ _. (bound.0, λ g j ne reg. out_low _ _ (c.row g) (c.row f).time (low_weaker c.bag c.sent g) (λ y _. low_fewer to c.bag c.sent fewer g y) (bound.1 g j ne reg));
           ahead = λ _ g m x is live tso. let w = moved_else c.bag f events g m x is tso in ⊎_elim
               (λ (l : x.stamp < (c.row f).time). absurd (let y : is_among events g m ≡ true = below.1 g m x w.1 live tso (subst (λ t. x.stamp < t) (sym may.0) l) in let n : is_among events g m ≡ false = w.0 in cc))

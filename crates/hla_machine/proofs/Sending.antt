@@ -12,7 +12,7 @@ use Rattle.hla_machine.specs.declared.step.Step.TheVariants.{Call}
 use Rattle.hla_machine.specs.declared.step.Answer.TheVariants as answer
 use Rattle.hla_machine.specs.declared.step.Outcome.TheVariants as outcome
 use Rattle.hla_machine.specs.declared.step.Choice.{Choice}
-use Rattle.hla_machine.specs.Directory.{Outgoing, content_for, receives, update_sent, interaction_sent}
+use Rattle.hla_machine.specs.Directory.{Outgoing, content_for, is_receiver, update_sent, interaction_sent}
 use Rattle.hla_machine.specs.Central.{Central, Copy, Ro, Tso, SentEvent, no_event}
 use Rattle.hla_machine.specs.Sends.{is_ordered, kept_stamp, is_retractable, sent_event, sent_handle, copy_for, after_message, after_messages}
 use Rattle.hla_machine.specs.Machine.{MayAnswer, after}
@@ -65,7 +65,7 @@ module _ (f : ℕ) (stamp : Option ℕ) where
       let bag = bag_stays outs (after_message c f stamp out) (c.serial f) g low in
       ⊎_elim
       (λ (y : is_retractable (c.row f) stamp out ≡ true).
-      let some : sent_event c.directory (c.row f) f stamp out ≡ record { stamp = kept_stamp (c.row f) stamp out; retractable = true; retracted = false; receivers = receives c.directory f out.body } = rw y refl in
+      let some : sent_event c.directory (c.row f) f stamp out ≡ record { stamp = kept_stamp (c.row f) stamp out; retractable = true; retracted = false; receivers = is_receiver c.directory f out.body } = rw y refl in
       let is = event ∙ some in
       let parts = and_parts _ _ (rw is at told) in
       let copy = copy_of c out g ordered parts.1 in

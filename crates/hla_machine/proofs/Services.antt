@@ -6,7 +6,7 @@ use Rattle.hla_base.specs.declared.row.AdvanceRequest.{AdvanceRequest}
 use Rattle.hla_base.specs.declared.row.Role.TheVariants.{Disabled}
 use Rattle.hla_base.specs.declared.row.TimeRow.{TimeRow}
 use Rattle.hla_base.specs.Tables.{upd}
-use Rattle.hla_base.specs.Rows.{is_next, is_flush, is_regulator, is_constrained, is_none_of, least_stamp, row_after_request, regulating_from, new_row, bar_of}
+use Rattle.hla_base.specs.Rows.{is_next, is_flush, is_regulator, is_constrained, is_none_of, least_stamp, row_after_request, row_with_entry, new_row, bar_of}
 use Rattle.hla_fed_file.specs.declared.declared.Order.TheVariants.{Timestamp}
 use Rattle.hla_machine.specs.declared.service.Service.TheVariants as service
 use Rattle.hla_machine.specs.declared.service.ResignAction.{ResignAction}
@@ -21,7 +21,7 @@ use Rattle.hla_machine.specs.Callbacks.{with_demoted, with_central_row}
 use Rattle.hla_machine.specs.Sends.{is_ordered, is_some_ordered, after_message, after_messages}
 use Rattle.hla_base.specs.RowRefusals.{request_tests}
 use Rattle.hla_machine.specs.Refusals.{is_bad_stamp}
-use Rattle.hla_machine.specs.Machine.{MayEnter, MayAnswer, after_leaving, after_resign, after_retract, after_enter, after_cease, joined_by}
+use Rattle.hla_machine.specs.Machine.{MayEnter, MayAnswer, after_leaving, after_resign, after_retract, after_enter, after_cease, after_join}
 use Rattle.hla_base.proofs.Tables.{by_number, upd_same, upd_other, upd_each, upd2_each, le_greatest, greatest_ge}
 use Rattle.hla_machine.proofs.Tests.{AllClear, not-is-false}
 use Rattle.hla_machine.proofs.Rows.{RowLaw, law_new, law_requested, law_free, law_stopped, law_asynchronous, law_entered, out_low}
@@ -35,7 +35,7 @@ pub same_bag : (bag : ℕ → ℕ → ℕ → Option Copy) → NoMore bag bag
 same_bag bag g m f k is tso = is
 
 -- ---- members
-pub join_keeps : (c : Central) (name : List ℕ) → IsKept c → IsKept (joined_by c name)
+pub join_keeps : (c : Central) (name : List ℕ) → IsKept c → IsKept (after_join c name)
 join_keeps c name k =
     let n = c.directory.next_federate in
     record {
@@ -89,16 +89,16 @@ high_stamps r stamp outs fine = high_each r stamp outs (λ some. ⊎_elim
     (λ (n : ltb (unwrap_or stamp 0) (least_stamp r) ≡ false). ltb-false _ _ n)
     (and_cases _ _ (or_parts _ _ fine).1))
 
-pub unordered : (r : TimeRow) (outs : List Outgoing) → EachHigh r None outs
-unordered r [] = tt
-unordered r (out ∷ outs) = ((λ o. let p : false ≡ true = (and_parts (is_of_order Timestamp out.order) false (and_parts _ _ o).0).1 in absurd (cc)), unordered r outs)
+pub each_high_unstamped : (r : TimeRow) (outs : List Outgoing) → EachHigh r None outs
+each_high_unstamped r [] = tt
+each_high_unstamped r (out ∷ outs) = ((λ o. let p : false ≡ true = (and_parts (is_of_order Timestamp out.order) false (and_parts _ _ o).0).1 in absurd (cc)), each_high_unstamped r outs)
 
 pub sends_keep : (c : Central) (f : ℕ) (stamp : Option ℕ) (outs : List Outgoing) → EachHigh (c.row f) stamp outs → IsKept c → IsKept (after_messages c f stamp outs)
 sends_keep c f stamp [] high k = k
 sends_keep c f stamp (out ∷ outs) high k = sends_keep (after_message c f stamp out) f stamp outs high.1 (keeps_sent c f stamp out k high.0)
 
 pub resign_keeps : (c : Central) (f : ℕ) (way : ResignAction) → IsKept c → IsKept (after_resign c f way)
-resign_keeps c f DeleteObjects k = let outs = deletions_sent (objects_of c.directory f) in left_keeps (after_messages c f None outs) f (sends_keep c f None outs (unordered (c.row f) outs) k)
+resign_keeps c f DeleteObjects k = let outs = deletions_sent (objects_of c.directory f) in left_keeps (after_messages c f None outs) f (sends_keep c f None outs (each_high_unstamped (c.row f) outs) k)
 resign_keeps c f NoAction k = left_keeps c f k
 resign_keeps c f ReleaseAttributes k = k
 resign_keeps c f DeleteObjectsAndReleaseAttributes k = k
@@ -136,13 +136,13 @@ module _ (c : Central) (f : ℕ) (k : IsKept c) (member : c.directory.joined f �
   })
 
   -- all that others count on lies below the entry
-  pub enter_keeps : (lookahead e earliest : ℕ) → (c.row f).advance ≡ None → (c.row f).time ≤ earliest → low_entry c.directory c.row earliest ≤ e → IsKept (with_central_row c f (regulating_from (c.row f) lookahead e))
+  pub enter_keeps : (lookahead e earliest : ℕ) → (c.row f).advance ≡ None → (c.row f).time ≤ earliest → low_entry c.directory c.row earliest ≤ e → IsKept (with_central_row c f (row_with_entry (c.row f) lookahead e))
   unfolding low_entry
   enter_keeps lookahead e earliest idle late low =
       let base : earliest ≤ e = le_trans (greatest_ge c.directory.next_federate earliest (λ g. bar_of (c.row g))) low in
       let above : (g : ℕ) → is_constrained (c.row g) ≡ true → (c.row g).bar ≤ e = λ g con.
       let h : cond (is_constrained (c.row g)) (c.row g).bar 0 ≤ e = le_trans (le_greatest c.directory.next_federate earliest (λ g. bar_of (c.row g)) g (k.members g (k.constrained g con))) low in rw con at h in
-      keeps_row c.directory.next_federate c.directory.joined c.row c.serial c.bag c.bag c.sent f (regulating_from (c.row f) lookahead e) k (record {
+      keeps_row c.directory.next_federate c.directory.joined c.row c.serial c.bag c.bag c.sent f (row_with_entry (c.row f) lookahead e) k (record {
         fewer = same_bag c.bag;
         member = member;
         law = law_entered (c.row f) lookahead e (k.rows f) idle (le_trans late base) (above f);

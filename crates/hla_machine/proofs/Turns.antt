@@ -10,7 +10,7 @@ use Rattle.hla_base.specs.declared.row.AdvanceKind.TheVariants as kind
 use Rattle.hla_base.specs.declared.row.AdvanceRequest.{AdvanceRequest}
 use Rattle.hla_base.specs.declared.row.TimeRow.{TimeRow}
 use Rattle.hla_base.specs.Tables.{upd}
-use Rattle.hla_base.specs.Rows.{is_constrained, is_pending, new_row, row_after_request, regulating_from, regulates, row_after_pick, row_after_grant}
+use Rattle.hla_base.specs.Rows.{is_constrained, is_pending, new_row, row_after_request, row_with_entry, row_after_regulation_enabled, row_after_pick, row_after_grant}
 use Rattle.hla_callbacks.specs.declared.callback.Callback.{Callback}
 use Rattle.hla_callbacks.specs.declared.callback.Callback.TheVariants as callback
 use Rattle.hla_callbacks.specs.declared.callback.Delivery.{Delivery}
@@ -34,7 +34,7 @@ use Rattle.hla_machine.specs.Callbacks.{IsCopy, MayPickIn, MayDeliver, MayPickUp
 use Rattle.hla_machine.specs.Sends.{after_message, after_messages}
 use Rattle.hla_base.specs.RowRefusals.{request_tests}
 use Rattle.hla_machine.specs.Refusals.{refusal}
-use Rattle.hla_machine.specs.Machine.{central_seen, MayEnter, MayAnswer, MayDo, MayEnd, joined_by, after_enter, after_cease, after_call, after_carry, after_done, after}
+use Rattle.hla_machine.specs.Machine.{central_seen, MayEnter, MayAnswer, MayDo, MayEnd, after_join, after_enter, after_cease, after_call, after_carry, after_done, after}
 use Rattle.hla_base.proofs.Tables.{by_number, upd_same, upd_other, upd_each, greatest_ge}
 use Rattle.hla_machine.proofs.Tests.{AllClear, clear_call}
 use Rattle.hla_machine.proofs.Keeps.{IsKept}
@@ -57,8 +57,8 @@ pub data Turn (c : Central) (f : ℕ) (r : TimeRow) (member : Bool) : Type 0 whe
   Fresh : r ≡ new_row → (c.directory.joined f ≡ true → member ≡ false) → Turn c f r member
   Calm : Same (c.row f) r → Turn c f r member
   Asked : (kind : AdvanceKind) (a : ℕ) → (c.row f).advance ≡ None → is_pending (c.row f).regulating ≡ false → (c.row f).time ≤ a → r ≡ row_after_request (c.row f) kind a → Turn c f r member
-  Entered : (lookahead e : ℕ) → (c.row f).advance ≡ None → (c.row f).time + lookahead ≤ e → r ≡ regulating_from (c.row f) lookahead e → Turn c f r member
-  Regulated : is_pending (c.row f).regulating ≡ true → r ≡ regulates (c.row f) → Turn c f r member
+  Entered : (lookahead e : ℕ) → (c.row f).advance ≡ None → (c.row f).time + lookahead ≤ e → r ≡ row_with_entry (c.row f) lookahead e → Turn c f r member
+  Regulated : is_pending (c.row f).regulating ≡ true → r ≡ row_after_regulation_enabled (c.row f) → Turn c f r member
   Rested : (c.row f).advance ≡ None → r.advance ≡ None → r.time ≡ (c.row f).time → r.regulating ≡ (c.row f).regulating → r.regulation_time ≡ (c.row f).regulation_time → Turn c f r member
   Picked : (q : AdvanceRequest) (e : EventHandle) (s : ℕ) (x : Content) → (c.row f).advance ≡ Some q → is_constrained (c.row f) ≡ true → IsCopy c f e (record { order = Tso; stamp = s; content = x }) → MayPickIn c f q e s
       → r ≡ row_after_pick (c.row f) q s → Turn c f r member
@@ -79,7 +79,7 @@ left_turn c b e g = by_number g _
     (Fresh (upd_same b.row g new_row) (λ _. upd_same b.directory.joined g false))
     (λ f ne. Calm (rw upd_other (subst (λ (row : ℕ → TimeRow). Same (c.row f) (row f)) (sym e) (same (c.row f)))))
 
-join_turn : (c : Central) (name : List ℕ) → IsKept c → (f : ℕ) → Turn c f ((joined_by c name).row f) ((joined_by c name).directory.joined f)
+join_turn : (c : Central) (name : List ℕ) → IsKept c → (f : ℕ) → Turn c f ((after_join c name).row f) ((after_join c name).directory.joined f)
 join_turn c name k = by_number c.directory.next_federate _
     (Fresh (upd_same c.row c.directory.next_federate new_row) (λ j. absurd (let l = k.members c.directory.next_federate j in omega arith)))
     (λ f ne. Calm (rw upd_other (same (c.row f))))

@@ -8,14 +8,14 @@ use Rattle.hla_base.specs.declared.content.Discovery.{Discovery}
 use Rattle.hla_base.specs.declared.row.AdvanceRequest.{AdvanceRequest}
 use Rattle.hla_base.specs.declared.row.TimeRow.{TimeRow}
 use Rattle.hla_base.specs.Tables.{upd, upd2}
-use Rattle.hla_base.specs.Rows.{is_strict, is_next, is_flush, is_constrained, is_pending, is_none_of, is_advancing, regulates, constrains, row_after_pick, grant_time, row_after_grant, reach}
+use Rattle.hla_base.specs.Rows.{is_strict, is_next, is_flush, is_constrained, is_pending, is_none_of, is_advancing, row_after_regulation_enabled, row_after_constraint_enabled, row_after_pick, grant_time, row_after_grant, reach}
 use Rattle.hla_callbacks.specs.declared.callback.Callback.{Callback}
 use Rattle.hla_callbacks.specs.declared.callback.Callback.TheVariants as callback
 use Rattle.hla_callbacks.specs.declared.callback.Delivery.{Delivery}
 use Rattle.hla_callbacks.specs.declared.callback.Delivery.TheVariants as delivery
 use Rattle.hla_machine.specs.declared.step.Choice.{Choice}
 use Rattle.hla_machine.specs.declared.step.Choice.TheVariants as choice
-use Rattle.hla_machine.specs.Central.{Central, Copy, Ro, Tso, Demoted, BelowAllTso, BelowBound, Reached, KeyLe, at_key, at3, demoted}
+use Rattle.hla_machine.specs.Central.{Central, Copy, Ro, Tso, Demoted, BelowAllTso, BelowBound, Reached, KeyLe, at_key, at3, demoted_copy}
 
 -- ---- messages
 -- the discovery of what a message speaks of was given before
@@ -94,7 +94,7 @@ is_among events g m = list_any (λ e. is_handle (record { sender = g; serial = m
 
 -- f's copies of these events are demoted
 unfoldable pub with_demoted : (ℕ → ℕ → ℕ → Option Copy) → ℕ → List EventHandle → ℕ → ℕ → ℕ → Option Copy
-with_demoted bag f events = λ g m k. cond (eqb f k && is_among events g m) (option_map demoted (bag g m k)) (bag g m k)
+with_demoted bag f events = λ g m k. cond (eqb f k && is_among events g m) (option_map demoted_copy (bag g m k)) (bag g m k)
 
 -- each of these is a copy for f in time-stamp order, and P holds of its stamp
 abbrev pub AreTso : Central → ℕ → (ℕ → Type 0) → List EventHandle → Type 0
@@ -145,7 +145,7 @@ after_delivery c f e (delivery.TimeStamp s) = record c {
 }
 
 abbrev pub after_constraint : Central → ℕ → Choice → Central
-after_constraint c f (choice.Moved events) = record c { row = upd c.row f (constrains (c.row f)); bag = with_demoted c.bag f events }
+after_constraint c f (choice.Moved events) = record c { row = upd c.row f (row_after_constraint_enabled (c.row f)); bag = with_demoted c.bag f events }
 after_constraint c f choice = c
 
 abbrev pub after_pick : Central → ℕ → Callback → Choice → Central
@@ -154,7 +154,7 @@ after_pick c f (callback.DiscoverObjectInstance object class name) o = let g = (
 after_pick c f (callback.ReflectAttributeValues object values event d) o = after_delivery c f event d
 after_pick c f (callback.ReceiveInteraction class values event d) o = after_delivery c f event d
 after_pick c f (callback.RemoveObjectInstance object event d) o = after_delivery c f event d
-after_pick c f (callback.TimeRegulationEnabled time) o = with_central_row c f (regulates (c.row f))
+after_pick c f (callback.TimeRegulationEnabled time) o = with_central_row c f (row_after_regulation_enabled (c.row f))
 after_pick c f (callback.TimeConstrainedEnabled time) o = after_constraint c f o
 after_pick c f (callback.TimeAdvanceGrant time) o = with_central_row c f (row_after (c.row f) (c.row f).advance (λ q. row_after_grant (c.row f) q time))
 after_pick c f (callback.RequestRetraction event) o = record c { due = at3 c.due event.sender event.serial f (c.due event.sender event.serial f - 1) }

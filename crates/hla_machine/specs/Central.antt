@@ -125,5 +125,5 @@ demoted_order Ro = Ro
 demoted_order Tso = Demoted
 demoted_order Demoted = Demoted
 
-abbrev pub demoted : Copy → Copy
-demoted k = record k { order = demoted_order k.order }
+abbrev pub demoted_copy : Copy → Copy
+demoted_copy k = record k { order = demoted_order k.order }

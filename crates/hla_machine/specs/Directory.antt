@@ -134,8 +134,8 @@ content_for d (AnUpdate object values) f =
 content_for d (ADeletion object) f = when (d.known object f) (Some (content.Removal object))
 
 -- the receivers of a message; nobody receives its own
-abbrev pub receives : Directory → ℕ → Body → ℕ → Bool
-receives d g body f = is_other d.joined g f && is_some (content_for d body f)
+abbrev pub is_receiver : Directory → ℕ → Body → ℕ → Bool
+is_receiver d g body f = is_other d.joined g f && is_some (content_for d body f)
 
 -- ---- discoveries
 abbrev pub discovery_at : Directory → ℕ → ℕ → Discovery
@@ -151,12 +151,12 @@ abbrev pub discoveries_of : Directory → ℕ → ℕ → List Discovery
 discoveries_of d g f = filter_map (λ h. when (eqb (d.object h).owner g) (discovery_of d f h)) (numbers_below d.next_object)
 
 -- each discovery that f is to make now is made
-abbrev pub discovered_by : Directory → ℕ → Directory
-discovered_by d f = record d { known = λ h k. cond (eqb f k && is_some (discovery_of d f h)) true (d.known h k) }
+abbrev pub with_discoveries_made : Directory → ℕ → Directory
+with_discoveries_made d f = record d { known = λ h k. cond (eqb f k && is_some (discovery_of d f h)) true (d.known h k) }
 
 -- the discovery of h that each other joined federate is to make now is made
-abbrev pub discovered_by_all : Directory → ℕ → Directory
-discovered_by_all d h = record d { known = λ j k. cond (eqb h j && d.joined k && is_some (discovery_of d k h)) true (d.known j k) }
+abbrev pub with_object_discovered : Directory → ℕ → Directory
+with_object_discovered d h = record d { known = λ j k. cond (eqb h j && d.joined k && is_some (discovery_of d k h)) true (d.known j k) }
 
 -- ---- the directory after a service
 abbrev pub default_name : ℕ → List ℕ

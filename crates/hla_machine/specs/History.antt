@@ -16,8 +16,8 @@ use Rattle.hla_machine.specs.declared.step.Step.TheVariants.{Tick}
 use Rattle.hla_machine.specs.declared.step.Answer.TheVariants as answer
 use Rattle.hla_machine.specs.declared.step.Outcome.{Outcome}
 use Rattle.hla_machine.specs.declared.step.Outcome.TheVariants as outcome
-use Rattle.hla_machine.specs.Directory.{Directory, Outgoing, receives, content_for, objects_of, update_sent, interaction_sent, deletion_sent, deletions_sent}
-use Rattle.hla_machine.specs.Central.{Central, Copy, Tso, new_central, demoted}
+use Rattle.hla_machine.specs.Directory.{Directory, Outgoing, is_receiver, content_for, objects_of, update_sent, interaction_sent, deletion_sent, deletions_sent}
+use Rattle.hla_machine.specs.Central.{Central, Copy, Tso, new_central, demoted_copy}
 use Rattle.hla_machine.specs.Callbacks.{IsCopy}
 use Rattle.hla_machine.specs.Machine.{Allowed, after}
 use Rattle.hla_machine.specs.Runs.{Happening, IsRun}
@@ -117,7 +117,7 @@ WaitsInOrder c f e s = (k : Copy) × IsCopy c f e k × (k.order ≡ Tso) × (k.s
 
 -- between the states c and d the event is moved to receive order
 abbrev pub IsMoved : Central → Central → ℕ → EventHandle → ℕ → Type 0
-IsMoved c d f e s = (k : Copy) × IsCopy c f e k × (k.order ≡ Tso) × (k.stamp ≡ s) × IsCopy d f e (demoted k)
+IsMoved c d f e s = (k : Copy) × IsCopy c f e k × (k.order ≡ Tso) × (k.stamp ≡ s) × IsCopy d f e (demoted_copy k)
 
 -- at some step of the run from c, f picks up the event in time-stamp order, or it is moved to receive order
 abbrev pub IsPickedOrMoved : Central → List Happening → ℕ → EventHandle → ℕ → Type 0
@@ -135,8 +135,8 @@ messages_of d f s = []
 
 -- f's message with serial m lies in the bag for each federate that receives it, with what it says to that one, and for no other
 pub record IsSentTo (d : Directory) (bag : ℕ → ℕ → ℕ → Option Copy) (f m : ℕ) (out : Outgoing) : Type 0 where
-  pub receivers : (g : ℕ) → receives d f out.body g ≡ true → (k : Copy) × (bag f m g ≡ Some k) × (content_for d out.body g ≡ Some k.content)
-  pub others : (g : ℕ) → receives d f out.body g ≡ false → bag f m g ≡ None
+  pub receivers : (g : ℕ) → is_receiver d f out.body g ≡ true → (k : Copy) × (bag f m g ≡ Some k) × (content_for d out.body g ≡ Some k.content)
+  pub others : (g : ℕ) → is_receiver d f out.body g ≡ false → bag f m g ≡ None
 
 -- so does each of f's messages from serial m on
 abbrev pub AreSentTo : Directory → (ℕ → ℕ → ℕ → Option Copy) → ℕ → ℕ → List Outgoing → Type 0

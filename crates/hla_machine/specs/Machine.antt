@@ -10,7 +10,7 @@ use Rattle.hla_base.specs.declared.row.AdvanceKind.{AdvanceKind}
 use Rattle.hla_base.specs.declared.row.AdvanceKind.TheVariants as kind
 use Rattle.hla_base.specs.declared.row.TimeRow.{TimeRow}
 use Rattle.hla_base.specs.Tables.{upd, upd2, upd_row, one_if}
-use Rattle.hla_base.specs.Rows.{is_constrained, is_disabled, is_none_of, is_regulator, new_row, row_after_request, regulating_from}
+use Rattle.hla_base.specs.Rows.{is_constrained, is_disabled, is_none_of, is_regulator, new_row, row_after_request, row_with_entry}
 use Rattle.hla_fed_file.specs.Lookup.{object_class_named, interaction_class_named, attribute_named, parameter_named}
 use Rattle.hla_callbacks.specs.declared.callback.Callback.{Callback}
 use Rattle.hla_callbacks.specs.declared.callback.Callback.TheVariants as callback
@@ -28,8 +28,8 @@ use Rattle.hla_machine.specs.declared.step.Outcome.{Outcome}
 use Rattle.hla_machine.specs.declared.step.Outcome.TheVariants as outcome
 use Rattle.hla_machine.specs.declared.step.Choice.{Choice}
 use Rattle.hla_machine.specs.declared.step.Choice.TheVariants as choice
-use Rattle.hla_machine.specs.Directory.{Directory, Outgoing, name_or_default, objects_of, interaction_sent, update_sent, deletion_sent, deletions_sent, discoveries_of, discovered_by, discovered_by_all, with_member, without_member, with_published, with_subscribed, with_published_interaction, with_subscribed_interaction, with_object, without_object}
-use Rattle.hla_machine.specs.Central.{Central, Copy, Tso, Demoted, BelowAllTso, BelowOut, BelowBound, BelowSomeWake, low_entry, at_key, at3, demoted}
+use Rattle.hla_machine.specs.Directory.{Directory, Outgoing, name_or_default, objects_of, interaction_sent, update_sent, deletion_sent, deletions_sent, discoveries_of, with_discoveries_made, with_object_discovered, with_member, without_member, with_published, with_subscribed, with_published_interaction, with_subscribed_interaction, with_object, without_object}
+use Rattle.hla_machine.specs.Central.{Central, Copy, Tso, Demoted, BelowAllTso, BelowOut, BelowBound, BelowSomeWake, low_entry, at_key, at3, demoted_copy}
 use Rattle.hla_machine.specs.Sends.{after_messages, sent_handle, is_told, owed_to_receivers}
 use Rattle.hla_machine.specs.Refusals.{Seen, refusal, is_known}
 use Rattle.hla_machine.specs.Callbacks.{MayPickUp, after_pick, IsCopy, AreTso, is_among, with_central_row, with_demoted}
@@ -190,8 +190,8 @@ Allowed c step out o = MayEnd c step out o × IsChoice step out o
 abbrev pub with_central_directory : Central → Directory → Central
 with_central_directory c d = record c { directory = d }
 
-abbrev pub ask : Central → ℕ → AdvanceKind → ℕ → Central
-ask c f k a = with_central_row c f (row_after_request (c.row f) k a)
+abbrev pub after_request : Central → ℕ → AdvanceKind → ℕ → Central
+after_request c f k a = with_central_row c f (row_after_request (c.row f) k a)
 
 -- a federate leaves: what is for it goes, and what it sent stays
 abbrev pub after_leaving : Central → ℕ → Central
@@ -214,13 +214,13 @@ after_resign c f DeleteObjectsAndReleaseAttributes = c
 -- f subscribes, and is to discover what fits now
 abbrev pub after_subscribe : Central → ℕ → ℕ → Option (List ℕ) → Central
 after_subscribe c f class attributes = let d = with_subscribed c.directory f class attributes in record c {
-  directory = discovered_by d f;
+  directory = with_discoveries_made d f;
   discoveries = λ g. upd (c.discoveries g) f (c.discoveries g f ++ discoveries_of d g f);
 }
 
 abbrev pub after_register : Central → ℕ → ℕ → List ℕ → Central
 after_register c f class name = let d = with_object c.directory f class name in record c {
-  directory = discovered_by_all d c.directory.next_object;
+  directory = with_object_discovered d c.directory.next_object;
   discoveries = upd_row c.discoveries c.directory.joined f (λ g ds. ds ++ discoveries_of d f g);
 }
 
@@ -234,7 +234,7 @@ after_retract c f m = record c {
 }
 
 abbrev pub after_enter : Central → ℕ → ℕ → Choice → Central
-after_enter c f lookahead (choice.Entry e) = with_central_row c f (regulating_from (c.row f) lookahead e)
+after_enter c f lookahead (choice.Entry e) = with_central_row c f (row_with_entry (c.row f) lookahead e)
 after_enter c f lookahead o = c
 
 abbrev pub after_cease : Central → ℕ → Choice → Central
@@ -260,11 +260,11 @@ after_call c f (service.EnableTimeRegulation time lookahead) o = after_enter c f
 after_call c f service.DisableTimeRegulation o = with_central_row c f (record (c.row f) { regulating = Disabled })
 after_call c f service.EnableTimeConstrained o = with_central_row c f (record (c.row f) { constrained = Pending })
 after_call c f service.DisableTimeConstrained o = after_cease c f o
-after_call c f (service.TimeAdvanceRequest time) o = ask c f kind.TimeAdvance time
-after_call c f (service.TimeAdvanceRequestAvailable time) o = ask c f kind.TimeAdvanceAvailable time
-after_call c f (service.NextEventRequest time) o = ask c f kind.NextEvent time
-after_call c f (service.NextEventRequestAvailable time) o = ask c f kind.NextEventAvailable time
-after_call c f (service.FlushQueueRequest time) o = ask c f kind.FlushQueue time
+after_call c f (service.TimeAdvanceRequest time) o = after_request c f kind.TimeAdvance time
+after_call c f (service.TimeAdvanceRequestAvailable time) o = after_request c f kind.TimeAdvanceAvailable time
+after_call c f (service.NextEventRequest time) o = after_request c f kind.NextEvent time
+after_call c f (service.NextEventRequestAvailable time) o = after_request c f kind.NextEventAvailable time
+after_call c f (service.FlushQueueRequest time) o = after_request c f kind.FlushQueue time
 after_call c f (service.ModifyLookahead lookahead) o = with_central_row c f (record (c.row f) { lookahead = lookahead })
 after_call c f service.EnableAsynchronousDelivery o = with_central_row c f (record (c.row f) { asynchronous = true })
 after_call c f service.DisableAsynchronousDelivery o = with_central_row c f (record (c.row f) { asynchronous = false })
@@ -273,7 +273,7 @@ after_call c f service o = c
 -- ---- the state after another step
 -- what arrives while the receiver is not constrained will be given in receive order
 abbrev pub after_arrival : Central → ℕ → ℕ → ℕ → Central
-after_arrival c g f m = record c { bag = cond (is_disabled (c.row f).constrained) (at_key c.bag g m f (option_map demoted (c.bag g m f))) c.bag }
+after_arrival c g f m = record c { bag = cond (is_disabled (c.row f).constrained) (at_key c.bag g m f (option_map demoted_copy (c.bag g m f))) c.bag }
 
 -- a retraction takes back the copy, or asks the federate that has picked it up
 abbrev pub after_retraction_arrival : Central → ℕ → ℕ → ℕ → Central
@@ -289,11 +289,11 @@ after_carry c g f (carried.Removal e) = after_arrival c g f e.serial
 after_carry c g f (carried.Retraction e) = after_retraction_arrival c g f e.serial
 after_carry c g f x = c
 
-abbrev pub joined_by : Central → List ℕ → Central
-joined_by c name = let n = c.directory.next_federate in record c { directory = with_member c.directory name; row = upd c.row n new_row }
+abbrev pub after_join : Central → List ℕ → Central
+after_join c name = let n = c.directory.next_federate in record c { directory = with_member c.directory name; row = upd c.row n new_row }
 
 abbrev pub after_done : Central → Step → Answer → Choice → Central
-after_done c (Join name) a o = joined_by c name
+after_done c (Join name) a o = after_join c name
 after_done c (Call f service) a o = after_call c f service o
 after_done c (Carry from to) (answer.Carried x) o = after_carry c from to x
 after_done c (Tick f) (answer.Ticked (Some k)) o = after_pick c f k o

@@ -6,7 +6,7 @@ use Rattle.hla_base.specs.Tables.{upd, upd2, is_other, or_else, when, one_if}
 use Rattle.hla_base.specs.Rows.{is_enabled, least_stamp}
 use Rattle.hla_fed_file.specs.declared.declared.Order.{Order}
 use Rattle.hla_fed_file.specs.declared.declared.Order.TheVariants.{Receive, Timestamp}
-use Rattle.hla_machine.specs.Directory.{Directory, Outgoing, Body, AnInteraction, AnUpdate, ADeletion, content_for, receives, is_of_order}
+use Rattle.hla_machine.specs.Directory.{Directory, Outgoing, Body, AnInteraction, AnUpdate, ADeletion, content_for, is_receiver, is_of_order}
 use Rattle.hla_machine.specs.Central.{Central, Copy, Ro, Tso, SentEvent, no_event, with_copies, is_key}
 
 -- a message goes in time-stamp order if its order says so, it has a stamp, and its sender regulates
@@ -32,7 +32,7 @@ is_retractable r stamp out = is_ordered r stamp out && not (is_deletion out.body
 -- what is kept of a message that may be retracted; of another nothing is
 abbrev pub sent_event : Directory → TimeRow → ℕ → Option ℕ → Outgoing → SentEvent
 sent_event d r g stamp out = cond (is_retractable r stamp out)
-    (record { stamp = kept_stamp r stamp out; retractable = true; retracted = false; receivers = receives d g out.body }) no_event
+    (record { stamp = kept_stamp r stamp out; retractable = true; retracted = false; receivers = is_receiver d g out.body }) no_event
 
 -- one message takes its sender's next serial, with or without receivers
 abbrev pub after_message : Central → ℕ → Option ℕ → Outgoing → Central

@@ -5,7 +5,7 @@ use Rattle.std.proofs.lemmas.Bool.{cases_eq, cases_lt}
 use Rattle.std.proofs.lemmas.List.{length-append}
 use Rattle.hla_base.specs.Tables.{upd, upd2}
 use Rattle.hla_machine.specs.Directory.{Object}
-use Rattle.hla_object_registry.specs.Registered.{Registered, RegistryValue, unregistered, item_at, is_in, registry_of}
+use Rattle.hla_object_registry.specs.Registered.{Registered, RegistryValue, unregistered_object, item_at, is_in, registry_of}
 use Rattle.hla_object_registry.specs.Queries.{without_owned}
 use Rattle.hla_object_registry.proofs.Items.{upd_same, upd_other, upd2_row, upd2_other, by_number, item-set, item-append, item-none, is_in-nothing}
 
@@ -32,72 +32,72 @@ upd-row t i j x row same k l = by_number i (λ k. upd t i row k l ≡ upd2 t i j
 
 module _ (rs : List Registered) where
   items : ℕ → Registered
-  items = item_at unregistered rs
+  items = item_at unregistered_object rs
 
   -- one more object, known to its owner
   pub one_more : (x : Registered) (owner : ℕ) → is_in x.known ≡ upd (λ _. false) owner true
       → registry_of (rs ++ x ∷ []) ≡ record (registry_of rs) { next_object = length rs + 1 + 1; object = upd (registry_of rs).object (length rs + 1) x.object; known = upd2 (registry_of rs).known (length rs + 1) owner true }
   one_more x owner known =
       let n = length rs + 1 in
-      let unknown : (registry_of rs).known n ≡ (λ _. false) = fun_ext (λ f. ap (λ (r : Registered). is_in r.known f) (item-none unregistered rs n (omega arith)) ∙ is_in-nothing f) in
+      let unknown : (registry_of rs).known n ≡ (λ _. false) = fun_ext (λ f. ap (λ (r : Registered). is_in r.known f) (item-none unregistered_object rs n (omega arith)) ∙ is_in-nothing f) in
       registry_ext
       (omega (arith, length-append rs (x ∷ [])))
-      (λ h. ap (λ (r : Registered). r.object) (item-append unregistered rs x h) ∙ upd-field (λ (r : Registered). r.object) (item_at unregistered rs) n x h)
-      (λ h f. ap (λ (r : Registered). is_in r.known f) (item-append unregistered rs x h)
-      ∙ ap (λ k. k f) (upd-field (λ (r : Registered). is_in r.known) (item_at unregistered rs) n x h)
+      (λ h. ap (λ (r : Registered). r.object) (item-append unregistered_object rs x h) ∙ upd-field (λ (r : Registered). r.object) (item_at unregistered_object rs) n x h)
+      (λ h f. ap (λ (r : Registered). is_in r.known f) (item-append unregistered_object rs x h)
+      ∙ ap (λ k. k f) (upd-field (λ (r : Registered). is_in r.known) (item_at unregistered_object rs) n x h)
       ∙ upd-row (registry_of rs).known n owner true (is_in x.known) (known ∙ ap (λ t. upd t owner true) (sym unknown)) h f)
 
   module _ (h : ℕ) (some : 0 < h) (within : h ≤ length rs) where
     -- one object changes
-    pub one_known : (flags : List Bool) (f : ℕ) → is_in flags ≡ upd (is_in (item_at unregistered rs h).known) f true
-        → registry_of (set rs (h - 1) (record (item_at unregistered rs h) { known = flags })) ≡ record (registry_of rs) { known = upd2 (registry_of rs).known h f true }
+    pub one_known : (flags : List Bool) (f : ℕ) → is_in flags ≡ upd (is_in (item_at unregistered_object rs h).known) f true
+        → registry_of (set rs (h - 1) (record (item_at unregistered_object rs h) { known = flags })) ≡ record (registry_of rs) { known = upd2 (registry_of rs).known h f true }
     one_known flags f same =
-        let x : Registered = record (item_at unregistered rs h) { known = flags } in
+        let x : Registered = record (item_at unregistered_object rs h) { known = flags } in
         registry_ext
         (ap (λ n. n + 1) (length-set rs (h - 1) x))
-        (λ g. ap (λ (r : Registered). r.object) (item-set unregistered rs h x some within g) ∙ upd-field (λ (r : Registered). r.object) (item_at unregistered rs) h x g ∙ upd-self (registry_of rs).object h _ refl g)
-        (λ g k. ap (λ (r : Registered). is_in r.known k) (item-set unregistered rs h x some within g)
-        ∙ ap (λ t. t k) (upd-field (λ (r : Registered). is_in r.known) (item_at unregistered rs) h x g)
+        (λ g. ap (λ (r : Registered). r.object) (item-set unregistered_object rs h x some within g) ∙ upd-field (λ (r : Registered). r.object) (item_at unregistered_object rs) h x g ∙ upd-self (registry_of rs).object h _ refl g)
+        (λ g k. ap (λ (r : Registered). is_in r.known k) (item-set unregistered_object rs h x some within g)
+        ∙ ap (λ t. t k) (upd-field (λ (r : Registered). is_in r.known) (item_at unregistered_object rs) h x g)
         ∙ upd-row (registry_of rs).known h f true (is_in flags) same g k)
 
     pub one_changed : (object : Object)
-        → registry_of (set rs (h - 1) (record (item_at unregistered rs h) { object = object })) ≡ record (registry_of rs) { object = upd (registry_of rs).object h object }
+        → registry_of (set rs (h - 1) (record (item_at unregistered_object rs h) { object = object })) ≡ record (registry_of rs) { object = upd (registry_of rs).object h object }
     one_changed object =
-        let x : Registered = record (item_at unregistered rs h) { object = object } in
+        let x : Registered = record (item_at unregistered_object rs h) { object = object } in
         registry_ext
         (ap (λ n. n + 1) (length-set rs (h - 1) x))
-        (λ g. ap (λ (r : Registered). r.object) (item-set unregistered rs h x some within g) ∙ upd-field (λ (r : Registered). r.object) (item_at unregistered rs) h x g)
-        (λ g k. ap (λ (r : Registered). is_in r.known k) (item-set unregistered rs h x some within g)
-        ∙ ap (λ t. t k) (upd-field (λ (r : Registered). is_in r.known) (item_at unregistered rs) h x g)
+        (λ g. ap (λ (r : Registered). r.object) (item-set unregistered_object rs h x some within g) ∙ upd-field (λ (r : Registered). r.object) (item_at unregistered_object rs) h x g)
+        (λ g k. ap (λ (r : Registered). is_in r.known k) (item-set unregistered_object rs h x some within g)
+        ∙ ap (λ t. t k) (upd-field (λ (r : Registered). is_in r.known) (item_at unregistered_object rs) h x g)
         ∙ ap (λ t. t k) (upd-self (registry_of rs).known h _ refl g))
 
 -- the object, deleted if it is the federate's
-abbrev pub withdrawn : ℕ → Registered → Registered
-withdrawn f x = record x { object = record x.object { exists = x.object.exists && not (eqb x.object.owner f) } }
+abbrev pub object_after_withdrawal : ℕ → Registered → Registered
+object_after_withdrawal f x = record x { object = record x.object { exists = x.object.exists && not (eqb x.object.owner f) } }
 
 -- the first n objects are as they were, and deleted if they are the federate's; the others are as they were
 pub record IsWithdrawn (f n : ℕ) (old new : List Registered) : Type 0 where
   pub length_same : length new ≡ length old
-  pub before : (k : ℕ) → k < n → item_at unregistered new (suc k) ≡ withdrawn f (item_at unregistered old (suc k))
-  pub after : (k : ℕ) → n ≤ k → item_at unregistered new (suc k) ≡ item_at unregistered old (suc k)
+  pub before : (k : ℕ) → k < n → item_at unregistered_object new (suc k) ≡ object_after_withdrawal f (item_at unregistered_object old (suc k))
+  pub after : (k : ℕ) → n ≤ k → item_at unregistered_object new (suc k) ≡ item_at unregistered_object old (suc k)
 
 pub none_withdrawn : (f : ℕ) (rs : List Registered) → IsWithdrawn f 0 rs rs
 none_withdrawn f rs = record { length_same = refl; before = λ k below. absurd (omega arith); after = λ k _. refl }
 
-pub one_withdrawn : (f n : ℕ) (old new : List Registered) → IsWithdrawn f n old new → n < length new → IsWithdrawn f (n + 1) old (set new n (withdrawn f (item_at unregistered new (suc n))))
+pub one_withdrawn : (f n : ℕ) (old new : List Registered) → IsWithdrawn f n old new → n < length new → IsWithdrawn f (n + 1) old (set new n (object_after_withdrawal f (item_at unregistered_object new (suc n))))
 one_withdrawn f n old new h within =
-    let x = withdrawn f (item_at unregistered new (suc n)) in
+    let x = object_after_withdrawal f (item_at unregistered_object new (suc n)) in
     let same : length new ≡ length old = h.length_same in
     let back : suc n - 1 ≡ n = omega arith in
-    let written = λ (g : ℕ). ap (λ m. item_at unregistered (set new m x) g) (sym back) ∙ item-set unregistered new (suc n) x (omega arith) (omega arith) g in
+    let written = λ (g : ℕ). ap (λ m. item_at unregistered_object (set new m x) g) (sym back) ∙ item-set unregistered_object new (suc n) x (omega arith) (omega arith) g in
     record {
       length_same = length-set new n x ∙ same;
       before = λ k below. ⊎_elim
-          (λ (e : k ≡ n). subst (λ m. item_at unregistered (set new n x) (suc m) ≡ withdrawn f (item_at unregistered old (suc m))) (sym e)
-          (written (suc n) ∙ upd_same (item_at unregistered new) (suc n) x ∙ ap (withdrawn f) (h.after n (omega arith))))
-          (λ (ne : k ≢ n). written (suc k) ∙ upd_other (item_at unregistered new) (suc n) x (suc k) (λ e. ne (omega arith)) ∙ h.before k (omega arith))
+          (λ (e : k ≡ n). subst (λ m. item_at unregistered_object (set new n x) (suc m) ≡ object_after_withdrawal f (item_at unregistered_object old (suc m))) (sym e)
+          (written (suc n) ∙ upd_same (item_at unregistered_object new) (suc n) x ∙ ap (object_after_withdrawal f) (h.after n (omega arith))))
+          (λ (ne : k ≢ n). written (suc k) ∙ upd_other (item_at unregistered_object new) (suc n) x (suc k) (λ e. ne (omega arith)) ∙ h.before k (omega arith))
           (cases_eq k n);
-      after = λ k above. written (suc k) ∙ upd_other (item_at unregistered new) (suc n) x (suc k) (λ e. absurd (omega arith)) ∙ h.after k (omega arith);
+      after = λ k above. written (suc k) ∙ upd_other (item_at unregistered_object new) (suc n) x (suc k) (λ e. absurd (omega arith)) ∙ h.after k (omega arith);
     }
 
 pub all_withdrawn : (f n : ℕ) (old new : List Registered) → IsWithdrawn f n old new → length old ≤ n → registry_of new ≡ without_owned (registry_of old) f
@@ -106,11 +106,11 @@ all_withdrawn f n old new h all = registry_ext
     (λ g. ap (λ (r : Registered). r.object) (each g))
     (λ g k. ap (λ (r : Registered). is_in r.known k) (each g))
   where
-    each : (g : ℕ) → item_at unregistered new g ≡ withdrawn f (item_at unregistered old g)
+    each : (g : ℕ) → item_at unregistered_object new g ≡ object_after_withdrawal f (item_at unregistered_object old g)
     each zero = refl
     each (suc k) = ⊎_elim
         (λ (below : k < n). h.before k below)
         (λ (above : n ≤ k).
         let same : length new ≡ length old = h.length_same in
-        item-none unregistered new (suc k) (omega arith) ∙ ap (withdrawn f) (sym (item-none unregistered old (suc k) (omega arith))))
+        item-none unregistered_object new (suc k) (omega arith) ∙ ap (object_after_withdrawal f) (sym (item-none unregistered_object old (suc k) (omega arith))))
         (cases_lt k n)

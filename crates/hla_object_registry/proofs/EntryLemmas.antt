@@ -4,38 +4,38 @@ use Rattle.std.proofs.Common.{◌≡◌, ℕ, zero, suc, ◌+◌, ◌-◌, ◌<�
 use Rattle.std.proofs.lemmas.List.{length-append}
 use Rattle.std.specs.Map.{values_of}
 use Rattle.hla_base.specs.Tables.{upd, upd2}
-use Rattle.hla_object_registry.specs.Registered.{Registered, unregistered, item_at, is_in, registry_of}
-use Rattle.hla_object_registry.proofs.Items.{numbered_within}
-use Rattle.hla_object_registry.proofs.Changes.{one_more, one_known, one_changed, IsWithdrawn, withdrawn, one_withdrawn}
+use Rattle.hla_object_registry.specs.Registered.{Registered, unregistered_object, item_at, is_in, registry_of}
+use Rattle.hla_object_registry.proofs.Items.{item_numbered_within}
+use Rattle.hla_object_registry.proofs.Changes.{one_more, one_known, one_changed, IsWithdrawn, object_after_withdrawal, one_withdrawn}
 use Rattle.std.specs.Option.{option_map}
 use Rattle.std.specs.declared.vec.Vec.{Vec}
 use Rattle.std.specs.declared.alloc.Global.{Global}
 use Rattle.indexmap.specs.IndexMap.{set_value_at}
 use Rattle.hla_object_registry.specs.declared.entry.Entry.{Entry}
 use Rattle.hla_object_registry.specs.Queries.{with_registered}
-use Rattle.hla_object_registry.specs.Entries.{registered, registered_as}
+use Rattle.hla_object_registry.specs.Entries.{registered_objects, registered_object}
 
 abbrev pub Entries : Type 0
 Entries = List (Vec ℕ Global × Entry)
 
-pub length-registered : (es : Entries) → length (registered es) ≡ length es
+pub length-registered : (es : Entries) → length (registered_objects es) ≡ length es
 length-registered [] = refl
 length-registered (e ∷ es) = ap suc (length-registered es)
 
-pub registered-append : (es : Entries) (k : Vec ℕ Global) (v : Entry) → registered (es ++ (k, v) ∷ []) ≡ registered es ++ registered_as (k, v) ∷ []
+pub registered-append : (es : Entries) (k : Vec ℕ Global) (v : Entry) → registered_objects (es ++ (k, v) ∷ []) ≡ registered_objects es ++ registered_object (k, v) ∷ []
 registered-append [] k v = refl
-registered-append (e ∷ es) k v = ap (λ r. registered_as e ∷ r) (registered-append es k v)
+registered-append (e ∷ es) k v = ap (λ r. registered_object e ∷ r) (registered-append es k v)
 
-pub slice_get-registered : (es : Entries) (i : ℕ) → option_map registered_as (slice_get es i) ≡ slice_get (registered es) i
+pub slice_get-registered : (es : Entries) (i : ℕ) → option_map registered_object (slice_get es i) ≡ slice_get (registered_objects es) i
 slice_get-registered [] i = refl
 slice_get-registered (e ∷ es) zero = refl
 slice_get-registered (e ∷ es) (suc i) = slice_get-registered es i
 
 -- an entry that changes, its key staying
-pub registered-set : (es : Entries) (i : ℕ) (k : Vec ℕ Global) (v w : Entry) → slice_get es i ≡ Some (k, v) → registered (set_value_at es i w) ≡ set (registered es) i (registered_as (k, w))
+pub registered-set : (es : Entries) (i : ℕ) (k : Vec ℕ Global) (v w : Entry) → slice_get es i ≡ Some (k, v) → registered_objects (set_value_at es i w) ≡ set (registered_objects es) i (registered_object (k, w))
 registered-set [] i k v w at = cc
-registered-set (e ∷ es) zero k v w at = let same : e ≡ (k, v) = cc in ap (λ (x : Vec ℕ Global × Entry). registered_as (x.0, w) ∷ registered es) same
-registered-set (e ∷ es) (suc i) k v w at = ap (λ r. registered_as e ∷ r) (registered-set es i k v w at)
+registered-set (e ∷ es) zero k v w at = let same : e ≡ (k, v) = cc in ap (λ (x : Vec ℕ Global × Entry). registered_object (x.0, w) ∷ registered_objects es) same
+registered-set (e ∷ es) (suc i) k v w at = ap (λ r. registered_object e ∷ r) (registered-set es i k v w at)
 
 length-set_value_at : (es : Entries) (i : ℕ) (w : Entry) → length (set_value_at es i w) ≡ length es
 length-set_value_at [] i w = refl
@@ -52,7 +52,7 @@ key_at (e ∷ es) zero v at = let same : e.1 ≡ v = cc in (e.0, ap (λ (w : Ent
 key_at (e ∷ es) (suc i) v at = key_at es i v at
 
 -- the place of an object in the list
-pub place_within : (es : Entries) (rs : List Registered) (h : ℕ) → registered es ≡ rs → 0 < h → h < length rs + 1 → h - 1 < length es
+pub place_within : (es : Entries) (rs : List Registered) (h : ℕ) → registered_objects es ≡ rs → 0 < h → h < length rs + 1 → h - 1 < length es
 place_within es rs h view some within = omega (arith, within, ap length view, length-registered es)
 
 module _ (es : Entries) (h : ℕ) (v : Entry) (some : 0 < h) (within : h - 1 < length es) (at : slice_get (values_of es) (h - 1) ≡ Some v) where
@@ -63,44 +63,44 @@ module _ (es : Entries) (h : ℕ) (v : Entry) (some : 0 < h) (within : h - 1 < l
   unfolding key
   is_there = (key_at es (h - 1) v at).1
 
-  item_there : item_at unregistered (registered es) h ≡ registered_as (key, v)
-  item_there = ap (λ o. unwrap_or o unregistered) (numbered_within (registered es) h (λ z. absurd (omega arith)) ∙ sym (slice_get-registered es (h - 1)) ∙ ap (option_map registered_as) is_there)
+  item_there : item_at unregistered_object (registered_objects es) h ≡ registered_object (key, v)
+  item_there = ap (λ o. unwrap_or o unregistered_object) (item_numbered_within (registered_objects es) h (λ z. absurd (omega arith)) ∙ sym (slice_get-registered es (h - 1)) ∙ ap (option_map registered_object) is_there)
 
-  short : h ≤ length (registered es)
+  short : h ≤ length (registered_objects es)
   short = omega (arith, within, length-registered es)
 
   pub entry_known : (flags : List Bool) (f : ℕ) → is_in flags ≡ upd (is_in v.known) f true
-      → registry_of (registered (set_value_at es (h - 1) (record v { known = flags }))) ≡ record (registry_of (registered es)) { known = upd2 (registry_of (registered es)).known h f true }
+      → registry_of (registered_objects (set_value_at es (h - 1) (record v { known = flags }))) ≡ record (registry_of (registered_objects es)) { known = upd2 (registry_of (registered_objects es)).known h f true }
   entry_known flags f same =
-      ap registry_of (registered-set es (h - 1) key v (record v { known = flags }) is_there ∙ ap (λ (r : Registered). set (registered es) (h - 1) (record r { known = flags })) (sym item_there))
-      ∙ one_known (registered es) h some short flags f (same ∙ ap (λ (r : Registered). upd (is_in r.known) f true) (sym item_there))
+      ap registry_of (registered-set es (h - 1) key v (record v { known = flags }) is_there ∙ ap (λ (r : Registered). set (registered_objects es) (h - 1) (record r { known = flags })) (sym item_there))
+      ∙ one_known (registered_objects es) h some short flags f (same ∙ ap (λ (r : Registered). upd (is_in r.known) f true) (sym item_there))
 
-  pub entry_deleted : registry_of (registered (set_value_at es (h - 1) (record v { exists = false })))
-      ≡ record (registry_of (registered es)) { object = upd (registry_of (registered es)).object h (record ((registry_of (registered es)).object h) { exists = false }) }
+  pub entry_deleted : registry_of (registered_objects (set_value_at es (h - 1) (record v { exists = false })))
+      ≡ record (registry_of (registered_objects es)) { object = upd (registry_of (registered_objects es)).object h (record ((registry_of (registered_objects es)).object h) { exists = false }) }
   entry_deleted =
-      ap registry_of (registered-set es (h - 1) key v (record v { exists = false }) is_there ∙ ap (λ (r : Registered). set (registered es) (h - 1) (record r { object = record r.object { exists = false } })) (sym item_there))
-      ∙ one_changed (registered es) h some short (record (item_at unregistered (registered es) h).object { exists = false })
+      ap registry_of (registered-set es (h - 1) key v (record v { exists = false }) is_there ∙ ap (λ (r : Registered). set (registered_objects es) (h - 1) (record r { object = record r.object { exists = false } })) (sym item_there))
+      ∙ one_changed (registered_objects es) h some short (record (item_at unregistered_object (registered_objects es) h).object { exists = false })
 
 -- one more entry
-pub one_longer : (es new : Entries) (rs : List Registered) (k : Vec ℕ Global) (v : Entry) → registered es ≡ rs → length rs + 1 ≤ max_objects → new ≡ es ++ (k, v) ∷ [] → length new ≤ max_objects
+pub one_longer : (es new : Entries) (rs : List Registered) (k : Vec ℕ Global) (v : Entry) → registered_objects es ≡ rs → length rs + 1 ≤ max_objects → new ≡ es ++ (k, v) ∷ [] → length new ≤ max_objects
 one_longer es new rs k v view room added = omega (arith, room, ap length view, length-registered es, ap length added, length-append es ((k, v) ∷ []))
 
-pub entry_added : (es new : Entries) (rs : List Registered) (k : Vec ℕ Global) (name : List ℕ) (class owner : ℕ) (attributes : List ℕ) (flags : List Bool) → registered es ≡ rs → k.items ≡ name
+pub entry_added : (es new : Entries) (rs : List Registered) (k : Vec ℕ Global) (name : List ℕ) (class owner : ℕ) (attributes : List ℕ) (flags : List Bool) → registered_objects es ≡ rs → k.items ≡ name
     → new ≡ es ++ (k, record { class = class; owner = owner; attributes = attributes; exists = true; known = flags }) ∷ [] → is_in flags ≡ upd (λ _. false) owner true
-    → registry_of (registered new) ≡ with_registered (registry_of rs) class name owner attributes
+    → registry_of (registered_objects new) ≡ with_registered (registry_of rs) class name owner attributes
 entry_added es new rs k name class owner attributes flags view same added known =
     let x : List ℕ → Registered = λ n. record { object = record { class = class; name = n; owner = owner; attributes = attributes; exists = true }; known = flags } in
-    ap (λ l. registry_of (registered l)) added
+    ap (λ l. registry_of (registered_objects l)) added
     ∙ ap registry_of (registered-append es k _ ∙ (λ i. view i ++ x (same i) ∷ []))
     ∙ one_more rs (x name) owner known
 
 -- one more entry is withdrawn
-pub entry_withdrawn : (f n : ℕ) (old new : Entries) (v : Entry) → slice_get (values_of new) n ≡ Some v → n < length new → IsWithdrawn f n (registered old) (registered new)
-    → IsWithdrawn f (n + 1) (registered old) (registered (set_value_at new n (record v { exists = v.exists && not (eqb v.owner f) })))
+pub entry_withdrawn : (f n : ℕ) (old new : Entries) (v : Entry) → slice_get (values_of new) n ≡ Some v → n < length new → IsWithdrawn f n (registered_objects old) (registered_objects new)
+    → IsWithdrawn f (n + 1) (registered_objects old) (registered_objects (set_value_at new n (record v { exists = v.exists && not (eqb v.owner f) })))
 entry_withdrawn f n old new v at within before =
     let back : n ≡ suc n - 1 = omega arith in
     let there : slice_get (values_of new) (suc n - 1) ≡ Some v = subst (λ m. slice_get (values_of new) m ≡ Some v) back at in
     let k = key_at new n v at in
-    let x : item_at unregistered (registered new) (suc n) ≡ registered_as (k.0, v) = ap (λ o. unwrap_or o unregistered) (numbered_within (registered new) (suc n) (λ z. absurd (omega arith)) ∙ ap (slice_get (registered new)) (sym back) ∙ sym (slice_get-registered new n) ∙ ap (option_map registered_as) k.1) in
-    subst (IsWithdrawn f (n + 1) (registered old)) (ap (λ (r : Registered). set (registered new) n (withdrawn f r)) x ∙ sym (registered-set new n k.0 v _ k.1))
-    (one_withdrawn f n (registered old) (registered new) before (omega (arith, within, length-registered new)))
+    let x : item_at unregistered_object (registered_objects new) (suc n) ≡ registered_object (k.0, v) = ap (λ o. unwrap_or o unregistered_object) (item_numbered_within (registered_objects new) (suc n) (λ z. absurd (omega arith)) ∙ ap (slice_get (registered_objects new)) (sym back) ∙ sym (slice_get-registered new n) ∙ ap (option_map registered_object) k.1) in
+    subst (IsWithdrawn f (n + 1) (registered_objects old)) (ap (λ (r : Registered). set (registered_objects new) n (object_after_withdrawal f r)) x ∙ sym (registered-set new n k.0 v _ k.1))
+    (one_withdrawn f n (registered_objects old) (registered_objects new) before (omega (arith, within, length-registered new)))

@@ -9,7 +9,7 @@ use Rattle.std.proofs.lemmas.List.{length-append}
 use Rattle.std.proofs.lemmas.Option.{unwrap_or-slice_get}
 use Rattle.std.proofs.Math.Path.{fun_ext}
 use Rattle.hla_base.specs.Tables.{upd, upd2}
-use Rattle.hla_fed_file.specs.Lookup.{numbered}
+use Rattle.hla_fed_file.specs.Lookup.{item_numbered}
 use Rattle.hla_object_registry.specs.Registered.{item_at, is_in}
 
 pub upd_same : {X : Type 0} (t : ℕ → X) (i : ℕ) (x : X) → upd t i x i ≡ x
@@ -35,8 +35,8 @@ by_number f P here there g = ⊎_elim
     (λ (n : eqb f g ≡ false). there g (λ e. let y : eqb f g ≡ true = grind (arith, nat_tests) in cc))
     (cases_Bool (eqb f g))
 
-pub numbered_within : {X : Type 0} (xs : List X) (n : ℕ) → n ≢ 0 → numbered xs n ≡ slice_get xs (n - 1)
-numbered_within xs n ne = let e : eqb n 0 ≡ false = ne_eqb n 0 ne in rw e refl
+pub item_numbered_within : {X : Type 0} (xs : List X) (n : ℕ) → n ≢ 0 → item_numbered xs n ≡ slice_get xs (n - 1)
+item_numbered_within xs n ne = let e : eqb n 0 ≡ false = ne_eqb n 0 ne in rw e refl
 
 pub item-suc : {X : Type 0} (d : X) (xs : List X) (k : ℕ) → item_at d xs (suc k) ≡ get_or xs k d
 item-suc d xs k = let e : eqb (suc k) 0 ≡ false = eqb-suc-zero k in let m : suc k - 1 ≡ k = omega arith in rw (e, m) (unwrap_or-slice_get xs k d)

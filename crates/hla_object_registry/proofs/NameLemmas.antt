@@ -13,9 +13,9 @@ use Rattle.std.proofs.lemmas.Map.Keys.{apart_from_distinct}
 use Rattle.std.proofs.lemmas.Slice.Eq.{bytes_eq-Decides}
 use Rattle.indexmap.specs.IndexMap.{insert_entry}
 use Rattle.hla_object_registry.specs.declared.entry.Entry.{Entry}
-use Rattle.hla_object_registry.specs.Registered.{Registered, unregistered, item_at, registry_of}
+use Rattle.hla_object_registry.specs.Registered.{Registered, unregistered_object, item_at, registry_of}
 use Rattle.hla_object_registry.specs.Queries.{is_name_used_in, is_known_in, object_found}
-use Rattle.hla_object_registry.specs.Entries.{registered, name_at, IsUnused, IsNumberOf}
+use Rattle.hla_object_registry.specs.Entries.{registered_objects, name_at, IsUnused, IsNumberOf}
 use Rattle.hla_object_registry.proofs.Items.{item-suc}
 use Rattle.hla_object_registry.proofs.Numbers.{any_none, any_at, any_each, find_none, find_only}
 use Rattle.hla_object_registry.proofs.EntryLemmas.{Entries, length-registered}
@@ -33,22 +33,22 @@ same_bytes : (a b : List ℕ) → bytes_eq a b ≡ true → a ≡ b
 same_bytes a b = (bytes_eq-Decides a b).0
 
 -- ---- the keys of the entries are the names
-key_name : (es : Entries) (k : ℕ) (d : Vec ℕ Global) → k < length es → name_at (registered es) k ≡ (get_or (keys_of es) k d).items
+key_name : (es : Entries) (k : ℕ) (d : Vec ℕ Global) → k < length es → name_at (registered_objects es) k ≡ (get_or (keys_of es) k d).items
 key_name [] k d below = absurd (omega arith)
 key_name (e ∷ es) zero d below = refl
 key_name (e ∷ es) (suc k) d below = key_name es k d (omega arith)
 
-pub missing : (es : Entries) (name : List ℕ) → lookup (is_key name) es ≡ None → IsUnused (registered es) name
+pub missing : (es : Entries) (name : List ℕ) → lookup (is_key name) es ≡ None → IsUnused (registered_objects es) name
 missing [] name h k below = absurd (omega arith)
 missing (e ∷ es) name h k below = by k below (bytes_eq name e.0.items) refl h (missing es name)
   where
-    by : (k : ℕ) → k < length (registered (e ∷ es)) → (b : Bool) → bytes_eq name e.0.items ≡ b → cond b (Some e.1) (lookup (is_key name) es) ≡ None
-        → (lookup (is_key name) es ≡ None → IsUnused (registered es) name) → bytes_eq (name_at (registered (e ∷ es)) k) name ≡ false
+    by : (k : ℕ) → k < length (registered_objects (e ∷ es)) → (b : Bool) → bytes_eq name e.0.items ≡ b → cond b (Some e.1) (lookup (is_key name) es) ≡ None
+        → (lookup (is_key name) es ≡ None → IsUnused (registered_objects es) name) → bytes_eq (name_at (registered_objects (e ∷ es)) k) name ≡ false
     by k l true y bad rest = cc
     by zero l false n later rest = bytes_eq-comm e.0.items name ∙ n
     by (suc k) l false n later rest = rest later k (omega arith)
 
-pub not_looked_up : (es : Entries) (name : List ℕ) → IsUnused (registered es) name → lookup (is_key name) es ≡ None
+pub not_looked_up : (es : Entries) (name : List ℕ) → IsUnused (registered_objects es) name → lookup (is_key name) es ≡ None
 not_looked_up [] name unused = refl
 not_looked_up (e ∷ es) name unused =
     let here : bytes_eq name e.0.items ≡ false = bytes_eq-comm name e.0.items ∙ unused 0 (omega arith) in
@@ -59,10 +59,10 @@ none_from None h = refl
 none_from (Some x) h = absurd (true≢false (sym h))
 
 -- the place of a key is that of the one object of the name
-pub found_at : (es : Entries) (name : List ℕ) (i : ℕ) → Some i ≡ position (is_key name) (keys_of es) → IsDistinct same_key (keys_of es) → IsNumberOf (registered es) name (i + 1)
+pub found_at : (es : Entries) (name : List ℕ) (i : ℕ) → Some i ≡ position (is_key name) (keys_of es) → IsDistinct same_key (keys_of es) → IsNumberOf (registered_objects es) name (i + 1)
 found_at [] name i h distinct = cc
 found_at (e ∷ es) name i h distinct =
-    let rs = registered (e ∷ es) in
+    let rs = registered_objects (e ∷ es) in
     let ks = keys_of (e ∷ es) in
     let p = position-Some (is_key name) ks i e.0 (sym h) in
     let same_length : length rs ≡ length (e ∷ es) = length-registered (e ∷ es) in
@@ -105,22 +105,22 @@ and_second true b h = h
 and_second false b h = absurd (true≢false (sym h))
 
 module _ (rs : List Registered) (name : List ℕ) where
-  name_of : (k : ℕ) → (item_at unregistered rs (suc k)).object.name ≡ name_at rs k
-  name_of k = ap (λ (r : Registered). r.object.name) (item-suc unregistered rs k)
+  name_of : (k : ℕ) → (item_at unregistered_object rs (suc k)).object.name ≡ name_at rs k
+  name_of k = ap (λ (r : Registered). r.object.name) (item-suc unregistered_object rs k)
 
-  is_named : (h : ℕ) → 0 < h → bytes_eq (item_at unregistered rs h).object.name name ≡ bytes_eq (name_at rs (h - 1)) name
+  is_named : (h : ℕ) → 0 < h → bytes_eq (item_at unregistered_object rs h).object.name name ≡ bytes_eq (name_at rs (h - 1)) name
   is_named zero some = absurd (omega arith)
   is_named (suc k) some = let back : suc k - 1 ≡ k = omega arith in ap (λ n. bytes_eq n name) (name_of k) ∙ ap (λ n. bytes_eq (name_at rs n) name) (sym back)
 
-  test_unused : IsUnused rs name → (a : ℕ → Bool) → a 0 ≡ false → (j : ℕ) → j < length rs + 1 → (a j && bytes_eq (item_at unregistered rs j).object.name name) ≡ false
-  test_unused unused a first zero below = ap (λ b. b && bytes_eq (item_at unregistered rs 0).object.name name) first
+  test_unused : IsUnused rs name → (a : ℕ → Bool) → a 0 ≡ false → (j : ℕ) → j < length rs + 1 → (a j && bytes_eq (item_at unregistered_object rs j).object.name name) ≡ false
+  test_unused unused a first zero below = ap (λ b. b && bytes_eq (item_at unregistered_object rs 0).object.name name) first
   test_unused unused a first (suc k) below = and_false (a (suc k)) _ (ap (λ n. bytes_eq n name) (name_of k) ∙ unused k (omega arith))
 
-  test_only : (h : ℕ) → IsNumberOf rs name h → (a : ℕ → Bool) → a 0 ≡ false → (j : ℕ) → j < length rs + 1 → (a j && bytes_eq (item_at unregistered rs j).object.name name) ≡ true → j ≡ h
-  test_only h only a first zero below passes = absurd (true≢false (sym passes ∙ ap (λ b. b && bytes_eq (item_at unregistered rs 0).object.name name) first))
+  test_only : (h : ℕ) → IsNumberOf rs name h → (a : ℕ → Bool) → a 0 ≡ false → (j : ℕ) → j < length rs + 1 → (a j && bytes_eq (item_at unregistered_object rs j).object.name name) ≡ true → j ≡ h
+  test_only h only a first zero below passes = absurd (true≢false (sym passes ∙ ap (λ b. b && bytes_eq (item_at unregistered_object rs 0).object.name name) first))
   test_only h only a first (suc k) below passes = let next : k + 1 ≡ h = only.only k (omega arith) (ap (λ n. bytes_eq n name) (sym (name_of k)) ∙ and_second (a (suc k)) _ passes) in omega arith
 
-  test_at : (h : ℕ) → IsNumberOf rs name h → (a : ℕ → Bool) → a h ≡ true → (a h && bytes_eq (item_at unregistered rs h).object.name name) ≡ true
+  test_at : (h : ℕ) → IsNumberOf rs name h → (a : ℕ → Bool) → a h ≡ true → (a h && bytes_eq (item_at unregistered_object rs h).object.name name) ≡ true
   test_at h only a passes = and_true (a h) _ passes (is_named h only.some ∙ only.named)
 
   nonzero : (h : ℕ) → 0 < h → not (eqb h 0) ≡ true
@@ -134,7 +134,7 @@ module _ (rs : List Registered) (name : List ℕ) where
 
   pub unused_from : is_name_used_in (registry_of rs) name ≡ false → IsUnused rs name
   unused_from none k below =
-      let each = any_each (λ h. not (eqb h 0) && bytes_eq (item_at unregistered rs h).object.name name) (length rs + 1) none (suc k) (omega arith) in
+      let each = any_each (λ h. not (eqb h 0) && bytes_eq (item_at unregistered_object rs h).object.name name) (length rs + 1) none (suc k) (omega arith) in
       ⊎_elim
       (λ (named : bytes_eq (name_at rs k) name ≡ true). absurd (true≢false (sym (and_true (not (eqb (suc k) 0)) _ (nonzero (suc k) (omega arith)) (ap (λ n. bytes_eq n name) (name_of k) ∙ named)) ∙ each)))
       (λ (other : bytes_eq (name_at rs k) name ≡ false). other)
@@ -150,16 +150,16 @@ module _ (rs : List Registered) (name : List ℕ) where
 
     pub named_unknown : (h : ℕ) → IsNumberOf rs name h → is_known_in (registry_of rs) f h ≡ false → object_found (registry_of rs) f name ≡ None
     named_unknown h only fails = find_none _ _ (λ j below. ⊎_elim
-        (λ (passes : (is_known_in (registry_of rs) f j && bytes_eq (item_at unregistered rs j).object.name name) ≡ true).
+        (λ (passes : (is_known_in (registry_of rs) f j && bytes_eq (item_at unregistered_object rs j).object.name name) ≡ true).
         let same : j ≡ h = test_only h only (λ h. is_known_in (registry_of rs) f h) refl j below passes in
         absurd (true≢false (sym (and_first (is_known_in (registry_of rs) f j) _ passes) ∙ ap (λ n. is_known_in (registry_of rs) f n) same ∙ fails)))
-        (λ (other : (is_known_in (registry_of rs) f j && bytes_eq (item_at unregistered rs j).object.name name) ≡ false). other)
-        (cases_Bool (is_known_in (registry_of rs) f j && bytes_eq (item_at unregistered rs j).object.name name)))
+        (λ (other : (is_known_in (registry_of rs) f j && bytes_eq (item_at unregistered_object rs j).object.name name) ≡ false). other)
+        (cases_Bool (is_known_in (registry_of rs) f j && bytes_eq (item_at unregistered_object rs j).object.name name)))
 
 -- a name that no object has is entered last
-pub inserted : (es : Entries) (rs : List Registered) (name : List ℕ) (k : Vec ℕ Global) (v : Entry) → registered es ≡ rs → k.items ≡ name → is_name_used_in (registry_of rs) name ≡ false
+pub entry_inserted_last : (es : Entries) (rs : List Registered) (name : List ℕ) (k : Vec ℕ Global) (v : Entry) → registered_objects es ≡ rs → k.items ≡ name → is_name_used_in (registry_of rs) name ≡ false
     → insert_entry same_key es k v ≡ es ++ (k, v) ∷ []
-inserted es rs name k v view same unused = absent_inserted es k v (ap (λ n. lookup (is_key n) es) same ∙ not_looked_up es name (let P : List Registered → Type 0 = λ l. IsUnused l name in subst P (sym view) (unused_from rs name unused)))
+entry_inserted_last es rs name k v view same unused = absent_inserted es k v (ap (λ n. lookup (is_key n) es) same ∙ not_looked_up es name (let P : List Registered → Type 0 = λ l. IsUnused l name in subst P (sym view) (unused_from rs name unused)))
   where
     absent_inserted : (all : Entries) (k : Vec ℕ Global) (v : Entry) → lookup (is_key k.items) all ≡ None → insert_entry same_key all k v ≡ all ++ (k, v) ∷ []
     absent_inserted [] k v h = refl

@@ -4,23 +4,23 @@ use Rattle.std.specs.Str.{bytes_eq}
 use Rattle.std.specs.declared.vec.Vec.{Vec}
 use Rattle.std.specs.declared.alloc.Global.{Global}
 use Rattle.hla_base.specs.Limits.{max_objects}
-use Rattle.hla_object_registry.specs.Registered.{Registered, RegistryValue, unregistered, registry_of}
+use Rattle.hla_object_registry.specs.Registered.{Registered, RegistryValue, unregistered_object, registry_of}
 use Rattle.hla_object_registry.specs.declared.entry.Entry.{Entry}
 
 -- the object of an entry, whose key is its name
-abbrev pub registered_as : Vec ℕ Global × Entry → Registered
-registered_as e = record {
+abbrev pub registered_object : Vec ℕ Global × Entry → Registered
+registered_object e = record {
   object = record { class = e.1.class; name = e.0.items; owner = e.1.owner; attributes = e.1.attributes; exists = e.1.exists };
   known = e.1.known;
 }
 
-abbrev pub registered : List (Vec ℕ Global × Entry) → List Registered
-registered [] = []
-registered (e ∷ es) = registered_as e ∷ registered es
+abbrev pub registered_objects : List (Vec ℕ Global × Entry) → List Registered
+registered_objects [] = []
+registered_objects (e ∷ es) = registered_object e ∷ registered_objects es
 
 -- ---- names
 abbrev pub name_at : List Registered → ℕ → List ℕ
-name_at objects k = (slice_index_or objects k unregistered).object.name
+name_at objects k = (slice_index_or objects k unregistered_object).object.name
 
 -- no object has the name
 abbrev pub IsUnused : List Registered → List ℕ → Type 0
@@ -40,4 +40,4 @@ AreOwned r = (h : ℕ) → 0 < h → h < r.next_object → 0 < (r.object h).owne
 
 pub record AreEntriesKept (es : List (Vec ℕ Global × Entry)) : Type 0 where
   pub few : length es ≤ max_objects
-  pub owned : AreOwned (registry_of (registered es))
+  pub owned : AreOwned (registry_of (registered_objects es))

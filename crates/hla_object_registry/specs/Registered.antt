@@ -1,6 +1,6 @@
 -- What contracts see of a registry of objects, and the tables that it stands for
 use Rattle.std.specs.Prelude.{ℕ, ◌+◌, Bool, false, List, [], length, unwrap_or}
-use Rattle.hla_fed_file.specs.Lookup.{numbered}
+use Rattle.hla_fed_file.specs.Lookup.{item_numbered}
 use Rattle.hla_machine.specs.Directory.{Object, no_object}
 
 -- an object that was registered, and a flag for each federate in the order of their numbers: is it known there
@@ -8,8 +8,8 @@ pub record Registered : Type 0 where
   pub object : Object
   pub known : List Bool
 
-abbrev pub unregistered : Registered
-unregistered = record { object = no_object; known = [] }
+abbrev pub unregistered_object : Registered
+unregistered_object = record { object = no_object; known = [] }
 
 pub record RegistryValue : Type 0 where
   pub next_object : ℕ  -- the number of the object that is registered next; numbers begin with 1
@@ -18,7 +18,7 @@ pub record RegistryValue : Type 0 where
 
 -- the item with a number, counted from 1, and d where there is none
 abbrev pub item_at : {X : Type 0} → X → List X → ℕ → X
-item_at d xs n = unwrap_or (numbered xs n) d
+item_at d xs n = unwrap_or (item_numbered xs n) d
 
 -- is a federate in a set of federates
 abbrev pub is_in : List Bool → ℕ → Bool
@@ -28,8 +28,8 @@ is_in flags federate = item_at false flags federate
 abbrev pub registry_of : List Registered → RegistryValue
 registry_of objects = record {
   next_object = length objects + 1;
-  object = λ h. (item_at unregistered objects h).object;
-  known = λ h f. is_in (item_at unregistered objects h).known f;
+  object = λ h. (item_at unregistered_object objects h).object;
+  known = λ h f. is_in (item_at unregistered_object objects h).known f;
 }
 
 -- no object was registered

@@ -6,10 +6,10 @@ ghost use Rattle.std.specs.Map.Iter.{deref_pair};
 ghost use Rattle.hla_base.specs.Limits.{max_joins, max_objects};
 ghost use Rattle.hla_base.specs.Tables.{upd, upd2};
 ghost use Rattle.hla_base.specs.declared.fault.Fault.TheVariants.{OutOfMemory};
-ghost use Rattle.hla_fed_file.specs.Lookup.{numbered};
+ghost use Rattle.hla_fed_file.specs.Lookup.{item_numbered};
 ghost use Rattle.hla_object_registry.specs.Registered.{registry_of, new_registry};
 ghost use Rattle.hla_object_registry.specs.Queries.{is_name_used_in, is_known_in, is_owned_in, is_object_of, objects_owned, object_found, with_registered, without_owned};
-ghost use Rattle.hla_object_registry.specs.Entries.{registered_as, IsUnused, IsNumberOf, AreOwned};
+ghost use Rattle.hla_object_registry.specs.Entries.{registered_object, IsUnused, IsNumberOf, AreOwned};
 
 use crate::entry::Entry;
 use crate::federate_set::FederateSet;
@@ -32,9 +32,9 @@ impl Model for Registry {
 
     ghost Value = { List Registered };
 
-    ghost use Rattle.hla_object_registry.specs.Entries.{registered, AreEntriesKept};
+    ghost use Rattle.hla_object_registry.specs.Entries.{registered_objects, AreEntriesKept};
 
-    ghost view = { λ r. registered r.entries.entries };
+    ghost view = { λ r. registered_objects r.entries.entries };
 
     ghost invariant = { λ r. AreEntriesKept r.entries.entries };
 }
@@ -61,7 +61,7 @@ impl Registry {
 
     /// The name and the entry of an object, if it was registered.
     fn entry(&self, object: ObjectNo) -> Option<(&Vec<u8>, &Entry)>
-        ensures { option_map (λ e. registered_as (deref_pair e)) result ≡ numbered self.now object }
+        ensures { option_map (λ e. registered_object (deref_pair e)) result ≡ item_numbered self.now object }
     {
         if object == 0 {
             None
@@ -82,7 +82,7 @@ impl Registry {
 
     /// Whether an object exists: it was registered and not deleted. Its number counts from 1, as in all methods; of a number
     /// that no object has the answer is no.
-    pub fn exists(&self, object: ObjectNo) -> bool
+    pub fn has_object(&self, object: ObjectNo) -> bool
         ensures { result ≡ ((registry_of self.now).object object).exists }
     {
         match self.entry(object) {
@@ -135,7 +135,7 @@ impl Registry {
     pub fn is_known(&self, object: ObjectNo, federate: FederateNo) -> bool
         ensures { result ≡ is_known_in (registry_of self.now) federate object }
     {
-        self.exists(object) && self.was_made_known(object, federate)
+        self.has_object(object) && self.was_made_known(object, federate)
     }
 
     /// Whether a federate owns an attribute of an object, deleted or not.
@@ -174,7 +174,7 @@ impl Registry {
 
     /// The object of a name that exists and is known to a federate, if there is one (Get Object Instance Handle). It is found
     /// without going over all objects.
-    pub fn named(&self, federate: FederateNo, name: &[u8]) -> Option<ObjectNo>
+    pub fn object_named(&self, federate: FederateNo, name: &[u8]) -> Option<ObjectNo>
         ensures { result ≡ object_found (registry_of self.now) federate name.now }
     {
         match self.number_of(name) {
@@ -259,7 +259,11 @@ impl Registry {
     }
 
     /// The objects of a federate that exist, by rising number; `OutOfMemory` where a growth was refused.
-    pub fn owned_by(&self, alloc: Global, federate: FederateNo) -> Result<List<ObjectNo>, Fault>
+    pub fn objects_owned_by(
+        &self,
+        alloc: Global,
+        federate: FederateNo,
+    ) -> Result<List<ObjectNo>, Fault>
         ensures ok { IfOk result (λ objects. objects ≡ objects_owned (registry_of self.now) federate) }
         ensures err { IfErr result (λ e. e ≡ Fault.OutOfMemory) }
     {

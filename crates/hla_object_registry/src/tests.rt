@@ -37,15 +37,15 @@ fn three(rt: &impl Abort, alloc: Global) -> Result<Registry, Fail> {
 fn registers(rt: HostRuntime) -> Result<(), Fail> {
     let registry = three(&rt, rt.alloc())?;
     assert_eq!(rt; registry.next_object(), 4);
-    assert!(rt; registry.exists(2));
+    assert!(rt; registry.has_object(2));
     assert_eq!(rt; registry.class_of(2), 3);
     assert_eq!(rt; registry.owner(2), 2);
     assert_eq!(rt; registry.name_of(2), b"Bus".as_slice());
     assert!(rt; registry.owns_attribute(2, 2, 5));
     assert!(rt; !registry.owns_attribute(1, 2, 5));
     assert!(rt; !registry.owns_attribute(2, 2, 6));
-    assert!(rt; !registry.exists(0));
-    assert!(rt; !registry.exists(4));
+    assert!(rt; !registry.has_object(0));
+    assert!(rt; !registry.has_object(4));
     assert_eq!(rt; registry.name_of(4), b"".as_slice());
     Ok(())
 }
@@ -55,11 +55,11 @@ fn never_uses_a_name_again(rt: HostRuntime) -> Result<(), Fail> {
     let mut registry = three(&rt, rt.alloc())?;
     assert!(rt; registry.next_object() > 1);
     registry.delete(1);
-    assert!(rt; !registry.exists(1));
+    assert!(rt; !registry.has_object(1));
     assert!(rt; registry.is_name_used(b"Car"));
     assert!(rt; !registry.is_name_used(b"Train"));
     assert_eq!(rt; registry.name_of(1), b"Car".as_slice());
-    assert_eq!(rt; registry.named(1, b"Car"), None);
+    assert_eq!(rt; registry.object_named(1, b"Car"), None);
     assert_eq!(rt; add(&rt, rt.alloc(), &mut registry, b"Train", 1)?, 4);
     Ok(())
 }
@@ -69,14 +69,14 @@ fn is_known_to_whom_it_was_made_known(rt: HostRuntime) -> Result<(), Fail> {
     let mut registry = three(&rt, rt.alloc())?;
     assert!(rt; registry.is_known(2, 2));
     assert!(rt; !registry.is_known(2, 1));
-    assert_eq!(rt; registry.named(1, b"Bus"), None);
+    assert_eq!(rt; registry.object_named(1, b"Bus"), None);
     assert!(rt; registry.next_object() > 2);
     registry.make_known(2, 1);
     assert!(rt; registry.is_known(2, 1));
     assert!(rt; !registry.is_known(2, 0));
     assert!(rt; !registry.is_known(2, 16));
     assert!(rt; !registry.is_known(2, 17));
-    assert_eq!(rt; registry.named(1, b"Bus"), Some(2));
+    assert_eq!(rt; registry.object_named(1, b"Bus"), Some(2));
     assert!(rt; registry.next_object() > 2);
     registry.delete(2);
     assert!(rt; !registry.is_known(2, 1));
@@ -88,17 +88,17 @@ fn is_known_to_whom_it_was_made_known(rt: HostRuntime) -> Result<(), Fail> {
 fn lists_objects_by_rising_number(rt: HostRuntime) -> Result<(), Fail> {
     let mut registry = three(&rt, rt.alloc())?;
     assert_eq!(rt;
-        registry.owned_by(rt.alloc(), 1)?.as_slice(),
+        registry.objects_owned_by(rt.alloc(), 1)?.as_slice(),
         [1, 3].as_slice()
     );
     assert_eq!(rt;
-        registry.owned_by(rt.alloc(), 2)?.as_slice(),
+        registry.objects_owned_by(rt.alloc(), 2)?.as_slice(),
         [2].as_slice()
     );
     assert_eq!(rt; registry.count_owned_by(1), 2);
     registry.delete_owned_by(1);
-    assert!(rt; registry.owned_by(rt.alloc(), 1)?.is_empty());
+    assert!(rt; registry.objects_owned_by(rt.alloc(), 1)?.is_empty());
     assert_eq!(rt; registry.count_owned_by(2), 1);
-    assert!(rt; !registry.exists(3));
+    assert!(rt; !registry.has_object(3));
     Ok(())
 }

@@ -23,9 +23,9 @@ missed_at : (b : Bool) (y : Event) (o : Option Event) → cond b (Some y) o ≡ 
 missed_at true y o e = absurd (cc)
 missed_at false y o e = (refl, e)
 
-pub missed : (g m : ℕ) (y : Event) (ys : List Event) → find_event g m (y ∷ ys) ≡ None → is_event g m y ≡ false
+pub missed_head : (g m : ℕ) (y : Event) (ys : List Event) → find_event g m (y ∷ ys) ≡ None → is_event g m y ≡ false
 unfolding find_event
-missed g m y ys h = (missed_at (is_event g m y) y (find_event g m ys) h).0
+missed_head g m y ys h = (missed_at (is_event g m y) y (find_event g m ys) h).0
 
 pub missed_later : (g m : ℕ) (y : Event) (ys : List Event) → find_event g m (y ∷ ys) ≡ None → find_event g m ys ≡ None
 unfolding find_event
@@ -58,7 +58,7 @@ found_in_place false a b x y ys later apart e = rw e (either_first (is_event a b
 pub find_event-insert_event : (a b : ℕ) (x : Event) (xs : List Event) → find_event x.sender x.serial xs ≡ None → find_event a b (insert_event x xs) ≡ cond (is_event a b x) (Some x) (find_event a b xs)
 unfolding insert_event find_event
 find_event-insert_event a b x [] h = refl
-find_event-insert_event a b x (y ∷ ys) h = found_in_place (is_before x y) a b x y ys (insert_event x ys) (missed x.sender x.serial y ys h) (find_event-insert_event a b x ys (missed_later x.sender x.serial y ys h))
+find_event-insert_event a b x (y ∷ ys) h = found_in_place (is_before x y) a b x y ys (insert_event x ys) (missed_head x.sender x.serial y ys h) (find_event-insert_event a b x ys (missed_later x.sender x.serial y ys h))
 
 unique_in_place : (before : Bool) (x y : Event) (ys later : List Event) → find_event x.sender x.serial (y ∷ ys) ≡ None → IsUnique (y ∷ ys) → find_event y.sender y.serial later ≡ None → IsUnique later → IsUnique (cond before (x ∷ y ∷ ys) (y ∷ later))
 unfolding IsUnique
@@ -70,7 +70,7 @@ unfolding insert_event IsUnique
 IsUnique-insert_event x [] h u = (h, tt)
 IsUnique-insert_event x (y ∷ ys) h u =
     let later = missed_later x.sender x.serial y ys h in
-    let apart : is_event y.sender y.serial x ≡ false = is_event-turned y x ∙ missed x.sender x.serial y ys h in
+    let apart : is_event y.sender y.serial x ≡ false = is_event-turned y x ∙ missed_head x.sender x.serial y ys h in
     unique_in_place (is_before x y) x y ys (insert_event x ys) h u (find_event-insert_event y.sender y.serial x ys later ∙ rw apart u.0) (IsUnique-insert_event x ys later u.1)
 
 placed_length : (before : Bool) (x y : Event) (ys later : List Event) → length later ≡ suc (length ys) → length (cond before (x ∷ y ∷ ys) (y ∷ later)) ≡ suc (suc (length ys))
@@ -86,7 +86,7 @@ length-insert_event x (y ∷ ys) = placed_length (is_before x y) x y ys (insert_
 pub remove_event_missed : (g m : ℕ) (xs : List Event) → find_event g m xs ≡ None → remove_event g m xs ≡ xs
 unfolding remove_event
 remove_event_missed g m [] h = refl
-remove_event_missed g m (y ∷ ys) h = rw (missed g m y ys h, remove_event_missed g m ys (missed_later g m y ys h))
+remove_event_missed g m (y ∷ ys) h = rw (missed_head g m y ys h, remove_event_missed g m ys (missed_later g m y ys h))
 
 missed_if : (t : Bool) (a b : ℕ) (y : Event) (ys later : List Event) → is_event a b y ≡ false → find_event a b ys ≡ None → find_event a b later ≡ None → find_event a b (cond t ys (y ∷ later)) ≡ None
 unfolding find_event
@@ -98,7 +98,7 @@ unfolding remove_event find_event
 missed_still a b g m [] h = refl
 missed_still a b g m (y ∷ ys) h =
     let later = missed_later a b y ys h in
-    missed_if (is_event g m y) a b y ys (remove_event g m ys) (missed a b y ys h) later (missed_still a b g m ys later)
+    missed_if (is_event g m y) a b y ys (remove_event g m ys) (missed_head a b y ys h) later (missed_still a b g m ys later)
 
 gone_if : (t : Bool) (g m : ℕ) (y : Event) (ys later : List Event) → is_event g m y ≡ t → find_event y.sender y.serial ys ≡ None → find_event g m later ≡ None → find_event g m (cond t ys (y ∷ later)) ≡ None
 unfolding find_event

@@ -18,8 +18,8 @@ use Rattle.hla_order_queues.specs.declared.key.EventKey.{EventKey}
 use Rattle.hla_order_queues.specs.declared.key.EventName.{EventName}
 use Rattle.hla_order_queues.specs.Queues.{is_before, insert_event, is_event, find_event, remove_event, first_stamp}
 use Rattle.hla_order_queues.specs.Kept.{key_of, key_cmp, name_cmp, events_at, HasEvent, HoldEvents, IsUnique, stamp_of, HasEvents, AreSameEvents}
-use Rattle.hla_order_queues.proofs.KeyLemmas.{key_total, Compared, compared, is_eq-name_cmp, is_eq-key_cmp}
-use Rattle.hla_order_queues.proofs.EventLemmas.{names_equal, missed, missed_later, find_event_name, find_event-insert_event, IsUnique-insert_event, length-insert_event, find_event-remove_event_same, find_event-remove_event_other, IsUnique-remove_event, length-remove_event, remove_event_missed}
+use Rattle.hla_order_queues.proofs.KeyLemmas.{key_total, Compared, compared_keys, is_eq-name_cmp, is_eq-key_cmp}
+use Rattle.hla_order_queues.proofs.EventLemmas.{names_equal, missed_head, missed_later, find_event_name, find_event-insert_event, IsUnique-insert_event, length-insert_event, find_event-remove_event_same, find_event-remove_event_other, IsUnique-remove_event, length-remove_event, remove_event_missed}
 
 -- ---- what is at the places
 pub events_at-Holds : (s : Slab Event) (es : List (EventKey × ℕ)) (xs : List Event) → HoldEvents s es xs → events_at s es ≡ xs
@@ -61,12 +61,12 @@ Holds-same s t (e ∷ es) [] keeps h = absurd h
 Holds-same s t (e ∷ es) (x ∷ xs) keeps h = (record { found = keeps e.1 x h.0.found; key = h.0.key }, Holds-same s t es xs keeps h.1)
 
 -- ---- an event comes
-chosen : (t : Slab Event) (p q r : List (EventKey × ℕ)) (xs zs : List Event) (o : Ordering) (before same : Bool) → Compared o before same → same ≡ false → HoldEvents t p xs → HoldEvents t r zs → HoldEvents t (match_ordering o p q r) (cond before xs zs)
-chosen t p q r xs zs Less true same h apart first later = first
-chosen t p q r xs zs Less false same h apart first later = absurd (cc)
-chosen t p q r xs zs Equal before same h apart first later = absurd (cc)
-chosen t p q r xs zs Greater true same h apart first later = absurd (cc)
-chosen t p q r xs zs Greater false same h apart first later = later
+placed_event : (t : Slab Event) (p q r : List (EventKey × ℕ)) (xs zs : List Event) (o : Ordering) (before same : Bool) → Compared o before same → same ≡ false → HoldEvents t p xs → HoldEvents t r zs → HoldEvents t (match_ordering o p q r) (cond before xs zs)
+placed_event t p q r xs zs Less true same h apart first later = first
+placed_event t p q r xs zs Less false same h apart first later = absurd (cc)
+placed_event t p q r xs zs Equal before same h apart first later = absurd (cc)
+placed_event t p q r xs zs Greater true same h apart first later = absurd (cc)
+placed_event t p q r xs zs Greater false same h apart first later = later
 
 pub Holds-insert : (t : Slab Event) (x : Event) (i : ℕ) (es : List (EventKey × ℕ)) (xs : List Event) → HoldEvents t es xs → find_event x.sender x.serial xs ≡ None → slab.get t i ≡ Some x → HoldEvents t (insert_entry key_cmp es (key_of x) i) (insert_event x xs)
 unfolding HoldEvents insert_event
@@ -75,8 +75,8 @@ Holds-insert t x i [] (y ∷ ys) h fresh at = absurd h
 Holds-insert t x i (e ∷ es) [] h fresh at = absurd h
 Holds-insert t x i (e ∷ es) (y ∷ ys) h fresh at =
     let P : EventKey → Type 0 = λ k. Compared (key_cmp (key_of x) k) (is_before x y) (is_event x.sender x.serial y) in
-    let told : Compared (key_cmp (key_of x) e.0) (is_before x y) (is_event x.sender x.serial y) = subst P h.0.key (compared x y) in
-    chosen t _ _ _ (x ∷ y ∷ ys) (y ∷ insert_event x ys) (key_cmp (key_of x) e.0) (is_before x y) (is_event x.sender x.serial y) told (missed x.sender x.serial y ys fresh)
+    let told : Compared (key_cmp (key_of x) e.0) (is_before x y) (is_event x.sender x.serial y) = subst P h.0.key (compared_keys x y) in
+    placed_event t _ _ _ (x ∷ y ∷ ys) (y ∷ insert_event x ys) (key_cmp (key_of x) e.0) (is_before x y) (is_event x.sender x.serial y) told (missed_head x.sender x.serial y ys fresh)
     (record { found = at; key = refl }, h)
     (h.0, Holds-insert t x i es ys h.1 (missed_later x.sender x.serial y ys fresh) at)
 
@@ -94,7 +94,7 @@ unfolding HoldEvents
 taken_back s x i [] xs h fresh = rw (tied_itself key_total (key_of x))
 taken_back s x i (e ∷ es) [] h fresh = absurd h
 taken_back s x i (e ∷ es) (y ∷ ys) h fresh =
-    let apart : is_eq (key_cmp (key_of x) e.0) ≡ false = ap (λ k. is_eq (key_cmp (key_of x) k)) (sym h.0.key) ∙ apart_from x y (missed x.sender x.serial y ys fresh) in
+    let apart : is_eq (key_cmp (key_of x) e.0) ≡ false = ap (λ k. is_eq (key_cmp (key_of x) k)) (sym h.0.key) ∙ apart_from x y (missed_head x.sender x.serial y ys fresh) in
     back_if (key_cmp (key_of x) e.0) (is_at (key_cmp (key_of x))) (key_of x) i e es (insert_entry key_cmp es (key_of x) i) apart (ap is_eq (tied_itself key_total (key_of x))) apart (taken_back s x i es ys h.1 (missed_later x.sender x.serial y ys fresh))
 
 -- ---- an event goes
@@ -117,7 +117,7 @@ Holds-without s t x i [] [] at gone absent h = tt
 Holds-without s t x i [] (y ∷ ys) at gone absent h = absurd h
 Holds-without s t x i (e ∷ es) [] at gone absent h = absurd h
 Holds-without s t x i (e ∷ es) (y ∷ ys) at gone absent h =
-    let apart = elsewhere s x y i e.1 at h.0.found (missed x.sender x.serial y ys absent) in
+    let apart = elsewhere s x y i e.1 at h.0.found (missed_head x.sender x.serial y ys absent) in
     (record { found = gone.others e.1 apart ∙ h.0.found; key = h.0.key }, Holds-without s t x i es ys at gone (missed_later x.sender x.serial y ys absent) h.1)
 
 -- the place of an event, and the places without it
@@ -155,12 +155,12 @@ named_insert old new x xs updates fresh named n =
 numbers_equal : (a b g m : ℕ) → eqb a g && eqb b m ≡ true → (a ≡ g) × (b ≡ m)
 numbers_equal a b g m h = (grind (arith, nat_tests), grind (arith, nat_tests))
 
-turned : (a b g m : ℕ) → eqb a g && eqb b m ≡ false → eqb g a && eqb m b ≡ false
-turned a b g m h = grind (arith, nat_tests)
+turned_key : (a b g m : ℕ) → eqb a g && eqb b m ≡ false → eqb g a && eqb m b ≡ false
+turned_key a b g m h = grind (arith, nat_tests)
 
 without_name : (b : Bool) (g m : ℕ) (n : EventName) (xs : List Event) → eqb n.sender g && eqb n.serial m ≡ b → IsUnique xs → cond b None (stamp_of n xs) ≡ stamp_of n (remove_event g m xs)
 without_name true g m n xs is unique = let e = numbers_equal n.sender n.serial g m is in rw (e.0, e.1) (ap (option_map (λ y. y.stamp)) (sym (find_event-remove_event_same g m xs unique)))
-without_name false g m n xs is unique = rw (find_event-remove_event_other n.sender n.serial g m xs (turned n.sender n.serial g m is))
+without_name false g m n xs is unique = rw (find_event-remove_event_other n.sender n.serial g m xs (turned_key n.sender n.serial g m is))
 
 pub named_remove : (old new : BTreeMap EventName ℕ) (g m : ℕ) (xs : List Event) → tree.Updates name_cmp old new (record { sender = g; serial = m }) None → IsUnique xs → ((n : EventName) → tree.get name_cmp old n ≡ stamp_of n xs) → (n : EventName) → tree.get name_cmp new n ≡ stamp_of n (remove_event g m xs)
 named_remove old new g m xs updates unique named n =

@@ -30,8 +30,8 @@ by_tests false true false true true e3 = refl
 by_tests false true false true false true = refl
 by_tests false true false true false false = refl
 
-pub compared : (x y : Event) → Compared (key_cmp (key_of x) (key_of y)) (is_before x y) (is_event x.sender x.serial y)
-compared x y = by_tests (ltb x.stamp y.stamp) (eqb x.stamp y.stamp) (ltb x.sender y.sender) (eqb x.sender y.sender) (ltb x.serial y.serial) (eqb x.serial y.serial)
+pub compared_keys : (x y : Event) → Compared (key_cmp (key_of x) (key_of y)) (is_before x y) (is_event x.sender x.serial y)
+compared_keys x y = by_tests (ltb x.stamp y.stamp) (eqb x.stamp y.stamp) (ltb x.sender y.sender) (eqb x.sender y.sender) (ltb x.serial y.serial) (eqb x.serial y.serial)
 
 is_eq-ordering_then : (o p : Ordering) → is_eq (ordering_then o p) ≡ is_eq o && is_eq p
 is_eq-ordering_then Less p = refl

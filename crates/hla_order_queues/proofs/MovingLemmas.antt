@@ -55,14 +55,14 @@ prefix_len-keys s bound (e ∷ es) [] h = absurd h
 prefix_len-keys s bound (e ∷ es) (x ∷ xs) h = rw (sym h.0.key, prefix_len-keys s bound es xs h.1)
 
 -- none moves behind one that stays
-stays : (bound : ℕ) (x y : Event) → is_moved bound x ≡ false → x.stamp ≤ y.stamp → is_moved bound y ≡ false
-stays bound x y h low = grind (arith, nat_tests)
+unmoved_behind : (bound : ℕ) (x y : Event) → is_moved bound x ≡ false → x.stamp ≤ y.stamp → is_moved bound y ≡ false
+unmoved_behind bound x y h low = grind (arith, nat_tests)
 
 none_moves : (bound : ℕ) (x : Event) (xs : List Event) → is_moved bound x ≡ false → AllByRecursion (λ y. x.stamp ≤ y.stamp) xs → (filter (is_moved bound) xs ≡ []) × (filter (λ e. not (is_moved bound e)) xs ≡ xs)
 none_moves bound x [] h all = (refl, refl)
 none_moves bound x (y ∷ ys) h all =
     let later = none_moves bound x ys h all.1 in
-    let here = stays bound x y h all.0 in
+    let here = unmoved_behind bound x y h all.0 in
     (rw here later.0, rw here (ap (λ zs. y ∷ zs) later.1))
 
 first_if : (b : Bool) (x : Event) (xs moved left : List Event) (n : ℕ) → (b ≡ false → (moved ≡ []) × (left ≡ xs)) → (take n xs ≡ moved) × (drop n xs ≡ left) → (take (cond b (1 + n) 0) (x ∷ xs) ≡ cond b (x ∷ moved) moved) × (drop (cond b (1 + n) 0) (x ∷ xs) ≡ cond (not b) (x ∷ left) left)

@@ -21,14 +21,14 @@ find_event-find g m [] = refl
 find_event-find g m (x ∷ xs) = rw (find_event-find g m xs)
 
 -- an element goes, or one behind it
-gone : (x : Event) (xs rest : List Event) (n : ℕ) (b : Bool) → rest ≡ remove xs n → cond b xs (x ∷ rest) ≡ remove (x ∷ xs) (cond (not b) (1 + n) 0)
-gone x xs rest n true e = refl
-gone x xs rest n false e = let s : 1 + n ≡ suc n = omega arith in rw (s, e)
+removed_head : (x : Event) (xs rest : List Event) (n : ℕ) (b : Bool) → rest ≡ remove xs n → cond b xs (x ∷ rest) ≡ remove (x ∷ xs) (cond (not b) (1 + n) 0)
+removed_head x xs rest n true e = refl
+removed_head x xs rest n false e = let s : 1 + n ≡ suc n = omega arith in rw (s, e)
 
 remove_event-place : (g m : ℕ) (xs : List Event) → remove_event g m xs ≡ remove xs (position_or_len (is_event g m) xs)
 unfolding remove_event
 remove_event-place g m [] = refl
-remove_event-place g m (x ∷ xs) = gone x xs _ _ (is_event g m x) (remove_event-place g m xs)
+remove_event-place g m (x ∷ xs) = removed_head x xs _ _ (is_event g m x) (remove_event-place g m xs)
 
 within : (n k i : ℕ) (b : Bool) → ltb n k ≡ b → Some i ≡ cond b (Some n) None → (i ≡ n) × (i < k)
 within n k i true is e = let same : i ≡ n = cc in (same, rw same (ltb-true n k is))

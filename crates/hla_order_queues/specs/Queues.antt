@@ -27,9 +27,9 @@ find_event g m [] = None
 find_event g m (x ∷ xs) = cond (is_event g m x) (Some x) (find_event g m xs)
 
 -- how often it is there
-unfoldable pub occurs : ℕ → ℕ → List Event → ℕ
-occurs g m [] = 0
-occurs g m (x ∷ xs) = one_if (is_event g m x) + occurs g m xs
+unfoldable pub occurrences : ℕ → ℕ → List Event → ℕ
+occurrences g m [] = 0
+occurrences g m (x ∷ xs) = one_if (is_event g m x) + occurrences g m xs
 
 -- the queue without an event
 unfoldable pub remove_event : ℕ → ℕ → List Event → List Event

@@ -25,7 +25,7 @@ fn event_of(i: u64) -> Event
 }
 
 fn put(queue: &mut TsoQueue, event: Event) -> Result<(), Fail> {
-    if queue.has(event.sender, event.serial) {
+    if queue.has_event(event.sender, event.serial) {
         return Err("it is there already".into());
     }
     if queue.insert(event).is_err() {

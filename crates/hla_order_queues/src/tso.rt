@@ -86,7 +86,7 @@ impl TsoQueue {
     }
 
     /// Whether an event that `sender` sent with that serial is in the queue.
-    pub fn has(&self, sender: FederateNo, serial: Serial) -> bool
+    pub fn has_event(&self, sender: FederateNo, serial: Serial) -> bool
         ensures { MatchBool result (IsSome (find_event sender serial self.now))
             (find_event sender serial self.now ≡ None) }
     {

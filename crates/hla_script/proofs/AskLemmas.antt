@@ -11,7 +11,7 @@ use Rattle.hla_base.specs.declared.content.HandleValuePair.{HandleValuePair}
 use Rattle.hla_commands.specs.declared.lines.NameValuePair.{NameValuePair}
 use Rattle.hla_script.specs.declared.lookups.AskFault.{AskFault}
 use Rattle.hla_script.specs.declared.lookups.AskFault.TheVariants as stop
-use Rattle.hla_script.specs.Requests.{Asks, ask_then, limited, with_handle, with_last_handle, named_handles, with_pair, with_last_pair, named_pairs}
+use Rattle.hla_script.specs.Requests.{Asks, ask_then, unless_too_long, with_handle, with_last_handle, named_handles, with_pair, with_last_pair, named_pairs}
 
 -- ---- names
 unknown_stays : (found : Option ℕ) → with_handle found (Err fault.NameNotFound) ≡ Err fault.NameNotFound
@@ -104,8 +104,8 @@ handles_starved old ns n is meant asks =
     let e : meant ≡ Ok ns = subst (λ (r : Result (List ℕ) AskFault). Asks r meant) is asks in
     (ns ++ n ∷ [], rw e refl)
 
-limited_starved : {X : Type 0} (value : List ℕ) (x : X) → length value ≤ max_value → Asks {X = X} (Err stop.Memory) (limited value x)
-limited_starved value x short =
+too_long_starved : {X : Type 0} (value : List ℕ) (x : X) → length value ≤ max_value → Asks {X = X} (Err stop.Memory) (unless_too_long value x)
+too_long_starved value x short =
     let small : nat_lt max_value (length value) ≡ false = grind (arith, nat_tests) in
     (x, rw small refl)
 
@@ -113,4 +113,4 @@ pub pairs_starved : (old : Result (List HandleValuePair) AskFault) (ps : List Ha
     → Asks {X = List HandleValuePair} (Err stop.Memory) (with_last_pair meant n value)
 pairs_starved old ps n value is short meant asks =
     let e : meant ≡ Ok ps = subst (λ (r : Result (List HandleValuePair) AskFault). Asks r meant) is asks in
-    rw e (limited_starved value _ short)
+    rw e (too_long_starved value _ short)

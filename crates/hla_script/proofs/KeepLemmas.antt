@@ -24,8 +24,8 @@ use Rattle.hla_federation.specs.Steps.Memory.{IsRefusedWith}
 use Rattle.hla_federation.specs.Steps.State.{state_of, IsBuilt}
 use Rattle.hla_script.specs.declared.members.Member.{Member}
 use Rattle.hla_components.specs.Executions.{Federations, no_federations, central_executions, with_created, with_destroyed, ending_unless, next_act, after_record, step_in, IsNext, AreNext}
-use Rattle.hla_script.specs.Keeping.{components_of, DoesNext, IsStepped, Standing, Holds, left_after, IsDestroyed, Leads, IsActed, IsKept}
-use Rattle.hla_script.specs.Playing.{created_with}
+use Rattle.hla_script.specs.Keeping.{components_of, DoesNext, IsStepped, Standing, Holds, execution_after_destroy, IsDestroyed, Leads, IsActed, IsKept}
+use Rattle.hla_script.specs.Playing.{created_catalogue}
 use Rattle.hla_script.specs.Members.{members_from, member_after}
 use Rattle.hla_script.proofs.ChoiceLemmas.{built_choice}
 
@@ -50,65 +50,65 @@ abbrev pub creation : CatalogueValue → Record
 creation c = record { actor = 0; execution = codes "play"; act = act.Create (Some c); outcome = outcome.Done answer.Done; choice = choice.None }
 
 -- below the limit only the execution that is there refuses a create
-accepts : (c : CatalogueValue) (n : ℕ) (x : Federations) → n < max_creates → Holds x (record { creates = n; here = None }) → create_fault (central_executions x) (codes "play") (Some c) ≡ None
-accepts c n x few h =
+accepted_create : (c : CatalogueValue) (n : ℕ) (x : Federations) → n < max_creates → Holds x (record { creates = n; here = None }) → create_fault (central_executions x) (codes "play") (Some c) ≡ None
+accepted_create c n x few h =
     let room : ltb n max_creates ≡ true = grind (arith, nat_tests) in
     rw (h.execution, h.present, h.creates, room) refl
 
-creates : (c : CatalogueValue) (n : ℕ) (new : Components) → n < max_creates → new ≡ new_components c → Leads (creation c) (record { creates = n; here = None }) (record { creates = n + 1; here = Some new })
-creates c n new few e = record {
-  next = λ x h. create_next (Some c) None x (accepts c n x few h) (outcome.Done answer.Done) refl;
-  follows = λ x h. create_holds (Some c) None x (accepts c n x few h) (record { creates = n + 1; here = Some new }) (record { creates = omega (arith, h.creates); present = omega (arith, h.present); execution = ap (λ (d : Components). Some d) (sym e) });
+led_by_create : (c : CatalogueValue) (n : ℕ) (new : Components) → n < max_creates → new ≡ new_components c → Leads (creation c) (record { creates = n; here = None }) (record { creates = n + 1; here = Some new })
+led_by_create c n new few e = record {
+  next = λ x h. create_next (Some c) None x (accepted_create c n x few h) (outcome.Done answer.Done) refl;
+  follows = λ x h. create_holds (Some c) None x (accepted_create c n x few h) (record { creates = n + 1; here = Some new }) (record { creates = omega (arith, h.creates); present = omega (arith, h.present); execution = ap (λ (d : Components). Some d) (sym e) });
 }
 
 pub creation_acts : (c : CatalogueValue) (n m : ℕ) (old : Option Components) (ms after : List Member) (new : Components) (r : Record) → n < max_creates → m ≡ n + 1 → old ≡ None → new ≡ new_components c → r ≡ creation c → after ≡ []
-    → IsActed (act.Create (created_with c r.outcome)) (record { creates = n; here = old }) ms r (record { creates = m; here = Some new }) after
+    → IsActed (act.Create (created_catalogue c r.outcome)) (record { creates = n; here = old }) ms r (record { creates = m; here = Some new }) after
 creation_acts c n m old ms after new r few next none is_new same cleared =
     let main : IsActed (act.Create (Some c)) (record { creates = n; here = None }) ms (creation c) (record { creates = n + 1; here = Some new }) [] =
-    record { same = refl; remembered = λ e. cc; members = refl; leads = creates c n new few is_new } in
-    subst (λ (x : Record). IsActed (act.Create (created_with c x.outcome)) (record { creates = n; here = old }) ms x (record { creates = m; here = Some new }) after) (sym same) (rw (none, cleared, next) main)
+    record { same = refl; remembered = λ e. cc; members = refl; leads = led_by_create c n new few is_new } in
+    subst (λ (x : Record). IsActed (act.Create (created_catalogue c x.outcome)) (record { creates = n; here = old }) ms x (record { creates = m; here = Some new }) after) (sym same) (rw (none, cleared, next) main)
 
 -- the record of a create past the limit
 abbrev pub excess : CatalogueValue → Record
 excess c = record { actor = 0; execution = codes "play"; act = act.Create (Some c); outcome = outcome.Refused fault.LimitReached; choice = choice.None }
 
-refuses : (c : CatalogueValue) (n : ℕ) (x : Federations) → max_creates ≤ n → Holds x (record { creates = n; here = None }) → create_fault (central_executions x) (codes "play") (Some c) ≡ Some fault.LimitReached
-refuses c n x many h =
+refused_create : (c : CatalogueValue) (n : ℕ) (x : Federations) → max_creates ≤ n → Holds x (record { creates = n; here = None }) → create_fault (central_executions x) (codes "play") (Some c) ≡ Some fault.LimitReached
+refused_create c n x many h =
     let full : ltb n max_creates ≡ false = grind (arith, nat_tests) in
     rw (h.execution, h.present, h.creates, full) refl
 
-exceeds : (c : CatalogueValue) (n : ℕ) → max_creates ≤ n → Leads (excess c) (record { creates = n; here = None }) (record { creates = n; here = None })
-exceeds c n many = record {
-  next = λ x h. create_next (Some c) (Some fault.LimitReached) x (refuses c n x many h) (outcome.Refused fault.LimitReached) refl;
-  follows = λ x h. create_holds (Some c) (Some fault.LimitReached) x (refuses c n x many h) (record { creates = n; here = None }) h;
+led_by_excess : (c : CatalogueValue) (n : ℕ) → max_creates ≤ n → Leads (excess c) (record { creates = n; here = None }) (record { creates = n; here = None })
+led_by_excess c n many = record {
+  next = λ x h. create_next (Some c) (Some fault.LimitReached) x (refused_create c n x many h) (outcome.Refused fault.LimitReached) refl;
+  follows = λ x h. create_holds (Some c) (Some fault.LimitReached) x (refused_create c n x many h) (record { creates = n; here = None }) h;
 }
 
 pub excess_acts : (c : CatalogueValue) (n : ℕ) (old : Option Components) (ms : List Member) (r : Record) → max_creates ≤ n → old ≡ None → r ≡ excess c
-    → IsActed (act.Create (created_with c r.outcome)) (record { creates = n; here = old }) ms r (record { creates = n; here = old }) ms
+    → IsActed (act.Create (created_catalogue c r.outcome)) (record { creates = n; here = old }) ms r (record { creates = n; here = old }) ms
 excess_acts c n old ms r many none same =
     let main : IsActed (act.Create (Some c)) (record { creates = n; here = None }) ms (excess c) (record { creates = n; here = None }) ms =
-    record { same = refl; remembered = λ e. cc; members = refl; leads = exceeds c n many } in
-    subst (λ (x : Record). IsActed (act.Create (created_with c x.outcome)) (record { creates = n; here = old }) ms x (record { creates = n; here = old }) ms) (sym same) (rw none main)
+    record { same = refl; remembered = λ e. cc; members = refl; leads = led_by_excess c n many } in
+    subst (λ (x : Record). IsActed (act.Create (created_catalogue c x.outcome)) (record { creates = n; here = old }) ms x (record { creates = n; here = old }) ms) (sym same) (rw none main)
 
 -- the record of a create of an execution that is there
 abbrev pub repetition : Record
 repetition = record { actor = 0; execution = codes "play"; act = act.Create None; outcome = outcome.Refused fault.FederationExecutionAlreadyExists; choice = choice.None }
 
-repeats : (n : ℕ) (s : Components) (x : Federations) → Holds x (record { creates = n; here = Some s }) → create_fault (central_executions x) (codes "play") None ≡ Some fault.FederationExecutionAlreadyExists
-repeats n s x h = rw h.execution refl
+repeated_create : (n : ℕ) (s : Components) (x : Federations) → Holds x (record { creates = n; here = Some s }) → create_fault (central_executions x) (codes "play") None ≡ Some fault.FederationExecutionAlreadyExists
+repeated_create n s x h = rw h.execution refl
 
 pub repetition_acts : (c : CatalogueValue) (n : ℕ) (f : Option FederationValue) (ms : List Member) (r : Record) → is_some f ≡ true → r ≡ repetition
-    → IsActed (act.Create (created_with c r.outcome)) (record { creates = n; here = option_map components_of f }) ms r (record { creates = n; here = option_map components_of f }) ms
+    → IsActed (act.Create (created_catalogue c r.outcome)) (record { creates = n; here = option_map components_of f }) ms r (record { creates = n; here = option_map components_of f }) ms
 repetition_acts c n None ms r there same = cc
 repetition_acts c n (Some f) ms r there same =
     let s = components_of f in
     let leads : Leads repetition (record { creates = n; here = Some s }) (record { creates = n; here = Some s }) = record {
-      next = λ x h. create_next None (Some fault.FederationExecutionAlreadyExists) x (repeats n s x h) (outcome.Refused fault.FederationExecutionAlreadyExists) refl;
-      follows = λ x h. create_holds None (Some fault.FederationExecutionAlreadyExists) x (repeats n s x h) (record { creates = n; here = Some s }) h;
+      next = λ x h. create_next None (Some fault.FederationExecutionAlreadyExists) x (repeated_create n s x h) (outcome.Refused fault.FederationExecutionAlreadyExists) refl;
+      follows = λ x h. create_holds None (Some fault.FederationExecutionAlreadyExists) x (repeated_create n s x h) (record { creates = n; here = Some s }) h;
     } in
     let main : IsActed (act.Create None) (record { creates = n; here = Some s }) ms repetition (record { creates = n; here = Some s }) ms =
     record { same = refl; remembered = λ e. cc; members = refl; leads = leads } in
-    subst (λ (x : Record). IsActed (act.Create (created_with c x.outcome)) (record { creates = n; here = Some s }) ms x (record { creates = n; here = Some s }) ms) (sym same) main
+    subst (λ (x : Record). IsActed (act.Create (created_catalogue c x.outcome)) (record { creates = n; here = Some s }) ms x (record { creates = n; here = Some s }) ms) (sym same) main
 
 -- ---- destroying
 not_memory : (old : Option Components) (out : Outcome) → EndsAs (destroy_fault (option_map central old)) out → out ≡ outcome.Refused fault.OutOfMemory → ⊥
@@ -127,17 +127,17 @@ ends_outcome None out x y ends = ends
 ends_outcome (Some e) out x y ends = ends
 
 destroyed_holds : (n : ℕ) (old : Option Components) (f : Option Fault) (out : Outcome) (x : Federations) → EndsAs f out → Holds x (record { creates = n; here = old })
-    → Holds (ending_unless f x (with_destroyed x (codes "play"))).executions (record { creates = n; here = left_after old out })
+    → Holds (ending_unless f x (with_destroyed x (codes "play"))).executions (record { creates = n; here = execution_after_destroy old out })
 destroyed_holds n None None out x ends h = rw ends (record { creates = h.creates; present = omega (arith, h.present); execution = refl })
 destroyed_holds n (Some c) None out x ends h = rw ends (record { creates = h.creates; present = omega (arith, h.present); execution = refl })
 destroyed_holds n old (Some e) out x ends h = rw ends h
 
-pub destroys : (n : ℕ) (old new : Option Components) (ms : List Member) (out : Outcome) (r : Record) → IsDestroyed old out new → r ≡ destruction out
+pub acted_destroy : (n : ℕ) (old new : Option Components) (ms : List Member) (out : Outcome) (r : Record) → IsDestroyed old out new → r ≡ destruction out
     → IsActed act.Destroy (record { creates = n; here = old }) ms r (record { creates = n; here = new }) ms
-destroys n old new ms out r is same =
+acted_destroy n old new ms out r is same =
     let ends : (x : Federations) → Holds x (record { creates = n; here = old }) → EndsAs (destroy_fault (option_map central (x.execution (codes "play")))) out =
     λ x h. subst (λ (here : Option Components). EndsAs (destroy_fault (option_map central here)) out) (sym h.execution) is.ends in
-    let main : IsActed act.Destroy (record { creates = n; here = old }) ms (destruction out) (record { creates = n; here = left_after old out }) ms =
+    let main : IsActed act.Destroy (record { creates = n; here = old }) ms (destruction out) (record { creates = n; here = execution_after_destroy old out }) ms =
     record {
       same = refl;
       remembered = not_memory old out is.ends;
@@ -149,9 +149,9 @@ destroys n old new ms out r is same =
     } in
     rw (same, is.follows) main
 
-pub gone : (f : FederationValue) → is_joined_by_any (central (state_of f)) ≡ false → IsDestroyed (Some (components_of f)) (outcome.Done answer.Done) None
+pub destroyed_when_left : (f : FederationValue) → is_joined_by_any (central (state_of f)) ≡ false → IsDestroyed (Some (components_of f)) (outcome.Done answer.Done) None
 unfolding components_of
-gone f none = record { ends = rw none refl; follows = refl }
+destroyed_when_left f none = record { ends = rw none refl; follows = refl }
 
 pub kept_while_joined : (f : FederationValue) → is_joined_by_any (central (state_of f)) ≡ true → IsDestroyed (Some (components_of f)) (outcome.Refused fault.FederatesCurrentlyJoined) (Some (components_of f))
 unfolding components_of
@@ -188,9 +188,9 @@ pub keeps_nothing : IsKept [] (record { creates = 0; here = None }) []
 unfolding members_from
 keeps_nothing = record { executions = no_federations; next = refl; holds = record { creates = refl; present = refl; execution = refl }; joins = refl }
 
-pub opens : (f : FederationValue) (c : CatalogueValue) → state_of f ≡ new_components c → components_of f ≡ new_components c
+pub opened_components : (f : FederationValue) (c : CatalogueValue) → state_of f ≡ new_components c → components_of f ≡ new_components c
 unfolding components_of
-opens f c e = e
+opened_components f c e = e
 
 -- ---- a step
 pub steps_done : (old new : FederationValue) (s : Step) (a : Answer) → IsBuilt s → (next (state_of old) s).outcome ≡ outcome.Done a → state_of new ≡ (next (state_of old) s).state

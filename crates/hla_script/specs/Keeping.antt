@@ -57,14 +57,14 @@ pub record IsStepped (old : Option Components) (s : Step) (out : Outcome) (new :
   pub remembered : out ≢ outcome.Refused fault.OutOfMemory
   pub does : DoesNext old s out new
 
-abbrev pub left_after : Option Components → Outcome → Option Components
-left_after here (outcome.Done a) = None
-left_after here out = here
+abbrev pub execution_after_destroy : Option Components → Outcome → Option Components
+execution_after_destroy here (outcome.Done a) = None
+execution_after_destroy here out = here
 
 -- the execution is destroyed where it may be, and left as it is otherwise
 pub record IsDestroyed (old : Option Components) (out : Outcome) (new : Option Components) : Type 0 where
   pub ends : EndsAs (destroy_fault (option_map central old)) out
-  pub follows : new ≡ left_after old out
+  pub follows : new ≡ execution_after_destroy old out
 
 -- a record says what the next-state function says, which leads from one state of the execution to another
 pub record Leads (r : Record) (old new : Standing) : Type 0 where

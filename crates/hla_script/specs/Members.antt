@@ -59,5 +59,5 @@ unfoldable pub federate_named : List Member → List ℕ → Option ℕ
 federate_named ms name = option_map (λ (m : Member). m.number) (find (λ (m : Member). bytes_eq m.name name) (reverse ms))
 
 -- the federate that is joined under a name
-unfoldable pub joined_named : List Member → List ℕ → Option ℕ
-joined_named ms name = option_map (λ (m : Member). m.number) (find (λ (m : Member). m.is_joined && bytes_eq m.name name) (reverse ms))
+unfoldable pub joined_federate_named : List Member → List ℕ → Option ℕ
+joined_federate_named ms name = option_map (λ (m : Member). m.number) (find (λ (m : Member). m.is_joined && bytes_eq m.name name) (reverse ms))

@@ -28,13 +28,13 @@ use Rattle.hla_script.specs.Requests.{request_of}
 
 -- ---- the record of a line
 -- a create that is accepted holds the catalogue; so does one past the limit, which is tested behind the FED file
-abbrev pub created_with : CatalogueValue → Outcome → Option CatalogueValue
-created_with c (outcome.Done a) = Some c
-created_with c (outcome.Refused fault.LimitReached) = Some c
-created_with c out = None
+abbrev pub created_catalogue : CatalogueValue → Outcome → Option CatalogueValue
+created_catalogue c (outcome.Done a) = Some c
+created_catalogue c (outcome.Refused fault.LimitReached) = Some c
+created_catalogue c out = None
 
 abbrev pub act_of : CatalogueValue → Request → Outcome → Act
-act_of c request.Create out = act.Create (created_with c out)
+act_of c request.Create out = act.Create (created_catalogue c out)
 act_of c request.Destroy out = act.Destroy
 act_of c (request.Step s) out = act.Step s
 
@@ -101,7 +101,7 @@ pub record IsPlayedFrom (fed script : List ℕ) (old new : Option (List ℕ)) (r
 
 -- why a script was not played to its end: the FED file is tested first, and a text at fault prints nothing
 abbrev pub StopsBy : List ℕ → List ℕ → Option (List ℕ) → Option (List ℕ) → PlayFault → Type 0
-StopsBy fed script old new (stop.Fed e) = reading.ReadsAs (Err e) (reading.read_of fed) × Appends old new []
+StopsBy fed script old new (stop.Fed e) = reading.ReadsAs (Err e) (reading.reading_of fed) × Appends old new []
 StopsBy fed script old new (stop.Script e) = ((c : CatalogueValue) × Describes fed c) × ParsesAs (Err e) (script_of script) × Appends old new []
 StopsBy fed script old new stop.Write = Unit {0}
 StopsBy fed script old new stop.Memory = Unit {0}

@@ -24,7 +24,7 @@ use Rattle.hla_script.specs.declared.lookups.Class.{Class}
 use Rattle.hla_script.specs.declared.lookups.Class.TheVariants as class
 use Rattle.hla_script.specs.declared.steps.Request.{Request}
 use Rattle.hla_script.specs.declared.steps.Request.TheVariants as request
-use Rattle.hla_script.specs.Members.{federate_named, joined_named}
+use Rattle.hla_script.specs.Members.{federate_named, joined_federate_named}
 
 -- ---- what is asked, or a fault
 -- what is asked next, or the fault before it
@@ -55,7 +55,7 @@ known_federate ms name = number_or (federate_named ms name) fault.FederateNotExe
 
 -- somebody is joined under the name
 abbrev pub joined_federate : List Member → List ℕ → Result ℕ Fault
-joined_federate ms name = number_or (joined_named ms name) fault.FederateNotExecutionMember
+joined_federate ms name = number_or (joined_federate_named ms name) fault.FederateNotExecutionMember
 
 abbrev pub object_class_of : CatalogueValue → List ℕ → Result ℕ Fault
 object_class_of c name = number_or (object_class_named c name) fault.NameNotFound
@@ -78,12 +78,12 @@ named_handles find [] = Ok []
 named_handles find (name ∷ names) = with_handle (find name) (named_handles find names)
 
 -- a value that is too long is refused
-abbrev pub limited : {X : Type 0} → List ℕ → X → Result X Fault
-limited value x = if nat_lt max_value (length value) then Err fault.LimitReached else Ok x
+abbrev pub unless_too_long : {X : Type 0} → List ℕ → X → Result X Fault
+unless_too_long value x = if nat_lt max_value (length value) then Err fault.LimitReached else Ok x
 
 abbrev pub with_pair : Option ℕ → List ℕ → Result (List HandleValuePair) Fault → Result (List HandleValuePair) Fault
 with_pair None value later = Err fault.NameNotFound
-with_pair (Some n) value later = ask_then later (λ ps. limited value (record { handle = n; value = value } ∷ ps))
+with_pair (Some n) value later = ask_then later (λ ps. unless_too_long value (record { handle = n; value = value } ∷ ps))
 
 -- attributes or parameters by their numbers, with their values: all names are looked up before the values are tested
 unfoldable pub named_pairs : (List ℕ → Option ℕ) → List NameValuePair → Result (List HandleValuePair) Fault
@@ -95,7 +95,7 @@ abbrev pub with_last_handle : Result (List ℕ) Fault → ℕ → Result (List �
 with_last_handle meant n = ask_then meant (λ ns. Ok (ns ++ n ∷ []))
 
 abbrev pub with_last_pair : Result (List HandleValuePair) Fault → ℕ → List ℕ → Result (List HandleValuePair) Fault
-with_last_pair meant n value = ask_then meant (λ ps. limited value (ps ++ record { handle = n; value = value } ∷ []))
+with_last_pair meant n value = ask_then meant (λ ps. unless_too_long value (ps ++ record { handle = n; value = value } ∷ []))
 
 -- the largest number of 32 bits. No object has it, since an execution has at most `max_objects`
 abbrev pub max_object_number : ℕ
@@ -143,20 +143,20 @@ update_of c object name values = ask_then (object_class_of c name) (λ k. ask_th
 abbrev pub interaction_of : CatalogueValue → List ℕ → List NameValuePair → Result Service Fault
 interaction_of c name values = ask_then (interaction_class_of c name) (λ k. ask_then (named_pairs (handle_named c (class.Interaction k)) values) (λ ps. Ok (service.SendInteraction k ps None)))
 
-abbrev pub calls : Result Service Fault → Result (Option Service) Fault
-calls called = ask_then called (λ s. Ok (Some s))
+abbrev pub optional_call : Result Service Fault → Result (Option Service) Fault
+optional_call called = ask_then called (λ s. Ok (Some s))
 
 -- the service that a federate calls; a tick calls none
 abbrev pub service_of : CatalogueValue → Call → Result (Option Service) Fault
 service_of c call.Tick = Ok None
 service_of c (call.Resign way) = Ok (Some (service.Resign way))
-service_of c (call.DeclareObject d name names) = calls (object_declaration c d name names)
-service_of c (call.WithdrawObject d name) = calls (object_withdrawal c d name)
-service_of c (call.DeclareInteraction d name) = calls (interaction_declaration c d name)
-service_of c (call.WithdrawInteraction d name) = calls (interaction_withdrawal c d name)
-service_of c (call.Register name object) = calls (registration c name object)
-service_of c (call.Update object name values) = calls (update_of c object name values)
-service_of c (call.Send name values) = calls (interaction_of c name values)
+service_of c (call.DeclareObject d name names) = optional_call (object_declaration c d name names)
+service_of c (call.WithdrawObject d name) = optional_call (object_withdrawal c d name)
+service_of c (call.DeclareInteraction d name) = optional_call (interaction_declaration c d name)
+service_of c (call.WithdrawInteraction d name) = optional_call (interaction_withdrawal c d name)
+service_of c (call.Register name object) = optional_call (registration c name object)
+service_of c (call.Update object name values) = optional_call (update_of c object name values)
+service_of c (call.Send name values) = optional_call (interaction_of c name values)
 service_of c (call.Delete object) = Ok (Some (service.DeleteObjectInstance (object_number object) None))
 service_of c (call.ObjectHandle name) = Ok (Some (service.GetObjectInstanceHandle name))
 service_of c (call.ObjectName object) = Ok (Some (service.GetObjectInstanceName (object_number object)))

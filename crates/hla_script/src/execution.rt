@@ -3,7 +3,7 @@
 ghost use Rattle.std.specs.Prelude.{◌≡◌, ◌<◌, ◌+◌, ◌≤◌, [], Some, None, IfOk, IfErr, OnErr, option_map, codes, vec_len, vec_capacity};
 ghost use Rattle.hla_machine.specs.declared.step.Choice.TheVariants as choice;
 ghost use Rattle.hla_machine.specs.declared.step.Act.TheVariants as act;
-ghost use Rattle.hla_script.specs.Playing.{act_of, created_with};
+ghost use Rattle.hla_script.specs.Playing.{act_of, created_catalogue};
 ghost use Rattle.hla_federation.specs.Steps.State.{IsBuilt};
 ghost use Rattle.hla_script.specs.Keeping.{components_of, standing, IsStepped, IsDestroyed, IsActed, IsBuiltRequest};
 
@@ -126,7 +126,7 @@ impl Execution {
     /// Creates the execution, unless it is there.
     fn create(&mut self) -> Result<Record, Fault>
         requires { self.old.name ≡ codes "play" }
-        ensures ok { IfOk result (λ r. IsActed (act.Create (created_with self.old.catalogue r.outcome))
+        ensures ok { IfOk result (λ r. IsActed (act.Create (created_catalogue self.old.catalogue r.outcome))
             (standing self.old.creates self.old.federation) self.old.members.items r
             (standing self.new.creates self.new.federation) self.new.members.items) }
         ensures err { OnErr result (self.new.federation ≡ self.old.federation) }

@@ -5,7 +5,7 @@ ghost use Rattle.hla_base.specs.declared.fault.Fault.{Fault};
 ghost use Rattle.hla_base.specs.declared.content.HandleValuePair.{HandleValuePair};
 ghost use Rattle.hla_script.specs.Requests.{Asks, Finds, number_or, known_federate, joined_federate, object_class_of, interaction_class_of, handle_named, named_handles, named_pairs, with_last_handle, with_last_pair, object_number};
 
-use crate::members::{Member, federate_named, joined_named};
+use crate::members::{Member, federate_named, joined_federate_named};
 use hla_base::{AttributeNo, ClassNo, Fault, FederateNo, HandleValuePair, List, ObjectNo, Value};
 use hla_commands::NameValuePair;
 use hla_fed_file::Catalogue;
@@ -52,7 +52,7 @@ pub fn joined_federate(members: &[Member], name: &[u8]) -> Result<FederateNo, As
     ensures { Finds result (joined_federate members.now name.now) }
 {
     number_or(
-        joined_named(members, name),
+        joined_federate_named(members, name),
         Fault::FederateNotExecutionMember,
     )
 }

@@ -1,7 +1,7 @@
 //! The federates that have joined, by name.
 
 ghost use Rattle.std.specs.Prelude.{◌≡◌, ◌∷◌, ◌++◌, ◌+◌, ◌≤◌, [], map, IfOk, IfErr, is_some, vec_len, vec_capacity};
-ghost use Rattle.hla_script.specs.Members.{change_of, federate_named, joined_named, with_change, without};
+ghost use Rattle.hla_script.specs.Members.{change_of, federate_named, joined_federate_named, with_change, without};
 
 use hla_base::{Fault, FederateNo, List, Plain};
 use hla_machine::{Answer, Outcome, Service, Step};
@@ -91,9 +91,9 @@ pub fn federate_named(members: &[Member], name: &[u8]) -> Option<FederateNo>
 }
 
 /// The federate that is joined under a name.
-#[tactic(auto, unfolding(crate::specs::Members::joined_named))]
-pub fn joined_named(members: &[Member], name: &[u8]) -> Option<FederateNo>
-    ensures { result ≡ joined_named members.now name.now }
+#[tactic(auto, unfolding(crate::specs::Members::joined_federate_named))]
+pub fn joined_federate_named(members: &[Member], name: &[u8]) -> Option<FederateNo>
+    ensures { result ≡ joined_federate_named members.now name.now }
 {
     members
         .iter()

@@ -156,7 +156,7 @@ impl<'a> Books<'a> {
     }
 
     /// How many callbacks were told so far.
-    pub fn told(&self) -> u32 {
+    pub fn told_count(&self) -> u32 {
         self.told
     }
 
@@ -327,7 +327,7 @@ impl<'a> Books<'a> {
                     Some((sender, serial)) => (number(sender), number(serial)),
                     None => (0, 0),
                 };
-                let Some(said) = self.said(sender, serial) else {
+                let Some(said) = self.said_of(sender, serial) else {
                     return Ok(false);
                 };
                 let is_removal = matches!(said, Said::Deletion { .. });
@@ -346,7 +346,7 @@ impl<'a> Books<'a> {
         }
     }
 
-    fn said(&self, sender: u32, serial: u32) -> Option<Said<'a>> {
+    fn said_of(&self, sender: u32, serial: u32) -> Option<Said<'a>> {
         for sent in self.sent.as_slice() {
             if sent.sender == sender && sent.serial == serial {
                 return Some(sent.said);
@@ -398,7 +398,7 @@ pub fn read_beside(
     if answers.next().is_some() {
         return Ok(None);
     }
-    Ok(Some(books.told()))
+    Ok(Some(books.told_count()))
 }
 
 /// A script in which B is told of an object, of a message in receive order and of another one.

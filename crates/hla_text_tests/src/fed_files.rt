@@ -233,7 +233,7 @@ fn finds_faults(rt: HostRuntime) {
 }
 
 /// A text of so many times the same item.
-fn repeated(
+fn repeated_text(
     alloc: Global,
     head: &[u8],
     item: &[u8],
@@ -278,9 +278,9 @@ fn keeps_the_limits(rt: HostRuntime) -> Result<(), Fail> {
         ),
     ];
     for (head, item, count, tail) in cases {
-        let text = repeated(rt.alloc(), head, item, count, tail)?;
+        let text = repeated_text(rt.alloc(), head, item, count, tail)?;
         assert_eq!(rt; fault_of(rt.alloc(), text.as_slice()), READ, "{head:?}");
-        let text = repeated(rt.alloc(), head, item, count + 1, tail)?;
+        let text = repeated_text(rt.alloc(), head, item, count + 1, tail)?;
         assert_eq!(rt;
             fault_of(rt.alloc(), text.as_slice()),
             (1, FedFaultKind::TooLarge),
@@ -294,22 +294,22 @@ fn keeps_the_limits(rt: HostRuntime) -> Result<(), Fail> {
 fn counts_declarations(rt: HostRuntime) -> Result<(), Fail> {
     let attributes =
         b"(class c (attribute a)(attribute b)(attribute c)(attribute d)(attribute e)(attribute f)(attribute g)(attribute h))";
-    let text = repeated(rt.alloc(), b"(FED (objects", attributes, 512, b"))")?;
+    let text = repeated_text(rt.alloc(), b"(FED (objects", attributes, 512, b"))")?;
     assert_eq!(rt; counts_of(rt.alloc(), text.as_slice()), Some((4096, 0)));
     let head =
         b"(FED (objects (class c (attribute a)(attribute b)(attribute c)(attribute d)(attribute e)(attribute f)(attribute g)(attribute h)(attribute i))";
-    let text = repeated(rt.alloc(), head, attributes, 511, b"))")?;
+    let text = repeated_text(rt.alloc(), head, attributes, 511, b"))")?;
     assert_eq!(rt;
         fault_of(rt.alloc(), text.as_slice()),
         (1, FedFaultKind::TooLarge)
     );
     let parameters =
         b"(class c (parameter a)(parameter b)(parameter c)(parameter d)(parameter e)(parameter f)(parameter g)(parameter h))";
-    let text = repeated(rt.alloc(), b"(FED (interactions", parameters, 512, b"))")?;
+    let text = repeated_text(rt.alloc(), b"(FED (interactions", parameters, 512, b"))")?;
     assert_eq!(rt; counts_of(rt.alloc(), text.as_slice()), Some((0, 4096)));
     let head =
         b"(FED (interactions (class c (parameter a)(parameter b)(parameter c)(parameter d)(parameter e)(parameter f)(parameter g)(parameter h)(parameter i))";
-    let text = repeated(rt.alloc(), head, parameters, 511, b"))")?;
+    let text = repeated_text(rt.alloc(), head, parameters, 511, b"))")?;
     assert_eq!(rt;
         fault_of(rt.alloc(), text.as_slice()),
         (1, FedFaultKind::TooLarge)

@@ -94,7 +94,7 @@ fn prints_names(rt: HostRuntime) -> Result<(), Fail> {
     Ok(())
 }
 
-fn given(callback: Callback) -> Outcome {
+fn ticked_outcome(callback: Callback) -> Outcome {
     Outcome::Done(Answer::Ticked(Some(callback)))
 }
 
@@ -114,7 +114,7 @@ fn prints_callbacks(rt: HostRuntime) -> Result<(), Fail> {
     };
     for (outcome, want) in [
         (
-            given(Callback::DiscoverObjectInstance {
+            ticked_outcome(Callback::DiscoverObjectInstance {
                 object: 1,
                 class: 2,
                 name: List::from_vec(b"object-1".to_vec(alloc)?),
@@ -122,7 +122,7 @@ fn prints_callbacks(rt: HostRuntime) -> Result<(), Fail> {
             "7 ok discover 1 ObjectRoot.Car object-1\n",
         ),
         (
-            given(Callback::ReflectAttributeValues {
+            ticked_outcome(Callback::ReflectAttributeValues {
                 object: 1,
                 values: pair(alloc, 3, "red")?,
                 event,
@@ -131,7 +131,7 @@ fn prints_callbacks(rt: HostRuntime) -> Result<(), Fail> {
             "7 ok reflect 1 Paint=red RO 5 1.2\n",
         ),
         (
-            given(Callback::ReceiveInteraction {
+            ticked_outcome(Callback::ReceiveInteraction {
                 class: 4,
                 values: pair(alloc, 3, "7")?,
                 event,
@@ -140,7 +140,7 @@ fn prints_callbacks(rt: HostRuntime) -> Result<(), Fail> {
             "7 ok receive InteractionRoot.Hit Force=7 TSO 6 1.2\n",
         ),
         (
-            given(Callback::RemoveObjectInstance {
+            ticked_outcome(Callback::RemoveObjectInstance {
                 object: 1,
                 event,
                 delivery: Delivery::Receive,
@@ -148,19 +148,19 @@ fn prints_callbacks(rt: HostRuntime) -> Result<(), Fail> {
             "7 ok remove 1 RO\n",
         ),
         (
-            given(Callback::TimeRegulationEnabled { time: 0 }),
+            ticked_outcome(Callback::TimeRegulationEnabled { time: 0 }),
             "7 ok regulationEnabled 0\n",
         ),
         (
-            given(Callback::TimeConstrainedEnabled { time: 1 }),
+            ticked_outcome(Callback::TimeConstrainedEnabled { time: 1 }),
             "7 ok constrainedEnabled 1\n",
         ),
         (
-            given(Callback::TimeAdvanceGrant { time: 50 }),
+            ticked_outcome(Callback::TimeAdvanceGrant { time: 50 }),
             "7 ok grant 50\n",
         ),
         (
-            given(Callback::RequestRetraction { event }),
+            ticked_outcome(Callback::RequestRetraction { event }),
             "7 ok requestRetraction 1.2\n",
         ),
     ] {

@@ -4,7 +4,7 @@ ghost use Rattle.std.specs.Prelude.{◌≡◌, ◌≤◌, ◌<◌, ◌+◌, ◌*
 ghost use Rattle.hla_base.specs.Limits.{max_time, max_enablings};
 ghost use Rattle.hla_base.specs.declared.row.Role.TheVariants.{Disabled, Pending};
 ghost use Rattle.hla_base.specs.declared.row.AdvanceRequest.{AdvanceRequest};
-ghost use Rattle.hla_base.specs.Rows.{is_flush, row_after_request, regulating_from, regulates, constrains, row_after_pick, row_after_grant, bar_after};
+ghost use Rattle.hla_base.specs.Rows.{is_flush, row_after_request, row_with_entry, row_after_regulation_enabled, row_after_constraint_enabled, row_after_pick, row_after_grant, bar_after};
 
 use crate::state::TimeState;
 use hla_base::{AdvanceKind, AdvanceRequest, Role, Ticks};
@@ -31,7 +31,7 @@ impl TimeState {
         requires entry { entry ≤ max_time + lookahead }
         requires above { lookahead ≤ entry }
         requires few { self.old.enablings < max_enablings }
-        ensures { self.new ≡ regulating_from self.old lookahead entry }
+        ensures { self.new ≡ row_with_entry self.old lookahead entry }
     {
         self.regulation_time = if self.is_constrained() {
             self.time
@@ -45,7 +45,7 @@ impl TimeState {
 
     /// The callback of an enabled regulation is picked up (Time Regulation Enabled).
     pub fn enter_regulation(&mut self)
-        ensures { self.new ≡ regulates self.old }
+        ensures { self.new ≡ row_after_regulation_enabled self.old }
     {
         self.time = self.regulation_time;
         self.regulating = Role::Enabled;
@@ -68,7 +68,7 @@ impl TimeState {
     /// The callback of an enabled constraint is picked up (Time Constrained Enabled): from now on nothing below its time may
     /// be sent to the federate.
     pub fn enter_constraint(&mut self)
-        ensures { self.new ≡ constrains self.old }
+        ensures { self.new ≡ row_after_constraint_enabled self.old }
     {
         self.constrained = Role::Enabled;
         self.bar = self.time;

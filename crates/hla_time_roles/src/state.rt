@@ -2,7 +2,7 @@
 
 ghost use Rattle.std.specs.Prelude.{◌≡◌, ◌≤◌, ◌+◌, ◌*◌, ◌||◌, not, leb, eqb, Some, None, IfSome};
 ghost use Rattle.hla_base.specs.Limits.{max_time, max_enablings};
-ghost use Rattle.hla_base.specs.Rows.{is_regulator, is_constrained, is_enabled, is_pending, is_advancing, new_row, least_stamp, next_request, RowNumbers, is_disabled, is_next, row_after_request, regulating_from, regulates, constrains, row_after_pick, row_after_grant, bar_after, grant_time, bar_of, width};
+ghost use Rattle.hla_base.specs.Rows.{is_regulator, is_constrained, is_enabled, is_pending, is_advancing, new_row, least_stamp, next_request, RowNumbers, is_disabled, is_next, row_after_request, row_with_entry, row_after_regulation_enabled, row_after_constraint_enabled, row_after_pick, row_after_grant, bar_after, grant_time, bar_of, width};
 ghost use Rattle.hla_base.specs.RowRefusals.{first_fault, request_tests, regulation_tests};
 ghost use Rattle.hla_base.specs.declared.row.Role.TheVariants.{Disabled, Pending};
 
@@ -110,7 +110,7 @@ impl TimeState {
     }
 
     /// Whether what arrives for the federate in time-stamp order is kept in that order: it is constrained or has asked to be.
-    pub fn keeps_order(&self) -> bool
+    pub fn is_order_kept(&self) -> bool
         ensures { result ≡ not (is_disabled self.now.constrained) }
     {
         !matches!(self.constrained, Role::Disabled)

@@ -36,7 +36,7 @@ fn regulates_and_advances(rt: HostRuntime) -> Result<(), Fail> {
 fn waits_for_events(rt: HostRuntime) -> Result<(), Fail> {
     let mut state = TimeState::new();
     state.ask_constraint();
-    assert!(rt; state.keeps_order());
+    assert!(rt; state.is_order_kept());
     assert!(rt; state.constrain_fault() == Some(Fault::EnableTimeConstrainedPending));
     state.enter_constraint();
     assert!(rt; state.is_constrained());

@@ -5,7 +5,7 @@ use Rattle.std.proofs.lemmas.Grind.{common_steps}
 use Rattle.std.proofs.lemmas.Bool.Decides.{nat_tests}
 use Rattle.std.proofs.lemmas.List.FromFn.{length-enumerate_from, get_or-enumerate_from}
 use Rattle.std.specs.List.{flat_map, enumerate_from}
-use Rattle.hla_transcript.specs.Listed.{each_numbered}
+use Rattle.hla_transcript.specs.Listed.{numbered_texts}
 
 -- the item at an index, with its number
 numbered_is : {X : Type 0} (xs : List X) (i : ℕ) (x : X) → i < length xs → x ≡ get_or xs i x → get_or (enumerate_from 1 xs) i (0, x) ≡ (i + 1, x)
@@ -23,16 +23,16 @@ one_more {X = X} text bs xs i x lt is =
 
 -- the texts of all
 pub all_of : {X : Type 0} (text : ℕ → X → List ℕ) (bs : List ℕ) (xs : List X) (i : ℕ) → length xs ≤ i
-    → bs ++ flat_map (λ p. text p.0 p.1) (take i (enumerate_from 1 xs)) ≡ bs ++ each_numbered text xs
+    → bs ++ flat_map (λ p. text p.0 p.1) (take i (enumerate_from 1 xs)) ≡ bs ++ numbered_texts text xs
 all_of {X = X} text bs xs i h =
     let es = enumerate_from 1 xs in
     let whole : length es ≤ i = omega (arith, length-enumerate_from 1 xs) in
     ap (λ (ys : List (ℕ × X)). bs ++ flat_map (λ p. text p.0 p.1) ys) (take_all i es whole)
 
 -- the line of what the class declares itself
-pub shown : (a b : ℕ) (line : List ℕ) → a ≡ b → line ≡ (if a == b then line else [])
-shown a b line h = rw (eq-eqb a b h) refl
+pub shown_line : (a b : ℕ) (line : List ℕ) → a ≡ b → line ≡ (if a == b then line else [])
+shown_line a b line h = rw (eq-eqb a b h) refl
 
 -- nothing of what another class declares
-pub hidden : (a b : ℕ) (line text : List ℕ) → (a ≡ b → ⊥) → text ≡ text ++ (if a == b then line else [])
-hidden a b line text h = grind (arith, common_steps, nat_tests, append-nil text)
+pub hidden_line : (a b : ℕ) (line text : List ℕ) → (a ≡ b → ⊥) → text ≡ text ++ (if a == b then line else [])
+hidden_line a b line text h = grind (arith, common_steps, nat_tests, append-nil text)

@@ -25,8 +25,8 @@ order_text order.Receive = codes "receive"
 order_text order.Timestamp = codes "timestamp"
 
 -- the texts of items, each with its number; numbers count from 1
-abbrev pub each_numbered : {X : Type 0} → (ℕ → X → List ℕ) → List X → List ℕ
-each_numbered text xs = flat_map (λ p. text p.0 p.1) (enumerate_from 1 xs)
+abbrev pub numbered_texts : {X : Type 0} → (ℕ → X → List ℕ) → List X → List ℕ
+numbered_texts text xs = flat_map (λ p. text p.0 p.1) (enumerate_from 1 xs)
 
 -- the line of an attribute
 abbrev pub attribute_text : ℕ → Attribute → List ℕ
@@ -54,15 +54,15 @@ interaction_line n k = codes "interaction " ++ decimal n ++ codes " " ++ k.path 
 
 -- an object class: its line, and those of its own attributes
 abbrev pub object_text : List Attribute → ℕ → ObjectClass → List ℕ
-object_text attributes n k = object_line n k ++ each_numbered (own_attribute_text n) attributes
+object_text attributes n k = object_line n k ++ numbered_texts (own_attribute_text n) attributes
 
 -- an interaction class: its line, and those of its own parameters
 abbrev pub interaction_text : List Parameter → ℕ → InteractionClass → List ℕ
-interaction_text parameters n k = interaction_line n k ++ each_numbered (own_parameter_text n) parameters
+interaction_text parameters n k = interaction_line n k ++ numbered_texts (own_parameter_text n) parameters
 
 -- the object classes in the order of their numbers, and then the interaction classes
 abbrev pub listing : CatalogueValue → List ℕ
-listing c = each_numbered (object_text c.attributes) c.object_classes ++ each_numbered (interaction_text c.parameters) c.interaction_classes
+listing c = numbered_texts (object_text c.attributes) c.object_classes ++ numbered_texts (interaction_text c.parameters) c.interaction_classes
 
 -- the text describes a catalogue, and what was written is its listing
 abbrev pub IsListed : List ℕ → Option (List ℕ) → Option (List ℕ) → Type 0
@@ -70,7 +70,7 @@ IsListed fed old new = (c : CatalogueValue) × Describes fed c × Appends old ne
 
 -- why nothing was listed to its end; a text at fault prints nothing
 abbrev pub StopsListing : List ℕ → Option (List ℕ) → Option (List ℕ) → ListFault → Type 0
-StopsListing fed old new (stop.Fed e) = reading.ReadsAs (Err e) (reading.read_of fed) × Appends old new []
+StopsListing fed old new (stop.Fed e) = reading.ReadsAs (Err e) (reading.reading_of fed) × Appends old new []
 StopsListing fed old new stop.Write = (c : CatalogueValue) × Describes fed c
 StopsListing fed old new stop.Memory = ((c : CatalogueValue) × Describes fed c) × Appends old new []
 

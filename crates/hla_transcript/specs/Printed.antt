@@ -16,7 +16,7 @@ use Rattle.hla_fed_file.specs.Lookup.{object_path, interaction_path, attribute_n
 use Rattle.hla_machine.specs.declared.step.Answer.{Answer}
 use Rattle.hla_machine.specs.declared.step.Answer.TheVariants as answer
 use Rattle.hla_machine.specs.declared.step.Carried.{Carried}
-use Rattle.hla_machine.specs.declared.step.Carried.TheVariants as carried
+use Rattle.hla_machine.specs.declared.step.Carried.TheVariants as carried_message
 use Rattle.hla_machine.specs.declared.step.Outcome.{Outcome}
 use Rattle.hla_machine.specs.declared.step.Outcome.TheVariants as outcome
 
@@ -51,12 +51,12 @@ callback_text c (callback.RequestRetraction event) = codes " requestRetraction "
 
 -- what a carry took from its wire, behind a space
 abbrev pub carried_text : Carried → List ℕ
-carried_text carried.Nothing = codes " none"
-carried_text (carried.Null bound) = codes " null " ++ time_text bound
-carried_text (carried.Event event) = codes " event " ++ event_text event
-carried_text (carried.Removal event) = codes " removal " ++ event_text event
-carried_text (carried.Retraction event) = codes " retraction " ++ event_text event
-carried_text (carried.Discovery object) = codes " discovery " ++ decimal object
+carried_text carried_message.Nothing = codes " none"
+carried_text (carried_message.Null bound) = codes " null " ++ time_text bound
+carried_text (carried_message.Event event) = codes " event " ++ event_text event
+carried_text (carried_message.Removal event) = codes " removal " ++ event_text event
+carried_text (carried_message.Retraction event) = codes " retraction " ++ event_text event
+carried_text (carried_message.Discovery object) = codes " discovery " ++ decimal object
 
 -- what a step answered, behind a space; nothing where it has no answer
 abbrev pub answer_text : CatalogueValue → Answer → List ℕ

@@ -2,7 +2,7 @@
 
 ghost use Rattle.std.specs.Prelude.{◌≡◌, ◌||◌, ◌++◌, ◌≤◌, length, codes, OnOk, IfOk, IfErr};
 ghost use Rattle.hla_base.specs.Limits.{max_classes};
-ghost use Rattle.hla_transcript.specs.Listed.{transport_text, order_text, each_numbered, attribute_text, parameter_text, own_attribute_text, own_parameter_text, object_line, interaction_line, object_text, interaction_text, listing, IsListed, StopsListing, is_unwritten};
+ghost use Rattle.hla_transcript.specs.Listed.{transport_text, order_text, numbered_texts, attribute_text, parameter_text, own_attribute_text, own_parameter_text, object_line, interaction_line, object_text, interaction_text, listing, IsListed, StopsListing, is_unwritten};
 
 use crate::text::Text;
 use crate::watched::Watched;
@@ -79,7 +79,7 @@ fn parameter_line(text: &mut Text, number: u64, parameter: &Parameter) -> Result
 
 /// Adds the lines of the attributes that a class declares itself.
 fn own_attributes(text: &mut Text, class: ClassNo, attributes: &[Attribute]) -> Result<(), Fault>
-    ensures ok { OnOk result (text.new ≡ text.old ++ each_numbered (own_attribute_text class)
+    ensures ok { OnOk result (text.new ≡ text.old ++ numbered_texts (own_attribute_text class)
         attributes.now) }
     ensures err { IfErr result (λ e. e ≡ Fault.OutOfMemory) }
 {
@@ -93,7 +93,7 @@ fn own_attributes(text: &mut Text, class: ClassNo, attributes: &[Attribute]) -> 
 
 /// Adds the lines of the parameters that a class declares itself.
 fn own_parameters(text: &mut Text, class: ClassNo, parameters: &[Parameter]) -> Result<(), Fault>
-    ensures ok { OnOk result (text.new ≡ text.old ++ each_numbered (own_parameter_text class)
+    ensures ok { OnOk result (text.new ≡ text.old ++ numbered_texts (own_parameter_text class)
         parameters.now) }
     ensures err { IfErr result (λ e. e ≡ Fault.OutOfMemory) }
 {
@@ -165,7 +165,8 @@ fn object_classes(
     attributes: &[Attribute],
 ) -> Result<(), Fault>
     requires { length classes.now ≤ max_classes }
-    ensures ok { OnOk result (text.new ≡ text.old ++ each_numbered (object_text attributes.now) classes.now) }
+    ensures ok { OnOk result (text.new ≡ text.old ++ numbered_texts (object_text attributes.now)
+        classes.now) }
     ensures err { IfErr result (λ e. e ≡ Fault.OutOfMemory) }
 {
     for (place, class) in classes.iter().enumerate() {
@@ -181,7 +182,7 @@ fn interaction_classes(
     parameters: &[Parameter],
 ) -> Result<(), Fault>
     requires { length classes.now ≤ max_classes }
-    ensures ok { OnOk result (text.new ≡ text.old ++ each_numbered (interaction_text parameters.now)
+    ensures ok { OnOk result (text.new ≡ text.old ++ numbered_texts (interaction_text parameters.now)
         classes.now) }
     ensures err { IfErr result (λ e. e ≡ Fault.OutOfMemory) }
 {

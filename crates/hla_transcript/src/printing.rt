@@ -120,7 +120,7 @@ pub fn callback(text: &mut Text, catalogue: &Catalogue, callback: &Callback) -> 
 }
 
 /// Adds what a carry took from its wire.
-fn carried(text: &mut Text, carried: Carried) -> Result<(), Fault>
+fn carried_message(text: &mut Text, carried: Carried) -> Result<(), Fault>
     ensures ok { OnOk result (text.new ≡ text.old ++ carried_text carried) }
     ensures err { IfErr result (λ e. e ≡ Fault.OutOfMemory) }
 {
@@ -153,7 +153,7 @@ fn answer(text: &mut Text, catalogue: &Catalogue, answer: &Answer) -> Result<(),
         Answer::Time(time) => text.word_and_time(" ", *time),
         Answer::Ticked(None) => text.word(" nothing"),
         Answer::Ticked(Some(given)) => callback(text, catalogue, given),
-        Answer::Carried(taken) => carried(text, *taken),
+        Answer::Carried(taken) => carried_message(text, *taken),
         Answer::Announced(None) => text.word(" none"),
         Answer::Announced(Some(time)) => text.word_and_time(" ", *time),
     }

@@ -4,7 +4,7 @@ use Rattle.std.proofs.lemmas.Bool.{cond_both, cases_Bool, cases_lt}
 use Rattle.std.proofs.lemmas.Bool.Decides.{nat_tests}
 use Rattle.hla_base.specs.declared.content.Event.{Event}
 use Rattle.hla_base.specs.Tables.{one_if}
-use Rattle.hla_order_queues.specs.Queues.{is_before, insert_event, is_event, find_event, remove_event, occurs}
+use Rattle.hla_order_queues.specs.Queues.{is_before, insert_event, is_event, find_event, remove_event, occurrences}
 use Rattle.hla_components.specs.Invariant.{EachOf, AfterSerial, IsInSerialOrder}
 
 pub EachOf-append : {X : Type 0} (P : X → Type 0) (xs ys : List X) → EachOf P xs → EachOf P ys → EachOf P (xs ++ ys)
@@ -50,13 +50,13 @@ EachOf-find P g m e (x ∷ xs) f a = ⊎_elim
 event_key : (g : ℕ) (e : Event) → e.sender ≡ g → is_event g e.serial e ≡ true
 event_key g e s = grind (arith, nat_tests)
 
-pub serials_below : (g x : ℕ) (xs : List Event) → ((m : ℕ) → x ≤ m → occurs g m xs ≡ 0) → EachOf (λ (e : Event). e.sender ≡ g → e.serial < x) xs
-unfolding occurs
+pub serials_below : (g x : ℕ) (xs : List Event) → ((m : ℕ) → x ≤ m → occurrences g m xs ≡ 0) → EachOf (λ (e : Event). e.sender ≡ g → e.serial < x) xs
+unfolding occurrences
 serials_below g x [] h = tt
 serials_below g x (e ∷ es) h = (
   λ from. ⊎_elim
       (λ (l : e.serial < x). l)
-      (λ (l : x ≤ e.serial). let none : one_if (is_event g e.serial e) + occurs g e.serial es ≡ 0 = h e.serial l in let none2 : 1 + occurs g e.serial es ≡ 0 = rw (event_key g e from) at none in absurd (omega arith))
+      (λ (l : x ≤ e.serial). let none : one_if (is_event g e.serial e) + occurrences g e.serial es ≡ 0 = h e.serial l in let none2 : 1 + occurrences g e.serial es ≡ 0 = rw (event_key g e from) at none in absurd (omega arith))
       (cases_lt e.serial x),
   serials_below g x es (λ m l. omega (arith, h m l)),
 )

@@ -8,7 +8,7 @@ use Rattle.hla_machine.specs.Directory.{Directory, Object, Outgoing, discovery_o
 use Rattle.hla_machine.specs.Central.{Central}
 use Rattle.hla_machine.specs.Callbacks.{IsNextDiscovery}
 use Rattle.hla_machine.specs.Sends.{after_message, after_messages}
-use Rattle.hla_machine.specs.Machine.{after_leaving, after_subscribe, after_register, joined_by}
+use Rattle.hla_machine.specs.Machine.{after_leaving, after_subscribe, after_register, after_join}
 use Rattle.hla_components.specs.Invariant.{EachOf, IsKnownOf}
 use Rattle.hla_components.proofs.Basics.Each.{EachOf-append, EachOf-weaker}
 use Rattle.hla_components.proofs.Upkeep.Directories.{grows_subscribed, grows_registered}
@@ -107,7 +107,7 @@ module _ (P : ℕ → ℕ → Type 0) (c : Central) (k : Discovering P c) where
           (q.discoveries g f)
 
   -- ---- a federate joins
-  pub join_discovers : (name : List ℕ) → Discovering P (joined_by c name)
+  pub join_discovers : (name : List ℕ) → Discovering P (after_join c name)
   join_discovers name = let n = c.directory.next_federate in record {
     heard = by_number n _
         (λ o j known other. absurd (let none = k.unknown n o (inl (omega arith)) in let both : true ≡ false = sym known ∙ none in cc))

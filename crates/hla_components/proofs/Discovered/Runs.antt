@@ -16,7 +16,7 @@ use Rattle.hla_machine.specs.Callbacks.{MayDeliver, MayPickUp, IsNextDiscovery}
 use Rattle.hla_machine.specs.Runs.{Happening, IsRun}
 use Rattle.hla_machine.specs.History.{GivesCallback, SpeaksOf, Names, next_state, central_after, Happens, HasHistory}
 use Rattle.hla_machine.specs.Discovered.{Discovers, IsDiscoveredAmong, HasDiscovered, IsDiscoveredInTurn}
-use Rattle.hla_machine.proofs.Ahead.{given}
+use Rattle.hla_machine.proofs.Ahead.{given_of}
 use Rattle.hla_machine.proofs.Deliveries.{heard_from_another, discovered_before}
 use Rattle.hla_machine.proofs.Lawful.{first_run, occurs_happens}
 use Rattle.hla_components.specs.Components.{Components, new_components}
@@ -136,7 +136,7 @@ first_among (x ∷ xs) d next = inl (ap (λ (d : Discovery). d.object) next)
 
 discovery_waited : (c : Central) (h : Happening) (f object : ℕ) → Happens c h → Discovers h f object → (g : ℕ) × Among object (c.discoveries g f)
 discovery_waited c h f object is y =
-    let w = given c h f (callback.DiscoverObjectInstance object y.class y.name) is.allowed.0 y.gives in
+    let w = given_of c h f (callback.DiscoverObjectInstance object y.class y.name) is.allowed.0 y.gives in
     let g = (c.directory.object object).owner in
     (g, first_among (c.discoveries g f) (record { object = object; class = y.class; name = y.name }) w.may)
 
@@ -183,7 +183,7 @@ module _ (c : Central) (hs : List Happening) (end : Central) (history : HasHisto
   first before h rest f x object whole gives speaks =
       let m = moment before h rest whole in
       let now = central_after c before in
-      let g = given now h f x m.happens.allowed.0 gives in
+      let g = given_of now h f x m.happens.allowed.0 gives in
       let t = talk now f x object h.choice m.told.0 g.may speaks in
       let another = heard_from_another now h f t.event m.happens (record { given = x; gives = gives; names = t.names }) in
       ⊎_elim

@@ -51,8 +51,8 @@ module _ (d : Directory) (g f : ℕ) where
   control_discoveries (ToRetract e ∷ ks) c = control_discoveries ks c.1
 
 -- what waits in a queue
-queued : (s : Components) (g m f : ℕ) (e : Event) (es : List Event) → EachOf (IsWaiting s.directory s.wire f) es → find_event g m es ≡ Some e → IsTold s.directory g f e.content
-queued s g m f e es each is = let w = EachOf-find (IsWaiting s.directory s.wire f) g m e es is each in subst (λ (h : ℕ). IsTold s.directory h f e.content) (find-key g m e es is).0 w.0
+queued_event : (s : Components) (g m f : ℕ) (e : Event) (es : List Event) → EachOf (IsWaiting s.directory s.wire f) es → find_event g m es ≡ Some e → IsTold s.directory g f e.content
+queued_event s g m f e es each is = let w = EachOf-find (IsWaiting s.directory s.wire f) g m e es is each in subst (λ (h : ℕ). IsTold s.directory h f e.content) (find-key g m e es is).0 w.0
 
 copy_told : (s : Components) (g m f : ℕ) (k : Copy) → Kept s → bag_of s g m f ≡ Some k → IsTold s.directory g f k.content
 copy_told s g m f k kept is = ⊎_elim
@@ -62,10 +62,10 @@ copy_told s g m f k kept is = ⊎_elim
     (λ (b : or_else (option_map tso_copy (find_event g m (s.tso f))) (option_map ro_copy (find_event g m (s.ro f))) ≡ Some k). ⊎_elim
     (λ (t : option_map tso_copy (find_event g m (s.tso f)) ≡ Some k).
     let w = option_map-some tso_copy (find_event g m (s.tso f)) k t in
-    subst (λ (k : Copy). IsTold s.directory g f k.content) w.2 (queued s g m f w.0 (s.tso f) (kept.objects.ordered f) w.1))
+    subst (λ (k : Copy). IsTold s.directory g f k.content) w.2 (queued_event s g m f w.0 (s.tso f) (kept.objects.ordered f) w.1))
     (λ (r : option_map ro_copy (find_event g m (s.ro f)) ≡ Some k).
     let w = option_map-some ro_copy (find_event g m (s.ro f)) k r in
-    subst (λ (k : Copy). IsTold s.directory g f k.content) w.2 (queued s g m f w.0 (s.ro f) (kept.objects.plain f) w.1))
+    subst (λ (k : Copy). IsTold s.directory g f k.content) w.2 (queued_event s g m f w.0 (s.ro f) (kept.objects.plain f) w.1))
     (or_else-cases _ _ k b))
     (or_else-cases _ _ k is)
 

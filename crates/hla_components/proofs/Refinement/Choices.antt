@@ -20,7 +20,7 @@ use Rattle.hla_machine.specs.declared.step.Outcome.TheVariants as outcome
 use Rattle.hla_machine.specs.declared.step.Choice.TheVariants as choice
 use Rattle.hla_machine.specs.Callbacks.{is_among}
 use Rattle.hla_machine.specs.Machine.{IsChoice, IsCallbackChoice, AreDistinct}
-use Rattle.hla_order_queues.specs.Queues.{occurs, find_event, handles_of}
+use Rattle.hla_order_queues.specs.Queues.{occurrences, find_event, handles_of}
 use Rattle.hla_components.specs.Components.{Components}
 use Rattle.hla_components.specs.Component.{promise, local_bound}
 use Rattle.hla_local.specs.Picking.{pick, Pick, NoPick, PickControl, PickRo, PickRegulates, PickConstrains, PickTso, PickGrant, is_below}
@@ -31,14 +31,14 @@ use Rattle.hla_components.proofs.Wiring.Bags.{event_self}
 use Rattle.hla_components.proofs.Upkeep.Demotions.{among_found, fewer_behind, once_tso}
 
 -- what is there once is not among those behind it
-not_behind : (x : Event) (xs : List Event) → occurs x.sender x.serial (x ∷ xs) ≤ 1 → is_among (handles_of xs) x.sender x.serial ≡ false
+not_behind : (x : Event) (xs : List Event) → occurrences x.sender x.serial (x ∷ xs) ≤ 1 → is_among (handles_of xs) x.sender x.serial ≡ false
 not_behind x xs once =
-    let o : 1 + occurs x.sender x.serial xs ≤ 1 = rw (occurs-cons, event_self) at once in
-    let none : occurs x.sender x.serial xs ≡ 0 = omega arith in
+    let o : 1 + occurrences x.sender x.serial xs ≤ 1 = rw (occurs-cons, event_self) at once in
+    let none : occurrences x.sender x.serial xs ≡ 0 = omega arith in
     rw (among_found x.sender x.serial xs, find-none x.sender x.serial xs none) refl
 
 -- events of which each is there once have handles of which each is there once
-pub distinct_handles : (xs : List Event) → ((g m : ℕ) → occurs g m xs ≤ 1) → AreDistinct (handles_of xs)
+pub distinct_handles : (xs : List Event) → ((g m : ℕ) → occurrences g m xs ≤ 1) → AreDistinct (handles_of xs)
 unfolding handles_of
 distinct_handles [] once = tt
 distinct_handles (x ∷ xs) once = (not_behind x xs (once x.sender x.serial), distinct_handles xs (λ g m. fewer_behind g m x xs (once g m)))

@@ -3,7 +3,7 @@ use Rattle.std.proofs.Common.{◌≡◌, ◌≢◌, ℕ, ◌+◌, ◌<◌, ltb, 
 use Rattle.std.proofs.lemmas.Bool.{cond_both}
 use Rattle.hla_base.specs.declared.row.TimeRow.{TimeRow}
 use Rattle.hla_base.specs.Tables.{upd}
-use Rattle.hla_base.specs.Rows.{new_row, regulating_from, is_regulator}
+use Rattle.hla_base.specs.Rows.{new_row, row_with_entry, is_regulator}
 use Rattle.hla_base.proofs.Tables.{upd_each, upd_same, upd_other, by_number}
 use Rattle.hla_fed_file.specs.CatalogueValue.{CatalogueValue}
 use Rattle.hla_null_message.specs.declared.message.Message.{Message}
@@ -67,8 +67,8 @@ join_counts s name k = let n = s.directory.next_federate in record {
 enter_counts : (s : Components) (f lookahead e : ℕ) → s.directory.joined f ≡ true → f < s.directory.next_federate → EpochInv s → EpochInv (with_regulation_enabled s f lookahead e)
 enter_counts s f lookahead e member low k = record {
   counted = by_number f _
-      (λ j. upd_same s.epoch f (s.epoch f + 1) ∙ ap (λ (n : ℕ). n + 1) (k.counted f member) ∙ ap (λ (r : TimeRow). r.enablings) (sym (upd_same s.row f (regulating_from (s.row f) lookahead e))))
-      (λ g ne j. upd_other s.epoch f (s.epoch f + 1) g ne ∙ k.counted g j ∙ ap (λ (r : TimeRow). r.enablings) (sym (upd_other s.row f (regulating_from (s.row f) lookahead e) g ne)));
+      (λ j. upd_same s.epoch f (s.epoch f + 1) ∙ ap (λ (n : ℕ). n + 1) (k.counted f member) ∙ ap (λ (r : TimeRow). r.enablings) (sym (upd_same s.row f (row_with_entry (s.row f) lookahead e))))
+      (λ g ne j. upd_other s.epoch f (s.epoch f + 1) g ne ∙ k.counted g j ∙ ap (λ (r : TimeRow). r.enablings) (sym (upd_other s.row f (row_with_entry (s.row f) lookahead e) g ne)));
   unheard = λ g high. let ne : f ≢ g = λ same. absurd (omega (arith, same, high, low)) in upd_other s.epoch f (s.epoch f + 1) g ne ∙ k.unheard g high;
 }
 

@@ -20,7 +20,7 @@ use Rattle.hla_machine.proofs.Runs.{run_safe}
 use Rattle.hla_order_queues.specs.declared.control.Control.TheVariants.{ToDiscover, ToRetract}
 use Rattle.hla_null_message.specs.Wires.{discoveries, events, retractions}
 use Rattle.hla_order_queues.specs.Controls.{discoveries_from, dues}
-use Rattle.hla_order_queues.specs.Queues.{occurs, find_event}
+use Rattle.hla_order_queues.specs.Queues.{occurrences, find_event}
 use Rattle.hla_components.specs.Components.{Components, new_components}
 use Rattle.hla_components.specs.Component.{local_bound}
 use Rattle.hla_local.specs.Picking.{Pick, NoPick, PickControl, PickRo, PickRegulates, PickConstrains, PickTso, PickGrant}
@@ -142,7 +142,7 @@ is_run s (step ∷ steps) inv =
 
 -- ---- the beginning
 pub inv_start : (catalogue : CatalogueValue) → Inv (new_components catalogue)
-unfolding occurs events find_event retractions
+unfolding occurrences events find_event retractions
 inv_start catalogue = record {
   kept = record {
     directory = directory_start catalogue;

@@ -9,7 +9,7 @@ use Rattle.hla_base.specs.declared.row.Role.{Role}
 use Rattle.hla_base.specs.declared.row.Role.TheVariants.{Disabled, Pending, Enabled}
 use Rattle.hla_base.specs.declared.row.TimeRow.{TimeRow}
 use Rattle.hla_base.specs.Tables.{upd, or_else, when}
-use Rattle.hla_base.specs.Rows.{is_strict, is_next, is_flush, is_constrained, is_disabled, is_pending, next_request, width, keep_if, regulates, row_after_pick, row_after_grant, bar_after, least_of, first_or, grant_time, reach}
+use Rattle.hla_base.specs.Rows.{is_strict, is_next, is_flush, is_constrained, is_disabled, is_pending, next_request, width, keep_if, row_after_regulation_enabled, row_after_pick, row_after_grant, bar_after, least_of, first_or, grant_time, reach}
 use Rattle.hla_callbacks.specs.declared.callback.Delivery.TheVariants as delivery
 use Rattle.hla_machine.specs.declared.step.Step.TheVariants.{Tick}
 use Rattle.hla_machine.specs.declared.step.Choice.TheVariants as choice
@@ -58,7 +58,7 @@ step_regulates s f kept none was =
     let old = kept.time.rows f in
     let idle : (s.row f).advance ≡ None = old.idle was in
     record {
-      kept = kept_row s f (regulates (s.row f)) kept (record {
+      kept = kept_row s f (row_after_regulation_enabled (s.row f)) kept (record {
         queue = kept.time.queues f;
         in_order = kept.time.ordered f;
         ahead = λ c. subst (λ t. Above t (s.tso f)) (sym (old.steady c was)) (kept.time.ahead f c);

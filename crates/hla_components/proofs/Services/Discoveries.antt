@@ -12,7 +12,7 @@ use Rattle.hla_null_message.specs.declared.message.Message.TheVariants as messag
 use Rattle.hla_base.specs.Tables.{numbers_below, upd, upd2, when}
 use Rattle.hla_machine.specs.declared.service.Service.TheVariants as service
 use Rattle.hla_machine.specs.declared.step.Step.TheVariants.{Call, Carry, Tick}
-use Rattle.hla_machine.specs.Directory.{Directory, served_object, discovery_at, discovery_of, discoveries_of, discovered_by, with_subscribed}
+use Rattle.hla_machine.specs.Directory.{Directory, served_object, discovery_at, discovery_of, discoveries_of, with_discoveries_made, with_subscribed}
 use Rattle.hla_machine.specs.Central.{is_key}
 use Rattle.hla_machine.specs.Callbacks.{IsNextDiscovery}
 use Rattle.hla_machine.specs.Machine.{after_subscribe}
@@ -171,7 +171,7 @@ each_discovery d g f P all = each_made P (λ h. when (eqb (d.object h).owner g) 
 -- ---- f subscribes
 module _ (s : Components) (f class : ℕ) (o : Option (List ℕ)) (kept : Kept s) (member : s.directory.joined f ≡ true) where
   abbrev later : Directory
-  later = discovered_by (with_subscribed s.directory f class o) f
+  later = with_discoveries_made (with_subscribed s.directory f class o) f
 
   abbrev wire : ℕ → ℕ → List Message
   wire = λ g. upd (s.wire g) f (put_discoveries (discoveries_of (with_subscribed s.directory f class o) g f) (s.wire g f))

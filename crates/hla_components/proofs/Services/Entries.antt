@@ -6,7 +6,7 @@ use Rattle.hla_base.specs.declared.row.Role.{Role}
 use Rattle.hla_base.specs.declared.row.Role.TheVariants.{Disabled, Pending, Enabled}
 use Rattle.hla_base.specs.declared.row.TimeRow.{TimeRow}
 use Rattle.hla_base.specs.Tables.{upd, greatest}
-use Rattle.hla_base.specs.Rows.{is_constrained, is_enabled, is_disabled, is_pending, next_request, width, regulating_from, bar_of}
+use Rattle.hla_base.specs.Rows.{is_constrained, is_enabled, is_disabled, is_pending, next_request, width, row_with_entry, bar_of}
 use Rattle.hla_machine.specs.declared.service.Service.TheVariants as service
 use Rattle.hla_machine.specs.declared.step.Step.TheVariants.{Call}
 use Rattle.hla_machine.specs.Central.{BelowSomeWake, low_entry}
@@ -135,5 +135,5 @@ step_regulate s f time lookahead kept none =
         objects = null_objects s f (s.epoch f + 1) e kept;
       };
       allowed = (none, (entry_low s f (time + lookahead) kept, entry_high s f (time + lookahead) kept));
-      follows = null_central s f (s.epoch f + 1) e (upd s.row f (regulating_from (s.row f) lookahead e));
+      follows = null_central s f (s.epoch f + 1) e (upd s.row f (row_with_entry (s.row f) lookahead e));
     }

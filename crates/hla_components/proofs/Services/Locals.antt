@@ -14,7 +14,7 @@ use Rattle.hla_null_message.specs.declared.message.Message.{Message}
 use Rattle.hla_null_message.specs.declared.message.Message.TheVariants as message
 use Rattle.hla_order_queues.specs.declared.control.Control.{Control}
 use Rattle.hla_order_queues.specs.declared.control.Control.TheVariants.{ToDiscover, ToRetract}
-use Rattle.hla_order_queues.specs.Queues.{find_event, occurs, is_event}
+use Rattle.hla_order_queues.specs.Queues.{find_event, occurrences, is_event}
 use Rattle.hla_null_message.specs.Wires.{events}
 use Rattle.hla_local.specs.LocalValue.{LocalValue}
 use Rattle.hla_local.specs.Picking.{Pick, NoPick, PickControl, PickRo, PickRegulates, PickConstrains, PickTso, PickGrant, pick, picked_by, local_pick, local_picking, least_bound}
@@ -157,10 +157,10 @@ module _ (s : Components) (f : ℕ) (peers : List PeerRow) (known : KnowsPeers s
 not_there : (a b c : ℕ) → a + (b + c) ≤ 1 → 1 ≤ a → b ≡ 0
 not_there a b c once here = omega (arith, once, here)
 
-itself : (e : Event) (ms : List Event) → 1 ≤ occurs e.sender e.serial (e ∷ ms)
+itself : (e : Event) (ms : List Event) → 1 ≤ occurrences e.sender e.serial (e ∷ ms)
 itself e ms = let y : is_event e.sender e.serial e ≡ true = grind (arith, nat_tests) in rw (occurs-cons, y) (omega arith)
 
-apart : (g m : ℕ) (tso ro : List Event) (o : Option Event) → find_event g m tso ≡ o → occurs g m tso + occurs g m ro ≤ 1 → IsSome o → find_event g m ro ≡ None
+apart : (g m : ℕ) (tso ro : List Event) (o : Option Event) → find_event g m tso ≡ o → occurrences g m tso + occurrences g m ro ≤ 1 → IsSome o → find_event g m ro ≡ None
 apart g m tso ro None is once some = absurd (cc)
 apart g m tso ro (Some e) is once some = find-none g m ro (let there = find-occurs g m e tso is in omega (arith, once, there))
 
@@ -172,8 +172,8 @@ may_come s g f peers (message.Event e) ms inv is =
     let copies = inv.kept.copies.once g e.serial f in
     let once = rw is at copies in
     let sent : e.sender ≡ g = carries.1 in
-    let here : 1 ≤ occurs g e.serial (e ∷ events ms) = subst (λ (h : ℕ). 1 ≤ occurs h e.serial (e ∷ events ms)) sent (itself e (events ms)) in
-    find-none e.sender e.serial (s.tso f) (ap (λ (h : ℕ). occurs h e.serial (s.tso f)) sent ∙ not_there (occurs g e.serial (e ∷ events ms)) (occurs g e.serial (s.tso f)) (occurs g e.serial (s.ro f)) once here)
+    let here : 1 ≤ occurrences g e.serial (e ∷ events ms) = subst (λ (h : ℕ). 1 ≤ occurrences h e.serial (e ∷ events ms)) sent (itself e (events ms)) in
+    find-none e.sender e.serial (s.tso f) (ap (λ (h : ℕ). occurrences h e.serial (s.tso f)) sent ∙ not_there (occurrences g e.serial (e ∷ events ms)) (occurrences g e.serial (s.tso f)) (occurrences g e.serial (s.ro f)) once here)
 may_come s g f peers (message.Null k v) ms inv is = tt
 may_come s g f peers (message.Retraction m) ms inv is = λ some. apart g m (s.tso f) (s.ro f) (find_event g m (s.tso f)) refl (omega (arith, inv.kept.copies.once g m f)) some
 may_come s g f peers (message.Discovery d) ms inv is = tt

@@ -8,7 +8,7 @@ use Rattle.hla_null_message.specs.declared.message.Message.{Message}
 use Rattle.hla_base.specs.Tables.{is_other, upd_row}
 use Rattle.hla_machine.specs.declared.service.Service.TheVariants as service
 use Rattle.hla_machine.specs.declared.step.Step.TheVariants.{Call}
-use Rattle.hla_machine.specs.Directory.{Directory, discovery_of, discoveries_of, discovered_by_all, served_object, with_object, name_or_default}
+use Rattle.hla_machine.specs.Directory.{Directory, discovery_of, discoveries_of, with_object_discovered, served_object, with_object, name_or_default}
 use Rattle.hla_machine.specs.Machine.{after_register}
 use Rattle.hla_machine.specs.Refusals.{refusal}
 use Rattle.hla_null_message.specs.Wires.{events, discoveries, retractions}
@@ -51,7 +51,7 @@ module _ (s : Components) (f class : ℕ) (name : List ℕ) (kept : Kept s) (mem
   d = with_object s.directory f class name
 
   abbrev later : Directory
-  later = discovered_by_all (with_object s.directory f class name) s.directory.next_object
+  later = with_object_discovered (with_object s.directory f class name) s.directory.next_object
 
   abbrev put_for : ℕ → List Message → List Message
   put_for k = put_discoveries (discoveries_of (with_object s.directory f class name) f k)

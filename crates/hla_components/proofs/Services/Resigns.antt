@@ -3,7 +3,7 @@ use Rattle.std.proofs.Common.{◌≡◌, ◌≢◌, ℕ, ◌≤◌, eqb, not, �
 use Rattle.std.proofs.lemmas.Bool.{cond_both, and_parts, and_from, cases_Bool}
 use Rattle.hla_null_message.specs.declared.message.Message.{Message}
 use Rattle.hla_null_message.specs.declared.message.Message.TheVariants as message
-use Rattle.hla_base.specs.Tables.{forever, is_other, numbers_below, or_else, upd, upd_row, clear}
+use Rattle.hla_base.specs.Tables.{forever, is_other, numbers_below, or_else, upd, upd_row, upd_whole_column}
 use Rattle.hla_base.specs.Rows.{is_regulator, least_stamp, new_row}
 use Rattle.hla_fed_file.specs.declared.declared.Order.TheVariants.{Receive, Timestamp}
 use Rattle.hla_machine.specs.declared.service.Service.TheVariants as service
@@ -21,7 +21,7 @@ use Rattle.hla_components.specs.Next.{components_seen, step_outcome, put_behind,
 use Rattle.hla_components.specs.CentralOf.{central, bag_of, wire_copy, tso_copy, ro_copy}
 use Rattle.hla_components.specs.Invariant.{EachOf, IsTsoQueue, IsInKeyOrder, Carries, Tells, RowInv, IsTimed, CopyInv, ObjectInv, IsWired, is_wire, places_in, stamps, Kept}
 use Rattle.hla_components.specs.Headline.{IsKeptStep}
-use Rattle.hla_base.proofs.Tables.{by_number, upd_same, upd_other, upd_each, upd_row_each, upd_row_here, upd_row_self, upd_row_other, clear_here, clear_else}
+use Rattle.hla_base.proofs.Tables.{by_number, upd_same, upd_other, upd_each, upd_row_each, upd_row_here, upd_row_self, upd_row_other, upd_whole_column_here, upd_whole_column_else}
 use Rattle.hla_components.proofs.Basics.Each.{EachOf-passed}
 use Rattle.hla_components.proofs.Wiring.Wires.{events-put_null, events-nil, discoveries-put_null, discoveries-nil, retractions-put_null, retractions-nil, occurs-nil, find-nil}
 use Rattle.hla_components.proofs.Upkeep.Epochs.{silent, silent_null}
@@ -40,7 +40,7 @@ module _ (s : Components) (f : ℕ) (kept : Kept s) (member : s.directory.joined
   row_wire = upd_row s.wire s.directory.joined f (λ _. with_last_null s f)
 
   abbrev wire : ℕ → ℕ → List Message
-  wire = clear (upd_row s.wire s.directory.joined f (λ _. with_last_null s f)) f []
+  wire = upd_whole_column (upd_row s.wire s.directory.joined f (λ _. with_last_null s f)) f []
 
   other_kept : (g k : ℕ) → is_other (upd s.directory.joined f false) g k ≡ true → is_other s.directory.joined g k ≡ true
   other_kept g k e = let p = and_parts _ _ e in and_from _ _ p.0 (upd_each s.directory.joined f false (λ j x. x ≡ true → s.directory.joined j ≡ true) (λ x. absurd (cc)) (λ _ _ x. x) k p.1)
@@ -83,8 +83,8 @@ module _ (s : Components) (f : ℕ) (kept : Kept s) (member : s.directory.joined
     queues = upd_each s.tso f [] (λ _ q. IsTsoQueue q) tt (λ k _. kept.time.queues k);
     ordered = upd_each s.tso f [] (λ _ q. IsInKeyOrder q) tt (λ k _. kept.time.ordered k);
     ahead = by_number f _ (rw upd_same (λ e. absurd (cc))) (λ g ne. rw (upd_other, upd_other) (kept.time.ahead g));
-    wires = λ g. by_number f _ (rw clear_here (λ e. absurd (left_out g (and_parts (is_regulator (upd s.row f new_row g)) (is_other (upd s.directory.joined f false) g f) e).1)))
-        (λ k ne. rw clear_else (leave_wires g k ne));
+    wires = λ g. by_number f _ (rw upd_whole_column_here (λ e. absurd (left_out g (and_parts (is_regulator (upd s.row f new_row g)) (is_other (upd s.directory.joined f false) g f) e).1)))
+        (λ k ne. rw upd_whole_column_else (leave_wires g k ne));
     epochs = λ g k e. kept.time.epochs g k (other_kept g k e);
     regulators = by_number f _ (rw upd_same (λ e. absurd (cc))) (λ g ne. rw (upd_other, upd_other) (kept.time.regulators g));
     promised = by_number f _ (rw upd_same (λ e. absurd (cc))) (λ g ne. rw (upd_other, upd_other, upd_other) (kept.time.promised g));
@@ -95,14 +95,14 @@ module _ (s : Components) (f : ℕ) (kept : Kept s) (member : s.directory.joined
   -- ---- copies
   leave_places : (g m k : ℕ) → places_in wire (upd s.tso f []) (upd s.ro f []) g m k ≤ places_in s.wire s.tso s.ro g m k
   leave_places g m = by_number f _
-      (rw (upd_same, upd_same, clear_here, events-nil, occurs-nil) (omega arith))
-      (λ k ne. rw (upd_other, upd_other, clear_else, row_events) (omega arith))
+      (rw (upd_same, upd_same, upd_whole_column_here, events-nil, occurs-nil) (omega arith))
+      (λ k ne. rw (upd_other, upd_other, upd_whole_column_else, row_events) (omega arith))
 
   leave_copies : CopyInv s.serial wire (upd s.tso f []) (upd s.ro f [])
   leave_copies = record {
     once = λ g m k. omega (arith, kept.copies.once g m k, leave_places g m k);
     unused = λ g m k new. omega (arith, kept.copies.unused g m k new, leave_places g m k);
-    serials = λ g. by_number f _ (rw (upd_same, clear_here, events-nil) tt) (λ k ne. rw (upd_other, clear_else, row_events) (kept.copies.serials g k));
+    serials = λ g. by_number f _ (rw (upd_same, upd_whole_column_here, events-nil) tt) (λ k ne. rw (upd_other, upd_whole_column_else, row_events) (kept.copies.serials g k));
   }
 
   -- ---- objects
@@ -110,12 +110,12 @@ module _ (s : Components) (f : ℕ) (kept : Kept s) (member : s.directory.joined
   leave_objects =
       let e = without_member s.directory f in
       let t : ObjectInv e wire s.tso s.ro s.controls = objects_shift s.directory e s.wire wire s.tso s.ro s.controls (grows_left s.directory f)
-      (λ g. by_number f _ (rw clear_here tt) (λ k ne. rw clear_else (tells_grows s.directory e g k (row_wire g k) (grows_left s.directory f) (row_tells g k))))
-      (λ g. by_number f _ (λ x told b. rw (clear_here, discoveries-nil) (behind_nil x)) (λ k ne x told b. rw (clear_else, row_discoveries) b)) kept.objects in
+      (λ g. by_number f _ (rw upd_whole_column_here tt) (λ k ne. rw upd_whole_column_else (tells_grows s.directory e g k (row_wire g k) (grows_left s.directory f) (row_tells g k))))
+      (λ g. by_number f _ (λ x told b. rw (upd_whole_column_here, discoveries-nil) (behind_nil x)) (λ k ne x told b. rw (upd_whole_column_else, row_discoveries) b)) kept.objects in
       objects_controls e wire (upd s.tso f []) (upd s.ro f []) s.controls f [] tt (objects_queues e wire s.tso s.ro s.controls f [] [] tt tt t)
 
   leave_wired : IsWired (without_member s.directory f) wire
-  leave_wired g = by_number f _ (λ _. rw clear_here refl) (λ k ne off. rw clear_else (wired_row s f (λ _. with_last_null s f) kept member g k (⊎_elim
+  leave_wired g = by_number f _ (λ _. rw upd_whole_column_here refl) (λ k ne off. rw upd_whole_column_else (wired_row s f (λ _. with_last_null s f) kept member g k (⊎_elim
       (λ (y : is_wire s.directory g k ≡ true). let p = and_parts _ _ y in let q = and_parts _ _ p.1 in
       let j : upd s.directory.joined f false k ≡ true = rw upd_other q.1 in
       let w : is_wire (without_member s.directory f) g k ≡ true = and_from _ _ p.0 (and_from _ _ q.0 j) in absurd (cc))
@@ -137,13 +137,13 @@ module _ (s : Components) (f : ℕ) (kept : Kept s) (member : s.directory.joined
 
   leave_bag : bag_of (with_federate_gone s f) ≡ (λ g m. upd (bag_of s g m) f None)
   leave_bag = bag_ext _ _ (λ g m. by_number f _
-      (rw (upd_same, upd_same, clear_here, events-nil, upd_same) (nothing_found g m))
-      (λ k ne. rw (upd_other, upd_other, clear_else, row_events, upd_other) refl))
+      (rw (upd_same, upd_same, upd_whole_column_here, events-nil, upd_same) (nothing_found g m))
+      (λ k ne. rw (upd_other, upd_other, upd_whole_column_else, row_events, upd_other) refl))
 
   pub central_leaves : central (with_federate_gone s f) ≡ after_leaving (central s) f
   central_leaves = central_ext _ _ refl refl refl refl leave_bag
-      (λ g. by_number f _ (rw (upd_same, clear_here, discoveries-nil, from-nil, upd_same) refl) (λ k ne. rw (upd_other, clear_else, row_discoveries, upd_other) refl))
-      (λ g m. by_number f _ (rw (clear_here, retractions-nil, upd_same) refl) (λ k ne. rw (clear_else, row_retractions, upd_other) refl))
+      (λ g. by_number f _ (rw (upd_same, upd_whole_column_here, discoveries-nil, from-nil, upd_same) refl) (λ k ne. rw (upd_other, upd_whole_column_else, row_discoveries, upd_other) refl))
+      (λ g m. by_number f _ (rw (upd_whole_column_here, retractions-nil, upd_same) refl) (λ k ne. rw (upd_whole_column_else, row_retractions, upd_other) refl))
       (λ g m. by_number f _ (rw (upd_same, dues-nil, upd_same) refl) (λ k ne. rw (upd_other, upd_other) refl))
 
 -- ---- its objects are deleted first
@@ -152,9 +152,9 @@ sent_directory s f stamp [] = refl
 sent_directory s f stamp (out ∷ outs) = sent_directory (with_message_sent s f stamp out) f stamp outs
 
 -- without a stamp nothing goes in time-stamp order
-unordered : (s : Components) (f : ℕ) (outs : List Outgoing) → EachOf (λ (out : Outgoing). is_ordered (s.row f) None out ≡ true → least_stamp (s.row f) ≤ 0) outs
-unordered s f [] = tt
-unordered s f (out ∷ outs) = ((λ o. let p : false ≡ true = (and_parts (is_of_order Timestamp out.order) false (and_parts _ _ o).0).1 in absurd (cc)), unordered s f outs)
+each_unstamped_low : (s : Components) (f : ℕ) (outs : List Outgoing) → EachOf (λ (out : Outgoing). is_ordered (s.row f) None out ≡ true → least_stamp (s.row f) ≤ 0) outs
+each_unstamped_low s f [] = tt
+each_unstamped_low s f (out ∷ outs) = ((λ o. let p : false ≡ true = (and_parts (is_of_order Timestamp out.order) false (and_parts _ _ o).0).1 in absurd (cc)), each_unstamped_low s f outs)
 
 deletions_told : (s : Components) (f : ℕ) (kept : Kept s) (hs : List ℕ) → EachOf (λ h. ((s.directory.object h).exists && eqb (s.directory.object h).owner f) ≡ true) hs → EachOf (Told s.directory f) (deletions_sent hs)
 deletions_told s f kept [] own = tt
@@ -168,7 +168,7 @@ step_resign s f DeleteObjects kept none =
     let outs = deletions_sent (objects_of s.directory f) in
     let t = with_messages_sent s f None outs in
     let member = caller_joined (components_seen s) f (service.Resign DeleteObjects) none in
-    let may : EachOf (IsSendable s f None) outs = sendable s f None outs (unordered s f outs) (deletions_told s f kept (objects_of s.directory f) (EachOf-passed _ (numbers_below s.directory.next_object))) in
+    let may : EachOf (IsSendable s f None) outs = sendable s f None outs (each_unstamped_low s f outs) (deletions_told s f kept (objects_of s.directory f) (EachOf-passed _ (numbers_below s.directory.next_object))) in
     let sent = kept_sent_all s f None outs kept member may in
     let still : t.directory.joined f ≡ true = subst (λ (d : Directory). d.joined f ≡ true) (sym (sent_directory s f None outs)) member in
     record {

@@ -17,7 +17,7 @@ use Rattle.hla_machine.specs.Sends.{is_told, owed_to_receivers}
 use Rattle.hla_machine.specs.Refusals.{refusal}
 use Rattle.hla_order_queues.specs.declared.control.Control.{Control}
 use Rattle.hla_order_queues.specs.declared.control.Control.TheVariants.{ToDiscover, ToRetract}
-use Rattle.hla_order_queues.specs.Queues.{is_event, find_event, remove_event, occurs}
+use Rattle.hla_order_queues.specs.Queues.{is_event, find_event, remove_event, occurrences}
 use Rattle.hla_null_message.specs.Wires.{events, discoveries, retractions}
 use Rattle.hla_order_queues.specs.Controls.{discoveries_from, dues}
 use Rattle.hla_components.specs.Components.{Components}
@@ -173,7 +173,7 @@ module _ (s : Components) (g f m : ℕ) (ms : List Message) (front : s.wire g f 
   apart : (h k : ℕ) → is_key g m h k ≡ false → (x : Event) → is_event g m x ≡ true → is_event h k x ≡ false
   apart h k other x y = grind (arith, nat_tests)
 
-  bag_retraction : Kept s → occurs g m (events ms) ≡ 0 → bag_of (with_retraction_accepted s g f m ms) ≡ at_key (bag_of s) g m f None
+  bag_retraction : Kept s → occurrences g m (events ms) ≡ 0 → bag_of (with_retraction_accepted s g f m ms) ≡ at_key (bag_of s) g m f None
   bag_retraction kept behind =
       bag_same_wires (record s { tso = upd s.tso f (remove_event g m (s.tso f)); ro = upd s.ro f (remove_event g m (s.ro f)) }) (upd2 s.wire g f ms) same_events
       ∙ bag_removed s f g m (remove_event g m (s.tso f)) (remove_event g m (s.ro f))
@@ -181,7 +181,7 @@ module _ (s : Components) (g f m : ℕ) (ms : List Message) (front : s.wire g f 
       (rw (front, events-retraction) (find-none g m (events ms) behind))
       (find-remove g m (s.tso f) (omega (arith, kept.copies.once g m f))) (find-remove g m (s.ro f) (omega (arith, kept.copies.once g m f)))
 
-  found_before : occurs g m (events ms) ≡ 0 → find_event g m (events (s.wire g f)) ≡ None
+  found_before : occurrences g m (events ms) ≡ 0 → find_event g m (events (s.wire g f)) ≡ None
   found_before behind = rw (front, events-retraction) (find-none g m (events ms) behind)
 
   due_other : (h k : ℕ) → is_key g m h k ≡ false → (b : Bool) (ks : List Control) → dues h k (cond b (ks ++ ToRetract (record { sender = g; serial = m }) ∷ []) ks) ≡ dues h k ks
@@ -194,7 +194,7 @@ module _ (s : Components) (g f m : ℕ) (ms : List Message) (front : s.wire g f 
   due_here None (Some x) ks none = rw none (omega arith)
   due_here None None ks none = rw none (rw (dues-append, dues-retract, dues-nil) (rw same_key_one refl))
 
-  due_added : occurs g m (events ms) ≡ 0 → (h k l : ℕ) → dues h k ((with_retraction_accepted s g f m ms).controls l)
+  due_added : occurrences g m (events ms) ≡ 0 → (h k l : ℕ) → dues h k ((with_retraction_accepted s g f m ms).controls l)
       ≡ at3 (λ g m f. dues g m (s.controls f)) g m f (dues g m (s.controls f) + one_if (is_none_of (bag_of s g m f))) h k l
   due_added behind = by_key g m _
       (by_number f _ (rw (upd_same, at3_here) (due_here (find_event g m (s.tso f)) (find_event g m (s.ro f)) (s.controls f) (found_before behind)))

@@ -5,14 +5,14 @@ use Rattle.std.proofs.lemmas.List.Elements.{All-nil, All-cons}
 use Rattle.hla_base.specs.declared.content.Event.{Event}
 use Rattle.hla_base.specs.declared.number.EventHandle.{EventHandle}
 use Rattle.hla_base.specs.Tables.{or_else, upd}
-use Rattle.hla_base.specs.Rows.{keep_if, is_pending, constrains}
+use Rattle.hla_base.specs.Rows.{keep_if, is_pending, row_after_constraint_enabled}
 use Rattle.hla_base.specs.declared.row.Role.TheVariants.{Disabled}
 use Rattle.hla_machine.specs.declared.service.Service.TheVariants as service
 use Rattle.hla_machine.specs.declared.step.Step.TheVariants.{Call, Tick}
-use Rattle.hla_machine.specs.Central.{Copy, Tso, demoted}
+use Rattle.hla_machine.specs.Central.{Copy, Tso, demoted_copy}
 use Rattle.hla_machine.specs.Callbacks.{AreTso, IsCopy, is_among, with_demoted}
 use Rattle.hla_machine.specs.Refusals.{refusal}
-use Rattle.hla_order_queues.specs.Queues.{find_event, is_event, occurs, handle_of, handles_of}
+use Rattle.hla_order_queues.specs.Queues.{find_event, is_event, occurrences, handle_of, handles_of}
 use Rattle.hla_null_message.specs.Wires.{events}
 use Rattle.hla_components.specs.Components.{Components}
 use Rattle.hla_components.specs.Component.{local_bound}
@@ -35,19 +35,19 @@ use Rattle.hla_machine.proofs.Tests.{clear_call}
 use Rattle.hla_components.proofs.Services.TimeSteps.{at_rest, idle_last, idle_fresh}
 
 -- ---- what is found after a choice
-pub find-filter : (p : Event → Bool) (g m : ℕ) (xs : List Event) → occurs g m xs ≤ 1 → find_event g m (filter p xs) ≡ keep_if p (find_event g m xs)
-unfolding find_event occurs
+pub find-filter : (p : Event → Bool) (g m : ℕ) (xs : List Event) → occurrences g m xs ≤ 1 → find_event g m (filter p xs) ≡ keep_if p (find_event g m xs)
+unfolding find_event occurrences
 find-filter p g m [] h = refl
 find-filter p g m (x ∷ xs) h = ⊎_elim
     (λ (y : is_event g m x ≡ true).
-    let o : 1 + occurs g m xs ≤ 1 = rw y at h in
+    let o : 1 + occurrences g m xs ≤ 1 = rw y at h in
     let none : find_event g m xs ≡ None = find-none g m xs (omega arith) in
     ⊎_elim
     (λ (k : p x ≡ true). rw (y, k) (rw y refl))
     (λ (k : p x ≡ false). rw (y, k) (find-filter p g m xs (omega arith) ∙ ap (keep_if p) none))
     (cases_Bool (p x)))
     (λ (n : is_event g m x ≡ false).
-    let o : 0 + occurs g m xs ≤ 1 = rw n at h in
+    let o : 0 + occurrences g m xs ≤ 1 = rw n at h in
     ⊎_elim
     (λ (k : p x ≡ true). rw (n, k) (rw n (find-filter p g m xs (omega arith))))
     (λ (k : p x ≡ false). rw (n, k) (find-filter p g m xs (omega arith)))
@@ -63,16 +63,16 @@ among_found g m (x ∷ xs) = ⊎_elim
     (cases_Bool (is_event g m x))
 
 -- each event of a queue is what its key finds
-found_later : (x e : Event) (xs : List Event) → occurs e.sender e.serial (x ∷ xs) ≤ 1 → find_event e.sender e.serial xs ≡ Some e → find_event e.sender e.serial (x ∷ xs) ≡ Some e
+found_later : (x e : Event) (xs : List Event) → occurrences e.sender e.serial (x ∷ xs) ≤ 1 → find_event e.sender e.serial xs ≡ Some e → find_event e.sender e.serial (x ∷ xs) ≡ Some e
 found_later x e xs once found = ⊎_elim
-    (λ (y : is_event e.sender e.serial x ≡ true). let o : 1 + occurs e.sender e.serial xs ≤ 1 = rw (occurs-cons, y) at once in absurd (omega (arith, find-occurs e.sender e.serial e xs found)))
+    (λ (y : is_event e.sender e.serial x ≡ true). let o : 1 + occurrences e.sender e.serial xs ≤ 1 = rw (occurs-cons, y) at once in absurd (omega (arith, find-occurs e.sender e.serial e xs found)))
     (λ (n : is_event e.sender e.serial x ≡ false). rw (find-cons, n) found)
     (cases_Bool (is_event e.sender e.serial x))
 
-pub fewer_behind : (g m : ℕ) (x : Event) (xs : List Event) → occurs g m (x ∷ xs) ≤ 1 → occurs g m xs ≤ 1
-fewer_behind g m x xs o = let o2 : cond (is_event g m x) 1 0 + occurs g m xs ≤ 1 = rw occurs-cons at o in omega arith
+pub fewer_behind : (g m : ℕ) (x : Event) (xs : List Event) → occurrences g m (x ∷ xs) ≤ 1 → occurrences g m xs ≤ 1
+fewer_behind g m x xs o = let o2 : cond (is_event g m x) 1 0 + occurrences g m xs ≤ 1 = rw occurs-cons at o in omega arith
 
-pub each_found : (es : List Event) → ((g m : ℕ) → occurs g m es ≤ 1) → EachOf (λ (e : Event). find_event e.sender e.serial es ≡ Some e) es
+pub each_found : (es : List Event) → ((g m : ℕ) → occurrences g m es ≤ 1) → EachOf (λ (e : Event). find_event e.sender e.serial es ≡ Some e) es
 each_found [] once = tt
 each_found (x ∷ xs) once = (
   rw (find-cons, event_self x) refl,
@@ -84,7 +84,7 @@ each_found (x ∷ xs) once = (
 -- what is found on the wire and in the two queues, before and after
 demote_merge : (p : Event → Bool) (w q r : Option Event) → ((e : Event) → q ≡ Some e → (e.ordered ≡ true) × (w ≡ None) × (r ≡ None))
     → or_else (option_map wire_copy w) (or_else (option_map tso_copy (keep_if (λ e. not (p e)) q)) (option_map ro_copy (or_else r (keep_if p q))))
-    ≡ cond (is_some (keep_if p q)) (option_map demoted (or_else (option_map wire_copy w) (or_else (option_map tso_copy q) (option_map ro_copy r)))) (or_else (option_map wire_copy w) (or_else (option_map tso_copy q) (option_map ro_copy r)))
+    ≡ cond (is_some (keep_if p q)) (option_map demoted_copy (or_else (option_map wire_copy w) (or_else (option_map tso_copy q) (option_map ro_copy r)))) (or_else (option_map wire_copy w) (or_else (option_map tso_copy q) (option_map ro_copy r)))
 demote_merge p w None r h = ap (λ o. or_else (option_map wire_copy w) (option_map ro_copy o)) (or_else-none r)
 demote_merge p w (Some e) r h = let a = h e refl in ⊎_elim
     (λ (y : p e ≡ true). rw (y, a.1, a.2) (rw a.0 refl))
@@ -103,7 +103,7 @@ each_ordered [] h = tt
 each_ordered (x ∷ xs) h = (h.0, each_ordered xs h.2)
 
 module _ (bag : ℕ → ℕ → ℕ → Option Copy) (f : ℕ) (es : List Event) where
-  demoted_here : (g m : ℕ) → with_demoted bag f (handles_of es) g m f ≡ cond (is_some (find_event g m es)) (option_map demoted (bag g m f)) (bag g m f)
+  demoted_here : (g m : ℕ) → with_demoted bag f (handles_of es) g m f ≡ cond (is_some (find_event g m es)) (option_map demoted_copy (bag g m f)) (bag g m f)
   unfolding with_demoted
   demoted_here g m = rw (eq-eqb f f refl, among_found g m es) refl
 
@@ -127,7 +127,7 @@ module _ (s : Components) (f : ℕ) (kept : Kept s) (p : Event → Bool) (stay g
   moved_tso P [] h = All-nil _
   moved_tso P (e ∷ es) h = All-cons (λ (x : EventHandle). (k : Copy) × IsCopy (central s) f x k × (k.order ≡ Tso) × P k.stamp) (handle_of e) (handles_of es) (tso_copy e, copy_tso s kept.copies e.sender e.serial f e h.0.0, refl, h.0.1) (moved_tso P es h.1)
 
-pub once_tso : (s : Components) (f : ℕ) → Kept s → (g m : ℕ) → occurs g m (s.tso f) ≤ 1
+pub once_tso : (s : Components) (f : ℕ) → Kept s → (g m : ℕ) → occurrences g m (s.tso f) ≤ 1
 once_tso s f kept g m = omega (arith, kept.copies.once g m f)
 
 keep_all : (o : Option Event) → o ≡ keep_if (λ _. true) o
@@ -142,8 +142,8 @@ nothing_found : (g m : ℕ) → find_event g m [] ≡ None
 unfolding find_event
 nothing_found g m = refl
 
-nothing_occurs : (g m : ℕ) → occurs g m [] ≡ 0
-unfolding occurs
+nothing_occurs : (g m : ℕ) → occurrences g m [] ≡ 0
+unfolding occurrences
 nothing_occurs g m = refl
 
 -- ---- constraint is disabled
@@ -198,12 +198,12 @@ step_constrains s f kept member none facts =
       kept = record {
         directory = kept.directory;
         wired = kept.wired;
-        time = time_local s f (constrains (s.row f)) stay kept.time (record {
+        time = time_local s f (row_after_constraint_enabled (s.row f)) stay kept.time (record {
           queue = IsTsoQueue-filter _ (s.tso f) (kept.time.queues f);
           in_order = IsInKeyOrder-filter _ (s.tso f) (kept.time.ordered f);
           ahead = λ _. Above-kept t (s.tso f);
           same_role = λ e. e;
-          promised = λ reg. subst (λ x. s.last_announced f ≤ x) (sym (idle_fresh (constrains (s.row f)) stay (local_bound s f) idle)) (idle_last s f kept idle reg);
+          promised = λ reg. subst (λ x. s.last_announced f ≤ x) (sym (idle_fresh (row_after_constraint_enabled (s.row f)) stay (local_bound s f) idle)) (idle_last s f kept idle reg);
           barred = λ _. facts.2;
           row = record { idle = λ _. idle; resting = λ _. idle; asks = old.asks; flushes = old.flushes; barred = λ _. omega arith; steady = λ _ p. let n = facts.1 in absurd (cc) };
         });

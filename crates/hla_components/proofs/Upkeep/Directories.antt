@@ -5,7 +5,7 @@ use Rattle.std.specs.List.{find}
 use Rattle.hla_base.specs.Tables.{upd, upd2}
 use Rattle.hla_fed_file.specs.CatalogueValue.{CatalogueValue}
 use Rattle.hla_fed_file.specs.Lookup.{object_lineage}
-use Rattle.hla_machine.specs.Directory.{Directory, Object, new_directory, served_object, discovery_at, discovery_of, discovered_by, discovered_by_all, with_member, without_member, with_published, with_subscribed, with_published_interaction, with_subscribed_interaction, with_object, without_object}
+use Rattle.hla_machine.specs.Directory.{Directory, Object, new_directory, served_object, discovery_at, discovery_of, with_discoveries_made, with_object_discovered, with_member, without_member, with_published, with_subscribed, with_published_interaction, with_subscribed_interaction, with_object, without_object}
 use Rattle.hla_components.specs.Invariant.{DirectoryInv}
 use Rattle.hla_base.proofs.Tables.{upd_each, by_number, upd_same, upd_other, upd2_other, upd2_each}
 use Rattle.hla_components.proofs.Upkeep.Objects.{Grows}
@@ -59,14 +59,14 @@ directory_unsubscribed d f class inv member = record {
 }
 
 -- a discovery is made where there is one to make
-made : (d : Directory) (f h : ℕ) → (d.object h).exists ≡ true → (d.object h).owner ≢ f → is_some (served_object d f (d.object h).class) ≡ true → d.known h f ≡ false → is_some (discovery_of d f h) ≡ true
-made d f h exists other served unknown = rw (exists, ne_eqb (d.object h).owner f other, unknown) (some (served_object d f (d.object h).class) served)
+made_discovery : (d : Directory) (f h : ℕ) → (d.object h).exists ≡ true → (d.object h).owner ≢ f → is_some (served_object d f (d.object h).class) ≡ true → d.known h f ≡ false → is_some (discovery_of d f h) ≡ true
+made_discovery d f h exists other served unknown = rw (exists, ne_eqb (d.object h).owner f other, unknown) (some (served_object d f (d.object h).class) served)
   where
     some : (o : Option ℕ) → is_some o ≡ true → is_some (option_map (discovery_at d h) o) ≡ true
     some None s = absurd (cc)
     some (Some k) s = refl
 
-pub directory_subscribed : (d : Directory) (f class : ℕ) (o : Option (List ℕ)) → DirectoryInv d → d.joined f ≡ true → DirectoryInv (discovered_by (with_subscribed d f class o) f)
+pub directory_subscribed : (d : Directory) (f class : ℕ) (o : Option (List ℕ)) → DirectoryInv d → d.joined f ≡ true → DirectoryInv (with_discoveries_made (with_subscribed d f class o) f)
 directory_subscribed d f class o inv member = record {
   members = inv.members;
   owners = inv.owners;
@@ -78,7 +78,7 @@ directory_subscribed d f class o inv member = record {
         → cond (eqb f f && is_some (discovery_of (with_subscribed d f class o) f h)) true (d.known h f) ≡ true
     here h j x other s = ⊎_elim
         (λ (y : d.known h f ≡ true). cond_both (eqb f f && is_some (discovery_of (with_subscribed d f class o) f h)) true (d.known h f) (λ b. b ≡ true) (λ _. refl) (λ _. y))
-        (λ (n : d.known h f ≡ false). rw (and_from _ _ (eq-eqb f f refl) (made (with_subscribed d f class o) f h x other s n)) refl)
+        (λ (n : d.known h f ≡ false). rw (and_from _ _ (eq-eqb f f refl) (made_discovery (with_subscribed d f class o) f h x other s n)) refl)
         (cases_Bool (d.known h f))
 
     there : (g : ℕ) → f ≢ g → (h : ℕ) → d.joined g ≡ true → (d.object h).exists ≡ true → (d.object h).owner ≢ g → is_some (served_object (with_subscribed d f class o) g (d.object h).class) ≡ true
@@ -86,7 +86,7 @@ directory_subscribed d f class o inv member = record {
     there g ne h j x other s = rw (ne_eqb f g ne) (inv.served g h j x other (served_more (with_subscribed d f class o) d g (d.object h).class refl
         (λ k i. let w : (f ≢ g) ⊎ (class ≢ k) = inl ne in rw upd2_other at i) s))
 
-pub grows_subscribed : (d : Directory) (f class : ℕ) (o : Option (List ℕ)) → Grows d (discovered_by (with_subscribed d f class o) f)
+pub grows_subscribed : (d : Directory) (f class : ℕ) (o : Option (List ℕ)) → Grows d (with_discoveries_made (with_subscribed d f class o) f)
 grows_subscribed d f class o = record {
   same_owner = λ _ _. refl;
   same_known = λ h g k. cond_both (eqb f g && is_some (discovery_of (with_subscribed d f class o) f h)) true (d.known h g) (λ b. b ≡ true) (λ _. refl) (λ _. k);
@@ -109,7 +109,7 @@ grows_deleted d h = record {
   more = omega arith;
 }
 
-pub directory_registered : (d : Directory) (f class : ℕ) (name : List ℕ) → DirectoryInv d → d.joined f ≡ true → DirectoryInv (discovered_by_all (with_object d f class name) d.next_object)
+pub directory_registered : (d : Directory) (f class : ℕ) (name : List ℕ) → DirectoryInv d → d.joined f ≡ true → DirectoryInv (with_object_discovered (with_object d f class name) d.next_object)
 directory_registered d f class name inv member = record {
   members = inv.members;
   owners = upd_each d.object d.next_object _ (λ k (x : Object). x.exists ≡ true → (x.owner < d.next_federate) × (k < d.next_object + 1)) (λ _. (inv.members f member, omega arith)) (λ k _ e. let p = inv.owners k e in (p.0, omega (arith, p.1)));
@@ -127,7 +127,7 @@ directory_registered d f class name inv member = record {
         → cond (eqb d.next_object d.next_object && d.joined g && is_some (discovery_of (with_object d f class name) g d.next_object)) true ((with_object d f class name).known d.next_object g) ≡ true
     here g j x other s = told g d.next_object (⊎_elim
         (λ (y : (with_object d f class name).known d.next_object g ≡ true). inl y)
-        (λ (n : (with_object d f class name).known d.next_object g ≡ false). inr (and_from _ _ (and_from _ _ (eq-eqb d.next_object d.next_object refl) j) (made (with_object d f class name) g d.next_object x other s n)))
+        (λ (n : (with_object d f class name).known d.next_object g ≡ false). inr (and_from _ _ (and_from _ _ (eq-eqb d.next_object d.next_object refl) j) (made_discovery (with_object d f class name) g d.next_object x other s n)))
         (cases_Bool ((with_object d f class name).known d.next_object g)))
 
     there : (g h : ℕ) → d.next_object ≢ h → d.joined g ≡ true → ((with_object d f class name).object h).exists ≡ true → ((with_object d f class name).object h).owner ≢ g
@@ -135,7 +135,7 @@ directory_registered d f class name inv member = record {
         → cond (eqb d.next_object h && d.joined g && is_some (discovery_of (with_object d f class name) g d.next_object)) true ((with_object d f class name).known h g) ≡ true
     there g h ne = rw upd_other (λ j x other s. told g h (inl (let w : (d.next_object ≢ h) ⊎ (f ≢ g) = inl ne in rw upd2_other (inv.served g h j x other s))))
 
-pub grows_registered : (d : Directory) (f class : ℕ) (name : List ℕ) → Grows d (discovered_by_all (with_object d f class name) d.next_object)
+pub grows_registered : (d : Directory) (f class : ℕ) (name : List ℕ) → Grows d (with_object_discovered (with_object d f class name) d.next_object)
 grows_registered d f class name = record {
   same_owner = λ h l. let ne : d.next_object ≢ h = λ (e : d.next_object ≡ h). omega arith in rw upd_other refl;
   same_known = λ h g k. cond_both (eqb d.next_object h && d.joined g && is_some (discovery_of (with_object d f class name) g d.next_object)) true (upd2 d.known d.next_object f true h g) (λ b. b ≡ true) (λ _. refl)

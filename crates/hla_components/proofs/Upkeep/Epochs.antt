@@ -8,7 +8,7 @@ use Rattle.hla_base.specs.declared.row.AdvanceRequest.{AdvanceRequest}
 use Rattle.hla_null_message.specs.declared.message.Message.{Message}
 use Rattle.hla_null_message.specs.declared.message.Message.TheVariants as message
 use Rattle.hla_base.specs.Tables.{forever, upd, upd_row, upd_column, is_other, least, when}
-use Rattle.hla_base.specs.Rows.{is_regulator, is_constrained, is_pending, is_disabled, is_enabled, next_request, width, regulating_from}
+use Rattle.hla_base.specs.Rows.{is_regulator, is_constrained, is_pending, is_disabled, is_enabled, next_request, width, row_with_entry}
 use Rattle.hla_machine.specs.Central.{SentEvent}
 use Rattle.hla_order_queues.specs.Queues.{remove_event}
 use Rattle.hla_components.specs.Components.{Components}
@@ -53,7 +53,7 @@ pub record IsEntry (s : Components) (f e : ℕ) : Type 0 where
   pub above_held : (g : ℕ) → f ≢ g → is_enabled (s.row g).regulating ≡ true → (q : AdvanceRequest) → next_request (s.row g) ≡ Some q → (s.row g).floor < s.last_announced g → s.last_announced g - width (s.row g).lookahead q.kind ≤ e
 
 module _ (s : Components) (f l e : ℕ) (t : IsTimed s) where
-  enter_wires : (g k : ℕ) → Carries (is_regulator (upd s.row f (regulating_from (s.row f) l e) g) && is_other s.directory.joined g k) (upd s.last_announced f e g)
+  enter_wires : (g k : ℕ) → Carries (is_regulator (upd s.row f (row_with_entry (s.row f) l e) g) && is_other s.directory.joined g k) (upd s.last_announced f e g)
       (upd_column s.known_epoch s.directory.joined f (λ _. s.epoch f + 1) k g) g (stamps s g) (s.serial g) (upd_row s.wire s.directory.joined f (λ _. put_behind (message.Null (s.epoch f + 1) e)) g k) (upd_column s.bound s.directory.joined f (λ b. min b e) k g)
   enter_wires = by_number f _
       (λ k. ⊎_elim
@@ -94,7 +94,7 @@ module _ (s : Components) (f l e : ℕ) (t : IsTimed s) where
         (λ g ne. rw (upd_other, upd_other) (λ r. fresh_held (s.row g) (next_request (s.row g)) _ _ _ _ e (lower_bound g) (t.promised g r)
         (λ x is high. entry.above_held g ne (waits_enabled (s.row g) x (t.rows g) r is) x is high)));
     bars = by_number f _ (rw upd_same (λ c. enter_bars entry member f c)) (λ g ne. rw upd_other (λ c. enter_bars entry member g c));
-    rows = upd_each s.row f (regulating_from (s.row f) l e) (λ _ x. RowInv x) (record {
+    rows = upd_each s.row f (row_with_entry (s.row f) l e) (λ _ x. RowInv x) (record {
       idle = λ _. idle;
       resting = λ _. idle;
       asks = (t.rows f).asks;

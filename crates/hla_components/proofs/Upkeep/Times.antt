@@ -130,9 +130,9 @@ pub fresh_in-mono : (r : TimeRow) (o : Option AdvanceRequest) (q p b d : ℕ) �
 fresh_in-mono r None q p b d i j = omega arith
 fresh_in-mono r (Some x) q p b d i j = omega arith
 
-swapped : {i j k l : ℕ} → (i ≢ k) ⊎ (j ≢ l) → (j ≢ l) ⊎ (i ≢ k)
-swapped (inl a) = inr a
-swapped (inr b) = inl b
+swapped_sides : {i j k l : ℕ} → (i ≢ k) ⊎ (j ≢ l) → (j ≢ l) ⊎ (i ≢ k)
+swapped_sides (inl a) = inr a
+swapped_sides (inr b) = inl b
 
 -- ---- a null is carried
 pub time_null_came : (s : Components) (g f k v : ℕ) (ms : List Message) → IsTimed s → s.wire g f ≡ message.Null k v ∷ ms → IsTimed (with_null_accepted s g f k v ms)
@@ -144,7 +144,7 @@ time_null_came s g f k v ms t front =
       queues = t.queues;
       ordered = t.ordered;
       ahead = t.ahead;
-      wires = by_pair g f _ (rw (upd2_same, upd2_same) at.1) (λ h l ne. let en = swapped ne in rw (upd2_other, upd2_other) (t.wires h l));
+      wires = by_pair g f _ (rw (upd2_same, upd2_same) at.1) (λ h l ne. let en = swapped_sides ne in rw (upd2_other, upd2_other) (t.wires h l));
       epochs = t.epochs;
       regulators = t.regulators;
       promised = λ h r. le_trans (t.promised h r) (fresh_in-mono (s.row h) (next_request (s.row h)) _ _ _ _ (omega arith) (omega (arith, more h)));

@@ -10,9 +10,9 @@ use Rattle.hla_null_message.specs.declared.message.Message.TheVariants as messag
 use Rattle.hla_base.specs.Tables.{or_else, is_other, upd, upd2}
 use Rattle.hla_base.specs.Rows.{is_disabled}
 use Rattle.hla_machine.specs.Directory.{Outgoing, content_for}
-use Rattle.hla_machine.specs.Central.{Central, Copy, Ro, Tso, at3, is_key, at_key, with_copies, demoted}
+use Rattle.hla_machine.specs.Central.{Central, Copy, Ro, Tso, at3, is_key, at_key, with_copies, demoted_copy}
 use Rattle.hla_machine.specs.Sends.{is_ordered, kept_stamp, copy_for}
-use Rattle.hla_order_queues.specs.Queues.{is_event, find_event, occurs, insert_event}
+use Rattle.hla_order_queues.specs.Queues.{is_event, find_event, occurrences, insert_event}
 use Rattle.hla_null_message.specs.Wires.{events}
 use Rattle.hla_components.specs.Components.{Components}
 use Rattle.hla_components.specs.Next.{put_event, event_of, with_message_sent, with_event_accepted}
@@ -105,11 +105,11 @@ bag_same_wires s wire same = bag_ext _ _ (λ g m k. ap (λ es. or_else (option_m
 
 -- ---- an event goes from the wire to a queue
 module _ (s : Components) (g f : ℕ) (e : Event) (ms : List Message) (c : AreCopies s) (front : s.wire g f ≡ message.Event e ∷ ms) (from : e.sender ≡ g) where
-  came_once : (occurs g e.serial (events ms) ≡ 0) × (occurs g e.serial (s.tso f) ≡ 0) × (occurs g e.serial (s.ro f) ≡ 0)
+  came_once : (occurrences g e.serial (events ms) ≡ 0) × (occurrences g e.serial (s.tso f) ≡ 0) × (occurrences g e.serial (s.ro f) ≡ 0)
   came_once =
-      let o : cond (is_event g e.serial e) 1 0 + occurs g e.serial (events ms) + (occurs g e.serial (s.tso f) + occurs g e.serial (s.ro f)) ≤ 1 = rw (front, occurs-event) at (c.once g e.serial f) in
+      let o : cond (is_event g e.serial e) 1 0 + occurrences g e.serial (events ms) + (occurrences g e.serial (s.tso f) + occurrences g e.serial (s.ro f)) ≤ 1 = rw (front, occurs-event) at (c.once g e.serial f) in
       let key : is_event g e.serial e ≡ true = and_from _ _ (eq-eqb g e.sender (sym from)) (eq-eqb e.serial e.serial refl) in
-      let o2 : 1 + occurs g e.serial (events ms) + (occurs g e.serial (s.tso f) + occurs g e.serial (s.ro f)) ≤ 1 = rw key at o in
+      let o2 : 1 + occurrences g e.serial (events ms) + (occurrences g e.serial (s.tso f) + occurrences g e.serial (s.ro f)) ≤ 1 = rw key at o in
       (omega arith, omega arith, omega arith)
 
   pub copy_came : bag_of s g e.serial f ≡ Some (wire_copy e)
@@ -145,31 +145,31 @@ tso_copy_is e t = rw t refl
 ro_copy_is : (e : Event) → e.ordered ≡ false → wire_copy e ≡ ro_copy e
 ro_copy_is e t = rw t refl
 
-demoted_copy : (e : Event) → demoted (wire_copy e) ≡ ro_copy e
-demoted_copy e = ⊎_elim (λ (t : e.ordered ≡ true). rw t refl) (λ (t : e.ordered ≡ false). rw t refl) (cases_Bool e.ordered)
+demoted_copy_same : (e : Event) → demoted_copy (wire_copy e) ≡ ro_copy e
+demoted_copy_same e = ⊎_elim (λ (t : e.ordered ≡ true). rw t refl) (λ (t : e.ordered ≡ false). rw t refl) (cases_Bool e.ordered)
 
 pub bag_event : (s : Components) (g f : ℕ) (e : Event) (ms : List Message) → AreCopies s → s.wire g f ≡ message.Event e ∷ ms → e.sender ≡ g
-    → bag_of (with_event_accepted s g f e ms) ≡ cond (is_disabled (s.row f).constrained) (at_key (bag_of s) g e.serial f (option_map demoted (bag_of s g e.serial f))) (bag_of s)
+    → bag_of (with_event_accepted s g f e ms) ≡ cond (is_disabled (s.row f).constrained) (at_key (bag_of s) g e.serial f (option_map demoted_copy (bag_of s g e.serial f))) (bag_of s)
 bag_event s g f e ms c front from =
     let b = is_kept_in_order (s.row f) e in
     let once = came_once s g f e ms c front from in
     let was = copy_came s g f e ms c front from in
     let key : is_event g e.serial e ≡ true = and_from _ _ (eq-eqb g e.sender (sym from)) (eq-eqb e.serial e.serial refl) in
-    let fresh_tso : occurs e.sender e.serial (s.tso f) ≡ 0 = rw from once.1 in
+    let fresh_tso : occurrences e.sender e.serial (s.tso f) ≡ 0 = rw from once.1 in
     ⊎_elim
     (λ (y : b ≡ true). let p = and_parts _ _ y in
     rw y (bag_came s g f e ms c front from (insert_event e (s.tso f)) (s.ro f) (tso_copy e)
     (λ h m other. (rw (find-insert h m e (s.tso f) fresh_tso, other) refl, refl))
     (rw (find-insert g e.serial e (s.tso f) fresh_tso, key) refl)
     ∙ (at_key_self (bag_of s) g e.serial f (Some (tso_copy e)) (was ∙ ap Some (tso_copy_is e p.0))
-    ∙ ap (λ b. cond b (at_key (bag_of s) g e.serial f (option_map demoted (bag_of s g e.serial f))) (bag_of s)) (sym (not-true (is_disabled (s.row f).constrained) p.1)))))
+    ∙ ap (λ b. cond b (at_key (bag_of s) g e.serial f (option_map demoted_copy (bag_of s g e.serial f))) (bag_of s)) (sym (not-true (is_disabled (s.row f).constrained) p.1)))))
     (λ (n : b ≡ false).
     rw n (bag_came s g f e ms c front from (s.tso f) (s.ro f ++ e ∷ []) (ro_copy e)
     (λ h m other. (refl, rw (find-append, find-one, other) (or_else-none _)))
     (rw (find-append, find-one, find-none g e.serial (s.tso f) once.1, find-none g e.serial (s.ro f) once.2, key) refl)
-    ∙ cond_both (is_disabled (s.row f).constrained) (at_key (bag_of s) g e.serial f (option_map demoted (bag_of s g e.serial f))) (bag_of s)
+    ∙ cond_both (is_disabled (s.row f).constrained) (at_key (bag_of s) g e.serial f (option_map demoted_copy (bag_of s g e.serial f))) (bag_of s)
     (λ x. at_key (bag_of s) g e.serial f (Some (ro_copy e)) ≡ x)
-    (λ _. ap (at_key (bag_of s) g e.serial f) (rw was (ap Some (sym (demoted_copy e)))))
+    (λ _. ap (at_key (bag_of s) g e.serial f) (rw was (ap Some (sym (demoted_copy_same e)))))
     (λ free. at_key_self (bag_of s) g e.serial f (Some (ro_copy e)) (was ∙ ap Some (ro_copy_is e (⊎_elim (λ t. t) (λ i. let u : is_disabled (s.row f).constrained ≡ true = not-false _ i in absurd (cc)) (and_cases _ _ n)))))))
     (cases_Bool b)
 
@@ -190,10 +190,10 @@ find_rest : (g m : ℕ) (e : Event) (rest : List Event) → is_key e.sender e.se
 find_rest g m e rest other = let k : is_event g m e ≡ false = rw (event_key g m e) other in rw (find-cons, k) refl
 
 -- behind the first with a key there is no other
-rest_none : (g m : ℕ) (e : Event) (es rest : List Event) → es ≡ e ∷ rest → is_event g m e ≡ true → occurs g m es ≤ 1 → find_event g m rest ≡ None
+rest_none : (g m : ℕ) (e : Event) (es rest : List Event) → es ≡ e ∷ rest → is_event g m e ≡ true → occurrences g m es ≤ 1 → find_event g m rest ≡ None
 rest_none g m e es rest front key o =
-    let o2 : cond (is_event g m e) 1 0 + occurs g m rest ≤ 1 = rw (front, occurs-cons) at o in
-    let o3 : 1 + occurs g m rest ≤ 1 = rw key at o2 in find-none g m rest (omega arith)
+    let o2 : cond (is_event g m e) 1 0 + occurrences g m rest ≤ 1 = rw (front, occurs-cons) at o in
+    let o3 : 1 + occurrences g m rest ≤ 1 = rw key at o2 in find-none g m rest (omega arith)
 
 pub bag_ro_picked : (s : Components) (f : ℕ) (e : Event) (rest : List Event) → AreCopies s → s.ro f ≡ e ∷ rest → bag_of (record s { tso = upd s.tso f (s.tso f); ro = upd s.ro f rest }) ≡ at_key (bag_of s) e.sender e.serial f None
 bag_ro_picked s f e rest c front =

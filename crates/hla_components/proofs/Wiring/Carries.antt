@@ -7,7 +7,7 @@ use Rattle.hla_base.specs.declared.content.Discovery.{Discovery}
 use Rattle.hla_null_message.specs.declared.message.Message.{Message}
 use Rattle.hla_null_message.specs.declared.message.Message.TheVariants as message
 use Rattle.hla_base.specs.Tables.{one_if}
-use Rattle.hla_order_queues.specs.Queues.{is_event, find_event, occurs}
+use Rattle.hla_order_queues.specs.Queues.{is_event, find_event, occurrences}
 use Rattle.hla_null_message.specs.Wires.{events, retractions}
 use Rattle.hla_components.specs.Next.{put_behind, put_discoveries}
 use Rattle.hla_components.specs.Invariant.{Carries}
@@ -60,7 +60,7 @@ pub Carries-null : (r : Bool) (l m k g : ℕ) (t : ℕ → ℕ) (x : ℕ) (ms : 
 Carries-null r l m k g t x [] v le c = (omega arith, λ e. rw raised_here (omega (arith, c e)))
 Carries-null r l m k g t x (message.Event y ∷ ms) v le c = (c.0, c.1, Carries-null r l m k g t x ms v le c.2)
 Carries-null r l m k g t x (message.Null j w ∷ ms) v le c = (c.0, Carries-null r l m k g t x ms _ le c.1)
-Carries-null r l m k g t x (message.Retraction o ∷ ms) v le c = (c.0, c.1, ap (occurs g o) (events-put_null k m ms) ∙ c.2, Carries-null r l m k g t x ms v le c.3)
+Carries-null r l m k g t x (message.Retraction o ∷ ms) v le c = (c.0, c.1, ap (occurrences g o) (events-put_null k m ms) ∙ c.2, Carries-null r l m k g t x ms v le c.3)
 Carries-null r l m k g t x (message.Discovery d ∷ ms) v le c = Carries-null r l m k g t x ms v le c
 
 -- a new epoch begins with its entry
@@ -73,18 +73,18 @@ Carries-enter r q l e k g t x (message.Null j y ∷ ms) v w a b c = (
   let ne : j ≢ k + 1 = λ same. omega (arith, c.0) in
       rw (ne_eqb j (k + 1) ne) (Carries-enter r q l e k g t x ms _ w (omega (arith, raised_ge (eqb j k) v y)) b c.1),
 )
-Carries-enter r q l e k g t x (message.Retraction o ∷ ms) v w a b c = (omega (arith, c.0), c.1, ap (occurs g o) (events-put_null (k + 1) e ms) ∙ c.2, Carries-enter r q l e k g t x ms v w a b c.3)
+Carries-enter r q l e k g t x (message.Retraction o ∷ ms) v w a b c = (omega (arith, c.0), c.1, ap (occurrences g o) (events-put_null (k + 1) e ms) ∙ c.2, Carries-enter r q l e k g t x ms v w a b c.3)
 Carries-enter r q l e k g t x (message.Discovery d ∷ ms) v w a b c = Carries-enter r q l e k g t x ms v w a b c
 
-nothing_behind : (g m : ℕ) → occurs g m (events []) ≡ 0
-unfolding occurs events
+nothing_behind : (g m : ℕ) → occurrences g m (events []) ≡ 0
+unfolding occurrences events
 nothing_behind g m = refl
 
 pub Carries-retract : (r : Bool) (l k g : ℕ) (t : ℕ → ℕ) (x : ℕ) (ms : List Message) (v m : ℕ) → r ≡ true → l < t m → m < x → Carries r l k g t x ms v → Carries r l k g t x (put_behind (message.Retraction m) ms) v
 Carries-retract r l k g t x [] v m reg high old c = (omega (arith, c reg), old, nothing_behind g m, c)
 Carries-retract r l k g t x (message.Event e ∷ ms) v m reg high old c = (c.0, c.1, Carries-retract r l k g t x ms v m reg high old c.2)
 Carries-retract r l k g t x (message.Null j w ∷ ms) v m reg high old c = (c.0, Carries-retract r l k g t x ms _ m reg high old c.1)
-Carries-retract r l k g t x (message.Retraction o ∷ ms) v m reg high old c = (c.0, c.1, ap (occurs g o) (events-put_retraction m ms) ∙ c.2, Carries-retract r l k g t x ms v m reg high old c.3)
+Carries-retract r l k g t x (message.Retraction o ∷ ms) v m reg high old c = (c.0, c.1, ap (occurrences g o) (events-put_retraction m ms) ∙ c.2, Carries-retract r l k g t x ms v m reg high old c.3)
 Carries-retract r l k g t x (message.Discovery d ∷ ms) v m reg high old c = Carries-retract r l k g t x ms v m reg high old c
 
 Carries-discoveries : (r : Bool) (l k g : ℕ) (t : ℕ → ℕ) (x : ℕ) (ds : List Discovery) (v : ℕ) → (r ≡ true → v ≤ l) → Carries r l k g t x (map message.Discovery ds) v
@@ -95,7 +95,7 @@ pub Carries-discover : (r : Bool) (l k g : ℕ) (t : ℕ → ℕ) (x : ℕ) (ds 
 Carries-discover r l k g t x ds [] v c = Carries-discoveries r l k g t x ds v c
 Carries-discover r l k g t x ds (message.Event e ∷ ms) v c = (c.0, c.1, Carries-discover r l k g t x ds ms v c.2)
 Carries-discover r l k g t x ds (message.Null j w ∷ ms) v c = (c.0, Carries-discover r l k g t x ds ms _ c.1)
-Carries-discover r l k g t x ds (message.Retraction o ∷ ms) v c = (c.0, c.1, ap (occurs g o) (events-put_discoveries ds ms) ∙ c.2, Carries-discover r l k g t x ds ms v c.3)
+Carries-discover r l k g t x ds (message.Retraction o ∷ ms) v c = (c.0, c.1, ap (occurrences g o) (events-put_discoveries ds ms) ∙ c.2, Carries-discover r l k g t x ds ms v c.3)
 Carries-discover r l k g t x ds (message.Discovery d ∷ ms) v c = Carries-discover r l k g t x ds ms v c
 
 -- ---- what is found on a wire

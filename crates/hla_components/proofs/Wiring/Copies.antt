@@ -8,7 +8,7 @@ use Rattle.hla_null_message.specs.declared.message.Message.{Message}
 use Rattle.hla_null_message.specs.declared.message.Message.TheVariants as message
 use Rattle.hla_base.specs.Tables.{upd, upd2, upd_row, one_if}
 use Rattle.hla_machine.specs.Directory.{Outgoing, content_for}
-use Rattle.hla_order_queues.specs.Queues.{insert_event, remove_event, is_event, occurs}
+use Rattle.hla_order_queues.specs.Queues.{insert_event, remove_event, is_event, occurrences}
 use Rattle.hla_null_message.specs.Wires.{events}
 use Rattle.hla_components.specs.Components.{Components}
 use Rattle.hla_components.specs.Next.{put_event, event_of, with_event_accepted, with_retraction_accepted, with_wire}
@@ -28,7 +28,7 @@ places s g m f = places_in s.wire s.tso s.ro g m f
 
 -- ---- a change of one component alone
 pub copies_local : (s : Components) (f : ℕ) (tso ro : List Event) → AreCopies s
-    → ((g m : ℕ) → occurs g m tso + occurs g m ro ≤ occurs g m (s.tso f) + occurs g m (s.ro f))
+    → ((g m : ℕ) → occurrences g m tso + occurrences g m ro ≤ occurrences g m (s.tso f) + occurrences g m (s.ro f))
     → ((g : ℕ) → IsInSerialOrder g (ro ++ events (s.wire g f)))
     → CopyInv s.serial s.wire (upd s.tso f tso) (upd s.ro f ro)
 copies_local s f tso ro c fewer order = record {
@@ -51,21 +51,21 @@ module _ (s : Components) (f : ℕ) (stamp : Option ℕ) (out : Outgoing) where
   put_for g = put_event f (s.serial f) (s.row f) stamp out (content_for s.directory out.body g)
 
   -- at another key nothing comes
-  put_places : (g m : ℕ) (o : Option Content) (ms : List Message) → (f ≢ g) ⊎ (s.serial f ≢ m) → occurs g m (events (put_event f (s.serial f) (s.row f) stamp out o ms)) ≡ occurs g m (events ms)
+  put_places : (g m : ℕ) (o : Option Content) (ms : List Message) → (f ≢ g) ⊎ (s.serial f ≢ m) → occurrences g m (events (put_event f (s.serial f) (s.row f) stamp out o ms)) ≡ occurrences g m (events ms)
   put_places g m None ms ne = refl
   put_places g m (Some x) ms (inl ne) = omega (arith, occurs-put_event g m (event_of f (s.serial f) (s.row f) stamp out x) ms, not_sender g m (event_of f (s.serial f) (s.row f) stamp out x) (λ e. ne (sym e)))
   put_places g m (Some x) ms (inr ne) = omega (arith, occurs-put_event g m (event_of f (s.serial f) (s.row f) stamp out x) ms, not_key g m (event_of f (s.serial f) (s.row f) stamp out x) (λ e. ne (sym e)))
 
-  put_once : (g m : ℕ) (o : Option Content) (ms : List Message) → occurs g m (events (put_event f (s.serial f) (s.row f) stamp out o ms)) ≤ occurs g m (events ms) + 1
+  put_once : (g m : ℕ) (o : Option Content) (ms : List Message) → occurrences g m (events (put_event f (s.serial f) (s.row f) stamp out o ms)) ≤ occurrences g m (events ms) + 1
   put_once g m None ms = omega arith
   put_once g m (Some x) ms = omega (arith, occurs-put_event g m (event_of f (s.serial f) (s.row f) stamp out x) ms, one_if_le (is_event g m (event_of f (s.serial f) (s.row f) stamp out x)))
 
-  sent_places : (g m k : ℕ) → (f ≢ g) ⊎ (s.serial f ≢ m) → occurs g m (events (upd_row s.wire s.directory.joined f put_for g k)) ≡ occurs g m (events (s.wire g k))
-  sent_places g m k = upd_row_each s.wire s.directory.joined f put_for (λ g k ms. (f ≢ g) ⊎ (s.serial f ≢ m) → occurs g m (events ms) ≡ occurs g m (events (s.wire g k)))
+  sent_places : (g m k : ℕ) → (f ≢ g) ⊎ (s.serial f ≢ m) → occurrences g m (events (upd_row s.wire s.directory.joined f put_for g k)) ≡ occurrences g m (events (s.wire g k))
+  sent_places g m k = upd_row_each s.wire s.directory.joined f put_for (λ g k ms. (f ≢ g) ⊎ (s.serial f ≢ m) → occurrences g m (events ms) ≡ occurrences g m (events (s.wire g k)))
       (λ k _ ne. put_places f m (content_for s.directory out.body k) (s.wire f k) ne) (λ g k ne. refl) g k
 
-  sent_once : (g m k : ℕ) → occurs g m (events (upd_row s.wire s.directory.joined f put_for g k)) ≤ occurs g m (events (s.wire g k)) + 1
-  sent_once g m k = upd_row_each s.wire s.directory.joined f put_for (λ g k ms. occurs g m (events ms) ≤ occurs g m (events (s.wire g k)) + 1)
+  sent_once : (g m k : ℕ) → occurrences g m (events (upd_row s.wire s.directory.joined f put_for g k)) ≤ occurrences g m (events (s.wire g k)) + 1
+  sent_once g m k = upd_row_each s.wire s.directory.joined f put_for (λ g k ms. occurrences g m (events ms) ≤ occurrences g m (events (s.wire g k)) + 1)
       (λ k _. put_once f m (content_for s.directory out.body k) (s.wire f k)) (λ g k. omega arith) g k
 
   put_serials : (k : ℕ) (o : Option Content) → AreCopies s → IsInSerialOrder f (s.ro k ++ events (put_event f (s.serial f) (s.row f) stamp out o (s.wire f k)))
@@ -109,12 +109,12 @@ copies_event_came s g f e ms c front from = record {
     b : Bool
     b = is_kept_in_order (s.row f) e
 
-    counts : (h m : ℕ) (b : Bool) → occurs h m (cond b (insert_event e (s.tso f)) (s.tso f)) + occurs h m (cond b (s.ro f) (s.ro f ++ e ∷ [])) ≡ one_if (is_event h m e) + (occurs h m (s.tso f) + occurs h m (s.ro f))
+    counts : (h m : ℕ) (b : Bool) → occurrences h m (cond b (insert_event e (s.tso f)) (s.tso f)) + occurrences h m (cond b (s.ro f) (s.ro f ++ e ∷ [])) ≡ one_if (is_event h m e) + (occurrences h m (s.tso f) + occurrences h m (s.ro f))
     counts h m true = omega (arith, occurs-insert h m e (s.tso f))
     counts h m false = omega (arith, occurs-append h m (s.ro f) (e ∷ []), occurs-one h m e)
 
-    rest : (h m : ℕ) → occurs h m (events (upd2 s.wire g f ms h f)) + one_if (is_event h m e) ≡ occurs h m (events (s.wire h f))
-    rest h m = by_number g (λ h. occurs h m (events (upd2 s.wire g f ms h f)) + one_if (is_event h m e) ≡ occurs h m (events (s.wire h f)))
+    rest : (h m : ℕ) → occurrences h m (events (upd2 s.wire g f ms h f)) + one_if (is_event h m e) ≡ occurrences h m (events (s.wire h f))
+    rest h m = by_number g (λ h. occurrences h m (events (upd2 s.wire g f ms h f)) + one_if (is_event h m e) ≡ occurrences h m (events (s.wire h f)))
         (rw (upd2_same, front, occurs-event) (omega arith))
         (λ k ne. let w : (g ≢ k) ⊎ (f ≢ f) = inl ne in rw upd2_other (omega (arith, not_sender k m e (λ (same : k ≡ e.sender). ne (sym (same ∙ from)))))) h
 

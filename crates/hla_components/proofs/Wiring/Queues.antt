@@ -5,7 +5,7 @@ use Rattle.std.proofs.lemmas.Bool.Decides.{nat_tests}
 use Rattle.hla_base.specs.declared.content.Event.{Event}
 use Rattle.hla_base.specs.Tables.{forever, or_else, one_if}
 use Rattle.hla_components.specs.Invariant.{Above, IsTsoQueue}
-use Rattle.hla_order_queues.specs.Queues.{is_before, insert_event, is_event, find_event, remove_event, occurs, first_stamp}
+use Rattle.hla_order_queues.specs.Queues.{is_before, insert_event, is_event, find_event, remove_event, occurrences, first_stamp}
 
 pub Above-weaker : (v w : ℕ) (xs : List Event) → w ≤ v → Above v xs → Above w xs
 Above-weaker v w [] l h = tt
@@ -61,27 +61,27 @@ find-key g m e (x ∷ xs) f = ⊎_elim
     (cases_Bool (is_event g m x))
 
 -- ---- counts
-pub occurs-append : (g m : ℕ) (xs ys : List Event) → occurs g m (xs ++ ys) ≡ occurs g m xs + occurs g m ys
-unfolding occurs
+pub occurs-append : (g m : ℕ) (xs ys : List Event) → occurrences g m (xs ++ ys) ≡ occurrences g m xs + occurrences g m ys
+unfolding occurrences
 occurs-append g m [] ys = omega arith
 occurs-append g m (x ∷ xs) ys = omega (arith, occurs-append g m xs ys)
 
-pub occurs-insert : (g m : ℕ) (e : Event) (xs : List Event) → occurs g m (insert_event e xs) ≡ one_if (is_event g m e) + occurs g m xs
-unfolding occurs insert_event
+pub occurs-insert : (g m : ℕ) (e : Event) (xs : List Event) → occurrences g m (insert_event e xs) ≡ one_if (is_event g m e) + occurrences g m xs
+unfolding occurrences insert_event
 occurs-insert g m e [] = refl
-occurs-insert g m e (x ∷ xs) = cond_both (is_before e x) (e ∷ x ∷ xs) (x ∷ insert_event e xs) (λ ys. occurs g m ys ≡ one_if (is_event g m e) + (one_if (is_event g m x) + occurs g m xs))
+occurs-insert g m e (x ∷ xs) = cond_both (is_before e x) (e ∷ x ∷ xs) (x ∷ insert_event e xs) (λ ys. occurrences g m ys ≡ one_if (is_event g m e) + (one_if (is_event g m x) + occurrences g m xs))
     (λ _. refl) (λ _. omega (arith, occurs-insert g m e xs))
 
-pub occurs-filter : (g m : ℕ) (p : Event → Bool) (xs : List Event) → occurs g m (filter p xs) + occurs g m (filter (λ x. not (p x)) xs) ≡ occurs g m xs
-unfolding occurs
+pub occurs-filter : (g m : ℕ) (p : Event → Bool) (xs : List Event) → occurrences g m (filter p xs) + occurrences g m (filter (λ x. not (p x)) xs) ≡ occurrences g m xs
+unfolding occurrences
 occurs-filter g m p [] = refl
 occurs-filter g m p (x ∷ xs) = ⊎_elim
     (λ (y : p x ≡ true). rw y (omega (arith, occurs-filter g m p xs)))
     (λ (n : p x ≡ false). rw n (omega (arith, occurs-filter g m p xs)))
     (cases_Bool (p x))
 
-pub find-none : (g m : ℕ) (xs : List Event) → occurs g m xs ≡ 0 → find_event g m xs ≡ None
-unfolding occurs find_event
+pub find-none : (g m : ℕ) (xs : List Event) → occurrences g m xs ≡ 0 → find_event g m xs ≡ None
+unfolding occurrences find_event
 find-none g m [] h = refl
 find-none g m (x ∷ xs) h = ⊎_elim
     (λ (y : is_event g m x ≡ true). absurd (grind arith))
@@ -96,8 +96,8 @@ find-append g m (x ∷ xs) ys = ⊎_elim
     (λ (n : is_event g m x ≡ false). rw n (find-append g m xs ys))
     (cases_Bool (is_event g m x))
 
-no_key : (g m : ℕ) (x : Event) (xs : List Event) → occurs g m (x ∷ xs) ≡ 0 → is_event g m x ≡ false
-unfolding occurs
+no_key : (g m : ℕ) (x : Event) (xs : List Event) → occurrences g m (x ∷ xs) ≡ 0 → is_event g m x ≡ false
+unfolding occurrences
 no_key g m x xs h = ⊎_elim (λ (y : is_event g m x ≡ true). absurd (grind arith)) (λ (n : is_event g m x ≡ false). n) (cases_Bool (is_event g m x))
 
 -- two events with different keys
@@ -105,26 +105,26 @@ two : (g m : ℕ) (e x : Event) (o : Option Event) → is_event e.sender e.seria
     cond (is_event g m x) (Some x) (cond (is_event g m e) (Some e) o) ≡ cond (is_event g m e) (Some e) (cond (is_event g m x) (Some x) o)
 two g m e x o ne = grind (arith, nat_tests)
 
-pub find-insert : (g m : ℕ) (e : Event) (xs : List Event) → occurs e.sender e.serial xs ≡ 0 → find_event g m (insert_event e xs) ≡ cond (is_event g m e) (Some e) (find_event g m xs)
-unfolding occurs find_event insert_event
+pub find-insert : (g m : ℕ) (e : Event) (xs : List Event) → occurrences e.sender e.serial xs ≡ 0 → find_event g m (insert_event e xs) ≡ cond (is_event g m e) (Some e) (find_event g m xs)
+unfolding occurrences find_event insert_event
 find-insert g m e [] h = refl
 find-insert g m e (x ∷ xs) h = cond_both (is_before e x) (e ∷ x ∷ xs) (x ∷ insert_event e xs) (λ ys. find_event g m ys ≡ cond (is_event g m e) (Some e) (cond (is_event g m x) (Some x) (find_event g m xs)))
     (λ _. refl) (λ _. rw (find-insert g m e xs (omega (arith, h))) (two g m e x (find_event g m xs) (no_key e.sender e.serial x xs h)))
 
-pub occurs-one : (g m : ℕ) (e : Event) → occurs g m (e ∷ []) ≡ one_if (is_event g m e)
-unfolding occurs
+pub occurs-one : (g m : ℕ) (e : Event) → occurrences g m (e ∷ []) ≡ one_if (is_event g m e)
+unfolding occurrences
 occurs-one g m e = omega arith
 
 pub find-cons : (g m : ℕ) (e : Event) (xs : List Event) → find_event g m (e ∷ xs) ≡ cond (is_event g m e) (Some e) (find_event g m xs)
 unfolding find_event
 find-cons g m e xs = refl
 
-pub occurs-cons : (g m : ℕ) (e : Event) (xs : List Event) → occurs g m (e ∷ xs) ≡ one_if (is_event g m e) + occurs g m xs
-unfolding occurs
+pub occurs-cons : (g m : ℕ) (e : Event) (xs : List Event) → occurrences g m (e ∷ xs) ≡ one_if (is_event g m e) + occurrences g m xs
+unfolding occurrences
 occurs-cons g m e xs = refl
 
-pub find-occurs : (g m : ℕ) (e : Event) (xs : List Event) → find_event g m xs ≡ Some e → 1 ≤ occurs g m xs
-unfolding find_event occurs
+pub find-occurs : (g m : ℕ) (e : Event) (xs : List Event) → find_event g m xs ≡ Some e → 1 ≤ occurrences g m xs
+unfolding find_event occurrences
 find-occurs g m e [] f = absurd (cc)
 find-occurs g m e (x ∷ xs) f = ⊎_elim
     (λ (y : is_event g m x ≡ true). rw y (omega arith))
@@ -140,17 +140,17 @@ IsTsoQueue-filter p [] h = tt
 IsTsoQueue-filter p (x ∷ xs) h = cond_both (p x) (x ∷ filter p xs) (filter p xs) IsTsoQueue (λ _. (h.0, Above-filter x.stamp p xs h.1, IsTsoQueue-filter p xs h.2)) (λ _. IsTsoQueue-filter p xs h.2)
 
 -- ---- an event is taken out
-pub occurs-remove : (g m h k : ℕ) (xs : List Event) → occurs h k (remove_event g m xs) ≤ occurs h k xs
-unfolding occurs remove_event
+pub occurs-remove : (g m h k : ℕ) (xs : List Event) → occurrences h k (remove_event g m xs) ≤ occurrences h k xs
+unfolding occurrences remove_event
 occurs-remove g m h k [] = omega arith
-occurs-remove g m h k (x ∷ xs) = cond_both (is_event g m x) xs (x ∷ remove_event g m xs) (λ ys. occurs h k ys ≤ one_if (is_event h k x) + occurs h k xs) (λ _. omega arith) (λ _. omega (arith, occurs-remove g m h k xs))
+occurs-remove g m h k (x ∷ xs) = cond_both (is_event g m x) xs (x ∷ remove_event g m xs) (λ ys. occurrences h k ys ≤ one_if (is_event h k x) + occurrences h k xs) (λ _. omega arith) (λ _. omega (arith, occurs-remove g m h k xs))
 
-pub find-remove : (g m : ℕ) (xs : List Event) → occurs g m xs ≤ 1 → find_event g m (remove_event g m xs) ≡ None
-unfolding occurs find_event remove_event
+pub find-remove : (g m : ℕ) (xs : List Event) → occurrences g m xs ≤ 1 → find_event g m (remove_event g m xs) ≡ None
+unfolding occurrences find_event remove_event
 find-remove g m [] h = refl
 find-remove g m (x ∷ xs) h = ⊎_elim
-    (λ (y : is_event g m x ≡ true). let o : 1 + occurs g m xs ≤ 1 = rw y at h in rw y (find-none g m xs (omega arith)))
-    (λ (n : is_event g m x ≡ false). let o : 0 + occurs g m xs ≤ 1 = rw n at h in rw n (rw n (find-remove g m xs (omega arith))))
+    (λ (y : is_event g m x ≡ true). let o : 1 + occurrences g m xs ≤ 1 = rw y at h in rw y (find-none g m xs (omega arith)))
+    (λ (n : is_event g m x ≡ false). let o : 0 + occurrences g m xs ≤ 1 = rw n at h in rw n (rw n (find-remove g m xs (omega arith))))
     (cases_Bool (is_event g m x))
 
 pub find-remove_other : (g m h k : ℕ) (xs : List Event) → ((x : Event) → is_event g m x ≡ true → is_event h k x ≡ false) → find_event h k (remove_event g m xs) ≡ find_event h k xs

@@ -5,7 +5,7 @@ use Rattle.hla_base.specs.declared.content.Discovery.{Discovery}
 use Rattle.hla_null_message.specs.declared.message.Message.{Message}
 use Rattle.hla_null_message.specs.declared.message.Message.TheVariants as message
 use Rattle.hla_base.specs.Tables.{one_if}
-use Rattle.hla_order_queues.specs.Queues.{is_event, find_event, occurs}
+use Rattle.hla_order_queues.specs.Queues.{is_event, find_event, occurrences}
 use Rattle.hla_null_message.specs.Wires.{retractions, discoveries, events}
 use Rattle.hla_components.specs.Next.{put_behind, put_discoveries}
 use Rattle.hla_components.proofs.Wiring.Queues.{occurs-append, occurs-one}
@@ -62,7 +62,7 @@ events-discoveries (d ∷ ds) = events-discoveries ds
 pub events-put_discoveries : (ds : List Discovery) (ms : List Message) → events (put_discoveries ds ms) ≡ events ms
 events-put_discoveries ds ms = events-append ms (map message.Discovery ds) ∙ ap (λ es. events ms ++ es) (events-discoveries ds) ∙ append-nil (events ms)
 
-pub occurs-put_event : (g m : ℕ) (e : Event) (ms : List Message) → occurs g m (events (put_behind (message.Event e) ms)) ≡ occurs g m (events ms) + one_if (is_event g m e)
+pub occurs-put_event : (g m : ℕ) (e : Event) (ms : List Message) → occurrences g m (events (put_behind (message.Event e) ms)) ≡ occurrences g m (events ms) + one_if (is_event g m e)
 occurs-put_event g m e ms = rw (events-put_event, occurs-append, occurs-one)
 
 pub discoveries-put_event : (e : Event) (ms : List Message) → discoveries (put_behind (message.Event e) ms) ≡ discoveries ms
@@ -131,8 +131,8 @@ pub events-discovery : (d : Discovery) (ms : List Message) → events (message.D
 unfolding events
 events-discovery d ms = refl
 
-pub occurs-event : (g m : ℕ) (e : Event) (ms : List Message) → occurs g m (events (message.Event e ∷ ms)) ≡ one_if (is_event g m e) + occurs g m (events ms)
-unfolding events occurs
+pub occurs-event : (g m : ℕ) (e : Event) (ms : List Message) → occurrences g m (events (message.Event e ∷ ms)) ≡ one_if (is_event g m e) + occurrences g m (events ms)
+unfolding events occurrences
 occurs-event g m e ms = refl
 
 pub find-front : (g m : ℕ) (e : Event) (ms : List Message) → find_event g m (events (message.Event e ∷ ms)) ≡ cond (is_event g m e) (Some e) (find_event g m (events ms))
@@ -188,8 +188,8 @@ pub retractions-nil : (m : ℕ) → retractions m [] ≡ 0
 unfolding retractions
 retractions-nil m = refl
 
-pub occurs-nil : (g m : ℕ) → occurs g m [] ≡ 0
-unfolding occurs
+pub occurs-nil : (g m : ℕ) → occurrences g m [] ≡ 0
+unfolding occurrences
 occurs-nil g m = refl
 
 pub find-nil : (g m : ℕ) → find_event g m [] ≡ None

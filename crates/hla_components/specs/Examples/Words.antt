@@ -21,57 +21,57 @@ use Rattle.hla_components.specs.Headline.{happenings}
 abbrev pub object_root : ℕ
 object_root = 1
 
-abbrev pub car : ℕ
-car = 2
+abbrev pub car_class : ℕ
+car_class = 2
 
-abbrev pub pos : ℕ
-pos = 2
+abbrev pub pos_attribute : ℕ
+pos_attribute = 2
 
-abbrev pub paint : ℕ
-paint = 3
+abbrev pub paint_attribute : ℕ
+paint_attribute = 3
 
 abbrev pub interaction_root : ℕ
 interaction_root = 1
 
-abbrev pub note : ℕ
-note = 2
+abbrev pub note_class : ℕ
+note_class = 2
 
-abbrev pub memo : ℕ
-memo = 3
+abbrev pub memo_class : ℕ
+memo_class = 3
 
-abbrev pub hit : ℕ
-hit = 4
+abbrev pub hit_class : ℕ
+hit_class = 4
 
-abbrev pub text : ℕ
-text = 1
+abbrev pub text_parameter : ℕ
+text_parameter = 1
 
-abbrev pub extra : ℕ
-extra = 2
+abbrev pub extra_parameter : ℕ
+extra_parameter = 2
 
-abbrev pub force : ℕ
-force = 3
+abbrev pub force_parameter : ℕ
+force_parameter = 3
 
 abbrev pub catalogue : CatalogueValue
 catalogue = record {
   object_classes =
       record { path = codes "ObjectRoot"; lineage = object_root ∷ [] }
-      ∷ record { path = codes "ObjectRoot.Car"; lineage = car ∷ object_root ∷ [] }
+      ∷ record { path = codes "ObjectRoot.Car"; lineage = car_class ∷ object_root ∷ [] }
       ∷ [];
   interaction_classes =
       record { path = codes "InteractionRoot"; lineage = interaction_root ∷ []; transport = Reliable; order = Receive }
-      ∷ record { path = codes "InteractionRoot.Note"; lineage = note ∷ interaction_root ∷ []; transport = Reliable; order = Receive }
-      ∷ record { path = codes "InteractionRoot.Note.Memo"; lineage = memo ∷ note ∷ interaction_root ∷ []; transport = Reliable; order = Receive }
-      ∷ record { path = codes "InteractionRoot.Hit"; lineage = hit ∷ interaction_root ∷ []; transport = Reliable; order = Timestamp }
+      ∷ record { path = codes "InteractionRoot.Note"; lineage = note_class ∷ interaction_root ∷ []; transport = Reliable; order = Receive }
+      ∷ record { path = codes "InteractionRoot.Note.Memo"; lineage = memo_class ∷ note_class ∷ interaction_root ∷ []; transport = Reliable; order = Receive }
+      ∷ record { path = codes "InteractionRoot.Hit"; lineage = hit_class ∷ interaction_root ∷ []; transport = Reliable; order = Timestamp }
       ∷ [];
   attributes =
       record { class = object_root; name = codes "privilegeToDelete"; transport = Reliable; order = Timestamp }
-      ∷ record { class = car; name = codes "Pos"; transport = Reliable; order = Timestamp }
-      ∷ record { class = car; name = codes "Paint"; transport = Reliable; order = Receive }
+      ∷ record { class = car_class; name = codes "Pos"; transport = Reliable; order = Timestamp }
+      ∷ record { class = car_class; name = codes "Paint"; transport = Reliable; order = Receive }
       ∷ [];
   parameters =
-      record { class = note; name = codes "Text" }
-      ∷ record { class = memo; name = codes "Extra" }
-      ∷ record { class = hit; name = codes "Force" }
+      record { class = note_class; name = codes "Text" }
+      ∷ record { class = memo_class; name = codes "Extra" }
+      ∷ record { class = hit_class; name = codes "Force" }
       ∷ [];
 }
 
@@ -86,30 +86,30 @@ abbrev pub C : ℕ
 C = 3
 
 -- ---- what steps end in
-abbrev pub answers : Answer → Outcome
-answers a = outcome.Done a
+abbrev pub outcome_with : Answer → Outcome
+outcome_with a = outcome.Done a
 
 abbrev pub ok : Outcome
-ok = answers answer.Done
+ok = outcome_with answer.Done
 
-abbrev pub sent : Option EventHandle → Outcome
-sent e = answers (answer.Sent e)
+abbrev pub outcome_sent : Option EventHandle → Outcome
+outcome_sent e = outcome_with (answer.Sent e)
 
-abbrev pub brings : Carried → Outcome
-brings x = answers (answer.Carried x)
+abbrev pub outcome_carried : Carried → Outcome
+outcome_carried x = outcome_with (answer.Carried x)
 
-abbrev pub announces : Option ℕ → Outcome
-announces v = answers (answer.Announced v)
+abbrev pub outcome_announced : Option ℕ → Outcome
+outcome_announced v = outcome_with (answer.Announced v)
 
-abbrev pub told : Callback → Outcome
-told k = answers (answer.Ticked (Some k))
+abbrev pub outcome_ticked : Callback → Outcome
+outcome_ticked k = outcome_with (answer.Ticked (Some k))
 
 -- a tick that picks up nothing
-abbrev pub idle : Outcome
-idle = answers (answer.Ticked None)
+abbrev pub outcome_idle : Outcome
+outcome_idle = outcome_with (answer.Ticked None)
 
-abbrev pub refused : Fault → Outcome
-refused e = outcome.Refused e
+abbrev pub outcome_refused : Fault → Outcome
+outcome_refused e = outcome.Refused e
 
 abbrev pub event : ℕ → ℕ → EventHandle
 event sender serial = record { sender = sender; serial = serial }

@@ -23,7 +23,7 @@ use Rattle.hla_machine.specs.Directory.{Directory, AnInteraction, AnUpdate, ADel
 use Rattle.hla_federation.specs.Tables.FederationValue.{FederationValue}
 use Rattle.hla_federation.specs.Tables.MemberValue.{item, MemberValue}
 use Rattle.hla_federation.specs.Tables.Members.{no_member, members_of, is_number}
-use Rattle.hla_federation.specs.Steps.Sending.{HasAdded, said, message_to, messages_among}
+use Rattle.hla_federation.specs.Steps.Sending.{HasAdded, said_messages, message_to, messages_among}
 use Rattle.hla_federation.specs.Steps.State.{state_of, IsWhole}
 use Rattle.hla_base.proofs.Tables.{upd_same, upd_other}
 
@@ -110,17 +110,17 @@ module _ (made : Receiver → List Message) (h : ℕ) where
         ≡ cond (not (eqb sender h) && ltb h (n + 1)) (option_map_or (λ k. made (record { federate = h; class = k })) (served h) []) []
     among_receivers n = among_below (n + 1)
 
-said_each : (sender serial : ℕ) (said_at : ℕ → Option Content) (o : Option ℕ) → option_map_or (λ k. said sender serial (said_at k)) o [] ≡ said sender serial (option_and_then said_at o)
+said_each : (sender serial : ℕ) (said_at : ℕ → Option Content) (o : Option ℕ) → option_map_or (λ k. said_messages sender serial (said_at k)) o [] ≡ said_messages sender serial (option_and_then said_at o)
 said_each sender serial said_at None = refl
 said_each sender serial said_at (Some k) = refl
 
 -- where who is not joined is not served, this goes to each other joined federate
 pub among_joined : (joined : ℕ → Bool) (served : ℕ → Option ℕ) (said_at : ℕ → ℕ → Option Content) (n sender serial h : ℕ)
     → (joined h ≡ true → h < n + 1) → (joined h ≡ false → served h ≡ None)
-    → messages_among (λ r. said sender serial (said_at r.federate r.class)) (receivers_of served n sender) h
-    ≡ cond (is_other joined sender h) (said sender serial (option_and_then (said_at h) (served h))) []
+    → messages_among (λ r. said_messages sender serial (said_at r.federate r.class)) (receivers_of served n sender) h
+    ≡ cond (is_other joined sender h) (said_messages sender serial (option_and_then (said_at h) (served h))) []
 among_joined joined served said_at n sender serial h within silent =
-    among_receivers (λ r. said sender serial (said_at r.federate r.class)) h served sender n
+    among_receivers (λ r. said_messages sender serial (said_at r.federate r.class)) h served sender n
     ∙ ⊎_elim
     (λ (y : joined h ≡ true).
     let b : h < n + 1 = within y in
@@ -176,18 +176,18 @@ module _ (v : FederationValue) (whole : IsWhole v) (order : Order) (sender seria
   joined_below : (members_of v.members).joined h ≡ true → h < (declared.declarations_of v.declarations).federates + 1
   joined_below y = let b = joined_within v.members h y in let same = whole.parts.federates in omega (arith, b, same)
 
-  pub interaction_added : messages_among (λ r. said sender serial (interaction_at v.catalogue values r.federate r.class))
+  pub interaction_added : messages_among (λ r. said_messages sender serial (interaction_at v.catalogue values r.federate r.class))
       (receivers_of (λ g. interaction_class_served v.catalogue (declared.declarations_of v.declarations).subscribed_interaction g class) (declared.declarations_of v.declarations).federates sender) h
       ≡ message_to (state_of v).directory sender serial (record { order = order; body = AnInteraction class values }) h
   interaction_added =
       among_joined (members_of v.members).joined (λ g. interaction_class_served v.catalogue (declared.declarations_of v.declarations).subscribed_interaction g class) (interaction_at v.catalogue values)
       (declared.declarations_of v.declarations).federates sender serial h joined_below
       (λ no. find_none (λ k. (declared.declarations_of v.declarations).subscribed_interaction h k) (interaction_lineage v.catalogue class) (λ k. (whole.parts.silent h k no).interactions))
-      ∙ ap (λ (x : Option Content). cond (is_other (members_of v.members).joined sender h) (said sender serial x) [])
+      ∙ ap (λ (x : Option Content). cond (is_other (members_of v.members).joined sender h) (said_messages sender serial x) [])
       (map_then (λ k. content.Interaction k (filter (λ (p : HandleValuePair). has_parameter v.catalogue k p.handle) values)) (interaction_class_served v.catalogue (declared.declarations_of v.declarations).subscribed_interaction h class))
 
   pub update_added : (object : ℕ) → ((state_of v).directory.object object).class ≡ class
-      → messages_among (λ r. said sender serial (reflection_at (state_of v).directory object values r.federate r.class))
+      → messages_among (λ r. said_messages sender serial (reflection_at (state_of v).directory object values r.federate r.class))
       (receivers_of (λ g. object_class_served v.catalogue (declared.declarations_of v.declarations).subscribed g class) (declared.declarations_of v.declarations).federates sender) h
       ≡ message_to (state_of v).directory sender serial (record { order = order; body = AnUpdate object values }) h
   update_added object is =
@@ -197,10 +197,10 @@ module _ (v : FederationValue) (whole : IsWhole v) (order : Order) (sender seria
       ∙ at_class
     where
       at_class : cond (is_other (members_of v.members).joined sender h)
-          (said sender serial (option_and_then (reflection_at (state_of v).directory object values h) (object_class_served v.catalogue (declared.declarations_of v.declarations).subscribed h class))) []
+          (said_messages sender serial (option_and_then (reflection_at (state_of v).directory object values h) (object_class_served v.catalogue (declared.declarations_of v.declarations).subscribed h class))) []
           ≡ message_to (state_of v).directory sender serial (record { order = order; body = AnUpdate object values }) h
       at_class = ap (λ (k : ℕ). cond (is_other (members_of v.members).joined sender h)
-          (said sender serial (option_and_then (reflection_at (state_of v).directory object values h) (object_class_served v.catalogue (declared.declarations_of v.declarations).subscribed h k))) []) (sym is)
+          (said_messages sender serial (option_and_then (reflection_at (state_of v).directory object values h) (object_class_served v.catalogue (declared.declarations_of v.declarations).subscribed h k))) []) (sym is)
 
 -- a reflection says something where there are values
 pub reflection_some : (object : ℕ) (values : List HandleValuePair) → length values ≢ 0 → reflection_of object values ≡ Some (content.Reflection object values)
@@ -233,7 +233,7 @@ module _ (added : ℕ → List Message) (peer : ℕ) (h : ℕ) where
       ∙ ap (λ (ms : List Message). cond (ltb h peer) (added h) [] ++ ms) (sym (cond-same (eqb peer h) []) ∙ ap (λ (ms : List Message). cond (eqb peer h) ms []) (sym none))
       ∙ added_at
 
-removal_at : (sender serial object : ℕ) (o known : Bool) → cond o (said sender serial (when known (Some (content.Removal object)))) [] ≡ cond (o && known) (said sender serial (Some (content.Removal object))) []
+removal_at : (sender serial object : ℕ) (o known : Bool) → cond o (said_messages sender serial (when known (Some (content.Removal object)))) [] ≡ cond (o && known) (said_messages sender serial (Some (content.Removal object))) []
 removal_at sender serial object true true = refl
 removal_at sender serial object true false = refl
 removal_at sender serial object false known = refl
@@ -241,7 +241,7 @@ removal_at sender serial object false known = refl
 module _ (v : FederationValue) (order : Order) (sender serial object : ℕ) where
   -- to whom a removal goes
   pub removal_to : (h : ℕ) → message_to (state_of v).directory sender serial (record { order = order; body = ADeletion object }) h
-      ≡ cond (is_other (state_of v).directory.joined sender h && (state_of v).directory.known object h) (said sender serial (Some (content.Removal object))) []
+      ≡ cond (is_other (state_of v).directory.joined sender h && (state_of v).directory.known object h) (said_messages sender serial (Some (content.Removal object))) []
   removal_to h = removal_at sender serial object (is_other (state_of v).directory.joined sender h) ((state_of v).directory.known object h)
 
   pub removal_first : (h : ℕ) → cond (ltb h 1) (message_to (state_of v).directory sender serial (record { order = order; body = ADeletion object }) h) [] ≡ []

@@ -21,7 +21,7 @@ use Rattle.hla_components.specs.Invariant.{Inv, Carries}
 use Rattle.hla_federation.specs.Tables.Members.{MemberTables, with_member_admitted, with_message_queued, with_first_picked, carried_of, IsUnretracting, IsSmall}
 use Rattle.hla_components.specs.Next.{answer_outcome, pick_outcome, carry_outcome, with_federate_joined, carried_event}
 use Rattle.hla_local.specs.Arriving.{is_kept_in_order}
-use Rattle.hla_federation.specs.Steps.Picking.{picked_at}
+use Rattle.hla_federation.specs.Steps.Picking.{next_callback}
 use Rattle.hla_federation.specs.Steps.State.{state_from}
 use Rattle.hla_federation.proofs.Tables.MemberTables.{upd-self}
 
@@ -41,14 +41,14 @@ module _ (c : CatalogueValue) (d : DeclarationsValue) (r : RegistryValue) (m : M
   s = state_from c d r m
 
   -- ---- picking up
-  pub picked : (f : ℕ) (ks : List Control) (es : List Event) (bound : ℕ) → m.controls f ≡ ks → m.ro f ≡ es
-      → pick_outcome s f (pick ks new_row es [] bound) ≡ answer_outcome (answer.Ticked (picked_at ks es)) (state_from c d r (with_first_picked m f ks))
-  picked f [] [] bound ks_is es_is = ap (λ (ro : ℕ → List Event). answer_outcome (answer.Ticked None) (state_from c d r (record m { ro = ro })))
+  pub picked_outcome : (f : ℕ) (ks : List Control) (es : List Event) (bound : ℕ) → m.controls f ≡ ks → m.ro f ≡ es
+      → pick_outcome s f (pick ks new_row es [] bound) ≡ answer_outcome (answer.Ticked (next_callback ks es)) (state_from c d r (with_first_picked m f ks))
+  picked_outcome f [] [] bound ks_is es_is = ap (λ (ro : ℕ → List Event). answer_outcome (answer.Ticked None) (state_from c d r (record m { ro = ro })))
       (sym (upd-self m.ro f (drop 1 (m.ro f)) (ap (λ (es : List Event). drop 1 es) es_is ∙ sym es_is)))
-  picked f [] (e ∷ es) bound ks_is es_is = ap (λ (rest : List Event). answer_outcome (answer.Ticked (picked_at [] (e ∷ es))) (state_from c d r (record m { ro = upd m.ro f rest })))
+  picked_outcome f [] (e ∷ es) bound ks_is es_is = ap (λ (rest : List Event). answer_outcome (answer.Ticked (next_callback [] (e ∷ es))) (state_from c d r (record m { ro = upd m.ro f rest })))
       (sym (ap (λ (es : List Event). drop 1 es) es_is))
-  picked f (ToDiscover from x ∷ ks) es bound ks_is es_is = refl
-  picked f (ToRetract x ∷ ks) es bound ks_is es_is = refl
+  picked_outcome f (ToDiscover from x ∷ ks) es bound ks_is es_is = refl
+  picked_outcome f (ToRetract x ∷ ks) es bound ks_is es_is = refl
 
   -- ---- arriving
   pub came : (g f : ℕ) (ms : List Message) → m.wire g f ≡ ms → IsUnretracting ms → IsSmall (carried_of g ms)

@@ -15,7 +15,7 @@ use Rattle.hla_declaration.specs.Receivers.{object_class_served, receivers_of, I
 use Rattle.hla_declaration.proofs.ReceiverLemmas.{object_receivers}
 use Rattle.hla_declaration.specs.declared.receiver.Receiver.{Receiver}
 use Rattle.hla_null_message.specs.declared.message.Message.{Message}
-use Rattle.hla_federation.specs.Steps.Discovering.{known_among, IsFederate, AreFederates}
+use Rattle.hla_federation.specs.Steps.Discovering.{with_known_among, IsFederate, AreFederates}
 use Rattle.hla_machine.specs.Directory.{default_name}
 use Rattle.hla_object_registry.specs.Registered.{Registered, registry_of}
 use Rattle.hla_federation.specs.Tables.FederationValue.{FederationValue}
@@ -24,7 +24,7 @@ use Rattle.hla_federation.specs.Tables.MemberValue.{MemberValue}
 use Rattle.hla_federation.specs.Tables.Members as members
 use Rattle.hla_federation.specs.Steps.Sending.{messages_among}
 
-known_push : (rs : List Receiver) (r : Receiver) (n : ℕ) (known : ℕ → ℕ → Bool) → known_among (rs ++ r ∷ []) n known ≡ upd2 (known_among rs n known) n r.federate true
+known_push : (rs : List Receiver) (r : Receiver) (n : ℕ) (known : ℕ → ℕ → Bool) → with_known_among (rs ++ r ∷ []) n known ≡ upd2 (with_known_among rs n known) n r.federate true
 known_push [] r n known = refl
 known_push (x ∷ rs) r n known = known_push rs r n (upd2 known n x.federate true)
 
@@ -77,13 +77,13 @@ module _ (p : ℕ → Option Receiver) (named : (g : ℕ) (r : Receiver) → p g
       there false x = refl
 
   -- who knows the object once the receivers know it
-  pub known_by : (m n : ℕ) (known : ℕ → ℕ → Bool) → known_among (filter_map p (numbers_below m)) n known ≡ (λ j k. cond (eqb n j && (ltb k m && is_some (p k))) true (known j k))
+  pub known_by : (m n : ℕ) (known : ℕ → ℕ → Bool) → with_known_among (filter_map p (numbers_below m)) n known ≡ (λ j k. cond (eqb n j && (ltb k m && is_some (p k))) true (known j k))
   unfolding numbers_below known_so
   known_by zero n known = known_none n known
-  known_by (suc m) n known = ap (λ rs. known_among rs n known) (filter_map-append p (numbers_below m) (m ∷ [])) ∙ last_announced (known_by m n known) (p m) refl
+  known_by (suc m) n known = ap (λ rs. with_known_among rs n known) (filter_map-append p (numbers_below m) (m ∷ [])) ∙ last_announced (known_by m n known) (p m) refl
     where
-      last_announced : known_among (filter_map p (numbers_below m)) n known ≡ known_so n known m → (o : Option Receiver) → p m ≡ o → known_among (filter_map p (numbers_below m) ++ cons_option o []) n known ≡ known_so n known (suc m)
-      last_announced before None is = ap (λ rs. known_among rs n known) (append-nil (filter_map p (numbers_below m))) ∙ before ∙ known_rest n m known is
+      last_announced : with_known_among (filter_map p (numbers_below m)) n known ≡ known_so n known m → (o : Option Receiver) → p m ≡ o → with_known_among (filter_map p (numbers_below m) ++ cons_option o []) n known ≡ known_so n known (suc m)
+      last_announced before None is = ap (λ rs. with_known_among rs n known) (append-nil (filter_map p (numbers_below m))) ∙ before ∙ known_rest n m known is
       last_announced before (Some r) is = known_push (filter_map p (numbers_below m)) r n known ∙ ap (λ (t : ℕ → ℕ → Bool). upd2 t n r.federate true) before ∙ known_one n m known r is
 
   -- the messages for the receivers

@@ -21,11 +21,11 @@ use Rattle.hla_object_registry.specs.Registered.{RegistryValue}
 use Rattle.hla_fed_file.specs.CatalogueValue.{CatalogueValue}
 use Rattle.hla_declaration.specs.declared.receiver.Receiver.{Receiver}
 use Rattle.hla_declaration.proofs.ReceiverLemmas.{receiver_at}
-use Rattle.hla_machine.specs.Directory.{Directory, Object, served_object, discovery_at, discovery_of, discoveries_of, discovered_by_all, with_object}
+use Rattle.hla_machine.specs.Directory.{Directory, Object, served_object, discovery_at, discovery_of, discoveries_of, with_object_discovered, with_object}
 use Rattle.hla_federation.specs.declared.direction.Direction.TheVariants.{From}
-use Rattle.hla_federation.specs.Steps.Discovering.{known_among, discovery_to}
+use Rattle.hla_federation.specs.Steps.Discovering.{with_known_among, discovery_to}
 use Rattle.hla_components.specs.Invariant.{DirectoryInv}
-use Rattle.hla_federation.specs.Tables.Members.{MemberTables, posted_below, is_number}
+use Rattle.hla_federation.specs.Tables.Members.{MemberTables, wires_posted_below, is_number}
 use Rattle.hla_federation.specs.Steps.State.{state_from, directory_from}
 use Rattle.hla_components.specs.Next.{put_discoveries, with_object_registered}
 use Rattle.hla_federation.specs.Steps.Sending.{messages_among}
@@ -118,7 +118,7 @@ module _ (d : Directory) (f class : ℕ) (name : List ℕ) (federates : ℕ) (in
       some_both None = refl
       some_both (Some k) = refl
 
-  pub known_after : (discovered_by_all (with_object d f class name) d.next_object).known ≡ known_among (receivers_of (λ g. served_object d g class) federates f) d.next_object (upd2 d.known d.next_object f true)
+  pub known_after : (with_object_discovered (with_object d f class name) d.next_object).known ≡ with_known_among (receivers_of (λ g. served_object d g class) federates f) d.next_object (upd2 d.known d.next_object f true)
   known_after = fun_ext (λ j. fun_ext (λ k. regroup _ (eqb d.next_object j) (d.joined k) _ _ (known_at k)))
       ∙ sym (known_by (receiver_at (λ g. served_object d g class) f) (receiver_named (λ g. served_object d g class) f) (federates + 1) d.next_object (upd2 d.known d.next_object f true))
     where
@@ -178,7 +178,7 @@ module _ (d : Directory) (f class : ℕ) (name : List ℕ) (federates : ℕ) (in
 
   pub wires_after : (wire : ℕ → ℕ → List Message) (o : ℕ → List Message) (end : ℕ) → ((g : ℕ) → o g ≡ messages_among (discovery_to d.next_object name) (receivers_of (λ k. served_object d k class) federates f) g)
       → ((g : ℕ) → d.joined g ≡ true → is_number end g ≡ true)
-      → upd_row wire d.joined f (λ g. put_discoveries (discoveries_of (with_object d f class name) f g)) ≡ posted_below (From f) o end wire
+      → upd_row wire d.joined f (λ g. put_discoveries (discoveries_of (with_object d f class name) f g)) ≡ wires_posted_below (From f) o end wire
   unfolding upd_row
   wires_after wire o end is numbers = fun_ext (λ k. fun_ext (λ l. ⊎_elim
       (λ (y : eqb f k ≡ true). rw y (⊎_elim
@@ -205,11 +205,11 @@ module _ (c : CatalogueValue) (dd : DeclarationsValue) (r : RegistryValue) (m : 
     (numbers : (g : ℕ) → m.joined g ≡ true → is_number m.next_federate g ≡ true) where
   abbrev pub registry_after : RegistryValue
   registry_after = record (registry.with_registered r class name f (option_map_or (λ xs. xs) (dd.published f class) [])) {
-    known = known_among (receivers_of (λ k. receivers.object_class_served c dd.subscribed k class) dd.federates f) r.next_object (upd2 r.known r.next_object f true);
+    known = with_known_among (receivers_of (λ k. receivers.object_class_served c dd.subscribed k class) dd.federates f) r.next_object (upd2 r.known r.next_object f true);
   }
 
   abbrev pub members_after : MemberTables
-  members_after = record m { wire = posted_below (From f) o m.next_federate m.wire }
+  members_after = record m { wire = wires_posted_below (From f) o m.next_federate m.wire }
 
   pub registered_state : with_object_registered (state_from c dd r m) f r.next_object (with_object (directory_from c dd r m) f class name) ≡ state_from c dd registry_after members_after
   registered_state = λ i. record (state_from c dd registry_after members_after) {

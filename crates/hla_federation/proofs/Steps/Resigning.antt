@@ -7,7 +7,7 @@ use Rattle.std.proofs.lemmas.List.{append-nil, append_assoc, take_more, get_or_p
 use Rattle.std.proofs.Math.Path.{fun_ext}
 use Rattle.hla_base.specs.declared.fault.Fault.{Fault}
 use Rattle.hla_base.specs.declared.fault.Fault.TheVariants as fault
-use Rattle.hla_base.specs.Tables.{forever, upd, upd_row, clear, is_other}
+use Rattle.hla_base.specs.Tables.{forever, upd, upd_row, upd_whole_column, is_other}
 use Rattle.hla_base.specs.Rows.{new_row}
 use Rattle.hla_fed_file.specs.CatalogueValue.{CatalogueValue}
 use Rattle.hla_fed_file.specs.declared.declared.Order.TheVariants.{Receive}
@@ -24,7 +24,7 @@ use Rattle.hla_machine.specs.Refusals.{Seen, refusal}
 use Rattle.hla_federation.specs.declared.direction.Direction.TheVariants.{From}
 use Rattle.hla_components.specs.Components.{Components}
 use Rattle.hla_federation.specs.Tables.MemberValue.{item, MemberValue}
-use Rattle.hla_federation.specs.Tables.Members.{no_member, MemberTables, members_of, is_number, posted_below, with_member_withdrawn}
+use Rattle.hla_federation.specs.Tables.Members.{no_member, MemberTables, members_of, is_number, wires_posted_below, with_member_withdrawn}
 use Rattle.hla_components.specs.Next.{with_federate_gone, with_messages_sent, with_federate_resigned, components_seen}
 use Rattle.hla_federation.specs.Steps.Sending.{HasAdded, message_to, messages_to}
 use Rattle.hla_federation.specs.Steps.State.{state_from, directory_from}
@@ -97,10 +97,10 @@ messages_none d f m [] h away = refl
 messages_none d f m (out ∷ outs) h away = rw (away, and-false, messages_none d f (m + 1) outs h away) refl
 
 pub posted_sent : (d : Directory) (f m : ℕ) (outs : List Outgoing) (next : ℕ) (wire : ℕ → ℕ → List Message) (o : ℕ → List Message) → ((h : ℕ) → o h ≡ messages_to d f m outs h)
-    → ((h : ℕ) → d.joined h ≡ true → is_number next h ≡ true) → posted_below (From f) o next wire ≡ sent_wire d f m outs wire
+    → ((h : ℕ) → d.joined h ≡ true → is_number next h ≡ true) → wires_posted_below (From f) o next wire ≡ sent_wire d f m outs wire
 posted_sent d f m outs next wire o is numbers = fun_ext (λ g. fun_ext (λ h. at g h))
   where
-    at : (g h : ℕ) → posted_below (From f) o next wire g h ≡ sent_wire d f m outs wire g h
+    at : (g h : ℕ) → wires_posted_below (From f) o next wire g h ≡ sent_wire d f m outs wire g h
     at g h = ⊎_elim
         (λ (y : eqb f g ≡ true). ⊎_elim
         (λ (z : is_number next h ≡ true). rw (y, z) (ap (λ (ms : List Message). wire g h ++ ms) (is h)))
@@ -128,7 +128,7 @@ module _ (c : CatalogueValue) (d : DeclarationsValue) (r : RegistryValue) (m : M
     row = upd-self (λ _. new_row) f new_row refl i;
     last_announced = upd-self (λ _. forever) f forever refl i;
     tso = upd-self (λ _. []) f [] refl i;
-    wire = clear (same_row m.wire m.joined f i) f [];
+    wire = upd_whole_column (same_row m.wire m.joined f i) f [];
   }
 
 -- with the deletions before
@@ -138,7 +138,7 @@ module _ (c : CatalogueValue) (d : DeclarationsValue) (r : RegistryValue) (m : M
   sent_members = record m { serial = upd m.serial f (m.serial f + length (deletions_sent hs)); wire = sent_wire (directory_from c d r m) f (m.serial f) (deletions_sent hs) m.wire }
 
   pub resigned_state : with_federate_gone (with_messages_sent (state_from c d r m) f None (deletions_sent hs)) f
-      ≡ state_from c (withdrawn_declarations c d r m f) (without_owned r f) (with_member_withdrawn (record m { serial = upd m.serial f (m.serial f + length hs); wire = posted_below (From f) o m.next_federate m.wire }) f)
+      ≡ state_from c (withdrawn_declarations c d r m f) (without_owned r f) (with_member_withdrawn (record m { serial = upd m.serial f (m.serial f + length hs); wire = wires_posted_below (From f) o m.next_federate m.wire }) f)
   resigned_state =
       ap (λ (s : Components). with_federate_gone s f) (sent_all-plain (state_from c d r m) f (deletions_sent hs) refl (λ g k. refl))
       ∙ left_state c d r sent_members f

@@ -19,7 +19,7 @@ use Rattle.hla_components.specs.Invariant.{Inv}
 use Rattle.hla_components.specs.Next.{Outcomes, next, components_seen, unless_refused}
 use Rattle.hla_components.specs.Next as components
 use Rattle.hla_federation.specs.Steps.Memory.{IsRefusedWith, takes_memory}
-use Rattle.hla_federation.specs.Steps.Soundness.{AreSteps, remembered, is_out_of_memory}
+use Rattle.hla_federation.specs.Steps.Soundness.{AreSteps, remembered_steps, is_out_of_memory}
 use Rattle.hla_components.proofs.Refinement.Runs.{is_run}
 use Rattle.hla_components.proofs.Refinement.LedTo.{list_lawful}
 use Rattle.hla_components.proofs.Discovered.Runs.{list_discovers_in_turn}
@@ -56,7 +56,7 @@ named_fault s step e refused other = ⊎_elim
     refused
 
 -- the steps lead where the next-state function leads by those that are remembered
-pub end_state : (s t : Components) (steps : List Step) (rs : List (Result Answer Fault)) → AreSteps s steps rs t → state_after s (remembered steps rs) ≡ t
+pub end_state : (s t : Components) (steps : List Step) (rs : List (Result Answer Fault)) → AreSteps s steps rs t → state_after s (remembered_steps steps rs) ≡ t
 end_state s t [] [] steps = steps
 end_state s t [] (r ∷ rs) steps = absurd steps
 end_state s t (p ∷ ps) [] steps = absurd steps
@@ -65,15 +65,15 @@ end_state s t (p ∷ ps) (Err e ∷ rs) steps =
     let rest = end_state s t ps rs steps.1 in
     ⊎_elim
     (λ (y : is_out_of_memory e ≡ true). rw y rest)
-    (λ (n : is_out_of_memory e ≡ false). rw n (ap (λ (u : Components). state_after u (remembered ps rs)) (refused_state s p e (named_fault s p e steps.0 n)) ∙ rest))
+    (λ (n : is_out_of_memory e ≡ false). rw n (ap (λ (u : Components). state_after u (remembered_steps ps rs)) (refused_state s p e (named_fault s p e steps.0 n)) ∙ rest))
     (cases_Bool (is_out_of_memory e))
 
 pub are_run : (s t : Components) (steps : List Step) (rs : List (Result Answer Fault)) → Inv s → AreSteps s steps rs t
-    → IsRun (central s) (happenings s (remembered steps rs)) (central t)
-are_run s t steps rs inv are = subst (λ (u : Components). IsRun (central s) (happenings s (remembered steps rs)) (central u)) (end_state s t steps rs are) (is_run s (remembered steps rs) inv)
+    → IsRun (central s) (happenings s (remembered_steps steps rs)) (central t)
+are_run s t steps rs inv are = subst (λ (u : Components). IsRun (central s) (happenings s (remembered_steps steps rs)) (central u)) (end_state s t steps rs are) (is_run s (remembered_steps steps rs) inv)
 
-pub are_lawful : (s : Components) (steps : List Step) (rs : List (Result Answer Fault)) → IsLedTo s → IsLawful (central s) (happenings s (remembered steps rs))
-are_lawful s steps rs led = list_lawful s (remembered steps rs) led
+pub are_lawful : (s : Components) (steps : List Step) (rs : List (Result Answer Fault)) → IsLedTo s → IsLawful (central s) (happenings s (remembered_steps steps rs))
+are_lawful s steps rs led = list_lawful s (remembered_steps steps rs) led
 
-pub are_discovered_in_turn : (s : Components) (steps : List Step) (rs : List (Result Answer Fault)) → IsLedTo s → IsDiscoveredInTurn (central s) (happenings s (remembered steps rs))
-are_discovered_in_turn s steps rs led = list_discovers_in_turn s (remembered steps rs) led
+pub are_discovered_in_turn : (s : Components) (steps : List Step) (rs : List (Result Answer Fault)) → IsLedTo s → IsDiscoveredInTurn (central s) (happenings s (remembered_steps steps rs))
+are_discovered_in_turn s steps rs led = list_discovers_in_turn s (remembered_steps steps rs) led

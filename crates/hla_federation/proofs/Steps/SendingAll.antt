@@ -16,19 +16,19 @@ use Rattle.hla_machine.specs.Central.{SentEvent, no_event}
 use Rattle.hla_machine.specs.Sends.{is_ordered, sent_event, sent_handle}
 use Rattle.hla_components.specs.Components.{Components}
 use Rattle.hla_components.specs.Next.{with_message_sent, with_messages_sent, put_event}
-use Rattle.hla_federation.specs.Steps.Sending.{said, message_to, messages_to}
+use Rattle.hla_federation.specs.Steps.Sending.{said_messages, message_to, messages_to}
 use Rattle.hla_base.proofs.Tables.{upd_same}
 
-unordered : (out : Outgoing) → is_ordered new_row None out ≡ false
-unordered out = rw (and-false (is_of_order Timestamp out.order)) refl
+unstamped_order : (out : Outgoing) → is_ordered new_row None out ≡ false
+unstamped_order out = rw (and-false (is_of_order Timestamp out.order)) refl
 
-unkept : (d : Directory) (f : ℕ) (out : Outgoing) → sent_event d new_row f None out ≡ no_event
-unkept d f out = rw (unordered out) refl
+unstamped_event : (d : Directory) (f : ℕ) (out : Outgoing) → sent_event d new_row f None out ≡ no_event
+unstamped_event d f out = rw (unstamped_order out) refl
 
 -- nothing goes in the order of stamps, so there is no handle
 pub no_handle : (f m : ℕ) (outs : List Outgoing) → sent_handle f new_row None m outs ≡ None
 no_handle f m [] = refl
-no_handle f m (out ∷ outs) = rw (unordered out) (no_handle f (m + 1) outs)
+no_handle f m (out ∷ outs) = rw (unstamped_order out) (no_handle f (m + 1) outs)
 
 -- the wires after the messages were put on them
 abbrev pub sent_wire : Directory → ℕ → ℕ → List Outgoing → (ℕ → ℕ → List Message) → ℕ → ℕ → List Message
@@ -37,9 +37,9 @@ sent_wire d f serial outs wire = λ g h. cond (eqb f g) (wire g h ++ messages_to
 abbrev pub sent_plain : Components → ℕ → List Outgoing → Components
 sent_plain s f outs = record s { serial = upd s.serial f (s.serial f + length outs); wire = sent_wire s.directory f (s.serial f) outs s.wire }
 
-put_said : (f serial : ℕ) (out : Outgoing) (o : Option Content) (ms : List Message) → put_event f serial new_row None out o ms ≡ ms ++ said f serial o
+put_said : (f serial : ℕ) (out : Outgoing) (o : Option Content) (ms : List Message) → put_event f serial new_row None out o ms ≡ ms ++ said_messages f serial o
 put_said f serial out None ms = sym (append-nil ms)
-put_said f serial out (Some x) ms = rw (unordered out) refl
+put_said f serial out (Some x) ms = rw (unstamped_order out) refl
 
 upd_again : {X : Type 0} (t : ℕ → X) (f : ℕ) (x y : X) (g : ℕ) → upd (upd t f x) f y g ≡ upd t f y g
 unfolding upd
@@ -57,7 +57,7 @@ row_wire : (d : Directory) (f serial : ℕ) (out : Outgoing) (wire : ℕ → ℕ
 unfolding upd_row
 row_wire d f serial out wire g h = ⊎_elim
     (λ (y : eqb f g ≡ true). ⊎_elim
-    (λ (z : is_other d.joined f h ≡ true). rw (y, z) (put_said f serial out (content_for d out.body h) (wire g h) ∙ ap (λ (ms : List Message). wire g h ++ ms) (sym (append-nil (said f serial (content_for d out.body h))))))
+    (λ (z : is_other d.joined f h ≡ true). rw (y, z) (put_said f serial out (content_for d out.body h) (wire g h) ∙ ap (λ (ms : List Message). wire g h ++ ms) (sym (append-nil (said_messages f serial (content_for d out.body h))))))
     (λ (z : is_other d.joined f h ≡ false). rw (y, z) (sym (append-nil (wire g h))))
     (cases_Bool (is_other d.joined f h)))
     (λ (n : eqb f g ≡ false). rw n refl)
@@ -68,7 +68,7 @@ sent_one-plain : (s : Components) (f : ℕ) (out : Outgoing) → s.row f ≡ new
 sent_one-plain s f out new none =
     let wires : (g h : ℕ) → upd_row s.wire s.directory.joined f (λ l. put_event f (s.serial f) (s.row f) None out (content_for s.directory out.body l)) g h ≡ sent_wire s.directory f (s.serial f) (out ∷ []) s.wire g h
     = λ g h. ap (λ (r : TimeRow). upd_row s.wire s.directory.joined f (λ l. put_event f (s.serial f) r None out (content_for s.directory out.body l)) g h) new ∙ row_wire s.directory f (s.serial f) out s.wire g h in
-    let kept : sent_event s.directory (s.row f) f None out ≡ no_event = ap (λ (r : TimeRow). sent_event s.directory r f None out) new ∙ unkept s.directory f out in
+    let kept : sent_event s.directory (s.row f) f None out ≡ no_event = ap (λ (r : TimeRow). sent_event s.directory r f None out) new ∙ unstamped_event s.directory f out in
     λ i. record s {
       serial = upd s.serial f (s.serial f + 1);
       wire = fun_ext (λ g. fun_ext (λ h. wires g h)) i;

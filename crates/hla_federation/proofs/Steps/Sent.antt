@@ -17,7 +17,7 @@ use Rattle.hla_federation.specs.declared.direction.Direction.TheVariants.{From}
 use Rattle.hla_components.specs.Components.{Components}
 use Rattle.hla_federation.specs.Tables.FederationValue.{FederationValue}
 use Rattle.hla_federation.specs.Tables.MemberValue.{item, MemberValue}
-use Rattle.hla_federation.specs.Tables.Members.{MemberTables, members_of, posted_below, is_number, AreQuiet}
+use Rattle.hla_federation.specs.Tables.Members.{MemberTables, members_of, wires_posted_below, is_number, AreQuiet}
 use Rattle.hla_components.specs.Next.{answer_outcome, send_outcome, with_messages_sent, with_directory}
 use Rattle.hla_federation.specs.Steps.Sending.{HasAdded, message_to, messages_to}
 use Rattle.hla_federation.specs.Steps.State.{AreWhole, IsWhole, state_of, state_from}
@@ -56,11 +56,11 @@ nothing_to d f n (out ∷ outs) h left = rw (left, and-false (not (eqb f h))) (n
 
 -- ---- the state after the messages were put on their wires and counted
 module _ (v : FederationValue) (f n : ℕ) (outs : List Outgoing) (o : ℕ → List Message) (members : List MemberValue)
-    (is : members_of members ≡ record (members_of v.members) { serial = upd (members_of v.members).serial f ((members_of v.members).serial f + n); wire = posted_below (From f) o (members_of v.members).next_federate (members_of v.members).wire })
+    (is : members_of members ≡ record (members_of v.members) { serial = upd (members_of v.members).serial f ((members_of v.members).serial f + n); wire = wires_posted_below (From f) o (members_of v.members).next_federate (members_of v.members).wire })
     (many : n ≡ length outs)
     (added : (h : ℕ) → o h ≡ messages_to (state_of v).directory f ((members_of v.members).serial f) outs h) where
   wire_at : (g h : ℕ) → sent_wire (state_of v).directory f ((members_of v.members).serial f) outs (members_of v.members).wire g h
-      ≡ posted_below (From f) o (members_of v.members).next_federate (members_of v.members).wire g h
+      ≡ wires_posted_below (From f) o (members_of v.members).next_federate (members_of v.members).wire g h
   wire_at g h = ⊎_elim
       (λ (y : eqb f g ≡ true). ⊎_elim
       (λ (z : (members_of v.members).joined h ≡ true). let number = joined_number v.members h z in rw (y, number, added h) refl)

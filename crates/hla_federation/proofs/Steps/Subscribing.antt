@@ -11,13 +11,13 @@ use Rattle.hla_null_message.specs.declared.message.Message.TheVariants as messag
 use Rattle.hla_declaration.specs.Declarations as declared
 use Rattle.hla_declaration.specs.Declarations.{DeclarationsValue}
 use Rattle.hla_declaration.specs.Lists.{DeclarationLists}
-use Rattle.hla_machine.specs.Directory.{Directory, default_name, discoveries_of, discovered_by, with_subscribed}
+use Rattle.hla_machine.specs.Directory.{Directory, default_name, discoveries_of, with_discoveries_made, with_subscribed}
 use Rattle.hla_object_registry.specs.Registered.{Registered, RegistryValue, registry_of}
 use Rattle.hla_federation.specs.declared.direction.Direction.TheVariants.{To}
 use Rattle.hla_federation.specs.Tables.FederationValue.{FederationValue}
 use Rattle.hla_components.specs.Invariant.{EachOf, DirectoryInv}
 use Rattle.hla_federation.specs.Tables.MemberValue.{MemberValue}
-use Rattle.hla_federation.specs.Tables.Members.{MemberTables, members_of, posted_below, is_number}
+use Rattle.hla_federation.specs.Tables.Members.{MemberTables, members_of, wires_posted_below, is_number}
 use Rattle.hla_components.specs.Next.{with_class_subscribed}
 use Rattle.hla_federation.specs.Steps.State.{state_of, state_from, AreWhole, IsWhole}
 use Rattle.hla_base.proofs.Tables.{upd2_other}
@@ -33,7 +33,7 @@ no_owner d g f owners above = none_of (discoveries_of d g f) (each_discovery d g
 
 -- the wires to one federate
 wires_to : (next f : ℕ) (o ds : ℕ → List Message) (wire : ℕ → ℕ → List Message) → ((g : ℕ) → o g ≡ ds g) → o 0 ≡ [] → ((g : ℕ) → next ≤ g → ds g ≡ [])
-    → (λ g. upd (wire g) f (wire g f ++ ds g)) ≡ posted_below (To f) o next wire
+    → (λ g. upd (wire g) f (wire g f ++ ds g)) ≡ wires_posted_below (To f) o next wire
 unfolding upd
 wires_to next f o ds wire same nothing above = fun_ext (λ g. fun_ext (λ h. at g h))
   where
@@ -51,25 +51,25 @@ wires_to next f o ds wire same nothing above = fun_ext (λ g. fun_ext (λ h. at 
         (cases_Bool (eqb f h))
 
 -- the tables afterwards
-abbrev pub subscribing : FederationValue → ℕ → ℕ → List ℕ → Directory
-subscribing old f class a = with_subscribed (state_of old).directory f class (Some a)
+abbrev pub directory_after_subscribe : FederationValue → ℕ → ℕ → List ℕ → Directory
+directory_after_subscribe old f class a = with_subscribed (state_of old).directory f class (Some a)
 
 abbrev pub declarations_after : FederationValue → ℕ → ℕ → List ℕ → DeclarationsValue
 declarations_after old f class a = record (declared.declarations_of old.declarations) { subscribed = upd2 (declared.declarations_of old.declarations).subscribed f class (Some a) }
 
 abbrev pub objects_after : FederationValue → ℕ → ℕ → List ℕ → RegistryValue
-objects_after old f class a = record (registry_of old.objects) { known = (discovered_by (subscribing old f class a) f).known }
+objects_after old f class a = record (registry_of old.objects) { known = (with_discoveries_made (directory_after_subscribe old f class a) f).known }
 
 abbrev pub members_after : FederationValue → ℕ → (ℕ → List Message) → MemberTables
-members_after old f o = record (members_of old.members) { wire = posted_below (To f) o (members_of old.members).next_federate (members_of old.members).wire }
+members_after old f o = record (members_of old.members) { wire = wires_posted_below (To f) o (members_of old.members).next_federate (members_of old.members).wire }
 
 module _ (old : FederationValue) (f class : ℕ) (a : List ℕ) (d : DeclarationLists) (r : List Registered) (m : List MemberValue) (o : ℕ → List Message) where
   pub subscribed_state : DirectoryInv (state_of old).directory → declared.declarations_of d ≡ declarations_after old f class a → registry_of r ≡ objects_after old f class a → members_of m ≡ members_after old f o
-      → ((g : ℕ) → o g ≡ map message.Discovery (discoveries_of (subscribing old f class a) g f)) → o 0 ≡ [] → with_class_subscribed (state_of old) f (subscribing old f class a) ≡ state_of (record old { declarations = d; objects = r; members = m })
+      → ((g : ℕ) → o g ≡ map message.Discovery (discoveries_of (directory_after_subscribe old f class a) g f)) → o 0 ≡ [] → with_class_subscribed (state_of old) f (directory_after_subscribe old f class a) ≡ state_of (record old { declarations = d; objects = r; members = m })
   subscribed_state inv d_is r_is m_is out nothing =
-      ap (λ (w : ℕ → ℕ → List Message). record (state_of old) { directory = discovered_by (subscribing old f class a) f; wire = w })
-      (wires_to (members_of old.members).next_federate f o (λ g. map message.Discovery (discoveries_of (subscribing old f class a) g f)) (members_of old.members).wire out nothing
-      (λ g above. ap (map message.Discovery) (no_owner (subscribing old f class a) g f (λ h exists. (inv.owners h exists).0) above)))
+      ap (λ (w : ℕ → ℕ → List Message). record (state_of old) { directory = with_discoveries_made (directory_after_subscribe old f class a) f; wire = w })
+      (wires_to (members_of old.members).next_federate f o (λ g. map message.Discovery (discoveries_of (directory_after_subscribe old f class a) g f)) (members_of old.members).wire out nothing
+      (λ g above. ap (map message.Discovery) (no_owner (directory_after_subscribe old f class a) g f (λ h exists. (inv.owners h exists).0) above)))
       ∙ sym (λ i. state_from old.catalogue (d_is i) (r_is i) (m_is i))
 
   pub subscribed_whole : IsWhole old → (members_of old.members).joined f ≡ true → declared.declarations_of d ≡ declarations_after old f class a → registry_of r ≡ objects_after old f class a → members_of m ≡ members_after old f o → IsWhole (record old { declarations = d; objects = r; members = m })

@@ -4,14 +4,14 @@ use Rattle.std.proofs.lemmas.Bool.{cases_Bool, cases_eq}
 use Rattle.std.proofs.lemmas.Bool.Decides.{nat_tests}
 use Rattle.std.proofs.lemmas.List.{get_or_default, get_or_past}
 use Rattle.std.proofs.Math.Path.{fun_ext}
-use Rattle.hla_base.specs.Tables.{upd, upd2, clear}
+use Rattle.hla_base.specs.Tables.{upd, upd2, upd_whole_column}
 use Rattle.hla_null_message.specs.declared.message.Message.{Message}
 use Rattle.hla_null_message.specs.declared.message.Message.TheVariants as message
 use Rattle.hla_order_queues.specs.declared.control.Control.{Control}
 use Rattle.hla_order_queues.specs.declared.control.Control.TheVariants.{ToDiscover}
 use Rattle.hla_federation.specs.Tables.MemberValue.{item, MemberValue}
 use Rattle.hla_federation.specs.Tables.Members.{no_member, MemberTables, members_of, new_member, AreQuiet, with_member_admitted, with_member_withdrawn, member_receiving, with_arrival, with_first_picked}
-use Rattle.hla_federation.specs.Steps.Picking.{left_at}
+use Rattle.hla_federation.specs.Steps.Picking.{member_after_pick}
 
 -- a list with another item is a table with another item
 pub item-set : {X : Type 0} (d : X) (xs : List X) (f : ℕ) (x : X) → 0 < f → f ≤ length xs → item d (set xs (f - 1) x) ≡ upd (item d xs) f x
@@ -106,8 +106,8 @@ upd-wire t g f x = fun_ext (λ h. fun_ext (λ k. at h k))
         (cases_Bool (eqb g h)))
         (cases_Bool (eqb f k))
 
-pub upd-clear : {X : Type 0} (t : ℕ → ℕ → X) (f : ℕ) (x : X) → (λ h. upd (t h) f x) ≡ clear t f x
-unfolding upd clear
+pub upd-clear : {X : Type 0} (t : ℕ → ℕ → X) (f : ℕ) (x : X) → (λ h. upd (t h) f x) ≡ upd_whole_column t f x
+unfolding upd upd_whole_column
 upd-clear t f x = refl
 
 module _ (members : List MemberValue) (f : ℕ) (some : 0 < f) (within : f ≤ length members) where
@@ -134,8 +134,8 @@ module _ (members : List MemberValue) (f : ℕ) (some : 0 < f) (within : f ≤ l
     wire = keep_wire i;
   })
 
-  pub left : (ks : List Control) → m.controls ≡ ks → members_of (set members (f - 1) (left_at m ks)) ≡ with_first_picked t f ks
-  left [] is = changed members f (left_at m []) some within ∙ (λ i. record {
+  pub tables_after_pick : (ks : List Control) → m.controls ≡ ks → members_of (set members (f - 1) (member_after_pick m ks)) ≡ with_first_picked t f ks
+  tables_after_pick [] is = changed members f (member_after_pick m []) some within ∙ (λ i. record {
     next_federate = t.next_federate;
     joined = keep (λ x. x.joined) i;
     name = keep (λ x. x.name) i;
@@ -144,7 +144,7 @@ module _ (members : List MemberValue) (f : ℕ) (some : 0 < f) (within : f ≤ l
     controls = keep (λ x. x.controls) i;
     wire = keep_wire i;
   })
-  left (k ∷ ks) is = changed members f (left_at m (k ∷ ks)) some within ∙ (λ i. record {
+  tables_after_pick (k ∷ ks) is = changed members f (member_after_pick m (k ∷ ks)) some within ∙ (λ i. record {
     next_federate = t.next_federate;
     joined = keep (λ x. x.joined) i;
     name = keep (λ x. x.name) i;

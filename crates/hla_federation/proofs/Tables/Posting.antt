@@ -7,7 +7,7 @@ use Rattle.hla_base.specs.Tables.{upd2}
 use Rattle.hla_null_message.specs.declared.message.Message.{Message}
 use Rattle.hla_federation.specs.declared.direction.Direction.{Direction}
 use Rattle.hla_federation.specs.declared.direction.Direction.TheVariants.{From, To}
-use Rattle.hla_federation.specs.Tables.Members.{IsEnd, HasRoom, posted_below, room_in, is_number}
+use Rattle.hla_federation.specs.Tables.Members.{IsEnd, HasRoom, wires_posted_below, room_in, is_number}
 use Rattle.hla_federation.specs.Tables.Wiring.{source, target, is_along, peer_along}
 
 -- both ends of a wire have joined
@@ -17,9 +17,9 @@ pub record AreJoined (next g h : ℕ) : Type 0 where
   pub some_target : 0 < h
   pub target : h < next
 
-pub ends : (along : Direction) (next peer : ℕ) → IsEnd along next → 0 < peer → peer < next → AreJoined next (source along peer) (target along peer)
-ends (From f) next peer end some below = record { some_source = end.0; source = end.1; some_target = some; target = below }
-ends (To f) next peer end some below = record { some_source = some; source = below; some_target = end.0; target = end.1 }
+pub joined_ends : (along : Direction) (next peer : ℕ) → IsEnd along next → 0 < peer → peer < next → AreJoined next (source along peer) (target along peer)
+joined_ends (From f) next peer end some below = record { some_source = end.0; source = end.1; some_target = some; target = below }
+joined_ends (To f) next peer end some below = record { some_source = some; source = below; some_target = end.0; target = end.1 }
 
 -- a wire along the direction is the one with its peer
 ends_are : (along : Direction) (g h : ℕ) → is_along along g h ≡ true → (g ≡ source along (peer_along along g h)) × (h ≡ target along (peer_along along g h))
@@ -69,18 +69,18 @@ room_rest along messages peer end old new room stay g h y low high =
     others (To f) g h l = inl (λ e. absurd (omega (arith, l, e)))
 
 -- ---- the wires
-pub posted_none : (along : Direction) (messages : ℕ → List Message) (wire : ℕ → ℕ → List Message) → posted_below along messages 1 wire ≡ wire
+pub posted_none : (along : Direction) (messages : ℕ → List Message) (wire : ℕ → ℕ → List Message) → wires_posted_below along messages 1 wire ≡ wire
 posted_none along messages wire = fun_ext (λ g. fun_ext (λ h.
     let none : is_number 1 (peer_along along g h) ≡ false = grind (arith, nat_tests) in
     ⊎_elim (λ (y : is_along along g h ≡ true). rw (y, none) refl) (λ (n : is_along along g h ≡ false). rw n refl) (cases_Bool (is_along along g h))))
 
 pub posted_more : (along : Direction) (messages : ℕ → List Message) (peer : ℕ) (wire : ℕ → ℕ → List Message) → 0 < peer
-    → upd2 (posted_below along messages peer wire) (source along peer) (target along peer) (posted_below along messages peer wire (source along peer) (target along peer) ++ messages peer)
-    ≡ posted_below along messages (peer + 1) wire
+    → upd2 (wires_posted_below along messages peer wire) (source along peer) (target along peer) (wires_posted_below along messages peer wire (source along peer) (target along peer) ++ messages peer)
+    ≡ wires_posted_below along messages (peer + 1) wire
 unfolding upd2
 posted_more (From f) messages peer wire some = fun_ext (λ g. fun_ext (λ h. at g h))
   where
-    at : (g h : ℕ) → cond (eqb f g && eqb peer h) (posted_below (From f) messages peer wire f peer ++ messages peer) (posted_below (From f) messages peer wire g h) ≡ posted_below (From f) messages (peer + 1) wire g h
+    at : (g h : ℕ) → cond (eqb f g && eqb peer h) (wires_posted_below (From f) messages peer wire f peer ++ messages peer) (wires_posted_below (From f) messages peer wire g h) ≡ wires_posted_below (From f) messages (peer + 1) wire g h
     at g h = ⊎_elim
         (λ (y : eqb f g ≡ true). let e : f ≡ g = grind (arith, nat_tests) in let self : eqb g g ≡ true = grind (arith, nat_tests) in ⊎_elim
         (λ (z : eqb peer h ≡ true). let i : peer ≡ h = grind (arith, nat_tests) in
@@ -92,7 +92,7 @@ posted_more (From f) messages peer wire some = fun_ext (λ g. fun_ext (λ h. at 
         (cases_Bool (eqb f g))
 posted_more (To f) messages peer wire some = fun_ext (λ g. fun_ext (λ h. at g h))
   where
-    at : (g h : ℕ) → cond (eqb peer g && eqb f h) (posted_below (To f) messages peer wire peer f ++ messages peer) (posted_below (To f) messages peer wire g h) ≡ posted_below (To f) messages (peer + 1) wire g h
+    at : (g h : ℕ) → cond (eqb peer g && eqb f h) (wires_posted_below (To f) messages peer wire peer f ++ messages peer) (wires_posted_below (To f) messages peer wire g h) ≡ wires_posted_below (To f) messages (peer + 1) wire g h
     at g h = ⊎_elim
         (λ (y : eqb f h ≡ true). let e : f ≡ h = grind (arith, nat_tests) in let self : eqb h h ≡ true = grind (arith, nat_tests) in ⊎_elim
         (λ (z : eqb peer g ≡ true). let i : peer ≡ g = grind (arith, nat_tests) in

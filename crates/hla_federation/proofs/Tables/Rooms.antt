@@ -5,7 +5,7 @@ use Rattle.std.proofs.lemmas.List.{map-set, length-map}
 use Rattle.std.proofs.lemmas.Bool.{cases_eq}
 use Rattle.hla_base.specs.Tables.{upd}
 use Rattle.hla_federation.specs.Tables.MemberValue.{item, RoomyMember, RoomyMembers}
-use Rattle.hla_federation.specs.Tables.Members.{no_member, roomy, room_in}
+use Rattle.hla_federation.specs.Tables.Members.{no_member, roomy_members, room_in}
 use Rattle.hla_base.proofs.Tables.{upd_same, upd_other}
 use Rattle.hla_federation.proofs.Tables.Wires.{item-map, item-map-set}
 
@@ -21,7 +21,7 @@ pub on_both : {X E P Q R : Type 0} (r : Result X E) → (P → Q → R) → OnOk
 on_both (Ok x) f p q = f p q
 on_both (Err e) f p q = tt
 
-module _ {n : ℕ} (ms : List RoomyMember) (v : RoomyMembers) (is : roomy ms n ≡ v) where
+module _ {n : ℕ} (ms : List RoomyMember) (v : RoomyMembers) (is : roomy_members ms n ≡ v) where
   pub same_length : length v.shown ≡ length ms
   same_length = ap (λ (x : RoomyMembers). length x.shown) (sym is) ∙ length-map ms (λ (m : RoomyMember). m.shown)
 

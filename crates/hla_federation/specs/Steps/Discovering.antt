@@ -20,6 +20,6 @@ abbrev pub discovery_to : ℕ → List ℕ → Receiver → List Message
 discovery_to object name r = message.Discovery (record { object = object; class = r.class; name = name }) ∷ []
 
 -- the object is known to each of the receivers
-abbrev pub known_among : List Receiver → ℕ → (ℕ → ℕ → Bool) → ℕ → ℕ → Bool
-known_among [] object known = known
-known_among (r ∷ rs) object known = known_among rs object (upd2 known object r.federate true)
+abbrev pub with_known_among : List Receiver → ℕ → (ℕ → ℕ → Bool) → ℕ → ℕ → Bool
+with_known_among [] object known = known
+with_known_among (r ∷ rs) object known = with_known_among rs object (upd2 known object r.federate true)

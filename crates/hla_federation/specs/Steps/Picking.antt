@@ -13,11 +13,11 @@ control_given (ToDiscover from d) = callback.DiscoverObjectInstance d.object d.c
 control_given (ToRetract e) = callback.RequestRetraction e
 
 -- the first of the controls, or else the message that has waited longest
-abbrev pub picked_at : List Control → List Event → Option Callback
-picked_at [] [] = None
-picked_at [] (e ∷ es) = Some (event_callback (delivery_of e) e)
-picked_at (k ∷ ks) es = Some (control_given k)
+abbrev pub next_callback : List Control → List Event → Option Callback
+next_callback [] [] = None
+next_callback [] (e ∷ es) = Some (event_callback (delivery_of e) e)
+next_callback (k ∷ ks) es = Some (control_given k)
 
-abbrev pub left_at : MemberValue → List Control → MemberValue
-left_at m [] = record m { received = drop 1 m.received }
-left_at m (k ∷ ks) = record m { controls = ks }
+abbrev pub member_after_pick : MemberValue → List Control → MemberValue
+member_after_pick m [] = record m { received = drop 1 m.received }
+member_after_pick m (k ∷ ks) = record m { controls = ks }

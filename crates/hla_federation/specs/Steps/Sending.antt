@@ -13,13 +13,13 @@ abbrev pub plain_event : ℕ → ℕ → Content → Message
 plain_event from serial x = message.Event (record { sender = from; serial = serial; ordered = false; stamp = 0; content = x })
 
 -- the event that says something, if anything is said
-abbrev pub said : ℕ → ℕ → Option Content → List Message
-said from serial None = []
-said from serial (Some x) = plain_event from serial x ∷ []
+abbrev pub said_messages : ℕ → ℕ → Option Content → List Message
+said_messages from serial None = []
+said_messages from serial (Some x) = plain_event from serial x ∷ []
 
 -- what one message of a service puts on the wire to a federate
 abbrev pub message_to : Directory → ℕ → ℕ → Outgoing → ℕ → List Message
-message_to d f serial out h = cond (is_other d.joined f h) (said f serial (content_for d out.body h)) []
+message_to d f serial out h = cond (is_other d.joined f h) (said_messages f serial (content_for d out.body h)) []
 
 -- and what all of them do
 abbrev pub messages_to : Directory → ℕ → ℕ → List Outgoing → ℕ → List Message

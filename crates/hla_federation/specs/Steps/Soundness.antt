@@ -38,8 +38,8 @@ is_out_of_memory fault.OutOfMemory = true
 is_out_of_memory e = false
 
 -- the steps but for those that were refused for want of memory, which have changed nothing
-abbrev pub remembered : List Step → List (Result Answer Fault) → List Step
-remembered [] rs = []
-remembered (step ∷ steps) [] = []
-remembered (step ∷ steps) (Ok a ∷ rs) = step ∷ remembered steps rs
-remembered (step ∷ steps) (Err e ∷ rs) = cond (is_out_of_memory e) (remembered steps rs) (step ∷ remembered steps rs)
+abbrev pub remembered_steps : List Step → List (Result Answer Fault) → List Step
+remembered_steps [] rs = []
+remembered_steps (step ∷ steps) [] = []
+remembered_steps (step ∷ steps) (Ok a ∷ rs) = step ∷ remembered_steps steps rs
+remembered_steps (step ∷ steps) (Err e ∷ rs) = cond (is_out_of_memory e) (remembered_steps steps rs) (step ∷ remembered_steps steps rs)

@@ -2,7 +2,7 @@
 use Rattle.hla_base.specs.Limits.{forever}
 use Rattle.std.specs.Prelude.{ℕ, ◌+◌, ◌≡◌, ◌<◌, ◌≤◌, cond, eqb, ltb, not, ◌&&◌, Bool, true, false, Option, Some, List, [], ◌∷◌, ◌++◌, length, map, drop}
 use Rattle.hla_base.specs.declared.content.Event.{Event}
-use Rattle.hla_base.specs.Tables.{upd, upd2, clear}
+use Rattle.hla_base.specs.Tables.{upd, upd2, upd_whole_column}
 use Rattle.hla_null_message.specs.declared.message.Message.{Message}
 use Rattle.hla_null_message.specs.declared.message.Message.TheVariants as message
 use Rattle.hla_machine.specs.declared.step.Carried.{Carried}
@@ -83,8 +83,8 @@ members_of members = record {
   wire = λ g f. item [] (item no_member members f).incoming g;
 }
 
-abbrev pub roomy : List RoomyMember → ℕ → RoomyMembers
-roomy members spare = record { shown = map (λ (m : RoomyMember). m.shown) members; rooms = map (λ (m : RoomyMember). m.rooms) members; spare = spare }
+abbrev pub roomy_members : List RoomyMember → ℕ → RoomyMembers
+roomy_members members spare = record { shown = map (λ (m : RoomyMember). m.shown) members; rooms = map (λ (m : RoomyMember). m.rooms) members; spare = spare }
 
 -- how many more messages a wire takes without more memory
 abbrev pub room_in : List (List ℕ) → ℕ → ℕ → ℕ
@@ -96,8 +96,8 @@ is_number end f = not (eqb f 0) && ltb f end
 
 -- ---- messages along the wires from one federate, or to one
 -- the wires after the messages for the peers below a number were put
-abbrev pub posted_below : Direction → (ℕ → List Message) → ℕ → (ℕ → ℕ → List Message) → ℕ → ℕ → List Message
-posted_below along messages end wire = λ g h. cond (is_along along g h && is_number end (peer_along along g h)) (wire g h ++ messages (peer_along along g h)) (wire g h)
+abbrev pub wires_posted_below : Direction → (ℕ → List Message) → ℕ → (ℕ → ℕ → List Message) → ℕ → ℕ → List Message
+wires_posted_below along messages end wire = λ g h. cond (is_along along g h && is_number end (peer_along along g h)) (wire g h ++ messages (peer_along along g h)) (wire g h)
 
 -- there is room for the messages for the peers from a number to another
 abbrev pub HasRoom : Direction → (ℕ → List Message) → ℕ → ℕ → List (List ℕ) → Type 0
@@ -114,7 +114,7 @@ abbrev pub with_member_admitted : MemberTables → List ℕ → MemberTables
 with_member_admitted m name = record m { next_federate = m.next_federate + 1; joined = upd m.joined m.next_federate true; name = upd m.name m.next_federate name }
 
 abbrev pub with_member_withdrawn : MemberTables → ℕ → MemberTables
-with_member_withdrawn m f = record m { joined = upd m.joined f false; ro = upd m.ro f []; controls = upd m.controls f []; wire = clear m.wire f [] }
+with_member_withdrawn m f = record m { joined = upd m.joined f false; ro = upd m.ro f []; controls = upd m.controls f []; wire = upd_whole_column m.wire f [] }
 
 abbrev pub with_message_queued : ℕ → ℕ → MemberTables → List Message → MemberTables
 with_message_queued g f m [] = m

@@ -1,6 +1,6 @@
 use Rattle.std.proofs.Common.{List, ℕ, ◌≡◌, ◌+◌, ◌++◌, ◌∙◌, ap}
 use Rattle.hla_transcript.specs.Listed.{parameter_text, own_parameter_text}
-use Rattle.hla_transcript.proofs.ListLemmas.{one_more, all_of, shown, hidden}
+use Rattle.hla_transcript.proofs.ListLemmas.{one_more, all_of, shown_line, hidden_line}
 use Rattle.hla_transcript.proofs.listing.own_parameters.Goals as goal
 use Rattle.hla_transcript.proofs.listing.own_parameters.Goals.{then-parameter-class+in_ok-parameter_line, else-parameter-class}
 
@@ -12,8 +12,8 @@ loop-place-preserved c =
     let here = own_parameter_text class (c.loop-place.place + 1) parameter in
     let added : c.if-parameter-class.text ≡ c.loop-place.text ++ here =
     elim c.if-parameter-class.branch [
-      | then-parameter-class+in_ok-parameter_line w ↦ w.text-is ∙ w.in_ok-parameter_line.ensures.ok ∙ ap (λ (t : List ℕ). c.loop-place.text ++ t) (shown parameter.class class line w.if-parameter-class.true)
-      | else-parameter-class w ↦ w.text-is ∙ hidden parameter.class class line c.loop-place.text w.if-parameter-class.false
+      | then-parameter-class+in_ok-parameter_line w ↦ w.text-is ∙ w.in_ok-parameter_line.ensures.ok ∙ ap (λ (t : List ℕ). c.loop-place.text ++ t) (shown_line parameter.class class line w.if-parameter-class.true)
+      | else-parameter-class w ↦ w.text-is ∙ hidden_line parameter.class class line c.loop-place.text w.if-parameter-class.false
     ]
     in
     added ∙ ap (λ (bs : List ℕ). bs ++ here) c.loop-place.invariant

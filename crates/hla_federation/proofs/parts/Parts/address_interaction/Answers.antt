@@ -12,7 +12,7 @@ use Rattle.hla_declaration.proofs.ReceiverLemmas.{interaction_receivers}
 use Rattle.hla_null_message.specs.declared.message.Message.{Message}
 use Rattle.hla_federation.specs.Tables.FederationValue.{FederationValue}
 use Rattle.hla_federation.specs.Tables.MemberValue.{item}
-use Rattle.hla_federation.specs.Steps.Sending.{said, plain_event, messages_among}
+use Rattle.hla_federation.specs.Steps.Sending.{said_messages, plain_event, messages_among}
 use Rattle.hla_federation.proofs.Steps.Addressing.{interaction_at, among-more, added_more, interaction_added}
 use Rattle.hla_federation.proofs.parts.Parts.address_interaction.Goals as goal
 
@@ -41,7 +41,7 @@ loop-receiver-preserved c = λ h.
     let i = c.loop-receiver.receiver-index in
     let none : Receiver = record { federate = 0; class = 0 } in
     let k = (get_or items i none).class in
-    let made = λ (r : Receiver). said c.args.sender c.args.serial (interaction_at c.args.self.now.catalogue c.args.values.now r.federate r.class) in
+    let made = λ (r : Receiver). said_messages c.args.sender c.args.serial (interaction_at c.args.self.now.catalogue c.args.values.now r.federate r.class) in
     added_more (messages_among made (take i items)) c.args.outbox.now c.loop-receiver.outbox c.put.new.self (get_or items i none).federate c.plain_event.result c.loop-receiver.invariant c.in_ok-put.ensures.ok h
     ∙ ap (λ (m : Message). item [] c.args.outbox.now h ++ (messages_among made (take i items) h ++ cond (eqb (get_or items i none).federate h) (m ∷ []) []))
     (c.plain_event.ensures ∙ ap (λ (vs : List HandleValuePair). plain_event c.args.sender c.args.serial (content.Interaction k vs)) c.in_ok-values.ensures.ok)
@@ -50,7 +50,7 @@ loop-receiver-preserved c = λ h.
 pub returns-clause-ok : goal.returns-clause-ok
 returns-clause-ok c = λ h.
     let items = c.as_slice-receiver-items.result.now in
-    let made = λ (r : Receiver). said c.args.sender c.args.serial (interaction_at c.args.self.now.catalogue c.args.values.now r.federate r.class) in
+    let made = λ (r : Receiver). said_messages c.args.sender c.args.serial (interaction_at c.args.self.now.catalogue c.args.values.now r.federate r.class) in
     let all = take_all c.loop-receiver.receiver-index items (omega arith) in
     c.loop-receiver.invariant h
     ∙ ap (λ (rs : List Receiver). item [] c.args.outbox.now h ++ messages_among made rs h)

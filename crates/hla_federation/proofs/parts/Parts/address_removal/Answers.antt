@@ -6,7 +6,7 @@ use Rattle.hla_null_message.specs.declared.message.Message.{Message}
 use Rattle.hla_machine.specs.Directory.{ADeletion}
 use Rattle.hla_federation.specs.Tables.FederationValue.{FederationValue}
 use Rattle.hla_federation.specs.Tables.MemberValue.{item}
-use Rattle.hla_federation.specs.Steps.Sending.{said, message_to}
+use Rattle.hla_federation.specs.Steps.Sending.{said_messages, message_to}
 use Rattle.hla_federation.specs.Steps.State.{state_of}
 use Rattle.hla_federation.proofs.Steps.Addressing.{added_more, added_at, added_none, removal_to, removal_first, removal_last}
 use Rattle.hla_federation.proofs.parts.Parts.address_removal.Goals as goal
@@ -22,7 +22,7 @@ loop-peer-preserved c = λ h.
     let added = λ (k : ℕ). message_to (state_of c.args.self.now).directory c.args.sender c.args.serial (record { order = Receive; body = ADeletion c.args.object }) k in
     let peer = c.loop-peer.peer in
     let to = removal_to c.args.self.now Receive c.args.sender c.args.serial c.args.object peer in
-    let removal = said c.args.sender c.args.serial (Some (content.Removal c.args.object)) in
+    let removal = said_messages c.args.sender c.args.serial (Some (content.Removal c.args.object)) in
     elim c.if-receives_removal.branch [
       | then-receives_removal+in_ok-put w ↦
           let here = to ∙ ap (λ (b : Bool). cond b removal []) (sym c.receives_removal.ensures ∙ w.if-receives_removal.true) in

@@ -14,7 +14,7 @@ use Rattle.hla_null_message.specs.declared.message.Message.{Message}
 use Rattle.hla_machine.specs.Directory.{reflection_of}
 use Rattle.hla_federation.specs.Tables.FederationValue.{FederationValue}
 use Rattle.hla_federation.specs.Tables.MemberValue.{item}
-use Rattle.hla_federation.specs.Steps.Sending.{said, messages_among}
+use Rattle.hla_federation.specs.Steps.Sending.{said_messages, messages_among}
 use Rattle.hla_federation.specs.Steps.State.{state_of}
 use Rattle.hla_federation.proofs.Steps.Addressing.{reflection_at, reflection_some, reflection_none, among-more, among-none, added_more, update_added}
 use Rattle.hla_federation.proofs.parts.Parts.address_update.Goals as goal
@@ -44,8 +44,8 @@ loop-receiver-preserved c = λ h.
     let items = c.as_slice-receiver-items.result.now in
     let i = c.loop-receiver.receiver-index in
     let none : Receiver = record { federate = 0; class = 0 } in
-    let made = λ (r : Receiver). said c.args.sender c.args.serial (reflection_at (state_of c.args.self.now).directory c.args.object c.args.values.now r.federate r.class) in
-    let says = λ (o : Option Content). said c.args.sender c.args.serial o in
+    let made = λ (r : Receiver). said_messages c.args.sender c.args.serial (reflection_at (state_of c.args.self.now).directory c.args.object c.args.values.now r.federate r.class) in
+    let says = λ (o : Option Content). said_messages c.args.sender c.args.serial o in
     elim c.if-not-is_empty.branch [
       | then-not-is_empty+in_ok-put w ↦
           let some : length c.in_ok-values.values ≢ 0 = λ e. let no = (w.if-not-is_empty.ensures).1 e in absurd (cc no) in
@@ -68,7 +68,7 @@ pub returns-clause-ok : goal.returns-clause-ok
 returns-clause-ok c = λ h.
     let items = c.as_slice-receiver-items.result.now in
     let class = c.class_of-class.result in
-    let made = λ (r : Receiver). said c.args.sender c.args.serial (reflection_at (state_of c.args.self.now).directory c.args.object c.args.values.now r.federate r.class) in
+    let made = λ (r : Receiver). said_messages c.args.sender c.args.serial (reflection_at (state_of c.args.self.now).directory c.args.object c.args.values.now r.federate r.class) in
     let all = take_all c.loop-receiver.receiver-index items (omega arith) in
     c.loop-receiver.invariant h
     ∙ ap (λ (rs : List Receiver). item [] c.args.outbox.now h ++ messages_among made rs h)

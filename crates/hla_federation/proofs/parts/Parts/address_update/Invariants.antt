@@ -1,5 +1,5 @@
 use Rattle.std.proofs.Common.{take}
-use Rattle.hla_federation.specs.Steps.Sending.{HasAdded, said, messages_among}
+use Rattle.hla_federation.specs.Steps.Sending.{HasAdded, said_messages, messages_among}
 use Rattle.hla_federation.specs.Steps.State.{state_of}
 use Rattle.hla_federation.proofs.Steps.Addressing.{reflection_at}
 use Rattle.hla_federation.proofs.parts.Parts.address_update.Given as goal
@@ -7,4 +7,4 @@ use Rattle.hla_federation.proofs.parts.Parts.address_update.Given as goal
 -- the update was added for the receivers so far
 abbrev pub invariant-loop-receiver : goal.invariant-loop-receiver
 invariant-loop-receiver l =
-    HasAdded (messages_among (λ r. said l.sender l.serial (reflection_at (state_of l.self).directory l.object l.values r.federate r.class)) (take l.receiver-index l.receiver-items)) l.initial.outbox l.outbox
+    HasAdded (messages_among (λ r. said_messages l.sender l.serial (reflection_at (state_of l.self).directory l.object l.values r.federate r.class)) (take l.receiver-index l.receiver-items)) l.initial.outbox l.outbox

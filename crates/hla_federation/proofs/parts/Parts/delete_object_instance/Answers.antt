@@ -12,7 +12,7 @@ use Rattle.hla_federation.specs.declared.direction.Direction.TheVariants.{From}
 use Rattle.hla_components.specs.Components.{Components}
 use Rattle.hla_federation.specs.Tables.FederationValue.{FederationValue}
 use Rattle.hla_federation.specs.Tables.MemberValue.{item}
-use Rattle.hla_federation.specs.Tables.Members.{members_of, posted_below}
+use Rattle.hla_federation.specs.Tables.Members.{members_of, wires_posted_below}
 use Rattle.hla_components.specs.Next.{done_outcome, components_seen}
 use Rattle.hla_federation.specs.Steps.State.{IsWhole, state_of}
 use Rattle.hla_federation.proofs.Steps.Sent.{none_applies, one_added, sent_whole, deletes_state}
@@ -36,7 +36,7 @@ returns-clause-whole c =
     let outs = deletion_sent (state_of now).directory c.args.object in
     let o = item [] c.address_removal.new.outbox in
     let is = c.in_ok-send_all.ensures.ok
-    ∙ ap (λ (v : FederationValue). record (members_of v.members) { serial = upd (members_of v.members).serial f ((members_of v.members).serial f + 1); wire = posted_below (From f) o (members_of v.members).next_federate (members_of v.members).wire }) c.self.view_is in
+    ∙ ap (λ (v : FederationValue). record (members_of v.members) { serial = upd (members_of v.members).serial f ((members_of v.members).serial f + 1); wire = wires_posted_below (From f) o (members_of v.members).next_federate (members_of v.members).wire }) c.self.view_is in
     let gone = c.delete.ensures
     ∙ ap (λ (v : FederationValue). record (registry_of v.objects) { object = upd (registry_of v.objects).object c.args.object (record ((registry_of v.objects).object c.args.object) { exists = false }) }) c.self.view_is in
     let added = one_added (state_of now).directory f c.next_serial-serial.result ((members_of now.members).serial f) (record { order = Receive; body = ADeletion c.args.object }) c.in_ok-outbox.outbox c.address_removal.new.outbox c.in_ok-outbox.ensures.ok
@@ -51,7 +51,7 @@ returns-clause-done c =
     let outs = deletion_sent (state_of now).directory c.args.object in
     let o = item [] c.address_removal.new.outbox in
     let is = c.in_ok-send_all.ensures.ok
-    ∙ ap (λ (v : FederationValue). record (members_of v.members) { serial = upd (members_of v.members).serial f ((members_of v.members).serial f + 1); wire = posted_below (From f) o (members_of v.members).next_federate (members_of v.members).wire }) c.self.view_is in
+    ∙ ap (λ (v : FederationValue). record (members_of v.members) { serial = upd (members_of v.members).serial f ((members_of v.members).serial f + 1); wire = wires_posted_below (From f) o (members_of v.members).next_federate (members_of v.members).wire }) c.self.view_is in
     let gone = c.delete.ensures
     ∙ ap (λ (v : FederationValue). record (registry_of v.objects) { object = upd (registry_of v.objects).object c.args.object (record ((registry_of v.objects).object c.args.object) { exists = false }) }) c.self.view_is in
     let added = one_added (state_of now).directory f c.next_serial-serial.result ((members_of now.members).serial f) (record { order = Receive; body = ADeletion c.args.object }) c.in_ok-outbox.outbox c.address_removal.new.outbox c.in_ok-outbox.ensures.ok

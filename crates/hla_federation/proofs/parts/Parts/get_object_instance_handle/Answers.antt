@@ -15,7 +15,7 @@ use Rattle.hla_federation.proofs.parts.Parts.get_object_instance_handle.Goals as
 pub returns-in-Some : goal.returns-in-Some
 returns-in-Some c =
     let joined = rw (← c.self.view_is) at c.requires.joined in
-    let found = sym c.named.ensures ∙ c.in-Some.is in
+    let found = sym c.object_named.ensures ∙ c.in-Some.is in
     let any = any_found _ (numbers_below (registry_of c.self.inside.registry).next_object) c.in-Some.number found in
     rw (← c.self.view_is) (does_next (state_from c.self.inside.catalogue (declared.declarations_of c.self.inside.declarations) (registry_of c.self.inside.registry) (members_of c.self.inside.members.shown)) (Call c.args.federate (service.GetObjectInstanceHandle c.args.name.now)) (rw (joined, any) refl)
     ∙ ap (λ (n : Option ℕ). handle_outcome n (state_from c.self.inside.catalogue (declared.declarations_of c.self.inside.declarations) (registry_of c.self.inside.registry) (members_of c.self.inside.members.shown))) found)
@@ -23,5 +23,5 @@ returns-in-Some c =
 pub returns-in-None : goal.returns-in-None
 returns-in-None c =
     let joined = rw (← c.self.view_is) at c.requires.joined in
-    let none = none_found _ (numbers_below (registry_of c.self.inside.registry).next_object) (sym c.named.ensures ∙ c.in-None.is) in
+    let none = none_found _ (numbers_below (registry_of c.self.inside.registry).next_object) (sym c.object_named.ensures ∙ c.in-None.is) in
     rw (← c.self.view_is) (inl (rw (joined, none) refl), refl)

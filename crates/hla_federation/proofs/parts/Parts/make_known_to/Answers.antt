@@ -4,7 +4,7 @@ use Rattle.hla_object_registry.specs.Registered.{RegistryValue, registry_of}
 use Rattle.hla_federation.specs.Tables.FederationValue.{FederationValue}
 use Rattle.hla_federation.specs.contracts.parts.Parts.{the_view}
 use Rattle.hla_federation.specs.declared.parts.Parts.TheInside.{Inside}
-use Rattle.hla_federation.specs.Steps.Discovering.{known_among}
+use Rattle.hla_federation.specs.Steps.Discovering.{with_known_among}
 use Rattle.hla_federation.proofs.parts.Parts.make_known_to.Goals as goal
 
 pub loop-receiver-init : goal.loop-receiver-init
@@ -25,8 +25,8 @@ loop-receiver-preserved c =
       same = ap (λ (x : Inside). record x { registry = c.make_known.new.self }) c.loop-receiver.invariant.same;
       objects = c.make_known.ensures ∙ ap (λ (k : ℕ → ℕ → Bool). record r0 { known = k }) (sym (ap (λ (r : RegistryValue). r.known) c.make_known.ensures))
           ∙ ap (λ (r : RegistryValue). record r { known = (registry_of c.make_known.new.self).known }) c.loop-receiver.invariant.objects;
-      known = ap (λ (r : RegistryValue). known_among (drop (i + 1) rs) c.args.object r.known) c.make_known.ensures
-          ∙ sym (at_drop_more (λ xs. known_among xs c.args.object r0.known) rs i _ c.loop-receiver-test.true)
+      known = ap (λ (r : RegistryValue). with_known_among (drop (i + 1) rs) c.args.object r.known) c.make_known.ensures
+          ∙ sym (at_drop_more (λ xs. with_known_among xs c.args.object r0.known) rs i _ c.loop-receiver-test.true)
           ∙ c.loop-receiver.invariant.known;
     }
 
@@ -36,7 +36,7 @@ returns-clause-same c =
 
 pub returns-clause-known : goal.returns-clause-known
 returns-clause-known c =
-    let all = sym (at_drop_all (λ xs. known_among xs c.args.object (registry_of c.loop-receiver.self-inside.registry).known) c.args.receivers.now c.loop-receiver.receiver-index c.loop-receiver-test.false) in
+    let all = sym (at_drop_all (λ xs. with_known_among xs c.args.object (registry_of c.loop-receiver.self-inside.registry).known) c.args.receivers.now c.loop-receiver.receiver-index c.loop-receiver-test.false) in
     c.loop-receiver.invariant.objects
     ∙ ap (λ (k : ℕ → ℕ → Bool). record (registry_of c.self.inside.registry) { known = k }) (all ∙ c.loop-receiver.invariant.known)
-    ∙ ap (λ (v : FederationValue). record (registry_of v.objects) { known = known_among c.args.receivers.now c.args.object (registry_of v.objects).known }) c.self.view_is
+    ∙ ap (λ (v : FederationValue). record (registry_of v.objects) { known = with_known_among c.args.receivers.now c.args.object (registry_of v.objects).known }) c.self.view_is

@@ -9,10 +9,10 @@ use Rattle.hla_machine.specs.Refusals.{refusal, is_name_used}
 use Rattle.hla_object_registry.specs.Registered.{Registered, RegistryValue, registry_of}
 use Rattle.hla_federation.specs.contracts.parts.Parts.{the_view}
 use Rattle.hla_federation.specs.declared.direction.Direction.TheVariants.{From}
-use Rattle.hla_federation.specs.Steps.Discovering.{AreFederates, discovery_to, known_among}
+use Rattle.hla_federation.specs.Steps.Discovering.{AreFederates, discovery_to, with_known_among}
 use Rattle.hla_federation.specs.Tables.FederationValue.{FederationValue}
 use Rattle.hla_federation.specs.Tables.MemberValue.{item, MemberValue}
-use Rattle.hla_federation.specs.Tables.Members.{HasRoom, members_of, posted_below}
+use Rattle.hla_federation.specs.Tables.Members.{HasRoom, members_of, wires_posted_below}
 use Rattle.hla_machine.specs.declared.step.Answer.TheVariants as answer
 use Rattle.hla_components.specs.Components.{Components}
 use Rattle.hla_components.specs.Next.{components_seen, answer_outcome, with_object_registered}
@@ -81,7 +81,7 @@ returns-clause-whole c =
     let f = c.args.federate in
     let shown : c.reserve_all.new.self.shown ≡ c.args.self.now.members = c.in_ok-reserve_all.ensures.same ∙ ap (λ (v : FederationValue). v.members) c.self.view_is in
     let members_is = c.post_all.ensures
-    ∙ ap (λ (l : List MemberValue). record (members_of l) { wire = posted_below (From c.args.federate) (item [] c.address_discoveries.new.outbox) (members_of l).next_federate (members_of l).wire }) shown in
+    ∙ ap (λ (l : List MemberValue). record (members_of l) { wire = wires_posted_below (From c.args.federate) (item [] c.address_discoveries.new.outbox) (members_of l).next_federate (members_of l).wire }) shown in
     let objects_in : c.self-2.inside.registry ≡ c.make_known_to.new.self.objects = ap (λ (v : FederationValue). v.objects) c.self-2.view_is in
     let after : the_view c.self-2.inside ≡ record c.args.self.now { objects = c.self-2.inside.registry; members = c.post_all.new.self.shown } =
     c.self-2.view_is ∙ c.make_known_to.ensures.same ∙ (λ i. record (c.self.view_is i) { objects = sym objects_in i; members = c.post_all.new.self.shown }) in
@@ -112,7 +112,7 @@ returns-clause-done c =
     let out : (g : ℕ) → o g ≡ messages_among (discovery_to r.next_object c.match-name.given) (receivers_of (λ k. object_class_served c.self.inside.catalogue d.subscribed k c.args.class) d.federates f) g
     = λ g. to g ∙ ap (λ (ms : List Message). ms ++ messages_among (discovery_to r.next_object c.match-name.given) (receivers_of (λ k. object_class_served c.self.inside.catalogue d.subscribed k c.args.class) d.federates f) g) (c.in_ok-outbox.ensures.ok g) in
     let members_is = c.post_all.ensures
-    ∙ ap (λ (l : List MemberValue). record (members_of l) { wire = posted_below (From c.args.federate) (item [] c.address_discoveries.new.outbox) (members_of l).next_federate (members_of l).wire }) c.in_ok-reserve_all.ensures.same in
+    ∙ ap (λ (l : List MemberValue). record (members_of l) { wire = wires_posted_below (From c.args.federate) (item [] c.address_discoveries.new.outbox) (members_of l).next_federate (members_of l).wire }) c.in_ok-reserve_all.ensures.same in
     let objects_in : c.self-2.inside.registry ≡ c.make_known_to.new.self.objects = ap (λ (v : FederationValue). v.objects) c.self-2.view_is in
     let known = rw (c.as_slice-3.ensures, c.in_ok-receivers.ensures.ok, c.next_object-object.ensures.next) at c.make_known_to.ensures.known in
     let attributes = option_map_or (λ xs. xs) (d.published f c.args.class) [] in
@@ -120,9 +120,9 @@ returns-clause-done c =
     = c.in_ok-register.ensures.registered ∙ ap (λ (a : List ℕ). registry.with_registered r c.args.class c.match-name.given f a) (c.in_ok-attributes.ensures.ok
     ∙ ap (λ (v : FederationValue). option_map_or (λ xs. xs) ((declared.declarations_of v.declarations).published f c.args.class) []) (sym c.self.view_is)) in
     let to_all = receivers_of (λ k. object_class_served c.self.inside.catalogue d.subscribed k c.args.class) d.federates f in
-    let made : registry_of c.make_known_to.new.self.objects ≡ record (registry_of c.register.new.self) { known = known_among to_all r.next_object (registry_of c.register.new.self).known } = known in
-    let objects_is : registry_of c.self-2.inside.registry ≡ record (registry.with_registered r c.args.class c.match-name.given f attributes) { known = known_among to_all r.next_object (upd2 r.known r.next_object f true) }
-    = ap registry_of objects_in ∙ made ∙ ap (λ (x : RegistryValue). record x { known = known_among to_all r.next_object x.known }) registered in
+    let made : registry_of c.make_known_to.new.self.objects ≡ record (registry_of c.register.new.self) { known = with_known_among to_all r.next_object (registry_of c.register.new.self).known } = known in
+    let objects_is : registry_of c.self-2.inside.registry ≡ record (registry.with_registered r c.args.class c.match-name.given f attributes) { known = with_known_among to_all r.next_object (upd2 r.known r.next_object f true) }
+    = ap registry_of objects_in ∙ made ∙ ap (λ (x : RegistryValue). record x { known = with_known_among to_all r.next_object x.known }) registered in
     let new = registered_state c.self.inside.catalogue d r m f c.args.class c.match-name.given o sound.kept.kept.directory sound.whole.parts.federates (λ g k away. (sound.whole.parts.silent g k away).objects)
     (λ g. nothing_known_above c.self.inside.registry r.next_object g (omega arith)) out (joined_below c.self.inside.members.shown) in
     let after : the_view c.self-2.inside ≡ record (the_view c.self.inside) { objects = c.self-2.inside.registry; members = c.post_all.new.self.shown }

@@ -10,7 +10,7 @@ use Rattle.hla_machine.specs.declared.step.Step.TheVariants.{Call}
 use Rattle.hla_federation.specs.declared.direction.Direction.TheVariants.{From}
 use Rattle.hla_federation.specs.Tables.FederationValue.{FederationValue}
 use Rattle.hla_federation.specs.Tables.MemberValue.{item}
-use Rattle.hla_federation.specs.Tables.Members.{members_of, posted_below}
+use Rattle.hla_federation.specs.Tables.Members.{members_of, wires_posted_below}
 use Rattle.hla_components.specs.Next.{answer_outcome, components_seen}
 use Rattle.hla_federation.specs.Steps.Sending.{message_to}
 use Rattle.hla_federation.specs.Steps.State.{IsWhole, state_of}
@@ -24,7 +24,7 @@ returns-clause-whole c =
     let outs = interaction_sent (state_of now).directory c.args.class c.args.values.now in
     let o = item [] c.address_interaction.new.outbox in
     let is = c.in_ok-send_all.ensures.ok
-    ∙ ap (λ (v : FederationValue). record (members_of v.members) { serial = upd (members_of v.members).serial f ((members_of v.members).serial f + 1); wire = posted_below (From f) o (members_of v.members).next_federate (members_of v.members).wire }) c.self.view_is in
+    ∙ ap (λ (v : FederationValue). record (members_of v.members) { serial = upd (members_of v.members).serial f ((members_of v.members).serial f + 1); wire = wires_posted_below (From f) o (members_of v.members).next_federate (members_of v.members).wire }) c.self.view_is in
     let added = one_added (state_of now).directory f c.next_serial-serial.result ((members_of now.members).serial f) (record { order = Receive; body = AnInteraction c.args.class (by_handle c.args.values.now) }) c.in_ok-outbox.outbox c.address_interaction.new.outbox c.in_ok-outbox.ensures.ok
     (λ h. c.in_ok-address_interaction.ensures.ok h ∙ ap (λ (vs : List HandleValuePair). item [] c.in_ok-outbox.outbox h ++ message_to (state_of now).directory f c.next_serial-serial.result (record { order = Receive; body = AnInteraction c.args.class vs }) h) (c.as_slice.ensures ∙ c.in_ok-values.ensures.ok))
     (c.next_serial-serial.ensures ∙ ap (λ (v : FederationValue). (members_of v.members).serial f) c.self.view_is) in
@@ -39,7 +39,7 @@ returns-clause-done c =
     let o = item [] c.address_interaction.new.outbox in
     let none : refusal (components_seen (state_of now)) (Call f (service.SendInteraction c.args.class c.args.values.now None)) ≡ None = sym c.send_fault.ensures ∙ c.in_default.is in
     let is = c.in_ok-send_all.ensures.ok
-    ∙ ap (λ (v : FederationValue). record (members_of v.members) { serial = upd (members_of v.members).serial f ((members_of v.members).serial f + 1); wire = posted_below (From f) o (members_of v.members).next_federate (members_of v.members).wire }) c.self.view_is in
+    ∙ ap (λ (v : FederationValue). record (members_of v.members) { serial = upd (members_of v.members).serial f ((members_of v.members).serial f + 1); wire = wires_posted_below (From f) o (members_of v.members).next_federate (members_of v.members).wire }) c.self.view_is in
     let added = one_added (state_of now).directory f c.next_serial-serial.result ((members_of now.members).serial f) (record { order = Receive; body = AnInteraction c.args.class (by_handle c.args.values.now) }) c.in_ok-outbox.outbox c.address_interaction.new.outbox c.in_ok-outbox.ensures.ok
     (λ h. c.in_ok-address_interaction.ensures.ok h ∙ ap (λ (vs : List HandleValuePair). item [] c.in_ok-outbox.outbox h ++ message_to (state_of now).directory f c.next_serial-serial.result (record { order = Receive; body = AnInteraction c.args.class vs }) h) (c.as_slice.ensures ∙ c.in_ok-values.ensures.ok))
     (c.next_serial-serial.ensures ∙ ap (λ (v : FederationValue). (members_of v.members).serial f) c.self.view_is) in

@@ -6,14 +6,14 @@ use Rattle.hla_declaration.specs.Declarations as declared
 use Rattle.hla_machine.specs.declared.service.Service.TheVariants as service
 use Rattle.hla_machine.specs.declared.step.Step.TheVariants as step
 use Rattle.hla_machine.specs.declared.step.Answer.TheVariants as answer
-use Rattle.hla_machine.specs.Directory.{discovered_by, discoveries_of, with_subscribed}
+use Rattle.hla_machine.specs.Directory.{with_discoveries_made, discoveries_of, with_subscribed}
 use Rattle.hla_machine.specs.Refusals.{refusal}
 use Rattle.hla_object_registry.specs.Registered.{registry_of}
 use Rattle.hla_federation.specs.contracts.parts.Parts.{the_view}
 use Rattle.hla_federation.specs.declared.direction.Direction.TheVariants.{To}
 use Rattle.hla_federation.specs.Tables.FederationValue.{FederationValue}
 use Rattle.hla_federation.specs.Tables.MemberValue.{item, MemberValue}
-use Rattle.hla_federation.specs.Tables.Members.{MemberTables, members_of, posted_below}
+use Rattle.hla_federation.specs.Tables.Members.{MemberTables, members_of, wires_posted_below}
 use Rattle.hla_components.specs.Next.{components_seen, answer_outcome}
 use Rattle.hla_federation.specs.Steps.State.{state_of, directory_from, IsWhole}
 use Rattle.hla_federation.proofs.Steps.Subscribing.{declarations_after, objects_after, members_after, subscribed_state, subscribed_whole}
@@ -30,14 +30,14 @@ returns-clause-whole c =
     let v1 : record (the_view c.self.inside) { members = c.post_all.new.self.shown } ≡ record c.args.self.now { members = c.post_all.new.self.shown } = ap (λ (v : FederationValue). record v { members = c.post_all.new.self.shown }) c.self.view_is in
     let shown : c.reserve_all.new.self.shown ≡ c.args.self.now.members = c.in_ok-reserve_all.ensures.same ∙ ap (λ (v : FederationValue). v.members) c.self.view_is in
     let members_is : members_of c.post_all.new.self.shown ≡ members_after c.args.self.now c.args.federate (item [] c.address_found.new.outbox) =
-    c.post_all.ensures ∙ ap (λ (l : List MemberValue). record (members_of l) { wire = posted_below (To c.args.federate) (item [] c.address_found.new.outbox) (members_of l).next_federate (members_of l).wire }) shown in
+    c.post_all.ensures ∙ ap (λ (l : List MemberValue). record (members_of l) { wire = wires_posted_below (To c.args.federate) (item [] c.address_found.new.outbox) (members_of l).next_federate (members_of l).wire }) shown in
     let objects_in : c.self-2.inside.registry ≡ c.make_found_known.new.self.objects = ap (λ (v : FederationValue). v.objects) c.self-2.view_is in
     let after : the_view c.self-2.inside ≡ record c.args.self.now { objects = c.self-2.inside.registry; members = c.post_all.new.self.shown } =
     c.self-2.view_is ∙ c.make_found_known.ensures.same ∙ (λ i. record (v1 i) { objects = sym objects_in i }) in
     let objects_is : registry_of c.self-2.inside.registry ≡ objects_after c.args.self.now c.args.federate c.args.class c.args.attributes.now =
     ap registry_of objects_in ∙ c.make_found_known.ensures.known a
-    ∙ ap (λ (v : FederationValue). record (registry_of v.objects) { known = (discovered_by (with_subscribed (state_of v).directory f c.args.class (Some a)) f).known }) v1
-    ∙ ap (λ (t : MemberTables). record (registry_of old.objects) { known = (discovered_by (with_subscribed (directory_from old.catalogue (declared.declarations_of old.declarations) (registry_of old.objects) t) f c.args.class (Some a)) f).known }) members_is in
+    ∙ ap (λ (v : FederationValue). record (registry_of v.objects) { known = (with_discoveries_made (with_subscribed (state_of v).directory f c.args.class (Some a)) f).known }) v1
+    ∙ ap (λ (t : MemberTables). record (registry_of old.objects) { known = (with_discoveries_made (with_subscribed (directory_from old.catalogue (declared.declarations_of old.declarations) (registry_of old.objects) t) f c.args.class (Some a)) f).known }) members_is in
     let declarations_is : declared.declarations_of c.subscribe_object_class_attributes.new.self ≡ declarations_after c.args.self.now c.args.federate c.args.class c.args.attributes.now =
     c.subscribe_object_class_attributes.ensures
     ∙ (λ i. record (declared.declarations_of ((after i).declarations)) { subscribed = upd2 (declared.declarations_of ((after i).declarations)).subscribed f c.args.class (Some (c.in_ok-attributes.ensures.ok i)) }) in
@@ -56,14 +56,14 @@ returns-clause-done c =
     let v1 : record (the_view c.self.inside) { members = c.post_all.new.self.shown } ≡ record c.args.self.now { members = c.post_all.new.self.shown } = ap (λ (v : FederationValue). record v { members = c.post_all.new.self.shown }) c.self.view_is in
     let shown : c.reserve_all.new.self.shown ≡ c.args.self.now.members = c.in_ok-reserve_all.ensures.same ∙ ap (λ (v : FederationValue). v.members) c.self.view_is in
     let members_is : members_of c.post_all.new.self.shown ≡ members_after c.args.self.now c.args.federate (item [] c.address_found.new.outbox) =
-    c.post_all.ensures ∙ ap (λ (l : List MemberValue). record (members_of l) { wire = posted_below (To c.args.federate) (item [] c.address_found.new.outbox) (members_of l).next_federate (members_of l).wire }) shown in
+    c.post_all.ensures ∙ ap (λ (l : List MemberValue). record (members_of l) { wire = wires_posted_below (To c.args.federate) (item [] c.address_found.new.outbox) (members_of l).next_federate (members_of l).wire }) shown in
     let objects_in : c.self-2.inside.registry ≡ c.make_found_known.new.self.objects = ap (λ (v : FederationValue). v.objects) c.self-2.view_is in
     let after : the_view c.self-2.inside ≡ record c.args.self.now { objects = c.self-2.inside.registry; members = c.post_all.new.self.shown } =
     c.self-2.view_is ∙ c.make_found_known.ensures.same ∙ (λ i. record (v1 i) { objects = sym objects_in i }) in
     let objects_is : registry_of c.self-2.inside.registry ≡ objects_after c.args.self.now c.args.federate c.args.class c.args.attributes.now =
     ap registry_of objects_in ∙ c.make_found_known.ensures.known a
-    ∙ ap (λ (v : FederationValue). record (registry_of v.objects) { known = (discovered_by (with_subscribed (state_of v).directory f c.args.class (Some a)) f).known }) v1
-    ∙ ap (λ (t : MemberTables). record (registry_of old.objects) { known = (discovered_by (with_subscribed (directory_from old.catalogue (declared.declarations_of old.declarations) (registry_of old.objects) t) f c.args.class (Some a)) f).known }) members_is in
+    ∙ ap (λ (v : FederationValue). record (registry_of v.objects) { known = (with_discoveries_made (with_subscribed (state_of v).directory f c.args.class (Some a)) f).known }) v1
+    ∙ ap (λ (t : MemberTables). record (registry_of old.objects) { known = (with_discoveries_made (with_subscribed (directory_from old.catalogue (declared.declarations_of old.declarations) (registry_of old.objects) t) f c.args.class (Some a)) f).known }) members_is in
     let declarations_is : declared.declarations_of c.subscribe_object_class_attributes.new.self ≡ declarations_after c.args.self.now c.args.federate c.args.class c.args.attributes.now =
     c.subscribe_object_class_attributes.ensures
     ∙ (λ i. record (declared.declarations_of ((after i).declarations)) { subscribed = upd2 (declared.declarations_of ((after i).declarations)).subscribed f c.args.class (Some (c.in_ok-attributes.ensures.ok i)) }) in

@@ -9,9 +9,9 @@ use Rattle.hla_components.specs.Next.{next, answer_outcome}
 use Rattle.hla_federation.specs.Steps.State.{state_of, state_from}
 use Rattle.hla_components.specs.Component.{local_bound}
 use Rattle.hla_federation.specs.Tables.FederationValue.{FederationValue}
-use Rattle.hla_federation.specs.Steps.Picking.{picked_at}
+use Rattle.hla_federation.specs.Steps.Picking.{next_callback}
 use Rattle.hla_federation.proofs.Steps.Doing.{does_next}
-use Rattle.hla_federation.proofs.Steps.Declaring.{picked, left_same}
+use Rattle.hla_federation.proofs.Steps.Declaring.{picked_outcome, left_same}
 use Rattle.hla_federation.proofs.Tables.Wholes.{whole_same}
 use Rattle.hla_federation.proofs.parts.Parts.tick.Goals as goal
 
@@ -34,8 +34,8 @@ returns-clause-done c =
     let ks = old.controls c.args.federate in
     let es = old.ro c.args.federate in
     let next_is = does_next (state_from c.self.inside.catalogue (declared.declarations_of c.self.inside.declarations) (registry_of c.self.inside.registry) (members_of c.self.inside.members.shown)) (Tick c.args.federate) (sym fault_is ∙ c.in_default.is)
-    ∙ picked c.self.inside.catalogue (declared.declarations_of c.self.inside.declarations) (registry_of c.self.inside.registry) (members_of c.self.inside.members.shown) c.args.federate ks es (local_bound (state_from c.self.inside.catalogue (declared.declarations_of c.self.inside.declarations) (registry_of c.self.inside.registry) (members_of c.self.inside.members.shown)) c.args.federate) refl refl
-    ∙ ap (λ (t : MemberTables). answer_outcome (answer.Ticked (picked_at ks es)) (state_from c.self.inside.catalogue (declared.declarations_of c.self.inside.declarations) (registry_of c.self.inside.registry) t)) (sym c.pick_up.ensures.state)
+    ∙ picked_outcome c.self.inside.catalogue (declared.declarations_of c.self.inside.declarations) (registry_of c.self.inside.registry) (members_of c.self.inside.members.shown) c.args.federate ks es (local_bound (state_from c.self.inside.catalogue (declared.declarations_of c.self.inside.declarations) (registry_of c.self.inside.registry) (members_of c.self.inside.members.shown)) c.args.federate) refl refl
+    ∙ ap (λ (t : MemberTables). answer_outcome (answer.Ticked (next_callback ks es)) (state_from c.self.inside.catalogue (declared.declarations_of c.self.inside.declarations) (registry_of c.self.inside.registry) t)) (sym c.pick_up.ensures.state)
     ∙ ap (λ (k : Option Callback). answer_outcome (answer.Ticked k) (state_from c.self.inside.catalogue (declared.declarations_of c.self.inside.declarations) (registry_of c.self.inside.registry) (members_of c.pick_up.new.self.shown))) (sym c.pick_up.ensures.callback) in
     subst (λ (v : FederationValue). next (state_of v) (Tick c.args.federate) ≡ answer_outcome (answer.Ticked c.pick_up.result) (state_from c.self.inside.catalogue (declared.declarations_of c.self.inside.declarations) (registry_of c.self.inside.registry) (members_of c.pick_up.new.self.shown)))
     c.self.view_is next_is

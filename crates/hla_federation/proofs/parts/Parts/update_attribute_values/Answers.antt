@@ -12,7 +12,7 @@ use Rattle.hla_machine.specs.declared.step.Step.TheVariants.{Call}
 use Rattle.hla_federation.specs.declared.direction.Direction.TheVariants.{From}
 use Rattle.hla_federation.specs.Tables.FederationValue.{FederationValue}
 use Rattle.hla_federation.specs.Tables.MemberValue.{item}
-use Rattle.hla_federation.specs.Tables.Members.{members_of, posted_below}
+use Rattle.hla_federation.specs.Tables.Members.{members_of, wires_posted_below}
 use Rattle.hla_components.specs.Next.{answer_outcome, components_seen}
 use Rattle.hla_federation.specs.Steps.State.{IsWhole, state_of}
 use Rattle.hla_federation.proofs.Steps.Sent.{none_applies, sent_whole, sends_done}
@@ -50,7 +50,7 @@ returns-clause-whole c =
     let many = parts_counted d f c.next_serial-serial.result ((members_of now.members).serial f) c.args.object c.args.values.now c.as_slice-3.result.now c.as_slice-4.result.now c.in_ok-first.first c.in_ok-second.second received stamped c.in_ok-first.ensures.count c.in_ok-second.ensures.count in
     let o = item [] c.address_part-2.new.outbox in
     let is = c.in_ok-send_all.ensures.ok
-    ∙ ap (λ (v : FederationValue). record (members_of v.members) { serial = upd (members_of v.members).serial f ((members_of v.members).serial f + (c.in_ok-first.first + c.in_ok-second.second)); wire = posted_below (From f) o (members_of v.members).next_federate (members_of v.members).wire }) c.self.view_is in
+    ∙ ap (λ (v : FederationValue). record (members_of v.members) { serial = upd (members_of v.members).serial f ((members_of v.members).serial f + (c.in_ok-first.first + c.in_ok-second.second)); wire = wires_posted_below (From f) o (members_of v.members).next_federate (members_of v.members).wire }) c.self.view_is in
     let added = parts_added d f c.next_serial-serial.result ((members_of now.members).serial f) c.args.object c.args.values.now c.as_slice-3.result.now c.as_slice-4.result.now c.in_ok-first.first c.in_ok-second.second received stamped c.in_ok-first.ensures.count c.in_ok-second.ensures.count
     c.in_ok-outbox.outbox c.address_part.new.outbox c.address_part-2.new.outbox c.in_ok-outbox.ensures.ok c.in_ok-first.ensures.ok c.in_ok-second.ensures.ok
     (c.next_serial-serial.ensures ∙ ap (λ (v : FederationValue). (members_of v.members).serial f) c.self.view_is) in
@@ -70,7 +70,7 @@ returns-clause-done c =
     let many = parts_counted d f c.next_serial-serial.result ((members_of now.members).serial f) c.args.object c.args.values.now c.as_slice-3.result.now c.as_slice-4.result.now c.in_ok-first.first c.in_ok-second.second received stamped c.in_ok-first.ensures.count c.in_ok-second.ensures.count in
     let o = item [] c.address_part-2.new.outbox in
     let is = c.in_ok-send_all.ensures.ok
-    ∙ ap (λ (v : FederationValue). record (members_of v.members) { serial = upd (members_of v.members).serial f ((members_of v.members).serial f + (c.in_ok-first.first + c.in_ok-second.second)); wire = posted_below (From f) o (members_of v.members).next_federate (members_of v.members).wire }) c.self.view_is in
+    ∙ ap (λ (v : FederationValue). record (members_of v.members) { serial = upd (members_of v.members).serial f ((members_of v.members).serial f + (c.in_ok-first.first + c.in_ok-second.second)); wire = wires_posted_below (From f) o (members_of v.members).next_federate (members_of v.members).wire }) c.self.view_is in
     let added = parts_added d f c.next_serial-serial.result ((members_of now.members).serial f) c.args.object c.args.values.now c.as_slice-3.result.now c.as_slice-4.result.now c.in_ok-first.first c.in_ok-second.second received stamped c.in_ok-first.ensures.count c.in_ok-second.ensures.count
     c.in_ok-outbox.outbox c.address_part.new.outbox c.address_part-2.new.outbox c.in_ok-outbox.ensures.ok c.in_ok-first.ensures.ok c.in_ok-second.ensures.ok
     (c.next_serial-serial.ensures ∙ ap (λ (v : FederationValue). (members_of v.members).serial f) c.self.view_is) in

@@ -2,15 +2,15 @@
 use Rattle.std.proofs.Common.{◌≡◌, ap, ◌∙◌}
 use Rattle.hla_base.specs.Tables.{upd}
 use Rattle.hla_lbts.specs.Peers.{peers_of, null_bound}
-use Rattle.hla_lbts.proofs.PeerLemmas.{tables, upd-same, raised, ignored}
+use Rattle.hla_lbts.proofs.PeerLemmas.{tables, upd-same, raised_bound, ignored_bound}
 use Rattle.hla_lbts.proofs.peers.Peers.accept.Goals as goal
 use Rattle.hla_lbts.proofs.peers.Peers.accept.Goals.{then-epoch-row, else-epoch-row}
 
 bound_of : (c : goal.After-put) → c.if-epoch-row.bound ≡ null_bound c.row-row.result.epoch c.row-row.result.bound c.args.epoch c.args.value
 bound_of c =
     elim c.if-epoch-row.branch [
-      | then-epoch-row w ↦ w.bound-is ∙ w.max-bound.ensures ∙ raised c.row-row.result.epoch c.row-row.result.bound c.args.epoch c.args.value w.if-epoch-row.true
-      | else-epoch-row w ↦ w.bound-is ∙ ignored c.row-row.result.epoch c.row-row.result.bound c.args.epoch c.args.value w.if-epoch-row.false
+      | then-epoch-row w ↦ w.bound-is ∙ w.max-bound.ensures ∙ raised_bound c.row-row.result.epoch c.row-row.result.bound c.args.epoch c.args.value w.if-epoch-row.true
+      | else-epoch-row w ↦ w.bound-is ∙ ignored_bound c.row-row.result.epoch c.row-row.result.bound c.args.epoch c.args.value w.if-epoch-row.false
     ]
 
 pub returns : goal.returns

@@ -1,7 +1,7 @@
 use Rattle.std.proofs.Common.{◌<◌, ◌+◌, length, false, ap, refl, sym, subst, ◌∙◌, arith}
 use Rattle.hla_base.specs.Tables.{upd}
 use Rattle.hla_object_registry.specs.Registered.{registry_of}
-use Rattle.hla_object_registry.specs.Entries.{registered, AreOwned}
+use Rattle.hla_object_registry.specs.Entries.{registered_objects, AreOwned}
 use Rattle.hla_object_registry.proofs.EntryLemmas.{still_few, place_within, entry_deleted}
 use Rattle.hla_object_registry.proofs.Owners.{owned_changed}
 use Rattle.hla_object_registry.proofs.registry.Registry.delete.Goals as goal
@@ -16,7 +16,7 @@ invariant_of-self c =
     record {
       few = still_few c.self.inside.entries.entries _ _ c.self.invariant.few;
       owned = subst AreOwned (sym (entry_deleted es h c.index_mut-entry.result.now c.requires.some (place_within es c.args.self.now h c.self.view_is c.requires.some c.requires.registered) c.index_mut-entry.ensures.value))
-          (owned_changed (registry_of (registered es)) h _ c.self.invariant.owned refl c.requires.some (omega (arith, ap length c.self.view_is, c.requires.registered)));
+          (owned_changed (registry_of (registered_objects es)) h _ c.self.invariant.owned refl c.requires.some (omega (arith, ap length c.self.view_is, c.requires.registered)));
     }
 
 pub returns : goal.returns

@@ -41,8 +41,8 @@ invariant_of-self-in_default-insert-2 c = kept_from (no_stamp c)
 pub returns-in_default-insert-2-clause-unchanged : goal.returns-in_default-insert-2-clause-unchanged
 returns-in_default-insert-2-clause-unchanged c = kept_view (no_stamp c)
 
-inserted : (c : goal.After-insert_reserved) → HasEvents c.insert_reserved.new.self c.insert.new.self.entries c.insert-2.new.self (insert_event c.args.event c.args.self.now)
-inserted c =
+events_inserted : (c : goal.After-insert_reserved) → HasEvents c.insert_reserved.new.self c.insert.new.self.entries c.insert-2.new.self (insert_event c.args.event c.args.self.now)
+events_inserted c =
     let was =
     kept_same c.self.inside.events c.reserve.new.self c.self.inside.places.entries c.self.inside.places.entries c.self.inside.stamps c.self.inside.stamps c.args.self.now (ap (λ s. s.slots) c.reserve.ensures.rest_kept) refl refl
     (kept_opened c.self.inside.events c.self.inside.places.entries c.self.inside.stamps c.args.self.now c.self.invariant c.self.view_is)
@@ -50,7 +50,7 @@ inserted c =
     kept_inserted c.reserve.new.self c.insert_reserved.new.self c.self.inside.places.entries c.insert.new.self.entries c.self.inside.stamps c.insert-2.new.self c.args.self.now c.args.event c.of-key.result c.name.result c.insert_reserved.result c.vacant_key-place.result was c.requires c.of-key.ensures c.name.ensures (cc) c.insert_reserved.ensures.was_vacant c.insert_reserved.ensures.updates c.insert_reserved.ensures.len c.in-Ok-insert.ensures.entries c.in-Ok-insert-2.ensures.updates
 
 pub invariant_of-self-2 : goal.invariant_of-self-2
-invariant_of-self-2 c = kept_from (inserted c)
+invariant_of-self-2 c = kept_from (events_inserted c)
 
 pub returns-clause-ok : goal.returns-clause-ok
-returns-clause-ok c = kept_view (inserted c)
+returns-clause-ok c = kept_view (events_inserted c)

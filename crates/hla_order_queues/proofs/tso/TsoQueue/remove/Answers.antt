@@ -5,20 +5,20 @@ use Rattle.hla_order_queues.specs.Queues.{find_event, remove_event}
 use Rattle.hla_order_queues.proofs.KeptLemmas.{kept_opened, kept_removed, kept_from, kept_view, no_name, place_there}
 use Rattle.hla_order_queues.proofs.tso.TsoQueue.remove.Goals as goal
 
-removed : (c : goal.After-try_remove) → (c.try_remove.result ≡ find_event c.args.sender c.args.serial c.args.self.now) × HasEvents c.try_remove.new.self c.remove-in-Some.new.self.entries c.remove.new.self (remove_event c.args.sender c.args.serial c.args.self.now)
-removed c =
+events_removed : (c : goal.After-try_remove) → (c.try_remove.result ≡ find_event c.args.sender c.args.serial c.args.self.now) × HasEvents c.try_remove.new.self c.remove-in-Some.new.self.entries c.remove.new.self (remove_event c.args.sender c.args.serial c.args.self.now)
+events_removed c =
     kept_removed c.self.inside.events c.try_remove.new.self c.self.inside.places.entries c.remove-in-Some.new.self.entries c.self.inside.stamps c.remove.new.self c.args.self.now c.args.sender c.args.serial c.in-Some.stamp c.in-Some-remove.place c.try_remove.result
     (kept_opened c.self.inside.events c.self.inside.places.entries c.self.inside.stamps c.args.self.now c.self.invariant c.self.view_is)
     c.in-Some.ensures.value c.in-Some-remove.ensures.value c.remove-in-Some.ensures.entries c.try_remove.ensures.value c.try_remove.ensures.updates c.try_remove.ensures.len c.remove.ensures.updates
 
 pub invariant_of-self : goal.invariant_of-self
-invariant_of-self c = kept_from (removed c).1
+invariant_of-self c = kept_from (events_removed c).1
 
 pub returns-in-Some-remove-clause-found : goal.returns-in-Some-remove-clause-found
-returns-in-Some-remove-clause-found c = (removed c).0
+returns-in-Some-remove-clause-found c = (events_removed c).0
 
 pub returns-in-Some-remove-clause-rest : goal.returns-in-Some-remove-clause-rest
-returns-in-Some-remove-clause-rest c = kept_view (removed c).1
+returns-in-Some-remove-clause-rest c = kept_view (events_removed c).1
 
 missing : (c : goal.In-None-remove) → ⊥
 missing c =

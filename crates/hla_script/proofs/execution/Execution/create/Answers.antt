@@ -1,7 +1,7 @@
 use Rattle.std.proofs.Common.{◌≡◌, ◌<◌, refl, sym, ◌∙◌, arith}
 use Rattle.hla_base.specs.Limits.{max_creates}
 use Rattle.hla_script.specs.Keeping.{components_of}
-use Rattle.hla_script.proofs.KeepLemmas.{creation, creation_acts, excess, excess_acts, none_left, opens}
+use Rattle.hla_script.proofs.KeepLemmas.{creation, creation_acts, excess, excess_acts, none_left, opened_components}
 use Rattle.hla_script.proofs.execution.Execution.create.Goals as goal
 
 pub returns-then-self-ge-MAX_CREATES-clause-ok : goal.returns-then-self-ge-MAX_CREATES-clause-ok
@@ -15,4 +15,4 @@ returns-clause-ok c =
     let none = none_left components_of c.args.self.now.federation (sym c.is_some.ensures ∙ c.if-is_some.false) in
     let same : c.script_record-2.result ≡ creation c.args.self.now.catalogue = c.script_record-2.ensures ∙ rw (c.requires, c.in_ok-held.ensures.ok) refl in
     let few : c.args.self.now.creates < max_creates = omega (arith, c.if-self-ge-MAX_CREATES.false) in
-    creation_acts c.args.self.now.catalogue c.args.self.now.creates _ _ c.args.self.now.members.items _ _ c.script_record-2.result few refl none (opens _ _ (rw c.in_ok-used.ensures.ok at c.new.ensures)) same c.clear.ensures.items
+    creation_acts c.args.self.now.catalogue c.args.self.now.creates _ _ c.args.self.now.members.items _ _ c.script_record-2.result few refl none (opened_components _ _ (rw c.in_ok-used.ensures.ok at c.new.ensures)) same c.clear.ensures.items

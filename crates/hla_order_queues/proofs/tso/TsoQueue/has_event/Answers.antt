@@ -1,6 +1,6 @@
 -- A name is in the map where its event is in the list.
 use Rattle.hla_order_queues.proofs.KeptLemmas.{kept_opened, has_name}
-use Rattle.hla_order_queues.proofs.tso.TsoQueue.has.Goals as goal
+use Rattle.hla_order_queues.proofs.tso.TsoQueue.has_event.Goals as goal
 
 pub returns : goal.returns
 returns c =

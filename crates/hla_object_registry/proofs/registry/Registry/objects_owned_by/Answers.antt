@@ -2,8 +2,8 @@ use Rattle.std.proofs.Common.{sym, ◌++◌, ◌∷◌, [], ap, ◌∙◌, refl}
 use Rattle.hla_object_registry.specs.Registered.{registry_of}
 use Rattle.hla_object_registry.specs.Queries.{is_object_of}
 use Rattle.hla_object_registry.proofs.Numbers.{filter_first, filter_more, filter_same}
-use Rattle.hla_object_registry.proofs.registry.Registry.owned_by.Goals as goal
-use Rattle.hla_object_registry.proofs.registry.Registry.owned_by.Goals.{then-is_object_of+in_ok-push, else-is_object_of}
+use Rattle.hla_object_registry.proofs.registry.Registry.objects_owned_by.Goals as goal
+use Rattle.hla_object_registry.proofs.registry.Registry.objects_owned_by.Goals.{then-is_object_of+in_ok-push, else-is_object_of}
 
 pub loop-object-init : goal.loop-object-init
 loop-object-init c = c.new-objects.ensures ∙ sym (filter_first (is_object_of (registry_of c.args.self.now) c.args.federate) refl)
