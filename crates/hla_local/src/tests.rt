@@ -26,8 +26,7 @@ fn is_retracted(local: &mut Local, sender: FederateNo, serial: Serial) -> bool
     requires some { 0 < sender }
     requires within { sender ≤ max_joins }
 {
-    !local.ordered.has(sender, serial)
-        && local.accept(sender, Message::Retraction(serial)).is_ok()
+    !local.ordered.has(sender, serial) && local.accept(sender, Message::Retraction(serial)).is_ok()
 }
 
 fn hear(local: &mut Local, epoch: u64, bound: Ticks) {
@@ -139,7 +138,9 @@ fn gives_all_in_receive_order_once_it_is_not_constrained(rt: HostRuntime) {
     let mut local = pending(rt.alloc());
     assert!(rt; is_taken(&mut local, 2, 1, 12));
     assert!(rt; local.first_ordered().is_some());
-    assert!(rt; matches!(local.ordered_below(rt.alloc(), FOREVER), Ok(handles) if handles.len() == 1));
+    assert!(rt;
+        matches!(local.ordered_below(rt.alloc(), FOREVER), Ok(handles) if handles.len() == 1)
+    );
     assert!(rt; local.cease_constraint().is_ok());
     assert!(rt; local.first_ordered().is_none());
     assert!(rt; local.next_pick() == NextPick::Received);
