@@ -1,6 +1,5 @@
 -- What a retraction leaves where its event waits in one queue, or in none
 use Rattle.std.proofs.Common.{ℕ, ◌≡◌, ◌∙◌, refl, sym, ap, subst, true, false, cond, Option, Some, None, is_some, List}
-use Rattle.std.specs.Option.{IsSome}
 use Rattle.hla_base.specs.declared.content.Event.{Event}
 use Rattle.hla_base.specs.Tables.{or_else}
 use Rattle.hla_base.specs.Rows.{is_none_of}

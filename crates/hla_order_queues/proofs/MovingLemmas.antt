@@ -14,7 +14,7 @@ use Rattle.hla_base.specs.Tables.{forever}
 use Rattle.hla_order_queues.specs.declared.key.EventKey.{EventKey}
 use Rattle.hla_order_queues.specs.Kept.{key_cmp, HoldEvents}
 use Rattle.hla_order_queues.specs.Moving.{is_moved, IsRising}
-use Rattle.hla_order_queues.specs.Queues.{handle_of, handles_of}
+use Rattle.hla_order_queues.specs.Queues.{handles_of}
 
 less_then : (l e : Bool) (o : Ordering) → ordering_then (cond l Less (cond e Equal Greater)) o ≡ Less → (l || e) ≡ true
 less_then true e o h = refl

@@ -136,11 +136,7 @@ impl TimeState {
         requires { stamp ≤ max_time }
         ensures { self.new ≡ record self.old { bar = bar_after self.old kind stamp } }
     {
-        let reached = if kind.is_strict() {
-            stamp + 1
-        } else {
-            stamp
-        };
+        let reached = if kind.is_strict() { stamp + 1 } else { stamp };
         self.bar = self.bar.max(reached);
     }
 }
