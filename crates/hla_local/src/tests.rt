@@ -18,7 +18,7 @@ fn is_taken(local: &mut Local, sender: FederateNo, serial: Serial, stamp: Ticks)
         stamp,
         content: Content::Removal { object: 1 },
     };
-    !local.ordered.has(sender, serial) && local.accept(sender, Message::Event(event)).is_ok()
+    !local.ordered.has_event(sender, serial) && local.accept(sender, Message::Event(event)).is_ok()
 }
 
 /// Whether a retraction of what waits in receive order, or nowhere, is taken in.
@@ -26,7 +26,7 @@ fn is_retracted(local: &mut Local, sender: FederateNo, serial: Serial) -> bool
     requires some { 0 < sender }
     requires within { sender ≤ max_joins }
 {
-    !local.ordered.has(sender, serial) && local.accept(sender, Message::Retraction(serial)).is_ok()
+    !local.ordered.has_event(sender, serial) && local.accept(sender, Message::Retraction(serial)).is_ok()
 }
 
 fn hear(local: &mut Local, epoch: u64, bound: Ticks) {
