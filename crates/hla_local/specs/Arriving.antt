@@ -1,5 +1,5 @@
 -- What a component makes of a message that comes
-use Rattle.std.specs.Prelude.{ℕ, ◌≡◌, cond, not, ◌&&◌, Bool, true, false, Option, None, IsSome, List, [], ◌∷◌, ◌++◌}
+use Rattle.std.specs.Prelude.{ℕ, ◌≡◌, cond, not, ◌&&◌, Bool, true, false, None, IsSome, List, [], ◌∷◌, ◌++◌}
 use Rattle.hla_base.specs.declared.content.Event.{Event}
 use Rattle.hla_base.specs.declared.row.TimeRow.{TimeRow}
 use Rattle.hla_base.specs.Tables.{upd, or_else}
