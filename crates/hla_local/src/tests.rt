@@ -26,7 +26,8 @@ fn is_retracted(local: &mut Local, sender: FederateNo, serial: Serial) -> bool
     requires some { 0 < sender }
     requires within { sender ≤ max_joins }
 {
-    !local.ordered.has_event(sender, serial) && local.accept(sender, Message::Retraction(serial)).is_ok()
+    !local.ordered.has_event(sender, serial)
+        && local.accept(sender, Message::Retraction(serial)).is_ok()
 }
 
 fn hear(local: &mut Local, epoch: u64, bound: Ticks) {
