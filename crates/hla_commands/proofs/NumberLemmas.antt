@@ -9,7 +9,8 @@ use Rattle.std.specs.Char.{is_ascii_digit, digit_value}
 use Rattle.std.specs.Int.{IsInRange}
 use Rattle.std.specs.List.{list_all}
 use Rattle.std.specs.Str.Parse.{digits_value}
-use Rattle.hla_commands.specs.Script.{max_number, word_number}
+use Rattle.hla_base.specs.Limits.{largest_number}
+use Rattle.hla_commands.specs.Script.{word_number}
 use Rattle.hla_commands.specs.declared.lines.ScriptFaultKind.TheVariants.{BadNumber}
 
 in_range : (c : ℕ) → is_ascii_digit c ≡ true → IsInRange 48 57 c
@@ -26,7 +27,7 @@ pub next_value : (ds : List ℕ) (i v : ℕ) → list_all is_ascii_digit ds ≡ 
 next_value ds i v all lt is = rw (digits_value_more 10 ds i lt, digit_at ds i all lt, is) refl
 
 -- further digits make no number smaller
-pub too_large : (ds : List ℕ) (i v : ℕ) → list_all is_ascii_digit ds ≡ true → i < length ds → v ≡ digits_value 10 (take i ds) → max_number < v * 10 + (get_or ds i 0 - 48) → max_number < digits_value 10 ds
+pub too_large : (ds : List ℕ) (i v : ℕ) → list_all is_ascii_digit ds ≡ true → i < length ds → v ≡ digits_value 10 (take i ds) → largest_number < v * 10 + (get_or ds i 0 - 48) → largest_number < digits_value 10 ds
 too_large ds i v all lt is above = omega (arith, next_value ds i v all lt is, digits_value-take-le 10 ds (i + 1) (omega arith))
 
 first : {X : Type 0} (a b c : Bool) (x y : X) → a ≡ true → (if a || b || c then x else y) ≡ x
@@ -58,13 +59,13 @@ pub no_digits : (word : List ℕ) → list_all is_ascii_digit word ≡ false →
 unfolding word_number
 no_digits word e = sym (second (length word == 0) (not (list_all is_ascii_digit word)) _ _ _ (rw e refl))
 
-pub large_word : (word : List ℕ) → max_number < digits_value 10 word → Err BadNumber ≡ word_number word
+pub large_word : (word : List ℕ) → largest_number < digits_value 10 word → Err BadNumber ≡ word_number word
 unfolding word_number
-large_word word above = sym (third (length word == 0) (not (list_all is_ascii_digit word)) (nat_lt max_number (digits_value 10 word)) _ _ (grind (arith, nat_tests)))
+large_word word above = sym (third (length word == 0) (not (list_all is_ascii_digit word)) (nat_lt largest_number (digits_value 10 word)) _ _ (grind (arith, nat_tests)))
 
-pub number_word : (word : List ℕ) (n : ℕ) → length word ≢ 0 → list_all is_ascii_digit word ≡ true → n ≤ max_number → n ≡ digits_value 10 word → Ok n ≡ word_number word
+pub number_word : (word : List ℕ) (n : ℕ) → length word ≢ 0 → list_all is_ascii_digit word ≡ true → n ≤ largest_number → n ≡ digits_value 10 word → Ok n ≡ word_number word
 unfolding word_number
 number_word word n some all within is =
-    let small : nat_lt max_number (digits_value 10 word) ≡ false = grind (arith, nat_tests) in
+    let small : nat_lt largest_number (digits_value 10 word) ≡ false = grind (arith, nat_tests) in
     let there : (length word == 0) ≡ false = grind (arith, nat_tests) in
-    rw is (sym (none_of (length word == 0) (not (list_all is_ascii_digit word)) (nat_lt max_number (digits_value 10 word)) _ _ there (rw all refl) small))
+    rw is (sym (none_of (length word == 0) (not (list_all is_ascii_digit word)) (nat_lt largest_number (digits_value 10 word)) _ _ there (rw all refl) small))

@@ -5,7 +5,7 @@ use Rattle.std.specs.Str.{bytes_eq}
 use Rattle.std.specs.Str.Parse.{digits_value}
 use Rattle.std.specs.Char.{is_ascii_digit}
 use Rattle.bstr.specs.Text.{lines_of, without_terminator}
-use Rattle.hla_base.specs.Limits.{max_script, max_script_line}
+use Rattle.hla_base.specs.Limits.{max_script, max_script_line, largest_number}
 use Rattle.hla_commands.specs.declared.lines.Command.{Command}
 use Rattle.hla_commands.specs.declared.lines.Command.TheVariants as command
 use Rattle.hla_machine.specs.declared.service.ResignAction.{ResignAction}
@@ -93,14 +93,10 @@ abbrev pub action_in : List (List ℕ) → Reading ResignAction
 action_in [] = Err kind.MissingWord
 action_in (word ∷ words) = action_where (action_of word) words
 
--- the largest number that a word may say, that of 64 bits
-abbrev pub max_number : ℕ
-max_number = 18446744073709551615
-
 -- the number that decimal digits say, if it is not above the largest
 unfoldable pub word_number : List ℕ → Result ℕ ScriptFaultKind
 word_number word =
-    if length word == 0 || not (list_all is_ascii_digit word) || nat_lt max_number (digits_value 10 word) then Err kind.BadNumber
+    if length word == 0 || not (list_all is_ascii_digit word) || nat_lt largest_number (digits_value 10 word) then Err kind.BadNumber
     else Ok (digits_value 10 word)
 
 abbrev pub number_word : List (List ℕ) → Reading ℕ

@@ -4,8 +4,9 @@ ghost use Rattle.std.specs.Prelude.{◌≡◌, ◌==◌, ◌<◌, ◌≤◌, ◌
 ghost use Rattle.std.specs.List.{prefix_len, position_or_len, list_all};
 ghost use Rattle.std.specs.Char.{is_ascii_digit};
 ghost use Rattle.std.specs.Str.Parse.{digits_value};
+ghost use Rattle.hla_base.specs.Limits.{largest_number};
 ghost use Rattle.hla_commands.specs.Reading.{Means, Reads};
-ghost use Rattle.hla_commands.specs.Script.{name_in, optional_in, names_in, federate_in, action_in, max_number, word_number, number_word, pair_of, pairs_of};
+ghost use Rattle.hla_commands.specs.Script.{name_in, optional_in, names_in, federate_in, action_in, word_number, number_word, pair_of, pairs_of};
 
 use crate::lines::{NameValuePair, ScriptFaultKind};
 use crate::vocabulary::{Opening, action_of};
@@ -88,9 +89,9 @@ fn are_digits(word: &[u8]) -> bool
 /// The number that decimal digits say, if it is not above the largest.
 fn digits_value(digits: &[u8]) -> Option<u64>
     requires { list_all is_ascii_digit digits.now ≡ true }
-    ensures value { MatchOption result (max_number < digits_value 10 digits.now)
+    ensures value { MatchOption result (largest_number < digits_value 10 digits.now)
         (λ n. n ≡ digits_value 10 digits.now) }
-    ensures within { IfSome result (λ n. n ≤ max_number) }
+    ensures within { IfSome result (λ n. n ≤ largest_number) }
 {
     let mut value: u64 = 0;
     for digit in digits {

@@ -1,6 +1,7 @@
 -- The least bound of some rows
-use Rattle.std.specs.Prelude.{◌≡◌, ℕ, ◌<◌, ◌≤◌, List, length, count_by, eqb}
+use Rattle.std.specs.Prelude.{◌≡◌, ℕ, ◌+◌, ◌<◌, ◌≤◌, List, length, count_by, eqb}
 use Rattle.std.specs.List.{All}
+use Rattle.hla_base.specs.Limits.{max_joins}
 use Rattle.hla_base.specs.Tables.{forever}
 use Rattle.hla_lbts.specs.declared.row.PeerRow.{PeerRow}
 
@@ -11,7 +12,7 @@ pub record IsLeast (rows : List PeerRow) (least holders : ℕ) : Type 0 where
   pub counted : count_by (λ (r : PeerRow). eqb r.bound least) rows ≡ holders
   pub held : 0 < holders
 
--- a row for each number up to 16, with the least of their bounds and how many have it
+-- a row for each number that a federate may have, and one for 0, with the least of their bounds and how many have it
 pub record IsCounted (rows : List PeerRow) (least holders : ℕ) : Type 0 where
-  pub size : length rows ≡ 17
+  pub size : length rows ≡ max_joins + 1
   pub least_is : IsLeast rows least holders

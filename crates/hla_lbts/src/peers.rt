@@ -1,15 +1,16 @@
 //! The rows of a component's peers.
 
-ghost use Rattle.std.specs.Prelude.{◌≡◌, ◌≤◌, ◌<◌, ℕ, min};
+ghost use Rattle.std.specs.Prelude.{◌≡◌, ◌≤◌, ◌<◌, ◌+◌, ℕ, min};
+ghost use Rattle.hla_base.specs.Limits.{max_joins};
 ghost use Rattle.hla_base.specs.Tables.{forever, upd, least};
 ghost use Rattle.hla_lbts.specs.Peers.{peers_of, null_bound};
 
 use crate::row::{PeerRow, least_of};
-use hla_base::{FederateNo, Ticks};
+use hla_base::{FederateNo, MAX_JOINS, Ticks};
 use std::marker::Model;
 
-/// How many rows there are: one for each number of a federate, which are 1 to 16, and one for 0.
-const ROWS: usize = 17;
+/// How many rows there are: one for each number of a federate, which are counted from 1, and one for 0.
+const ROWS: usize = MAX_JOINS + 1;
 
 /// What a component knows of its peers, the federates 1 to 16: the epoch of each, and its bound, below which it sends
 /// nothing in time-stamp order. A federate that never regulated has epoch 0 and bound `FOREVER`, and so have the
@@ -53,7 +54,7 @@ impl Peers {
     /// A peer has this epoch and this bound from now on.
     pub fn set(&mut self, peer: FederateNo, epoch: u64, bound: Ticks)
         requires some { 0 < peer }
-        requires within { peer ≤ 16 }
+        requires within { peer ≤ max_joins }
         ensures { peers_of self.new ≡ record {
           bound = upd (peers_of self.old).bound peer bound;
           known_epoch = upd (peers_of self.old).known_epoch peer epoch;
@@ -67,7 +68,7 @@ impl Peers {
     /// the one that it had and `entry`.
     pub fn lower(&mut self, peer: FederateNo, epoch: u64, entry: Ticks)
         requires some { 0 < peer }
-        requires within { peer ≤ 16 }
+        requires within { peer ≤ max_joins }
         ensures { peers_of self.new ≡ record {
           bound = upd (peers_of self.old).bound peer (min ((peers_of self.old).bound peer) entry);
           known_epoch = upd (peers_of self.old).known_epoch peer epoch;
@@ -81,7 +82,7 @@ impl Peers {
     /// one of another epoch changes nothing.
     pub fn accept(&mut self, peer: FederateNo, epoch: u64, value: Ticks)
         requires some { 0 < peer }
-        requires within { peer ≤ 16 }
+        requires within { peer ≤ max_joins }
         ensures { peers_of self.new ≡ record (peers_of self.old) {
           bound = upd (peers_of self.old).bound peer (null_bound ((peers_of self.old).known_epoch peer) ((peers_of self.old).bound peer) epoch value);
         } }
@@ -106,14 +107,14 @@ impl Peers {
     pub fn bound(&self) -> Ticks
         ensures joined { (n : ℕ) → ((g : ℕ) → n ≤ g → (peers_of self.now).bound g ≡ forever) → result ≡
             least n (peers_of self.now).bound }
-        ensures rows { result ≡ least 17 (peers_of self.now).bound }
+        ensures rows { result ≡ least (max_joins + 1) (peers_of self.now).bound }
     {
         self.least
     }
 
     /// What is known of a peer.
     pub fn row(&self, peer: FederateNo) -> PeerRow
-        requires { peer ≤ 16 }
+        requires { peer ≤ max_joins }
         ensures { result ≡ record {
           epoch = (peers_of self.now).known_epoch peer;
           bound = (peers_of self.now).bound peer;
@@ -124,7 +125,7 @@ impl Peers {
     }
 
     fn put(&mut self, peer: FederateNo, row: PeerRow)
-        requires { peer ≤ 16 }
+        requires { peer ≤ max_joins }
         ensures { peers_of self.new ≡ record {
           bound = upd (peers_of self.old).bound peer row.bound;
           known_epoch = upd (peers_of self.old).known_epoch peer row.epoch;
