@@ -32,6 +32,7 @@ controls_with_retraction g m tso ro controls = cond (is_none_of (or_else (find_e
 abbrev pub peers_with_null : ℕ → ℕ → ℕ → PeersValue → PeersValue
 peers_with_null g epoch value p = record p { bound = upd p.bound g (null_bound (p.known_epoch g) (p.bound g) epoch value) }
 
+-- and after any message from g
 abbrev pub peers_accepting : ℕ → Message → PeersValue → PeersValue
 peers_accepting g (message.Null epoch value) p = peers_with_null g epoch value p
 peers_accepting g m p = p

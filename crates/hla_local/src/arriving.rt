@@ -24,7 +24,8 @@ impl Local {
         ensures ok { OnOk result (self.new ≡ record (local_accepting from message self.old) {
           peers = self.new.peers;
         }) }
-        ensures peers { OnOk result (peers_of self.new.peers ≡ peers_accepting from message (peers_of self.old.peers)) }
+        ensures peers { OnOk result (peers_of self.new.peers ≡
+            peers_accepting from message (peers_of self.old.peers)) }
         ensures err { IfErr result (λ m. m ≡ message) }
         ensures memory { OnErr result (message_takes_memory message ≡ true) }
         ensures unchanged { OnErr result (self.new ≡ self.old) }

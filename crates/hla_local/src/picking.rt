@@ -50,7 +50,8 @@ impl Local {
         ensures state { OnOk result (self.new ≡ local_picking self.old
             (role_pick self.old.row self.old.tso (least_bound self.old))) }
         ensures err { IfErr result (λ e. e ≡ Fault.OutOfMemory) }
-        ensures memory { OnErr result (role_pick self.old.row self.old.tso (least_bound self.old) ≡ PickConstrains) }
+        ensures memory { OnErr result
+            (role_pick self.old.row self.old.tso (least_bound self.old) ≡ PickConstrains) }
         ensures unchanged { OnErr result (self.new ≡ self.old) }
     {
         if self.state.is_regulation_pending() {
@@ -103,7 +104,8 @@ impl Local {
         requires within { request.asked ≤ max_time }
         ensures answer { result ≡ picked_by self.old.row
             (grant_pick self.old.row request self.old.tso bound) }
-        ensures state { self.new ≡ local_picking self.old (grant_pick self.old.row request self.old.tso bound) }
+        ensures state { self.new ≡ local_picking self.old
+            (grant_pick self.old.row request self.old.tso bound) }
     {
         let row = self.state.row();
         if request.kind.is_flush() {
