@@ -6,8 +6,8 @@ use Rattle.hla_null_message.specs.declared.message.Message.{Message}
 use Rattle.hla_fed_file.specs.CatalogueValue.{CatalogueValue}
 use Rattle.hla_base.specs.Tables.{forever}
 use Rattle.hla_base.specs.Rows.{new_row}
+use Rattle.hla_retraction.specs.SentEvents.{SentEvent, no_event}
 use Rattle.hla_machine.specs.Directory.{Directory, new_directory}
-use Rattle.hla_machine.specs.Central.{SentEvent, no_event}
 use Rattle.hla_order_queues.specs.declared.control.Control.{Control}
 
 pub record Components : Type 0 where

@@ -17,6 +17,7 @@ use Rattle.hla_base.specs.Tables.{forever, upd, upd2, upd_row, upd_column, upd_n
 use Rattle.hla_base.specs.Rows.{is_regulator, is_disabled, is_none_of, row_after_request, row_with_entry, row_after_regulation_enabled, row_after_constraint_enabled, row_after_pick, row_after_grant, new_row}
 use Rattle.hla_lbts.specs.Peers.{null_bound}
 use Rattle.hla_fed_file.specs.Lookup.{object_class_named, interaction_class_named, attribute_named, parameter_named}
+use Rattle.hla_retraction.specs.SentEvents.{SentEvent}
 use Rattle.hla_callbacks.specs.declared.callback.Callback.{Callback}
 use Rattle.hla_callbacks.specs.declared.callback.Callback.TheVariants as callback
 use Rattle.hla_callbacks.specs.declared.callback.Delivery.{Delivery}
@@ -36,7 +37,6 @@ use Rattle.hla_machine.specs.declared.step.Outcome.TheVariants as outcome
 use Rattle.hla_machine.specs.declared.step.Choice.{Choice}
 use Rattle.hla_machine.specs.declared.step.Choice.TheVariants as choice
 use Rattle.hla_machine.specs.Directory.{Directory, Outgoing, name_or_default, objects_of, interaction_sent, update_sent, deletion_sent, deletions_sent, content_for, discoveries_of, with_discoveries_made, with_object_discovered, with_member, without_member, with_published, with_subscribed, with_published_interaction, with_subscribed_interaction, with_object, without_object}
-use Rattle.hla_machine.specs.Central.{SentEvent}
 use Rattle.hla_machine.specs.Sends.{is_ordered, kept_stamp, sent_event, sent_handle, is_told}
 use Rattle.hla_machine.specs.Refusals.{Seen, refusal, is_known}
 use Rattle.hla_machine.specs.Machine.{is_removal}

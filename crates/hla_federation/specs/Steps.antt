@@ -1,5 +1,3 @@
--- What a member picks up
-pub mod Picking
 -- What a service puts on the wires
 pub mod Sending
 -- The discoveries of a new object

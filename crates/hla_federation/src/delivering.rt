@@ -2,7 +2,7 @@
 
 ghost use Rattle.hla_machine.specs.declared.step.Step.TheVariants as step;
 ghost use Rattle.hla_federation.specs.Steps.Soundness.{IsSound};
-ghost use Rattle.hla_federation.specs.Steps.State.{IsWhole, Ends};
+ghost use Rattle.hla_federation.specs.Steps.State.{IsWhole, Ends, EndsChosen};
 
 use crate::parts::Parts;
 use hla_base::{Fault, FederateNo};
@@ -23,14 +23,16 @@ impl Parts {
     }
 
     /// A federate ticks.
+    #[tactic(auto, using(crate::proofs::Steps::Declaring::tick_refused))]
     pub fn tick(&mut self, federate: FederateNo) -> Result<Answer, Fault>
         requires { IsSound self.old }
         ensures whole { IsWhole self.new }
-        ensures done { Ends self.old (step.Tick federate) result self.new }
+        ensures done { EndsChosen self.old (step.Tick federate) result self.new }
     {
         if let Some(fault) = self.caller_fault(federate) {
             return Err(fault);
         }
-        Ok(Answer::Ticked(self.members.pick_up(federate)))
+        let callback = self.members.pick_up(federate)?;
+        Ok(Answer::Ticked(callback))
     }
 }

@@ -2,7 +2,7 @@
 
 ghost use Rattle.hla_machine.specs.declared.step.Step.TheVariants as step;
 ghost use Rattle.hla_federation.specs.Steps.Soundness.{IsSound, MayCall};
-ghost use Rattle.hla_federation.specs.Steps.State.{IsWhole, IsBuilt, IsBuiltService, IsLookUp, Ends, Answers};
+ghost use Rattle.hla_federation.specs.Steps.State.{IsWhole, IsBuilt, IsBuiltService, IsLookUp, Ends, EndsChosen, Answers};
 
 use crate::parts::Parts;
 use hla_base::{Fault, FederateNo};
@@ -14,7 +14,7 @@ impl Parts {
         requires sound { IsSound self.old }
         requires built { IsBuiltService service.now }
         ensures whole { IsWhole self.new }
-        ensures done { Ends self.old (step.Call federate service.now) result self.new }
+        ensures done { EndsChosen self.old (step.Call federate service.now) result self.new }
     {
         if let Some(fault) = self.caller_fault(federate) {
             return Err(fault);
@@ -23,11 +23,12 @@ impl Parts {
     }
 
     /// A service for a federate that is joined.
+    #[tactic(auto, using(crate::proofs::Steps::Doing::ends_chosen))]
     fn serve(&mut self, federate: FederateNo, service: &Service) -> Result<Answer, Fault>
         requires may { MayCall self.old federate }
         requires built { IsBuiltService service.now }
         ensures whole { IsWhole self.new }
-        ensures done { Ends self.old (step.Call federate service.now) result self.new }
+        ensures done { EndsChosen self.old (step.Call federate service.now) result self.new }
     {
         match service {
             Service::Resign { action } => self.resign(federate, *action),
@@ -106,11 +107,12 @@ impl Parts {
     }
 
     /// Any step.
+    #[tactic(auto, using(crate::proofs::Steps::Doing::ends_chosen))]
     pub fn step(&mut self, step: &Step) -> Result<Answer, Fault>
         requires sound { IsSound self.old }
         requires built { IsBuilt step.now }
         ensures whole { IsWhole self.new }
-        ensures done { Ends self.old step.now result self.new }
+        ensures done { EndsChosen self.old step.now result self.new }
     {
         match step {
             Step::Join { name } => self.join(name.as_slice()),

@@ -1,14 +1,17 @@
 //! The wires to one federate.
 
-ghost use Rattle.std.specs.Prelude.{◌≡◌, ◌≢◌, ◌<◌, ◌≤◌, ◌++◌, [], ℕ, length, IfOk, IfErr, OnOk, drop, slice_get, IsTrue, ◌↔◌};
-ghost use Rattle.std.specs.Option.{option_copied};
+ghost use Rattle.std.specs.Prelude.{◌≡◌, ◌≢◌, ◌<◌, ◌≤◌, ◌++◌, [], ℕ, true, length, IfOk, IfErr, OnOk, OnErr, drop};
 ghost use Rattle.hla_base.specs.Limits.{max_joins};
 ghost use Rattle.hla_base.specs.declared.fault.Fault.TheVariants.{OutOfMemory};
 ghost use Rattle.hla_base.specs.Tables.{upd};
 ghost use Rattle.hla_federation.specs.Tables.MemberValue.{item};
-ghost use Rattle.hla_federation.specs.Tables.Members.{AreQuiet};
+ghost use Rattle.hla_federation.specs.Tables.Members.{AreQuiet, MayArrive, HasAccepted, carried_of};
+ghost use Rattle.hla_federation.specs.Steps.Memory.{arrival_takes_memory};
 
+use crate::messages::carried_by;
 use hla_base::{Fault, FederateNo, MAX_JOINS};
+use hla_local::Local;
+use hla_machine::Carried;
 use hla_null_message::{Message, Wire};
 use std::alloc::Global;
 use std::marker::Model;
@@ -30,6 +33,32 @@ impl Model for Incoming {
     ghost view = { λ w. incoming_of w.wires.items };
 
     ghost invariant = { λ w. length w.wires.items ≡ max_joins };
+}
+
+/// The first message on a wire comes to a component; `OutOfMemory`, and all as it was, where a growth was refused.
+fn hand_over(wire: &mut Wire, from: FederateNo, local: &mut Local) -> Result<Carried, Fault>
+    requires some { 0 < from }
+    requires within { from ≤ max_joins }
+    requires may_arrive { MayArrive from wire.old.messages local.old }
+    ensures answer { IfOk result (λ x. x ≡ carried_of from wire.old.messages) }
+    ensures wire { OnOk result (wire.new.messages ≡ drop 1 wire.old.messages) }
+    ensures local { OnOk result (HasAccepted from wire.old.messages local.old local.new) }
+    ensures err { IfErr result (λ e. e ≡ Fault.OutOfMemory) }
+    ensures memory { OnErr result (arrival_takes_memory wire.old.messages ≡ true) }
+    ensures unchanged { OnErr result (wire.new.messages ≡ wire.old.messages) }
+    ensures local_unchanged { OnErr result (local.new ≡ local.old) }
+{
+    let Some(message) = wire.take_first() else {
+        return Ok(Carried::Nothing);
+    };
+    let carried = carried_by(from, &message);
+    match local.accept(from, message) {
+        Ok(()) => Ok(carried),
+        Err(message) => {
+            wire.put_back(message);
+            Err(Fault::OutOfMemory)
+        }
+    }
 }
 
 impl Incoming {
@@ -71,33 +100,22 @@ impl Incoming {
         self.wires[from as usize - 1].append(messages)
     }
 
-    /// The first message on the wire from a federate, if there is one.
-    pub fn first(&self, from: FederateNo) -> Option<&Message>
+    /// The first message on the wire from a federate comes to its receiver's component; `OutOfMemory`, and all as it was,
+    /// where a growth was refused.
+    pub fn hand_over(&mut self, from: FederateNo, local: &mut Local) -> Result<Carried, Fault>
         requires some { 0 < from }
         requires within { from ≤ max_joins }
-        ensures { option_copied result ≡ slice_get (item [] self.now.wires from) 0 }
+        requires may_arrive { MayArrive from (item [] self.old.wires from) local.old }
+        ensures answer { IfOk result (λ x. x ≡ carried_of from (item [] self.old.wires from)) }
+        ensures wires { OnOk result (item [] self.new.wires ≡ upd (item [] self.old.wires) from
+            (drop 1 (item [] self.old.wires from))) }
+        ensures local { OnOk result (HasAccepted from (item [] self.old.wires from) local.old local.new) }
+        ensures err { IfErr result (λ e. e ≡ Fault.OutOfMemory) }
+        ensures memory { OnErr result (arrival_takes_memory (item [] self.old.wires from) ≡ true) }
+        ensures unchanged { OnErr result (self.new.wires ≡ self.old.wires) }
+        ensures local_unchanged { OnErr result (local.new ≡ local.old) }
     {
-        self.wires[from as usize - 1].first()
-    }
-
-    /// The first message on the wire from a federate, taken off, if there is one.
-    pub fn take_first(&mut self, from: FederateNo) -> Option<Message>
-        requires some { 0 < from }
-        requires within { from ≤ max_joins }
-        ensures first { result ≡ slice_get (item [] self.old.wires from) 0 }
-        ensures rest { item [] self.new.wires ≡ upd (item [] self.old.wires) from
-            (drop 1 (item [] self.old.wires from)) }
-    {
-        self.wires[from as usize - 1].take_first()
-    }
-
-    /// Whether nothing is on the wire from a federate.
-    pub fn is_empty(&self, from: FederateNo) -> bool
-        requires some { 0 < from }
-        requires within { from ≤ max_joins }
-        ensures { IsTrue result ↔ (item [] self.now.wires from ≡ []) }
-    {
-        self.wires[from as usize - 1].is_empty()
+        hand_over(&mut self.wires[from as usize - 1], from, local)
     }
 
     /// Takes all messages off all wires.

@@ -28,7 +28,8 @@ impl Parts {
             return Err(fault);
         }
         let federate = self.members.next_federate();
-        let member = Member::new(self.alloc, name_copy(self.alloc, name)?)?;
+        let mut member = Member::new(self.alloc, name_copy(self.alloc, name)?)?;
+        self.members.introduce(&mut member);
         let next_name = default_name(self.alloc, self.registry.next_object())?;
         self.members.reserve_one()?;
         self.declarations.admit()?;
@@ -72,6 +73,7 @@ impl Parts {
         let objects = self.registry.objects_owned_by(self.alloc, federate)?;
         let mut outbox = Outbox::new(self.alloc)?;
         self.address_removals(&mut outbox, federate, serial, objects.as_slice())?;
+        self.address_last_null(&mut outbox, federate)?;
         self.members
             .send_all(federate, outbox, objects.len() as u64)?;
         self.registry.delete_owned_by(federate);

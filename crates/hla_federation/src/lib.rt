@@ -1,6 +1,7 @@
 //! A federation of local components that know of each other only by what comes over wires.
 #![tactic(auto)]
 
+mod announcing;
 mod declaring;
 mod delivering;
 mod direction;

@@ -1,36 +1,34 @@
 //! One federate of an execution.
 
-ghost use Rattle.std.specs.Prelude.{◌≡◌, ◌≢◌, ◌<◌, ◌≤◌, ◌+◌, ◌-◌, [], ℕ, length, false, true, None, Some, IfOk, IfErr, OnOk, OnErr, ◌++◌, drop, slice_get};
-ghost use Rattle.std.specs.Option.{option_copied};
-ghost use Rattle.std.specs.VecDeque.{deque_capacity, deque_len};
+ghost use Rattle.std.specs.Prelude.{◌≡◌, ◌≢◌, ◌<◌, ◌≤◌, ◌+◌, [], ℕ, length, true, IfOk, IfErr, OnOk, OnErr, ◌++◌, drop};
 ghost use Rattle.hla_base.specs.Limits.{max_joins, largest_number};
 ghost use Rattle.hla_base.specs.declared.fault.Fault.TheVariants.{OutOfMemory};
 ghost use Rattle.hla_base.specs.Tables.{upd};
+ghost use Rattle.hla_lbts.specs.Peers.{peers_of};
+ghost use Rattle.hla_local.specs.LocalValue.{new_local, no_peers};
+ghost use Rattle.hla_local.specs.Picking.{PickConstrains, picked_by, local_pick, local_picking};
+ghost use Rattle.hla_components.specs.Locals.{callback_given};
 ghost use Rattle.hla_federation.specs.Tables.MemberValue.{item};
-ghost use Rattle.hla_federation.specs.Tables.Members.{carried_of, member_receiving, new_member, resigned_member, AreQuiet, HasRoomFor, IsUnretracting, IsSmall};
+ghost use Rattle.hla_federation.specs.Tables.Members.{carried_of, new_member, resigned_member, AreQuiet, MayArrive, HasAccepted};
 ghost use Rattle.hla_federation.specs.Steps.Memory.{arrival_takes_memory};
-ghost use Rattle.hla_federation.specs.Steps.Picking.{next_callback, member_after_pick};
 
 use crate::incoming::Incoming;
-use crate::messages::{callback_of, carried_event};
-use hla_base::{Fault, FederateNo, List, Serial};
+use crate::messages::callback_of;
+use hla_base::{Fault, FederateNo, List, Serial, Ticks};
 use hla_callbacks::Callback;
+use hla_local::Local;
 use hla_machine::Carried;
 use hla_null_message::Message;
-use hla_order_queues::{Control, RoQueue};
 use std::alloc::Global;
-use std::collections::VecDeque;
 use std::marker::Model;
 
-/// A federate with its local component: what has arrived for it, and the wires that lead to it. One that has resigned
-/// keeps its name and its next serial.
+/// A federate with its component, and the wires that lead to it. One that has resigned keeps its name and its next serial.
 #[derive(Debug, Drop)]
 pub struct Member {
     name: List<u8>,
     joined: bool,
     next_serial: Serial,
-    received: RoQueue,
-    controls: VecDeque<Control>,
+    local: Local,
     incoming: Incoming,
 }
 
@@ -39,36 +37,15 @@ impl Model for Member {
 
     ghost Value = { RoomyMember };
 
-    ghost view = { λ m. record { shown = record { name = m.name; joined = m.joined; next_serial = m.next_serial; received = m.received.events; controls = m.controls.items; incoming = m.incoming.wires }; rooms = m.incoming.rooms } };
-}
-
-/// Makes room for what a message leaves with its receiver, if it leaves anything; `OutOfMemory` where that was refused.
-fn reserve_for(
-    message: Option<&Message>,
-    received: &mut RoQueue,
-    controls: &mut VecDeque<Control>,
-) -> Result<(), Fault>
-    ensures received { received.new.events ≡ received.old.events }
-    ensures controls { controls.new.items ≡ controls.old.items }
-    ensures ok { OnOk result (HasRoomFor (option_copied message.entry) received.new.room
-        (deque_capacity controls.new - deque_len controls.new)) }
-    ensures err { IfErr result (λ e. e ≡ Fault.OutOfMemory) }
-    ensures memory { OnErr result (arrival_takes_memory (option_copied message.entry) ≡ true) }
-{
-    match message {
-        Some(Message::Event(_)) => received.reserve_one(),
-        Some(Message::Discovery(_)) => match controls.reserve(1) {
-            Ok(()) => Ok(()),
-            Err(_) => Err(Fault::OutOfMemory),
-        },
-        _ => Ok(()),
-    }
+    ghost view = { λ m. record { shown = record { name = m.name; joined = m.joined; next_serial = m.next_serial; local = m.local; incoming = m.incoming.wires }; rooms = m.incoming.rooms } };
 }
 
 impl Member {
     /// A federate that has just joined.
     pub fn new(alloc: Global, name: List<u8>) -> Result<Member, Fault>
-        ensures ok { IfOk result (λ m. m.shown ≡ new_member name m.shown.incoming) }
+        ensures ok { IfOk result (λ m. m.shown ≡ record (new_member name [] m.shown.incoming) { local = m.shown.local }) }
+        ensures local { IfOk result (λ m. m.shown.local ≡ new_local m.shown.local.peers) }
+        ensures unmet { IfOk result (λ m. peers_of m.shown.local.peers ≡ no_peers) }
         ensures quiet { IfOk result (λ m. AreQuiet m.shown.incoming) }
         ensures err { IfErr result (λ e. e ≡ Fault.OutOfMemory) }
     {
@@ -76,8 +53,7 @@ impl Member {
             name,
             joined: true,
             next_serial: 1,
-            received: RoQueue::new(alloc),
-            controls: VecDeque::new(alloc),
+            local: Local::new(alloc),
             incoming: Incoming::new(alloc)?,
         })
     }
@@ -138,67 +114,66 @@ impl Member {
         self.incoming.append(from, messages)
     }
 
+    /// Its component.
+    pub fn local(&self) -> &Local
+        ensures { result.now ≡ self.now.shown.local }
+    {
+        &self.local
+    }
+
+    /// It takes over what a peer announced last, and that peer's epoch.
+    pub fn meet(&mut self, peer: FederateNo, epoch: u64, announced: Ticks)
+        requires some { 0 < peer }
+        requires within { peer ≤ max_joins }
+        ensures same { self.new ≡ record self.old {
+          shown = record self.old.shown {
+            local = record self.old.shown.local { peers = self.new.shown.local.peers };
+          };
+        } }
+        ensures peers { peers_of self.new.shown.local.peers ≡ record {
+          bound = upd (peers_of self.old.shown.local.peers).bound peer announced;
+          known_epoch = upd (peers_of self.old.shown.local.peers).known_epoch peer epoch;
+        } }
+    {
+        self.local.meet(peer, epoch, announced);
+    }
+
     /// The first message on the wire from a federate comes to it; `OutOfMemory`, and all as it was, where a growth was
     /// refused.
     pub fn arrive(&mut self, from: FederateNo) -> Result<Carried, Fault>
         requires some { 0 < from }
         requires within { from ≤ max_joins }
-        requires unretracting { IsUnretracting (item [] self.old.shown.incoming from) }
+        requires may_arrive { MayArrive from (item [] self.old.shown.incoming from) self.old.shown.local }
         ensures answer { IfOk result (λ x. x ≡ carried_of from (item [] self.old.shown.incoming from)) }
-        ensures small { IfOk result (λ x. IsSmall x) }
-        ensures state { OnOk result (self.new.shown ≡ record (member_receiving from self.old.shown (item [] self.old.shown.incoming from)) {
+        ensures same { OnOk result (self.new.shown ≡ record self.old.shown {
+          local = self.new.shown.local;
           incoming = self.new.shown.incoming;
         }) }
         ensures wires { OnOk result (item [] self.new.shown.incoming ≡ upd (item [] self.old.shown.incoming)
             from (drop 1 (item [] self.old.shown.incoming from))) }
+        ensures local { OnOk result (HasAccepted from (item [] self.old.shown.incoming from)
+            self.old.shown.local self.new.shown.local) }
         ensures err { IfErr result (λ e. e ≡ Fault.OutOfMemory) }
-        ensures memory { OnErr result (arrival_takes_memory
-            (slice_get (item [] self.old.shown.incoming from) 0) ≡ true) }
+        ensures memory { OnErr result (arrival_takes_memory (item [] self.old.shown.incoming from) ≡ true) }
         ensures unchanged { OnErr result (self.new.shown ≡ self.old.shown) }
     {
-        if self.incoming.is_empty(from) {
-            return Ok(Carried::Nothing);
-        }
-        reserve_for(
-            self.incoming.first(from),
-            &mut self.received,
-            &mut self.controls,
-        )?;
-        match self.incoming.take_first(from) {
-            Some(Message::Event(event)) => {
-                let carried = carried_event(&event);
-                self.received.put(event);
-                Ok(carried)
-            }
-            // what it knows of its peers is FOREVER as long as nobody regulates, and stays that
-            Some(Message::Null { bound, .. }) => Ok(Carried::Null { bound }),
-            Some(Message::Discovery(discovery)) => {
-                let object = discovery.object;
-                self.controls
-                    .push_back_reserved(Control::ToDiscover { from, discovery });
-                Ok(Carried::Discovery { object })
-            }
-            _ => unreachable!(),
-        }
+        self.incoming.hand_over(from, &mut self.local)
     }
 
-    /// It picks up the first of its controls, or else the message that has waited longest, if there is any.
-    pub fn pick_up(&mut self) -> Option<Callback>
-        ensures callback { result ≡ next_callback self.old.shown.controls self.old.shown.received }
-        ensures state { self.new.shown ≡ member_after_pick self.old.shown self.old.shown.controls }
+    /// It picks up what its component gives it, if there is anything; `OutOfMemory`, and all as it was, where it is to be
+    /// constrained from now on and room for what moves was refused.
+    pub fn pick_up(&mut self) -> Result<Option<Callback>, Fault>
+        ensures callback { IfOk result (λ k. k ≡ callback_given (picked_by self.old.shown.local.row
+            (local_pick self.old.shown.local))) }
+        ensures state { OnOk result (self.new.shown ≡ record self.old.shown {
+          local = local_picking self.old.shown.local (local_pick self.old.shown.local);
+        }) }
+        ensures err { IfErr result (λ e. e ≡ Fault.OutOfMemory) }
+        ensures memory { OnErr result (local_pick self.old.shown.local ≡ PickConstrains) }
+        ensures unchanged { OnErr result (self.new.shown ≡ self.old.shown) }
     {
-        match self.controls.pop_front() {
-            Some(Control::ToDiscover { discovery, .. }) => Some(Callback::DiscoverObjectInstance {
-                object: discovery.object,
-                class: discovery.class,
-                name: discovery.name,
-            }),
-            Some(Control::ToRetract { event }) => Some(Callback::RequestRetraction { event }),
-            None => match self.received.take_first() {
-                Some(event) => Some(callback_of(event)),
-                None => None,
-            },
-        }
+        let picked = self.local.pick()?;
+        Ok(callback_of(picked))
     }
 
     /// It resigns: what waits for it and what is under way to it is dropped.
@@ -207,8 +182,7 @@ impl Member {
         ensures quiet { AreQuiet self.new.shown.incoming }
     {
         self.joined = false;
-        self.received.clear();
-        self.controls.clear();
+        self.local.resign();
         self.incoming.clear();
     }
 }

@@ -1,22 +1,26 @@
 //! The federates of an execution.
 
-ghost use Rattle.std.specs.Prelude.{◌≡◌, ◌≢◌, ◌<◌, ◌≤◌, ◌+◌, ◌++◌, [], ℕ, length, false, true, ◌&&◌, ◌⊎◌, IfOk, IfErr, OnOk, OnErr, slice_get};
+ghost use Rattle.std.specs.Prelude.{◌≡◌, ◌≢◌, ◌<◌, ◌≤◌, ◌+◌, ◌++◌, [], ℕ, length, false, true, ◌&&◌, ◌⊎◌, IfOk, IfErr, OnOk, OnErr};
 ghost use Rattle.std.specs.List.{list_any};
 ghost use Rattle.std.specs.Str.{bytes_eq};
 ghost use Rattle.hla_base.specs.Limits.{max_joins, largest_number};
 ghost use Rattle.hla_base.specs.declared.fault.Fault.TheVariants.{OutOfMemory};
 ghost use Rattle.hla_base.specs.Tables.{upd, upd2, numbers_below};
-ghost use Rattle.hla_federation.specs.Tables.Members.{members_of, room_in, IsEnd, AreQuiet, new_member, with_member_admitted, with_member_withdrawn, with_first_picked, HasRoom, wires_posted_below, IsUnretracting, IsSmall, carried_of, with_arrival};
+ghost use Rattle.hla_federation.specs.Tables.Members.{members_of, room_in, IsEnd, AreQuiet, new_member, with_member_admitted, with_member_withdrawn, with_component, HasRoom, wires_posted_below, MayArrive, HasAccepted, carried_of, with_arrival};
 ghost use Rattle.hla_federation.specs.declared.direction.Direction.TheVariants.{From};
 ghost use Rattle.hla_federation.specs.Tables.MemberValue.{item, RoomyMember};
 ghost use Rattle.hla_federation.specs.Steps.Memory.{arrival_takes_memory};
-ghost use Rattle.hla_federation.specs.Steps.Picking.{next_callback};
+ghost use Rattle.hla_lbts.specs.Peers.{peers_of};
+ghost use Rattle.hla_local.specs.LocalValue.{no_peers};
+ghost use Rattle.hla_local.specs.Picking.{PickConstrains, picked_by, local_pick, local_picking};
+ghost use Rattle.hla_components.specs.Locals.{callback_given};
 
 use crate::direction::Direction;
 use crate::member::Member;
 use crate::outbox::Outbox;
 use hla_base::{Fault, FederateNo, Serial};
 use hla_callbacks::Callback;
+use hla_local::Local;
 use hla_machine::Carried;
 use hla_null_message::Message;
 use std::alloc::Global;
@@ -111,6 +115,15 @@ impl Members {
         self.members[federate as usize - 1].next_serial()
     }
 
+    /// A federate's component.
+    pub fn local(&self, federate: FederateNo) -> &Local
+        requires some { 0 < federate }
+        requires within { federate < (members_of self.now.shown).next_federate }
+        ensures { result.now ≡ (members_of self.now.shown).local federate }
+    {
+        self.members[federate as usize - 1].local()
+    }
+
     /// So many more messages were sent by a federate.
     pub fn count_messages(&mut self, federate: FederateNo, count: u64)
         requires some { 0 < federate }
@@ -135,14 +148,37 @@ impl Members {
         }
     }
 
+    /// A newcomer takes over what each federate announced last.
+    pub fn introduce(&self, newcomer: &mut Member)
+        requires few { (members_of self.now.shown).next_federate ≤ max_joins }
+        requires unmet { peers_of newcomer.old.shown.local.peers ≡ no_peers }
+        ensures same { newcomer.new ≡ record newcomer.old {
+          shown = record newcomer.old.shown {
+            local = record newcomer.old.shown.local { peers = newcomer.new.shown.local.peers };
+          };
+        } }
+        ensures peers { peers_of newcomer.new.shown.local.peers ≡ record {
+          bound = λ g. ((members_of self.now.shown).local g).last_announced;
+          known_epoch = λ g. ((members_of self.now.shown).local g).epoch;
+        } }
+    {
+        let end = self.next_federate();
+        for peer in 1..end {
+            let local = self.members[peer as usize - 1].local();
+            newcomer.meet(peer, local.epoch(), local.last_announced());
+        }
+    }
+
     /// A federate joins. It takes no memory.
     pub fn admit(&mut self, member: Member)
         requires room { 0 < self.old.spare }
         requires few { (members_of self.old.shown).next_federate ≤ max_joins }
-        requires new { member.shown ≡ new_member member.shown.name member.shown.incoming }
+        requires new { member.shown ≡ record (new_member member.shown.name [] member.shown.incoming) {
+          local = member.shown.local;
+        } }
         requires quiet { AreQuiet member.shown.incoming }
         ensures { members_of self.new.shown ≡ with_member_admitted (members_of self.old.shown)
-            member.shown.name }
+            member.shown.name member.shown.local }
     {
         self.members.push_reserved(member);
     }
@@ -248,30 +284,37 @@ impl Members {
     /// The first message on a wire comes to its receiver; `OutOfMemory`, and all as it was, where a growth was refused.
     pub fn arrive(&mut self, from: FederateNo, to: FederateNo) -> Result<Carried, Fault>
         requires some_from { 0 < from }
-        requires within_from { from ≤ max_joins }
+        requires within_from { from < (members_of self.old.shown).next_federate }
         requires some { 0 < to }
         requires within { to < (members_of self.old.shown).next_federate }
-        requires unretracting { IsUnretracting ((members_of self.old.shown).wire from to) }
+        requires may_arrive { MayArrive from ((members_of self.old.shown).wire from to)
+            ((members_of self.old.shown).local to) }
         ensures answer { IfOk result (λ x. x ≡ carried_of from ((members_of self.old.shown).wire from to)) }
-        ensures small { IfOk result (λ x. IsSmall x) }
         ensures state { OnOk result (members_of self.new.shown ≡ with_arrival from to
-            (members_of self.old.shown)) }
+            ((members_of self.new.shown).local to) (members_of self.old.shown)) }
+        ensures local { OnOk result (HasAccepted from ((members_of self.old.shown).wire from to)
+            ((members_of self.old.shown).local to) ((members_of self.new.shown).local to)) }
         ensures err { IfErr result (λ e. e ≡ Fault.OutOfMemory) }
-        ensures memory { OnErr result (arrival_takes_memory
-            (slice_get ((members_of self.old.shown).wire from to) 0) ≡ true) }
+        ensures memory { OnErr result (arrival_takes_memory ((members_of self.old.shown).wire from to) ≡ true) }
         ensures unchanged { OnErr result (self.new.shown ≡ self.old.shown) }
     {
         self.members[to as usize - 1].arrive(from)
     }
 
-    /// A federate picks up the first of its controls, or else the message that has waited longest, if there is any.
-    pub fn pick_up(&mut self, federate: FederateNo) -> Option<Callback>
+    /// A federate picks up what its component gives it, if there is anything; `OutOfMemory`, and all as it was, where it is to
+    /// be constrained from now on and room for what moves was refused.
+    pub fn pick_up(&mut self, federate: FederateNo) -> Result<Option<Callback>, Fault>
         requires some { 0 < federate }
         requires within { federate < (members_of self.old.shown).next_federate }
-        ensures callback { result ≡ next_callback ((members_of self.old.shown).controls federate)
-            ((members_of self.old.shown).ro federate) }
-        ensures state { members_of self.new.shown ≡ with_first_picked (members_of self.old.shown) federate
-            ((members_of self.old.shown).controls federate) }
+        ensures callback { IfOk result (λ k. k ≡ callback_given (picked_by
+            ((members_of self.old.shown).local federate).row
+            (local_pick ((members_of self.old.shown).local federate)))) }
+        ensures state { OnOk result (members_of self.new.shown ≡ with_component (members_of self.old.shown) federate
+            (local_picking ((members_of self.old.shown).local federate)
+            (local_pick ((members_of self.old.shown).local federate)))) }
+        ensures err { IfErr result (λ e. e ≡ Fault.OutOfMemory) }
+        ensures memory { OnErr result (local_pick ((members_of self.old.shown).local federate) ≡ PickConstrains) }
+        ensures unchanged { OnErr result (self.new.shown ≡ self.old.shown) }
     {
         self.members[federate as usize - 1].pick_up()
     }

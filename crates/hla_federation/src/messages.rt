@@ -1,14 +1,36 @@
-//! What events say when they are carried and given.
+//! What is said of messages that are carried, and the callbacks of what is picked up.
 
 ghost use Rattle.std.specs.Prelude.{◌≡◌};
+ghost use Rattle.hla_components.specs.Locals.{callback_given, carried_by};
 ghost use Rattle.hla_components.specs.Next.{carried_event, event_callback, delivery_of};
 
-use hla_base::{Content, Event, EventHandle};
+use hla_base::{Content, Event, EventHandle, FederateNo};
 use hla_callbacks::{Callback, Delivery};
+use hla_local::Picked;
 use hla_machine::Carried;
+use hla_null_message::Message;
+use hla_order_queues::Control;
 
-/// What is said of an event that was carried.
-pub fn carried_event(event: &Event) -> Carried
+/// What is said of a message from a federate that is carried.
+pub fn carried_by(from: FederateNo, message: &Message) -> Carried
+    ensures { result ≡ carried_by from message.now }
+{
+    match message {
+        Message::Event(event) => carried_event(event),
+        Message::Null { bound, .. } => Carried::Null { bound: *bound },
+        Message::Retraction(serial) => Carried::Retraction {
+            event: EventHandle {
+                sender: from,
+                serial: *serial,
+            },
+        },
+        Message::Discovery(discovery) => Carried::Discovery {
+            object: discovery.object,
+        },
+    }
+}
+
+fn carried_event(event: &Event) -> Carried
     ensures { result ≡ carried_event event.now }
 {
     let handle = EventHandle {
@@ -21,15 +43,51 @@ pub fn carried_event(event: &Event) -> Carried
     }
 }
 
-/// The callback of an event that is given in receive order.
-pub fn callback_of(event: Event) -> Callback
-    ensures { result ≡ event_callback (delivery_of event) event }
+/// The callback of what a federate picked up, if it is anything.
+pub fn callback_of(picked: Picked) -> Option<Callback>
+    ensures { result ≡ callback_given picked }
 {
-    let delivery = if event.ordered {
+    match picked {
+        Picked::Nothing => None,
+        Picked::Control(Control::ToDiscover { discovery, .. }) => {
+            Some(Callback::DiscoverObjectInstance {
+                object: discovery.object,
+                class: discovery.class,
+                name: discovery.name,
+            })
+        }
+        Picked::Control(Control::ToRetract { event }) => Some(Callback::RequestRetraction {
+            event,
+        }),
+        Picked::Received(event) => {
+            let delivery = delivery_of(&event);
+            Some(event_callback(delivery, event))
+        }
+        Picked::Regulation(time) => Some(Callback::TimeRegulationEnabled { time }),
+        Picked::Constraint(time) => Some(Callback::TimeConstrainedEnabled { time }),
+        Picked::Ordered(event) => Some(event_callback(
+            Delivery::TimeStamp { stamp: event.stamp },
+            event,
+        )),
+        Picked::Grant(time) => Some(Callback::TimeAdvanceGrant { time }),
+    }
+}
+
+/// How an event is given that is picked up in receive order.
+fn delivery_of(event: &Event) -> Delivery
+    ensures { result ≡ delivery_of event.now }
+{
+    if event.ordered {
         Delivery::Demoted { stamp: event.stamp }
     } else {
         Delivery::Receive
-    };
+    }
+}
+
+/// The callback of an event that is given in this way.
+fn event_callback(delivery: Delivery, event: Event) -> Callback
+    ensures { result ≡ event_callback delivery event }
+{
     let handle = EventHandle {
         sender: event.sender,
         serial: event.serial,

@@ -1,9 +1,9 @@
 //! The state of one federate's component, and what services do to it.
 
-ghost use Rattle.std.specs.Prelude.{◌≡◌, ◌≤◌, ◌<◌, ◌+◌, ◌*◌, ◌++◌, [], ℕ, min, OnOk, OnErr, IfErr};
+ghost use Rattle.std.specs.Prelude.{◌≡◌, ◌≤◌, ◌<◌, ◌+◌, ◌*◌, ◌++◌, [], ℕ, false, min, OnOk, OnErr, IfErr};
 ghost use Rattle.hla_base.specs.Limits.{max_joins, max_time, max_enablings, largest_number};
 ghost use Rattle.hla_base.specs.Tables.{forever, upd, least};
-ghost use Rattle.hla_base.specs.Rows.{row_after_request, row_with_entry, bar_of};
+ghost use Rattle.hla_base.specs.Rows.{is_constrained, row_after_request, row_with_entry, bar_of};
 ghost use Rattle.hla_base.specs.declared.fault.Fault.TheVariants.{OutOfMemory};
 ghost use Rattle.hla_base.specs.declared.row.Role.TheVariants.{Disabled, Pending};
 ghost use Rattle.hla_lbts.specs.Peers.{peers_of};
@@ -145,8 +145,9 @@ impl Local {
     /// it. A new epoch begins, and the entry is what it announces.
     pub fn regulate_from(&mut self, lookahead: Ticks, entry: Ticks)
         requires lookahead { lookahead ≤ max_time }
-        requires entry { entry ≤ max_time + lookahead }
+        requires entry { entry ≤ 2 * max_time }
         requires above { lookahead ≤ entry }
+        requires start { is_constrained self.old.row ≡ false → entry ≤ max_time + lookahead }
         requires few { self.old.row.enablings < max_enablings }
         requires epochs { self.old.epoch < largest_number }
         ensures { self.new ≡ record self.old {

@@ -27,7 +27,7 @@ use Rattle.hla_machine.specs.declared.step.Outcome.TheVariants as outcome
 use Rattle.hla_machine.specs.declared.step.Choice.{Choice}
 use Rattle.hla_machine.specs.declared.step.Choice.TheVariants as choice
 use Rattle.hla_machine.specs.Directory.{Directory, Outgoing, content_for, is_receiver, objects_of, deletions_sent, deletion_sent, update_sent, interaction_sent, with_member}
-use Rattle.hla_machine.specs.Central.{Central, new_central, no_event, Copy, CopyOrder, Ro, Tso, Demoted, SentEvent, at_key, with_copies, is_key, demoted_order, demoted_copy}
+use Rattle.hla_machine.specs.Central.{Central, new_central, Copy, CopyOrder, Ro, Tso, Demoted, at_key, with_copies, is_key, demoted_order, demoted_copy}
 use Rattle.hla_machine.specs.Callbacks.{with_demoted, is_among, after_delivery, after_constraint, after_pick}
 use Rattle.hla_machine.specs.Sends.{after_message, after_messages, sent_event, copy_for, is_ordered, kept_stamp, is_retractable, is_told, owed_to_receivers}
 use Rattle.hla_machine.specs.Machine.{central_seen, MayEnd, after, after_done, after_call, after_resign, after_carry, after_retract, after_enter, after_cease, after_leaving, after_arrival, after_retraction_arrival}
@@ -35,6 +35,7 @@ use Rattle.hla_machine.specs.Refusals.{refusal}
 use Rattle.hla_machine.specs.CentralInvariant.{CentralInv}
 use Rattle.hla_machine.proofs.Tests.{clear_call, not-is-false}
 use Rattle.hla_base.proofs.Tables.{upd_each, by_number, upd_same, upd_other, upd2_each, upd2_same, upd2_other}
+use Rattle.hla_retraction.specs.SentEvents.{SentEvent, no_event}
 use Rattle.hla_machine.proofs.Bags.{option_map-some, or_else-cases, by_key, key_parts, at_key_here, at_key_else, copies_here, copies_else, at3_else}
 
 -- no copies but those of before, perhaps demoted

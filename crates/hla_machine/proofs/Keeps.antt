@@ -10,10 +10,11 @@ use Rattle.hla_base.specs.Rows.{is_regulator, is_constrained, is_enabled, is_dis
 use Rattle.hla_base.specs.declared.row.Role.{Role}
 use Rattle.hla_base.specs.declared.row.Role.TheVariants.{Disabled, Pending, Enabled}
 use Rattle.hla_machine.specs.Directory.{Outgoing, content_for}
-use Rattle.hla_machine.specs.Central.{Central, Copy, CopyOrder, Ro, Tso, Demoted, SentEvent, BelowTso, BelowOut, with_copies, is_key, at_key, demoted_order, demoted_copy}
+use Rattle.hla_machine.specs.Central.{Central, Copy, CopyOrder, Ro, Tso, Demoted, BelowTso, BelowOut, with_copies, is_key, at_key, demoted_order, demoted_copy}
 use Rattle.hla_machine.specs.Callbacks.{with_demoted, is_among}
 use Rattle.hla_machine.specs.Sends.{is_ordered, kept_stamp, copy_for, after_message}
 use Rattle.hla_base.proofs.Tables.{by_number, upd_same, upd_other, upd_each, upd2_other}
+use Rattle.hla_retraction.specs.SentEvents.{SentEvent}
 use Rattle.hla_machine.proofs.Rows.{RowLaw, out_least, bar_least, out_low, out_idle}
 
 abbrev pub Bag : Type 0

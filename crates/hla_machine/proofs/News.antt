@@ -21,12 +21,13 @@ use Rattle.hla_machine.specs.declared.step.Outcome.TheVariants as outcome
 use Rattle.hla_machine.specs.declared.step.Choice.{Choice}
 use Rattle.hla_machine.specs.declared.step.Choice.TheVariants as choice
 use Rattle.hla_machine.specs.Directory.{Outgoing, deletion_sent, deletions_sent, objects_of, update_sent, interaction_sent}
-use Rattle.hla_machine.specs.Central.{Central, Copy, Tso, SentEvent, at_key, demoted_copy}
+use Rattle.hla_machine.specs.Central.{Central, Copy, Tso, at_key, demoted_copy}
 use Rattle.hla_machine.specs.Callbacks.{with_demoted, after_delivery, after_constraint, after_pick}
 use Rattle.hla_machine.specs.Sends.{after_message, after_messages}
 use Rattle.hla_machine.specs.Refusals.{refusal}
 use Rattle.hla_machine.specs.Machine.{central_seen, MayAnswer, MayDo, MayEnd, after_leaving, after_join, after_retract, after_enter, after_cease, after_call, after_carry, after_done, after}
 use Rattle.hla_base.proofs.Tables.{upd_each, upd2_each}
+use Rattle.hla_retraction.specs.SentEvents.{SentEvent}
 use Rattle.hla_machine.proofs.Tests.{clear_call}
 use Rattle.hla_machine.proofs.Keeps.{IsKept, NoMore, fewer_removed, fewer_demoted, fewer_moved, keeps_sent, new_or_old}
 use Rattle.hla_machine.proofs.Services.{EachHigh, each_high_unstamped, high_stamps, left_fewer, same_bag}

@@ -24,7 +24,7 @@ use Rattle.hla_machine.specs.declared.step.Outcome.TheVariants as outcome
 use Rattle.hla_machine.specs.declared.step.Choice.{Choice}
 use Rattle.hla_machine.specs.declared.step.Choice.TheVariants as choice
 use Rattle.hla_machine.specs.Directory.{Outgoing, deletion_sent, deletions_sent, objects_of, update_sent, interaction_sent}
-use Rattle.hla_machine.specs.Central.{Central, Copy, Ro, Tso, Demoted, SentEvent, at_key, is_key, with_copies, demoted_copy}
+use Rattle.hla_machine.specs.Central.{Central, Copy, Ro, Tso, Demoted, at_key, is_key, with_copies, demoted_copy}
 use Rattle.hla_machine.specs.Callbacks.{IsCopy, MayDeliver, MayPickUp, is_among, with_demoted, after_delivery, after_constraint, after_pick}
 use Rattle.hla_machine.specs.Sends.{after_message, after_messages, copy_for}
 use Rattle.hla_machine.specs.Refusals.{refusal}
@@ -34,6 +34,7 @@ use Rattle.hla_machine.specs.CentralInvariant.{CentralInv}
 use Rattle.hla_machine.specs.Runs.{Happening, IsRun}
 use Rattle.hla_machine.specs.History.{GivesCallback, Names, Hears, Happens, IsOnItsWay, IsSettled, HasHistory, next_state}
 use Rattle.hla_base.proofs.Tables.{by_number, upd_same, upd_other}
+use Rattle.hla_retraction.specs.SentEvents.{SentEvent}
 use Rattle.hla_machine.proofs.Tests.{caller_joined}
 use Rattle.hla_machine.proofs.CentralInvariant.{laws_after, laws_start}
 use Rattle.hla_machine.proofs.Fates.{Owing, at_cases, copies_stay, demoted_cases, handle_is}

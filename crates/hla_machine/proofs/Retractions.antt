@@ -24,12 +24,13 @@ use Rattle.hla_machine.specs.declared.step.Outcome.TheVariants as outcome
 use Rattle.hla_machine.specs.declared.step.Choice.{Choice}
 use Rattle.hla_machine.specs.declared.step.Choice.TheVariants as choice
 use Rattle.hla_machine.specs.Directory.{Outgoing, deletion_sent, deletions_sent, objects_of, update_sent, interaction_sent}
-use Rattle.hla_machine.specs.Central.{Central, new_central, SentEvent, at3, is_key, no_event}
+use Rattle.hla_machine.specs.Central.{Central, new_central, at3, is_key}
 use Rattle.hla_machine.specs.Callbacks.{after_delivery, after_constraint, after_pick}
-use Rattle.hla_machine.specs.Sends.{after_message, after_messages, sent_event, is_retractable, may_retract, is_told, owed_to_receivers}
+use Rattle.hla_machine.specs.Sends.{after_message, after_messages, sent_event, is_retractable, is_told, owed_to_receivers}
 use Rattle.hla_machine.specs.Refusals.{refusal}
 use Rattle.hla_machine.specs.Machine.{central_seen, MayEnd, after_leaving, after_retract, after_enter, after_cease, after_call, after_carry, after_done, after}
 use Rattle.hla_base.proofs.Tables.{by_number, upd_same, upd_other, upd2_same, upd2_other, upd2_each}
+use Rattle.hla_retraction.specs.SentEvents.{SentEvent, no_event, may_retract}
 use Rattle.hla_machine.proofs.Tests.{clear_call, not-is-false}
 
 -- what is retracted or may be was sent, and what is owed is retracted

@@ -6,6 +6,7 @@ use Rattle.hla_base.specs.declared.number.EventHandle.{EventHandle}
 use Rattle.hla_base.specs.declared.row.TimeRow.{TimeRow}
 use Rattle.hla_base.specs.Tables.{upd, upd2, is_other, or_else, when}
 use Rattle.hla_base.proofs.Tables.{upd_same, upd2_same, upd2_other}
+use Rattle.hla_retraction.specs.SentEvents.{SentEvent, no_event}
 use Rattle.hla_machine.specs.declared.service.Service.{Service}
 use Rattle.hla_machine.specs.declared.service.Service.TheVariants as service
 use Rattle.hla_machine.specs.declared.step.Step.TheVariants.{Call}
@@ -13,7 +14,7 @@ use Rattle.hla_machine.specs.declared.step.Answer.TheVariants as answer
 use Rattle.hla_machine.specs.declared.step.Outcome.TheVariants as outcome
 use Rattle.hla_machine.specs.declared.step.Choice.{Choice}
 use Rattle.hla_machine.specs.Directory.{Outgoing, content_for, is_receiver, update_sent, interaction_sent}
-use Rattle.hla_machine.specs.Central.{Central, Copy, Ro, Tso, SentEvent, no_event}
+use Rattle.hla_machine.specs.Central.{Central, Copy, Ro, Tso}
 use Rattle.hla_machine.specs.Sends.{is_ordered, kept_stamp, is_retractable, sent_event, sent_handle, copy_for, after_message, after_messages}
 use Rattle.hla_machine.specs.Machine.{MayAnswer, after}
 use Rattle.hla_machine.specs.History.{WaitsInOrder}

@@ -16,13 +16,14 @@ use Rattle.hla_machine.specs.declared.step.Answer.TheVariants as answer
 use Rattle.hla_machine.specs.declared.step.Choice.{Choice}
 use Rattle.hla_machine.specs.declared.step.Choice.TheVariants as choice
 use Rattle.hla_machine.specs.Directory.{Outgoing, is_of_order, objects_of, deletions_sent}
-use Rattle.hla_machine.specs.Central.{Central, Copy, SentEvent, low_entry}
+use Rattle.hla_machine.specs.Central.{Central, Copy, low_entry}
 use Rattle.hla_machine.specs.Callbacks.{with_demoted, with_central_row}
 use Rattle.hla_machine.specs.Sends.{is_ordered, is_some_ordered, after_message, after_messages}
 use Rattle.hla_base.specs.RowRefusals.{request_tests}
 use Rattle.hla_machine.specs.Refusals.{is_bad_stamp}
 use Rattle.hla_machine.specs.Machine.{MayEnter, MayAnswer, after_leaving, after_resign, after_retract, after_enter, after_cease, after_join}
 use Rattle.hla_base.proofs.Tables.{by_number, upd_same, upd_other, upd_each, upd2_each, le_greatest, greatest_ge}
+use Rattle.hla_retraction.specs.SentEvents.{SentEvent}
 use Rattle.hla_machine.proofs.Tests.{AllClear, not-is-false}
 use Rattle.hla_machine.proofs.Rows.{RowLaw, law_new, law_requested, law_free, law_stopped, law_asynchronous, law_entered, out_low}
 use Rattle.hla_machine.proofs.Keeps.{IsKept, NoMore, low_fewer, low_weaker, fewer_moved, keeps_low, keeps_row, keeps_rest, old_out, keeps_sent}

@@ -10,6 +10,7 @@ use Rattle.hla_base.specs.declared.number.EventHandle.{EventHandle}
 use Rattle.hla_base.specs.Tables.{upd, upd2, is_other, greatest, or_else, when}
 use Rattle.hla_base.specs.Rows.{is_enabled, is_regulator, is_constrained, next_request, width, new_row, reach, bar_of}
 use Rattle.hla_fed_file.specs.CatalogueValue.{CatalogueValue}
+use Rattle.hla_retraction.specs.SentEvents.{SentEvent, no_event}
 use Rattle.hla_machine.specs.Directory.{Directory, new_directory}
 
 -- how a copy goes to its receiver; a demoted one was sent in time-stamp order and is given in receive order
@@ -24,13 +25,6 @@ pub record Copy : Type 0 where
   pub stamp : ℕ  -- 0 for one that was sent in receive order
   pub content : Content
 
--- a message that was sent, by its sender and serial
-pub record SentEvent : Type 0 where
-  pub stamp : ℕ
-  pub retractable : Bool  -- an update or an interaction in time-stamp order
-  pub retracted : Bool
-  pub receivers : ℕ → Bool
-
 pub record Central : Type 0 where
   pub directory : Directory
   pub row : ℕ → TimeRow
@@ -40,9 +34,6 @@ pub record Central : Type 0 where
   pub sent : ℕ → ℕ → SentEvent
   pub owed : ℕ → ℕ → ℕ → ℕ  -- how many retractions of an event are under way to a receiver
   pub due : ℕ → ℕ → ℕ → ℕ  -- how many requests to take an event back wait for a receiver
-
-abbrev pub no_event : SentEvent
-no_event = record { stamp = 0; retractable = false; retracted = false; receivers = λ _. false }
 
 -- an execution that was just created
 abbrev pub new_central : CatalogueValue → Central

@@ -12,6 +12,7 @@ use Rattle.hla_base.specs.Tables.{numbers_below}
 use Rattle.hla_base.specs.Rows.{least_stamp}
 use Rattle.hla_base.specs.RowRefusals.{Test, test_for, first_fault, request_tests, regulation_tests, unregulate_tests, constrain_tests, unconstrain_tests, lookahead_tests, asynchronous_on_tests, asynchronous_off_tests}
 use Rattle.hla_fed_file.specs.Lookup.{is_object_class, is_interaction_class, has_attribute, has_parameter, contains_number, object_class_named, interaction_class_named, attribute_named, parameter_named}
+use Rattle.hla_retraction.specs.SentEvents.{SentEvent, may_retract}
 use Rattle.hla_machine.specs.declared.service.Service.{Service}
 use Rattle.hla_machine.specs.declared.service.Service.TheVariants as service
 use Rattle.hla_machine.specs.declared.service.ResignAction.{ResignAction}
@@ -19,8 +20,8 @@ use Rattle.hla_machine.specs.declared.service.ResignAction.TheVariants.{ReleaseA
 use Rattle.hla_machine.specs.declared.step.Step.{Step}
 use Rattle.hla_machine.specs.declared.step.Step.TheVariants.{Join, Call, Carry, Announce, Tick}
 use Rattle.hla_machine.specs.Directory.{Directory, Object, Outgoing, name_or_default, objects_of, interaction_sent, update_sent, deletion_sent, deletions_sent}
-use Rattle.hla_machine.specs.Central.{SentEvent, low_entry}
-use Rattle.hla_machine.specs.Sends.{is_some_ordered, may_retract}
+use Rattle.hla_machine.specs.Central.{low_entry}
+use Rattle.hla_machine.specs.Sends.{is_some_ordered}
 
 -- what the tests read
 pub record Seen : Type 0 where

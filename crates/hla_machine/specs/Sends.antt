@@ -1,13 +1,14 @@
 -- Sending and retracting messages (HLA 1.3, object management and time management)
-use Rattle.std.specs.Prelude.{ℕ, ◌+◌, ◌≡◌, cond, eqb, ltb, not, ◌&&◌, Bool, true, false, Option, Some, None, is_some, option_map, unwrap_or, List, [], ◌∷◌, length}
+use Rattle.std.specs.Prelude.{ℕ, ◌+◌, ◌≡◌, cond, eqb, not, ◌&&◌, Bool, true, false, Option, Some, None, is_some, option_map, unwrap_or, List, [], ◌∷◌}
 use Rattle.hla_base.specs.declared.number.EventHandle.{EventHandle}
 use Rattle.hla_base.specs.declared.row.TimeRow.{TimeRow}
 use Rattle.hla_base.specs.Tables.{upd, upd2, is_other, or_else, when, one_if}
-use Rattle.hla_base.specs.Rows.{is_enabled, least_stamp}
+use Rattle.hla_base.specs.Rows.{is_enabled}
 use Rattle.hla_fed_file.specs.declared.declared.Order.{Order}
 use Rattle.hla_fed_file.specs.declared.declared.Order.TheVariants.{Receive, Timestamp}
+use Rattle.hla_retraction.specs.SentEvents.{SentEvent, no_event}
 use Rattle.hla_machine.specs.Directory.{Directory, Outgoing, Body, AnInteraction, AnUpdate, ADeletion, content_for, is_receiver, is_of_order}
-use Rattle.hla_machine.specs.Central.{Central, Copy, Ro, Tso, SentEvent, no_event, with_copies, is_key}
+use Rattle.hla_machine.specs.Central.{Central, Copy, Ro, Tso, with_copies, is_key}
 
 -- a message goes in time-stamp order if its order says so, it has a stamp, and its sender regulates
 abbrev pub is_ordered : TimeRow → Option ℕ → Outgoing → Bool
@@ -57,10 +58,6 @@ is_some_ordered r stamp [] = false
 is_some_ordered r stamp (out ∷ outs) = cond (is_ordered r stamp out) true (is_some_ordered r stamp outs)
 
 -- ---- retraction
--- a retraction is accepted from a regulating sender for its own message, not retracted before, above the least stamp that it may send
-abbrev pub may_retract : TimeRow → SentEvent → Bool
-may_retract r e = is_enabled r.regulating && e.retractable && not e.retracted && ltb (least_stamp r) e.stamp
-
 -- to whom a retraction goes
 abbrev pub is_told : Directory → ℕ → SentEvent → ℕ → Bool
 is_told d g e f = is_other d.joined g f && e.receivers f

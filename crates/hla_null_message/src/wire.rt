@@ -1,6 +1,6 @@
 //! A wire from one component to another.
 
-ghost use Rattle.std.specs.Prelude.{◌≡◌, ◌++◌, ◌∷◌, ◌<◌, ◌≤◌, ◌-◌, [], OnOk, IfErr, drop, slice_get, IsTrue, ◌↔◌, length};
+ghost use Rattle.std.specs.Prelude.{◌≡◌, ◌++◌, ◌∷◌, ◌<◌, ◌≤◌, ◌-◌, [], OnOk, OnSome, IfErr, drop, slice_get, IsTrue, ◌↔◌, length};
 ghost use Rattle.std.specs.Option.{option_copied};
 ghost use Rattle.hla_base.specs.declared.fault.Fault.TheVariants.{OutOfMemory};
 
@@ -87,8 +87,17 @@ impl Wire {
     pub fn take_first(&mut self) -> Option<Message>
         ensures first { result ≡ slice_get self.old.messages 0 }
         ensures rest { self.new.messages ≡ drop 1 self.old.messages }
+        ensures freed { OnSome result (0 < self.new.room) }
     {
         self.messages.pop_front()
+    }
+
+    /// Puts a message that was taken off back, ahead of the others. It takes no memory.
+    pub fn put_back(&mut self, message: Message)
+        requires { 0 < self.old.room }
+        ensures { self.new.messages ≡ message ∷ self.old.messages }
+    {
+        self.messages.push_front_reserved(message);
     }
 
     /// Takes all messages off.

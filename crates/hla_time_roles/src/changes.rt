@@ -4,7 +4,7 @@ ghost use Rattle.std.specs.Prelude.{◌≡◌, ◌≤◌, ◌<◌, ◌+◌, ◌*
 ghost use Rattle.hla_base.specs.Limits.{max_time, max_enablings};
 ghost use Rattle.hla_base.specs.declared.row.Role.TheVariants.{Disabled, Pending};
 ghost use Rattle.hla_base.specs.declared.row.AdvanceRequest.{AdvanceRequest};
-ghost use Rattle.hla_base.specs.Rows.{is_flush, row_after_request, row_with_entry, row_after_regulation_enabled, row_after_constraint_enabled, row_after_pick, row_after_grant, bar_after};
+ghost use Rattle.hla_base.specs.Rows.{is_constrained, is_flush, row_after_request, row_with_entry, row_after_regulation_enabled, row_after_constraint_enabled, row_after_pick, row_after_grant, bar_after};
 
 use crate::state::TimeState;
 use hla_base::{AdvanceKind, AdvanceRequest, Role, Ticks};
@@ -28,8 +28,9 @@ impl TimeState {
     /// where it is constrained, and else the entry less the lookahead.
     pub fn regulate_from(&mut self, lookahead: Ticks, entry: Ticks)
         requires lookahead { lookahead ≤ max_time }
-        requires entry { entry ≤ max_time + lookahead }
+        requires entry { entry ≤ 2 * max_time }
         requires above { lookahead ≤ entry }
+        requires start { is_constrained self.old ≡ false → entry ≤ max_time + lookahead }
         requires few { self.old.enablings < max_enablings }
         ensures { self.new ≡ row_with_entry self.old lookahead entry }
     {

@@ -108,7 +108,7 @@ module _ (s : Components) (f : ℕ) (peers : List PeerRow) (known : KnowsPeers s
   given (PickTso q e rest) = ap (λ (t : Components). record (picked_outcome (PickTso q e rest)) { state = t }) (sym (with_tso_changed _ rest))
   given (PickGrant q t) = ap (λ (u : Components). record (picked_outcome (PickGrant q t)) { state = u }) (sym (with_row_changed _))
 
-  bound_is : local_bound s f ≡ least_bound l
+  pub bound_is : local_bound s f ≡ least_bound l
   bound_is = least_beyond s.directory.next_federate (max_joins + 1) (s.bound f) known.few known.unmet ∙ ap (λ (p : PeersValue). least (max_joins + 1) p.bound) (sym known.tables)
 
   pub ticked : tick_outcome s f ≡ picked_outcome (local_pick l)

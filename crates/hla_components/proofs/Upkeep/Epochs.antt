@@ -9,7 +9,6 @@ use Rattle.hla_null_message.specs.declared.message.Message.{Message}
 use Rattle.hla_null_message.specs.declared.message.Message.TheVariants as message
 use Rattle.hla_base.specs.Tables.{forever, upd, upd_row, upd_column, is_other, least, when}
 use Rattle.hla_base.specs.Rows.{is_regulator, is_constrained, is_pending, is_disabled, is_enabled, next_request, width, row_with_entry}
-use Rattle.hla_machine.specs.Central.{SentEvent}
 use Rattle.hla_order_queues.specs.Queues.{remove_event}
 use Rattle.hla_components.specs.Components.{Components}
 use Rattle.hla_null_message.specs.Promise.{promise_in}
@@ -22,6 +21,7 @@ use Rattle.hla_components.proofs.Wiring.Queues.{IsTsoQueue-remove, first_stamp-r
 use Rattle.hla_components.proofs.Wiring.Carries.{Carries-at, Carries-later, Carries-null, Carries-enter, Carries-retract}
 use Rattle.hla_components.proofs.Upkeep.Times.{CarriesIn, fresh_in-mono}
 use Rattle.hla_base.proofs.Tables.{upd_each, upd_same, upd_other, by_number, upd2_each, upd_row_each, upd_row_here, upd_row_self, upd_row_other, upd_column_here, upd_column_self, upd_column_other, upd_column_each, least_le, le_least, least_le-forever}
+use Rattle.hla_retraction.specs.SentEvents.{SentEvent}
 
 -- ---- a federate enables regulation
 when_none : (b : Bool) → when {X = AdvanceRequest} b None ≡ None

@@ -23,7 +23,7 @@ use Rattle.hla_machine.specs.Directory.{Directory, AnInteraction, AnUpdate, ADel
 use Rattle.hla_federation.specs.Tables.FederationValue.{FederationValue}
 use Rattle.hla_federation.specs.Tables.MemberValue.{item, MemberValue}
 use Rattle.hla_federation.specs.Tables.Members.{no_member, members_of, is_number}
-use Rattle.hla_federation.specs.Steps.Sending.{HasAdded, said_messages, message_to, messages_among}
+use Rattle.hla_federation.specs.Steps.Sending.{HasAdded, said_messages, message_to, messages_among, null_to}
 use Rattle.hla_federation.specs.Steps.State.{state_of, IsWhole}
 use Rattle.hla_base.proofs.Tables.{upd_same, upd_other}
 
@@ -251,6 +251,18 @@ module _ (v : FederationValue) (order : Order) (sender serial object : ℕ) wher
   pub removal_last : (end h : ℕ) → length v.members + 1 ≤ end
       → cond (ltb h end) (message_to (state_of v).directory sender serial (record { order = order; body = ADeletion object }) h) [] ≡ message_to (state_of v).directory sender serial (record { order = order; body = ADeletion object }) h
   removal_last end h all = ⊎_elim
+      (λ (y : (members_of v.members).joined h ≡ true). let b = joined_within v.members h y in let below : h < end = omega (arith, b, all) in let now : ltb h end ≡ true = grind (arith, nat_tests) in rw now refl)
+      (λ (n : (members_of v.members).joined h ≡ false). rw (n, and-false (not (eqb sender h))) (cond-same (ltb h end) []))
+      (cases_Bool ((members_of v.members).joined h))
+
+-- ---- null messages, federate by federate
+module _ (v : FederationValue) (sender epoch bound : ℕ) where
+  pub null_first : (h : ℕ) → cond (ltb h 1) (null_to (state_of v).directory sender epoch bound h) [] ≡ []
+  null_first zero = let nobody : is_other (state_of v).directory.joined sender 0 ≡ false = and-false (not (eqb sender 0)) in rw nobody (cond-same (ltb 0 1) [])
+  null_first (suc k) = let past : ltb (suc k) 1 ≡ false = grind (arith, nat_tests) in rw past refl
+
+  pub null_last : (end h : ℕ) → length v.members + 1 ≤ end → cond (ltb h end) (null_to (state_of v).directory sender epoch bound h) [] ≡ null_to (state_of v).directory sender epoch bound h
+  null_last end h all = ⊎_elim
       (λ (y : (members_of v.members).joined h ≡ true). let b = joined_within v.members h y in let below : h < end = omega (arith, b, all) in let now : ltb h end ≡ true = grind (arith, nat_tests) in rw now refl)
       (λ (n : (members_of v.members).joined h ≡ false). rw (n, and-false (not (eqb sender h))) (cond-same (ltb h end) []))
       (cases_Bool ((members_of v.members).joined h))

@@ -1,29 +1,34 @@
 -- What the parts are after a step is what the next-state function says
-use Rattle.std.proofs.Common.{◌≡◌, ◌⊎◌, ⊎_elim, ℕ, ◌+◌, max, cond, eqb, ltb, ◌&&◌, Bool, true, false, None, List, [], ◌∷◌, ◌++◌, drop, refl, sym, ap, ◌∙◌, arith}
+use Rattle.std.proofs.Common.{◌≡◌, ◌≢◌, ◌≤◌, ◌<◌, ◌⊎◌, ⊎_elim, ℕ, ◌+◌, cond, eqb, ltb, not, ◌&&◌, ◌||◌, Bool, true, false, Option, None, Some, List, [], ◌∷◌, ◌++◌, drop, refl, sym, ap, ◌∙◌, arith}
 use Rattle.std.proofs.lemmas.Bool.{cases_Bool}
 use Rattle.std.proofs.lemmas.Bool.Decides.{nat_tests}
 use Rattle.std.proofs.Math.Path.{fun_ext}
-use Rattle.hla_base.specs.declared.content.Event.{Event}
-use Rattle.hla_base.specs.Rows.{new_row}
+use Rattle.hla_base.specs.declared.fault.Fault.{Fault}
+use Rattle.hla_base.specs.declared.fault.Fault.TheVariants as fault
+use Rattle.hla_base.specs.declared.row.TimeRow.{TimeRow}
 use Rattle.hla_base.specs.Tables.{forever, upd, upd2, upd_new, is_other}
+use Rattle.hla_base.proofs.Tables.{upd_other, upd_each}
 use Rattle.hla_fed_file.specs.CatalogueValue.{CatalogueValue}
 use Rattle.hla_declaration.specs.Declarations.{DeclarationsValue}
 use Rattle.hla_object_registry.specs.Registered.{RegistryValue}
+use Rattle.hla_lbts.specs.Peers.{PeersValue, peers_of}
 use Rattle.hla_null_message.specs.declared.message.Message.{Message}
 use Rattle.hla_null_message.specs.declared.message.Message.TheVariants as message
+use Rattle.hla_local.specs.LocalValue.{LocalValue, new_local}
+use Rattle.hla_local.specs.Picking.{Pick, NoPick, PickControl, PickRo, PickRegulates, PickConstrains, PickTso, PickGrant, pick, picked_by, local_pick, local_picking}
 use Rattle.hla_machine.specs.declared.step.Answer.TheVariants as answer
 use Rattle.hla_machine.specs.declared.step.Carried.TheVariants as carried
-use Rattle.hla_order_queues.specs.declared.control.Control.{Control}
-use Rattle.hla_order_queues.specs.declared.control.Control.TheVariants.{ToDiscover, ToRetract}
 use Rattle.hla_components.specs.Components.{Components}
-use Rattle.hla_local.specs.Picking.{pick}
-use Rattle.hla_components.specs.Invariant.{Inv, Carries}
-use Rattle.hla_federation.specs.Tables.Members.{MemberTables, with_member_admitted, with_message_queued, with_first_picked, carried_of, IsUnretracting, IsSmall}
-use Rattle.hla_components.specs.Next.{answer_outcome, pick_outcome, carry_outcome, with_federate_joined, carried_event}
-use Rattle.hla_local.specs.Arriving.{is_kept_in_order}
-use Rattle.hla_federation.specs.Steps.Picking.{next_callback}
-use Rattle.hla_federation.specs.Steps.State.{state_from}
-use Rattle.hla_federation.proofs.Tables.MemberTables.{upd-self}
+use Rattle.hla_components.specs.Invariant.{Inv}
+use Rattle.hla_components.specs.Locals.{with_local, KnowsPeers, callback_given, choice_given, carried_by}
+use Rattle.hla_components.specs.Next.{answer_outcome, chosen_outcome, tick_outcome, carry_outcome, with_federate_joined}
+use Rattle.hla_components.proofs.Services.Locals.{ticked, may_come, bound_is}
+use Rattle.hla_machine.specs.declared.step.Step.TheVariants.{Tick}
+use Rattle.hla_federation.specs.Steps.Memory.{takes_memory, pick_takes_memory}
+use Rattle.hla_components.proofs.Services.Locals.{came as each_came}
+use Rattle.hla_federation.specs.Tables.Members.{MemberTables, with_member_admitted, with_component, carried_of, MayArrive, HasAccepted}
+use Rattle.hla_federation.specs.Steps.State.{state_from, AreWhole, IsUnmet}
+use Rattle.hla_federation.proofs.Tables.MemberTables.{upd-self, upd-field}
 
 pub and-false : (b : Bool) → b && false ≡ false
 and-false true = refl
@@ -40,49 +45,49 @@ module _ (c : CatalogueValue) (d : DeclarationsValue) (r : RegistryValue) (m : M
   abbrev s : Components
   s = state_from c d r m
 
+  -- ---- one component changes
+  pub component_changed : (f : ℕ) (l : LocalValue) → state_from c d r (with_component m f l) ≡ with_local s f l
+  component_changed f l = λ i. record s {
+    row = upd-field (λ (x : LocalValue). x.row) m.local f l i;
+    ro = upd-field (λ (x : LocalValue). x.ro) m.local f l i;
+    tso = upd-field (λ (x : LocalValue). x.tso) m.local f l i;
+    controls = upd-field (λ (x : LocalValue). x.controls) m.local f l i;
+    bound = upd-field (λ (x : LocalValue). (peers_of x.peers).bound) m.local f l i;
+    known_epoch = upd-field (λ (x : LocalValue). (peers_of x.peers).known_epoch) m.local f l i;
+    last_announced = upd-field (λ (x : LocalValue). x.last_announced) m.local f l i;
+    epoch = upd-field (λ (x : LocalValue). x.epoch) m.local f l i;
+  }
+
+  knows : AreWhole c d m → (f : ℕ) → KnowsPeers s f (m.local f).peers
+  knows whole f = record { tables = refl; few = whole.few; unmet = λ g beyond. (whole.unmet f g beyond).bound }
+
   -- ---- picking up
-  pub picked_outcome : (f : ℕ) (ks : List Control) (es : List Event) (bound : ℕ) → m.controls f ≡ ks → m.ro f ≡ es
-      → pick_outcome s f (pick ks new_row es [] bound) ≡ answer_outcome (answer.Ticked (next_callback ks es)) (state_from c d r (with_first_picked m f ks))
-  picked_outcome f [] [] bound ks_is es_is = ap (λ (ro : ℕ → List Event). answer_outcome (answer.Ticked None) (state_from c d r (record m { ro = ro })))
-      (sym (upd-self m.ro f (drop 1 (m.ro f)) (ap (λ (es : List Event). drop 1 es) es_is ∙ sym es_is)))
-  picked_outcome f [] (e ∷ es) bound ks_is es_is = ap (λ (rest : List Event). answer_outcome (answer.Ticked (next_callback [] (e ∷ es))) (state_from c d r (record m { ro = upd m.ro f rest })))
-      (sym (ap (λ (es : List Event). drop 1 es) es_is))
-  picked_outcome f (ToDiscover from x ∷ ks) es bound ks_is es_is = refl
-  picked_outcome f (ToRetract x ∷ ks) es bound ks_is es_is = refl
+  pub picked : (f : ℕ) → AreWhole c d m → let p = local_pick (m.local f) in
+      tick_outcome s f ≡ chosen_outcome (answer.Ticked (callback_given (picked_by (m.local f).row p))) (choice_given (m.local f) p) (state_from c d r (with_component m f (local_picking (m.local f) p)))
+  picked f whole = let p = local_pick (m.local f) in
+      ticked s f (m.local f).peers (knows whole f)
+      ∙ ap (λ (t : Components). chosen_outcome (answer.Ticked (callback_given (picked_by (m.local f).row p))) (choice_given (m.local f) p) t) (sym (component_changed f (local_picking (m.local f) p)))
+
+  pub pick_memory : (f : ℕ) → AreWhole c d m → local_pick (m.local f) ≡ PickConstrains → takes_memory s (Tick f) ≡ true
+  pick_memory f whole enters = ap pick_takes_memory (ap (λ (b : ℕ). pick (s.controls f) (s.row f) (s.ro f) (s.tso f) b) (bound_is s f (m.local f).peers (knows whole f)) ∙ enters)
 
   -- ---- arriving
-  pub came : (g f : ℕ) (ms : List Message) → m.wire g f ≡ ms → IsUnretracting ms → IsSmall (carried_of g ms)
-      → carry_outcome s g f ms ≡ answer_outcome (answer.Carried (carried_of g ms)) (state_from c d r (record (with_message_queued g f m ms) { wire = upd2 m.wire g f (drop 1 ms) }))
-  came g f [] is plain small = ap (λ (w : ℕ → ℕ → List Message). answer_outcome (answer.Carried carried.Nothing) (state_from c d r (record m { wire = w }))) (sym (upd2-self m.wire g f [] (sym is)))
-  came g f (message.Event e ∷ ms) is plain small =
-      let no : is_kept_in_order new_row e ≡ false = and-false e.ordered in
-      rw no (ap (λ (t : ℕ → List Event). answer_outcome (answer.Carried (carried_event e)) (record (state_from c d r (record m { wire = upd2 m.wire g f ms; ro = upd m.ro f (m.ro f ++ e ∷ []) })) { tso = t })) (upd-self (λ _. []) f [] refl))
-  came g f (message.Null k v ∷ ms) is plain small =
-      let top : max forever v ≡ forever = omega (arith, small) in
-      let same : cond (eqb k 0) (max forever v) forever ≡ forever = ⊎_elim (λ (y : eqb k 0 ≡ true). rw y top) (λ (n : eqb k 0 ≡ false). rw n refl) (cases_Bool (eqb k 0)) in
-      ap (λ (b : ℕ → ℕ → ℕ). answer_outcome (answer.Carried (carried.Null v)) (record (state_from c d r (record m { wire = upd2 m.wire g f ms })) { bound = b })) (upd2-self (λ _ _. forever) f g _ same)
-  came g f (message.Retraction n ∷ ms) is plain small = absurd plain
-  came g f (message.Discovery x ∷ ms) is plain small = refl
+  pub came : (g f : ℕ) (after : LocalValue) (ms : List Message) → AreWhole c d m → m.wire g f ≡ ms → HasAccepted g ms (m.local f) after
+      → carry_outcome s g f ms ≡ answer_outcome (answer.Carried (carried_of g ms)) (state_from c d r (record m { local = upd m.local f after; wire = upd2 m.wire g f (drop 1 ms) }))
+  came g f after [] whole is same = λ i. answer_outcome (answer.Carried carried.Nothing) (state_from c d r (record m {
+    local = sym (upd-self m.local f after same) i;
+    wire = sym (upd2-self m.wire g f [] (sym is)) i;
+  }))
+  came g f after (x ∷ ms) whole is accepted =
+      each_came s f (m.local f).peers (knows whole f) g after.peers ms x accepted.1
+      ∙ ap (λ (t : Components). answer_outcome (answer.Carried (carried_by g x)) (record t { wire = upd2 m.wire g f ms }))
+      (ap (λ (l : LocalValue). with_local s f l) (sym accepted.0) ∙ sym (component_changed f after))
 
-  -- nobody regulates, so nothing is retracted
-  unretracted : (g x : ℕ) (ms : List Message) → Carries false forever 0 g (λ _. 0) x ms forever → IsUnretracting ms
-  unretracted g x [] carries = tt
-  unretracted g x (message.Event e ∷ ms) carries = tt
-  unretracted g x (message.Null k v ∷ ms) carries = tt
-  unretracted g x (message.Retraction n ∷ ms) carries = absurd (omega (arith, carries.0))
-  unretracted g x (message.Discovery d ∷ ms) carries = tt
-
-  pub unretracting : (g f : ℕ) → Inv s → IsUnretracting (m.wire g f)
-  unretracting g f inv = unretracted g (m.serial g) (m.wire g f) (inv.kept.time.wires g f)
+  pub may_arrive : (g f : ℕ) (ms : List Message) → Inv s → m.wire g f ≡ ms → MayArrive g ms (m.local f)
+  may_arrive g f [] inv is = tt
+  may_arrive g f (x ∷ ms) inv is = may_come s g f (m.local f).peers x ms inv is
 
   -- ---- joining
-  same_new : {X : Type 0} (x : X) (i : ℕ) → upd_new (λ _ _. x) i (λ _. x) (λ _. x) ≡ (λ _ _. x)
-  unfolding upd_new
-  same_new x i = fun_ext (λ k. fun_ext (λ l. ⊎_elim
-      (λ (y : eqb i k ≡ true). rw y refl)
-      (λ (n : eqb i k ≡ false). rw n (⊎_elim (λ (z : eqb i l ≡ true). rw z refl) (λ (z : eqb i l ≡ false). rw z refl) (cases_Bool (eqb i l))))
-      (cases_Bool (eqb i k))))
-
   quiet_wires : Inv s → upd_new m.wire m.next_federate (λ _. []) (λ _. []) ≡ m.wire
   unfolding upd_new
   quiet_wires inv = fun_ext (λ k. fun_ext (λ l. ⊎_elim
@@ -101,22 +106,76 @@ module _ (c : CatalogueValue) (d : DeclarationsValue) (r : RegistryValue) (m : M
           (λ (y : m.joined m.next_federate ≡ true). absurd (omega (arith, inv.kept.directory.members m.next_federate y)))
           (λ (n : m.joined m.next_federate ≡ false). rw (n, and-false, and-false) refl)
 
-  pub joined_state : (name : List ℕ) → Inv s → with_federate_joined s name ≡ state_from c (record d { federates = d.federates + 1 }) r (with_member_admitted m name)
-  joined_state name inv = λ i. record (state_from c d r (with_member_admitted m name)) {
-    row = upd-self (λ _. new_row) m.next_federate new_row refl i;
-    wire = quiet_wires inv i;
-    bound = same_new forever m.next_federate i;
-    known_epoch = same_new 0 m.next_federate i;
-  }
+  -- the row of a newcomer, and what the others know of it
+  met : {X : Type 0} (t : ℕ → ℕ → X) (i : ℕ) (own : ℕ → X) (x : X) → ((k : ℕ) → t k i ≡ x) → upd_new t i own (λ _. x) ≡ upd t i own
+  unfolding upd_new upd
+  met t i own x others = fun_ext (λ k. fun_ext (λ l. ⊎_elim
+      (λ (y : eqb i k ≡ true). rw y refl)
+      (λ (n : eqb i k ≡ false). rw n (⊎_elim
+      (λ (z : eqb i l ≡ true). let e : i ≡ l = grind (arith, nat_tests) in rw z (sym (others k) ∙ ap (t k) e))
+      (λ (z : eqb i l ≡ false). rw z refl)
+      (cases_Bool (eqb i l))))
+      (cases_Bool (eqb i k))))
+
+  -- what of the tables is written what it has
+  kept_field : {X : Type 0} (p : LocalValue → X) (local : LocalValue) → p (m.local m.next_federate) ≡ p local → upd (λ f. p (m.local f)) m.next_federate (p local) ≡ (λ f. p (m.local f))
+  kept_field p local is = upd-self (λ f. p (m.local f)) m.next_federate (p local) (sym is)
+
+  pub joined_state : (name : List ℕ) (local : LocalValue) → Inv s → ((f g : ℕ) → m.next_federate ≤ g → IsUnmet (peers_of (m.local f).peers) g)
+      → m.local m.next_federate ≡ new_local [] → local ≡ new_local local.peers → peers_of local.peers ≡ record { bound = s.last_announced; known_epoch = s.epoch }
+      → with_federate_joined s name ≡ state_from c (record d { federates = d.federates + 1 }) r (with_member_admitted m name local)
+  joined_state name local inv unmet nobody new met_is =
+      let n = m.next_federate in
+      let epoch_none : s.epoch n ≡ 0 = ap (λ (l : LocalValue). l.epoch) nobody in
+      λ i. record (state_from c d r (with_member_admitted m name local)) {
+        row = (ap (λ (x : TimeRow). upd s.row n x) (ap (λ (l : LocalValue). l.row) (sym new)) ∙ sym (upd-field (λ (l : LocalValue). l.row) m.local n local)) i;
+        ro = (sym (kept_field (λ l. l.ro) local (ap (λ (l : LocalValue). l.ro) nobody ∙ ap (λ (l : LocalValue). l.ro) (sym new))) ∙ sym (upd-field (λ (l : LocalValue). l.ro) m.local n local)) i;
+        tso = (sym (kept_field (λ l. l.tso) local (ap (λ (l : LocalValue). l.tso) nobody ∙ ap (λ (l : LocalValue). l.tso) (sym new))) ∙ sym (upd-field (λ (l : LocalValue). l.tso) m.local n local)) i;
+        controls = (sym (kept_field (λ l. l.controls) local (ap (λ (l : LocalValue). l.controls) nobody ∙ ap (λ (l : LocalValue). l.controls) (sym new))) ∙ sym (upd-field (λ (l : LocalValue). l.controls) m.local n local)) i;
+        last_announced = (sym (kept_field (λ l. l.last_announced) local (ap (λ (l : LocalValue). l.last_announced) nobody ∙ ap (λ (l : LocalValue). l.last_announced) (sym new))) ∙ sym (upd-field (λ (l : LocalValue). l.last_announced) m.local n local)) i;
+        epoch = (sym (kept_field (λ l. l.epoch) local (ap (λ (l : LocalValue). l.epoch) nobody ∙ ap (λ (l : LocalValue). l.epoch) (sym new))) ∙ sym (upd-field (λ (l : LocalValue). l.epoch) m.local n local)) i;
+        wire = quiet_wires inv i;
+        bound = (met s.bound n s.last_announced forever (λ k. (unmet k n (omega arith)).bound) ∙ ap (λ (p : PeersValue). upd s.bound n p.bound) (sym met_is) ∙ sym (upd-field (λ (l : LocalValue). (peers_of l.peers).bound) m.local n local)) i;
+        known_epoch = (ap (λ (e : ℕ). upd_new s.known_epoch n s.epoch (λ _. e)) epoch_none ∙ met s.known_epoch n s.epoch 0 (λ k. (unmet k n (omega arith)).epoch) ∙ ap (λ (p : PeersValue). upd s.known_epoch n p.known_epoch) (sym met_is) ∙ sym (upd-field (λ (l : LocalValue). (peers_of l.peers).known_epoch) m.local n local)) i;
+      }
 
 -- ---- what a pick-up and an arrival leave alone
-pub left_same : (m : MemberTables) (f : ℕ) (ks : List Control) → ((with_first_picked m f ks).next_federate ≡ m.next_federate) × ((with_first_picked m f ks).joined ≡ m.joined)
-left_same m f [] = (refl, refl)
-left_same m f (k ∷ ks) = (refl, refl)
+pub picking_peers : (l : LocalValue) (p : Pick) → (local_picking l p).peers ≡ l.peers
+picking_peers l NoPick = refl
+picking_peers l (PickControl k rest) = refl
+picking_peers l (PickRo e rest) = refl
+picking_peers l PickRegulates = refl
+picking_peers l PickConstrains = refl
+picking_peers l (PickTso q e rest) = refl
+picking_peers l (PickGrant q t) = refl
 
-pub queued_same : (m : MemberTables) (g f : ℕ) (ms : List Message) → ((with_message_queued g f m ms).next_federate ≡ m.next_federate) × ((with_message_queued g f m ms).joined ≡ m.joined)
-queued_same m g f [] = (refl, refl)
-queued_same m g f (message.Event e ∷ ms) = (refl, refl)
-queued_same m g f (message.Null k v ∷ ms) = (refl, refl)
-queued_same m g f (message.Retraction n ∷ ms) = (refl, refl)
-queued_same m g f (message.Discovery x ∷ ms) = (refl, refl)
+pub unmet_picked : (m : MemberTables) (f k g : ℕ) → ((j : ℕ) → IsUnmet (peers_of (m.local j).peers) g) → IsUnmet (peers_of (upd m.local f (local_picking (m.local f) (local_pick (m.local f))) k).peers) g
+unmet_picked m f k g unmet = upd_each m.local f (local_picking (m.local f) (local_pick (m.local f))) (λ j x. IsUnmet (peers_of x.peers) g)
+    (rw (picking_peers (m.local f) (local_pick (m.local f))) (unmet f)) (λ j ne. unmet j) k
+
+-- nothing more is known of who has never joined
+pub accepted_unmet : (g h : ℕ) (ms : List Message) (old new : LocalValue) → HasAccepted g ms old new → g ≢ h → IsUnmet (peers_of old.peers) h → IsUnmet (peers_of new.peers) h
+accepted_unmet g h [] old new same ne unmet = rw same unmet
+accepted_unmet g h (message.Event e ∷ ms) old new accepted ne unmet = rw accepted.1 unmet
+accepted_unmet g h (message.Null k v ∷ ms) old new accepted ne unmet = rw accepted.1 (record { bound = upd_other (peers_of old.peers).bound g _ h ne ∙ unmet.bound; epoch = unmet.epoch })
+accepted_unmet g h (message.Retraction m ∷ ms) old new accepted ne unmet = rw accepted.1 unmet
+accepted_unmet g h (message.Discovery d ∷ ms) old new accepted ne unmet = rw accepted.1 unmet
+
+pub unmet_arrived : (m : MemberTables) (g f : ℕ) (after : LocalValue) (k h : ℕ) → g ≢ h → HasAccepted g (m.wire g f) (m.local f) after → ((j : ℕ) → IsUnmet (peers_of (m.local j).peers) h)
+    → IsUnmet (peers_of (upd m.local f after k).peers) h
+unmet_arrived m g f after k h ne accepted unmet = upd_each m.local f after (λ j x. IsUnmet (peers_of x.peers) h) (accepted_unmet g h (m.wire g f) (m.local f) after accepted ne (unmet f)) (λ j other. unmet j) k
+
+-- who carries has joined
+not_below : (a b c d : Bool) (e : Fault) → cond (a || b || c || not d) (Some e) None ≡ None → d ≡ true
+not_below a b c true e none = refl
+not_below true b c false e none = absurd (cc)
+not_below false true c false e none = absurd (cc)
+not_below false false true false e none = absurd (cc)
+not_below false false false false e none = absurd (cc)
+
+pub carries_below : (m : MemberTables) (g f : ℕ) → cond (not (m.joined f) || eqb g f || eqb g 0 || not (ltb g m.next_federate)) (Some fault.FederateNotExecutionMember) None ≡ None → g < m.next_federate
+carries_below m g f none = let b = not_below (not (m.joined f)) (eqb g f) (eqb g 0) (ltb g m.next_federate) fault.FederateNotExecutionMember none in grind (arith, nat_tests)
+
+-- a tick that was refused for want of memory takes memory
+pub tick_refused : (c : CatalogueValue) (d : DeclarationsValue) (r : RegistryValue) (m : MemberTables) (f : ℕ) → AreWhole c d m → local_pick (m.local f) ≡ PickConstrains → takes_memory (state_from c d r m) (Tick f) ≡ true
+tick_refused c d r m f whole enters = pick_memory c d r m f whole enters

@@ -144,6 +144,7 @@ registered_whole old r m w name whole m_is name_is = record {
     object_classes = whole.parts.object_classes;
     interaction_classes = whole.parts.interaction_classes;
     silent = whole.parts.silent;
+    unmet = whole.parts.unmet;
   });
   named = λ g joined. name_is;
 }

@@ -8,7 +8,10 @@ use Rattle.std.proofs.Math.Path.{fun_ext}
 use Rattle.hla_base.specs.declared.fault.Fault.{Fault}
 use Rattle.hla_base.specs.declared.fault.Fault.TheVariants as fault
 use Rattle.hla_base.specs.Tables.{forever, upd, upd_row, upd_whole_column, is_other}
-use Rattle.hla_base.specs.Rows.{new_row}
+use Rattle.hla_base.specs.Rows.{is_regulator}
+use Rattle.hla_lbts.specs.Peers.{peers_of}
+use Rattle.hla_local.specs.LocalValue.{LocalValue, resigned_local}
+use Rattle.hla_null_message.specs.declared.message.Message.TheVariants as message
 use Rattle.hla_fed_file.specs.CatalogueValue.{CatalogueValue}
 use Rattle.hla_fed_file.specs.declared.declared.Order.TheVariants.{Receive}
 use Rattle.hla_declaration.specs.Declarations.{DeclarationsValue}
@@ -25,10 +28,10 @@ use Rattle.hla_federation.specs.declared.direction.Direction.TheVariants.{From}
 use Rattle.hla_components.specs.Components.{Components}
 use Rattle.hla_federation.specs.Tables.MemberValue.{item, MemberValue}
 use Rattle.hla_federation.specs.Tables.Members.{no_member, MemberTables, members_of, is_number, wires_posted_below, with_member_withdrawn}
-use Rattle.hla_components.specs.Next.{with_federate_gone, with_messages_sent, with_federate_resigned, components_seen}
-use Rattle.hla_federation.specs.Steps.Sending.{HasAdded, message_to, messages_to}
+use Rattle.hla_components.specs.Next.{put_behind, with_last_null, with_federate_gone, with_messages_sent, with_federate_resigned, components_seen}
+use Rattle.hla_federation.specs.Steps.Sending.{HasAdded, message_to, messages_to, last_null_to}
 use Rattle.hla_federation.specs.Steps.State.{state_from, directory_from}
-use Rattle.hla_federation.proofs.Tables.MemberTables.{upd-self}
+use Rattle.hla_federation.proofs.Tables.MemberTables.{upd-self, upd-field}
 use Rattle.hla_federation.proofs.Steps.SendingAll.{sent_wire, sent_all-plain}
 use Rattle.hla_federation.proofs.Steps.Declaring.{and-false}
 
@@ -96,55 +99,84 @@ messages_none : (d : Directory) (f m : ℕ) (outs : List Outgoing) (h : ℕ) →
 messages_none d f m [] h away = refl
 messages_none d f m (out ∷ outs) h away = rw (away, and-false, messages_none d f (m + 1) outs h away) refl
 
-pub posted_sent : (d : Directory) (f m : ℕ) (outs : List Outgoing) (next : ℕ) (wire : ℕ → ℕ → List Message) (o : ℕ → List Message) → ((h : ℕ) → o h ≡ messages_to d f m outs h)
-    → ((h : ℕ) → d.joined h ≡ true → is_number next h ≡ true) → wires_posted_below (From f) o next wire ≡ sent_wire d f m outs wire
-posted_sent d f m outs next wire o is numbers = fun_ext (λ g. fun_ext (λ h. at g h))
+-- who is another is joined
+other_joined : (joined : ℕ → Bool) (f h : ℕ) → is_other joined f h ≡ true → joined h ≡ true
+other_joined joined f h y = ⊎_elim
+    (λ (j : joined h ≡ true). j)
+    (λ (n : joined h ≡ false). let t = rw (n, and-false) at y in absurd (cc))
+    (cases_Bool (joined h))
+
+-- the last null behind the messages
+null_behind : (reg : Bool) (k v : ℕ) (ws ms : List Message) → ws ++ (ms ++ cond reg (message.Null k v ∷ []) []) ≡ cond reg (put_behind (message.Null k v) (ws ++ ms)) (ws ++ ms)
+null_behind true k v ws ms = sym (append_assoc ws ms (message.Null k v ∷ []))
+null_behind false k v ws ms = ap (λ (xs : List Message). ws ++ xs) (append-nil ms)
+
+nothing_behind : (reg : Bool) (ws ms : List Message) → ws ++ (ms ++ cond reg [] []) ≡ ws ++ ms
+nothing_behind true ws ms = ap (λ (xs : List Message). ws ++ xs) (append-nil ms)
+nothing_behind false ws ms = ap (λ (xs : List Message). ws ++ xs) (append-nil ms)
+
+-- what is posted is the messages, and behind them the last null
+pub posted_last : (s : Components) (f m : ℕ) (outs : List Outgoing) (next : ℕ) (o : ℕ → List Message) → ((h : ℕ) → o h ≡ messages_to s.directory f m outs h ++ last_null_to s f h)
+    → ((h : ℕ) → s.directory.joined h ≡ true → is_number next h ≡ true)
+    → wires_posted_below (From f) o next s.wire ≡ upd_row (sent_wire s.directory f m outs s.wire) s.directory.joined f (λ _. with_last_null s f)
+unfolding upd_row
+posted_last s f m outs next o is numbers = fun_ext (λ g. fun_ext (λ h. at g h))
   where
-    at : (g h : ℕ) → wires_posted_below (From f) o next wire g h ≡ sent_wire d f m outs wire g h
+    at : (g h : ℕ) → wires_posted_below (From f) o next s.wire g h ≡ upd_row (sent_wire s.directory f m outs s.wire) s.directory.joined f (λ _. with_last_null s f) g h
     at g h = ⊎_elim
         (λ (y : eqb f g ≡ true). ⊎_elim
-        (λ (z : is_number next h ≡ true). rw (y, z) (ap (λ (ms : List Message). wire g h ++ ms) (is h)))
-        (λ (z : is_number next h ≡ false).
-        let away : d.joined h ≡ false = ⊎_elim (λ (j : d.joined h ≡ true). let t = numbers h j in absurd (cc)) (λ (n : d.joined h ≡ false). n) (cases_Bool (d.joined h)) in
-        rw (y, z, messages_none d f m outs h away) (sym (append-nil (wire g h))))
+        (λ (z : is_other s.directory.joined f h ≡ true).
+        let number = numbers h (other_joined s.directory.joined f h z) in
+        rw (y, z, number) (ap (λ (ms : List Message). s.wire g h ++ ms) (is h ∙ ap (λ (b : Bool). messages_to s.directory f m outs h ++ cond (is_regulator (s.row f)) (cond b (message.Null (s.epoch f) forever ∷ []) []) []) z)
+        ∙ null_behind (is_regulator (s.row f)) (s.epoch f) forever (s.wire g h) (messages_to s.directory f m outs h)))
+        (λ (z : is_other s.directory.joined f h ≡ false). ⊎_elim
+        (λ (b : is_number next h ≡ true).
+        rw (y, z, b) (ap (λ (ms : List Message). s.wire g h ++ ms) (is h ∙ ap (λ (b : Bool). messages_to s.directory f m outs h ++ cond (is_regulator (s.row f)) (cond b (message.Null (s.epoch f) forever ∷ []) []) []) z)
+        ∙ nothing_behind (is_regulator (s.row f)) (s.wire g h) (messages_to s.directory f m outs h)))
+        (λ (b : is_number next h ≡ false).
+        let away : s.directory.joined h ≡ false = ⊎_elim (λ (j : s.directory.joined h ≡ true). let t = numbers h j in absurd (cc)) (λ (n : s.directory.joined h ≡ false). n) (cases_Bool (s.directory.joined h)) in
+        rw (y, z, b, messages_none s.directory f m outs h away) (sym (append-nil (s.wire g h))))
         (cases_Bool (is_number next h)))
+        (cases_Bool (is_other s.directory.joined f h)))
         (λ (n : eqb f g ≡ false). rw n refl)
         (cases_Bool (eqb f g))
 
 -- ---- leaving
-same_row : (wire : ℕ → ℕ → List Message) (joined : ℕ → Bool) (f : ℕ) → upd_row wire joined f (λ _ ms. ms) ≡ wire
-unfolding upd_row
-same_row wire joined f = fun_ext (λ g. fun_ext (λ h. ⊎_elim
-    (λ (y : eqb f g && is_other joined f h ≡ true). rw y refl)
-    (λ (n : eqb f g && is_other joined f h ≡ false). rw n refl)
-    (cases_Bool (eqb f g && is_other joined f h))))
-
 module _ (c : CatalogueValue) (d : DeclarationsValue) (r : RegistryValue) (m : MemberTables) (f : ℕ) where
   abbrev pub withdrawn_declarations : DeclarationsValue
   withdrawn_declarations = record d { published = upd d.published f (λ _. None); subscribed = upd d.subscribed f (λ _. None); published_interaction = upd d.published_interaction f (λ _. false); subscribed_interaction = upd d.subscribed_interaction f (λ _. false) }
 
-  pub left_state : with_federate_gone (state_from c d r m) f ≡ state_from c withdrawn_declarations (without_owned r f) (with_member_withdrawn m f)
-  left_state = λ i. record (state_from c withdrawn_declarations (without_owned r f) (with_member_withdrawn m f)) {
-    row = upd-self (λ _. new_row) f new_row refl i;
-    last_announced = upd-self (λ _. forever) f forever refl i;
-    tso = upd-self (λ _. []) f [] refl i;
-    wire = upd_whole_column (same_row m.wire m.joined f i) f [];
+  abbrev left_member : LocalValue
+  left_member = resigned_local (m.local f)
+
+  pub left_state : (wire : ℕ → ℕ → List Message) → wire ≡ upd_row m.wire m.joined f (λ _. with_last_null (state_from c d r m) f)
+      → with_federate_gone (state_from c d r m) f ≡ state_from c withdrawn_declarations (without_owned r f) (with_member_withdrawn (record m { wire = wire }) f)
+  left_state wire is = λ i. record (state_from c withdrawn_declarations (without_owned r f) (with_member_withdrawn m f)) {
+    row = sym (upd-field (λ (l : LocalValue). l.row) m.local f left_member) i;
+    ro = sym (upd-field (λ (l : LocalValue). l.ro) m.local f left_member) i;
+    tso = sym (upd-field (λ (l : LocalValue). l.tso) m.local f left_member) i;
+    controls = sym (upd-field (λ (l : LocalValue). l.controls) m.local f left_member) i;
+    last_announced = sym (upd-field (λ (l : LocalValue). l.last_announced) m.local f left_member) i;
+    bound = sym (upd-field (λ (l : LocalValue). (peers_of l.peers).bound) m.local f left_member ∙ upd-self (λ g. (peers_of (m.local g).peers).bound) f (peers_of (m.local f).peers).bound refl) i;
+    known_epoch = sym (upd-field (λ (l : LocalValue). (peers_of l.peers).known_epoch) m.local f left_member ∙ upd-self (λ g. (peers_of (m.local g).peers).known_epoch) f (peers_of (m.local f).peers).known_epoch refl) i;
+    epoch = sym (upd-field (λ (l : LocalValue). l.epoch) m.local f left_member ∙ upd-self (λ g. (m.local g).epoch) f (m.local f).epoch refl) i;
+    wire = upd_whole_column (sym is i) f [];
   }
 
 -- with the deletions before
 module _ (c : CatalogueValue) (d : DeclarationsValue) (r : RegistryValue) (m : MemberTables) (f : ℕ) (hs : List ℕ) (o : ℕ → List Message)
-    (is : (h : ℕ) → o h ≡ messages_to (directory_from c d r m) f (m.serial f) (deletions_sent hs) h) (numbers : (h : ℕ) → m.joined h ≡ true → is_number m.next_federate h ≡ true) where
+    (is : (h : ℕ) → o h ≡ messages_to (directory_from c d r m) f (m.serial f) (deletions_sent hs) h ++ last_null_to (state_from c d r m) f h) (numbers : (h : ℕ) → m.joined h ≡ true → is_number m.next_federate h ≡ true) where
   abbrev sent_members : MemberTables
   sent_members = record m { serial = upd m.serial f (m.serial f + length (deletions_sent hs)); wire = sent_wire (directory_from c d r m) f (m.serial f) (deletions_sent hs) m.wire }
 
   pub resigned_state : with_federate_gone (with_messages_sent (state_from c d r m) f None (deletions_sent hs)) f
       ≡ state_from c (withdrawn_declarations c d r m f) (without_owned r f) (with_member_withdrawn (record m { serial = upd m.serial f (m.serial f + length hs); wire = wires_posted_below (From f) o m.next_federate m.wire }) f)
   resigned_state =
-      ap (λ (s : Components). with_federate_gone s f) (sent_all-plain (state_from c d r m) f (deletions_sent hs) refl (λ g k. refl))
-      ∙ left_state c d r sent_members f
+      ap (λ (s : Components). with_federate_gone s f) (sent_all-plain (state_from c d r m) f (deletions_sent hs) (λ g k. refl))
+      ∙ left_state c d r sent_members f (wires_posted_below (From f) o m.next_federate m.wire) (posted_last (state_from c d r m) f (m.serial f) (deletions_sent hs) m.next_federate o is numbers)
       ∙ (λ i. state_from c (withdrawn_declarations c d r m f) (without_owned r f) (with_member_withdrawn (record m {
         serial = upd m.serial f (m.serial f + deletions-length hs i);
-        wire = sym (posted_sent (directory_from c d r m) f (m.serial f) (deletions_sent hs) m.next_federate m.wire o is numbers) i;
+        wire = wires_posted_below (From f) o m.next_federate m.wire;
       }) f))
 
 -- ---- in which way it may resign

@@ -81,7 +81,7 @@ module _ (v : FederationValue) (f n : ℕ) (outs : List Outgoing) (o : ℕ → L
       let m = members_of v.members in
       let r = registry_of v.objects in
       let d = declared.declarations_of v.declarations in
-      sent_all-plain (state_of v) f outs refl (λ g k. refl)
+      sent_all-plain (state_of v) f outs (λ g k. refl)
       ∙ (λ i. state_from v.catalogue d r (record m {
         serial = upd m.serial f (m.serial f + sym many i);
         wire = fun_ext (λ g. fun_ext (λ h. wire_at g h)) i;
@@ -96,6 +96,7 @@ module _ (v : FederationValue) (f n : ℕ) (outs : List Outgoing) (o : ℕ → L
       object_classes = whole.parts.object_classes;
       interaction_classes = whole.parts.interaction_classes;
       silent = whole.parts.silent;
+      unmet = whole.parts.unmet;
     });
     named = subst (λ (t : MemberTables). (g : ℕ) → t.joined g ≡ true → v.next_name ≡ default_name (registry_of objects).next_object) (sym is)
         (λ g y. whole.named g y ∙ ap default_name (sym same));
@@ -103,7 +104,7 @@ module _ (v : FederationValue) (f n : ℕ) (outs : List Outgoing) (o : ℕ → L
 
   pub sends_done : send_outcome (state_of v) f None outs ≡ answer_outcome (answer.Sent None) (state_of (record v { members = members }))
   sends_done =
-      ap (λ (x : Option EventHandle). answer_outcome (answer.Sent x) (with_messages_sent (state_of v) f None outs)) (no_handle f ((members_of v.members).serial f) outs)
+      ap (λ (x : Option EventHandle). answer_outcome (answer.Sent x) (with_messages_sent (state_of v) f None outs)) (no_handle f ((state_of v).row f) ((members_of v.members).serial f) outs)
       ∙ ap (λ (s : Components). answer_outcome (answer.Sent None) s) sent_state
 
   -- and an object does not exist any more

@@ -79,6 +79,7 @@ module _ (old : FederationValue) (f class : ℕ) (a : List ℕ) (d : Declaration
       federates = whole.parts.federates;
       object_classes = whole.parts.object_classes;
       interaction_classes = whole.parts.interaction_classes;
+      unmet = whole.parts.unmet;
       silent = λ g k out. record {
         objects = (let other : (f ≢ g) ⊎ (class ≢ k) = inl (λ e. let y : (members_of old.members).joined g ≡ true = subst (λ j. (members_of old.members).joined j ≡ true) e joined in cc) in
             upd2_other (declared.declarations_of old.declarations).subscribed f class (Some a) g k other ∙ (whole.parts.silent g k out).objects);

@@ -10,11 +10,12 @@ use Rattle.hla_base.specs.declared.fault.Fault.TheVariants as fault
 use Rattle.hla_fed_file.specs.Lookup.{attribute_order}
 use Rattle.hla_fed_file.specs.declared.declared.Order.{Order}
 use Rattle.hla_fed_file.specs.declared.declared.Order.TheVariants.{Receive, Timestamp}
-use Rattle.hla_base.specs.Rows.{new_row}
+use Rattle.hla_base.specs.declared.row.TimeRow.{TimeRow}
 use Rattle.hla_null_message.specs.declared.message.Message.{Message}
 use Rattle.hla_machine.specs.Refusals.{is_bad_stamp, is_out_of_serials}
 use Rattle.hla_machine.specs.Sends.{is_some_ordered}
 use Rattle.hla_machine.specs.Directory.{Directory, Outgoing, put_pair, put_pairs, by_handle, is_of_order, part_sent, values_of_order, update_sent}
+use Rattle.hla_federation.proofs.Steps.SendingAll.{unstamped_order}
 use Rattle.hla_federation.specs.Tables.MemberValue.{item}
 use Rattle.hla_federation.specs.Tables.Members.{AreQuiet}
 use Rattle.hla_federation.specs.Steps.Sending.{HasAdded, messages_to}
@@ -107,9 +108,13 @@ module _ (joined known undefined unowned unpublished untimely many : Bool) (is_j
   pub no_fault : unpublished ≡ false → untimely ≡ false → many ≡ false → None ≡ update_result joined known undefined unowned unpublished untimely many
   no_fault is timely full = rw (is_joined, is_known, is_defined, is_owned, is, timely, full) refl
 
+none_ordered : (r : TimeRow) (outs : List Outgoing) → is_some_ordered r None outs ≡ false
+none_ordered r [] = refl
+none_ordered r (out ∷ outs) = rw (unstamped_order r out) (none_ordered r outs)
+
 -- without a stamp none is bad
-pub timely : (outs : List Outgoing) → is_bad_stamp new_row None outs ≡ false
-timely outs = and-false (is_some_ordered new_row None outs)
+pub timely : (r : TimeRow) (outs : List Outgoing) → is_bad_stamp r None outs ≡ false
+timely r outs = rw (none_ordered r outs) refl
 
 module _ (serial : ℕ) (outs : List Outgoing) (next count : ℕ) (same : next ≡ serial) (many : count ≡ length outs) (few : count ≤ 2) where
   pub past_serials : 1000000000000000001 - count < next → is_out_of_serials serial outs ≡ true

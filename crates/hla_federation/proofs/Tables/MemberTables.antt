@@ -1,17 +1,16 @@
 -- The tables that a list of members stands for, after a change of the list
-use Rattle.std.proofs.Common.{◌≡◌, ◌≢◌, ℕ, zero, suc, ◌+◌, ◌-◌, ◌<◌, ◌≤◌, List, [], ◌∷◌, ◌++◌, length, get_or, set, drop, cond, eqb, ◌&&◌, true, false, refl, sym, ap, ◌∙◌, arith, length-set, length-append, get_or-set_same, get_or-set_other, ⊎_elim}
+use Rattle.std.proofs.Common.{◌≡◌, ◌≢◌, ℕ, zero, suc, ◌+◌, ◌-◌, ◌<◌, ◌≤◌, List, [], ◌∷◌, ◌++◌, length, get_or, set, drop, cond, eqb, ltb, ◌&&◌, Bool, true, false, refl, sym, ap, ◌∙◌, arith, length-set, length-append, get_or-set_same, get_or-set_other, ⊎_elim}
 use Rattle.std.proofs.lemmas.Bool.{cases_Bool, cases_eq}
 use Rattle.std.proofs.lemmas.Bool.Decides.{nat_tests}
 use Rattle.std.proofs.lemmas.List.{get_or_default, get_or_past}
 use Rattle.std.proofs.Math.Path.{fun_ext}
 use Rattle.hla_base.specs.Tables.{upd, upd2, upd_whole_column}
+use Rattle.hla_base.proofs.Tables.{upd_same}
 use Rattle.hla_null_message.specs.declared.message.Message.{Message}
-use Rattle.hla_null_message.specs.declared.message.Message.TheVariants as message
-use Rattle.hla_order_queues.specs.declared.control.Control.{Control}
-use Rattle.hla_order_queues.specs.declared.control.Control.TheVariants.{ToDiscover}
+use Rattle.hla_local.specs.LocalValue.{LocalValue, new_local, resigned_local}
 use Rattle.hla_federation.specs.Tables.MemberValue.{item, MemberValue}
-use Rattle.hla_federation.specs.Tables.Members.{no_member, MemberTables, members_of, new_member, AreQuiet, with_member_admitted, with_member_withdrawn, member_receiving, with_arrival, with_first_picked}
-use Rattle.hla_federation.specs.Steps.Picking.{member_after_pick}
+use Rattle.hla_federation.specs.Tables.Members.{no_member, MemberTables, members_of, new_member, resigned_member, AreQuiet, with_member_admitted, with_member_withdrawn, with_component}
+use Rattle.hla_federation.specs.Steps.State.{IsUnmet}
 
 -- a list with another item is a table with another item
 pub item-set : {X : Type 0} (d : X) (xs : List X) (f : ℕ) (x : X) → 0 < f → f ≤ length xs → item d (set xs (f - 1) x) ≡ upd (item d xs) f x
@@ -75,8 +74,7 @@ module _ (members : List MemberValue) (f : ℕ) (x : MemberValue) (some : 0 < f)
     joined = upd (members_of members).joined f x.joined;
     name = upd (members_of members).name f x.name;
     serial = upd (members_of members).serial f x.next_serial;
-    ro = upd (members_of members).ro f x.received;
-    controls = upd (members_of members).controls f x.controls;
+    local = upd (members_of members).local f x.local;
     wire = λ g. upd ((members_of members).wire g) f (item [] x.incoming g);
   }
   changed = λ i. record {
@@ -84,10 +82,12 @@ module _ (members : List MemberValue) (f : ℕ) (x : MemberValue) (some : 0 < f)
     joined = field (λ m. m.joined) i;
     name = field (λ m. m.name) i;
     serial = field (λ m. m.next_serial) i;
-    ro = field (λ m. m.received) i;
-    controls = field (λ m. m.controls) i;
+    local = field (λ m. m.local) i;
     wire = λ g. field (λ m. item [] m.incoming g) i;
   }
+
+  pub set_local : (members_of (set members (f - 1) x)).local f ≡ x.local
+  set_local = ap (λ (t : MemberTables). t.local f) changed ∙ upd_same (members_of members).local f x.local
 
 -- one wire of a table of wires
 pub upd-wire : {X : Type 0} (t : ℕ → ℕ → X) (g f : ℕ) (x : X) → (λ h. upd (t h) f (upd (λ k. t k f) g x h)) ≡ upd2 t g f x
@@ -129,28 +129,17 @@ module _ (members : List MemberValue) (f : ℕ) (some : 0 < f) (within : f ≤ l
     joined = keep (λ x. x.joined) i;
     name = keep (λ x. x.name) i;
     serial = upd t.serial f n;
-    ro = keep (λ x. x.received) i;
-    controls = keep (λ x. x.controls) i;
+    local = keep (λ x. x.local) i;
     wire = keep_wire i;
   })
 
-  pub tables_after_pick : (ks : List Control) → m.controls ≡ ks → members_of (set members (f - 1) (member_after_pick m ks)) ≡ with_first_picked t f ks
-  tables_after_pick [] is = changed members f (member_after_pick m []) some within ∙ (λ i. record {
+  pub picked_up : (l : LocalValue) → members_of (set members (f - 1) (record m { local = l })) ≡ with_component t f l
+  picked_up l = changed members f (record m { local = l }) some within ∙ (λ i. record {
     next_federate = t.next_federate;
     joined = keep (λ x. x.joined) i;
     name = keep (λ x. x.name) i;
     serial = keep (λ x. x.next_serial) i;
-    ro = upd t.ro f (drop 1 m.received);
-    controls = keep (λ x. x.controls) i;
-    wire = keep_wire i;
-  })
-  tables_after_pick (k ∷ ks) is = changed members f (member_after_pick m (k ∷ ks)) some within ∙ (λ i. record {
-    next_federate = t.next_federate;
-    joined = keep (λ x. x.joined) i;
-    name = keep (λ x. x.name) i;
-    serial = keep (λ x. x.next_serial) i;
-    ro = keep (λ x. x.received) i;
-    controls = upd t.controls f ks;
+    local = upd t.local f l;
     wire = keep_wire i;
   })
 
@@ -165,54 +154,39 @@ module _ (members : List MemberValue) (f : ℕ) (some : 0 < f) (within : f ≤ l
     joined = keep (λ x. x.joined) i;
     name = keep (λ x. x.name) i;
     serial = keep (λ x. x.next_serial) i;
-    ro = keep (λ x. x.received) i;
-    controls = keep (λ x. x.controls) i;
+    local = keep (λ x. x.local) i;
     wire = wires_after g incoming ms is i;
   })
 
-  pub came : (g : ℕ) (incoming : List (List Message)) (ms : List Message) → t.wire g f ≡ ms → item [] incoming ≡ upd (item [] m.incoming) g (drop 1 ms)
-      → members_of (set members (f - 1) (record (member_receiving g m ms) { incoming = incoming })) ≡ with_arrival g f t
-  came g incoming [] wire is = put g incoming [] is ∙ rw wire refl
-  came g incoming (message.Event e ∷ ms) wire is = changed members f (record m { received = m.received ++ e ∷ []; incoming = incoming }) some within ∙ rw wire (λ i. record {
+  pub arrived : (g : ℕ) (l : LocalValue) (incoming : List (List Message)) (ms : List Message) → item [] incoming ≡ upd (item [] m.incoming) g ms
+      → members_of (set members (f - 1) (record m { local = l; incoming = incoming })) ≡ record t { local = upd t.local f l; wire = upd2 t.wire g f ms }
+  arrived g l incoming ms is = changed members f (record m { local = l; incoming = incoming }) some within ∙ (λ i. record {
     next_federate = t.next_federate;
     joined = keep (λ x. x.joined) i;
     name = keep (λ x. x.name) i;
     serial = keep (λ x. x.next_serial) i;
-    ro = upd t.ro f (m.received ++ e ∷ []);
-    controls = keep (λ x. x.controls) i;
-    wire = wires_after g incoming ms is i;
-  })
-  came g incoming (message.Null k v ∷ ms) wire is = put g incoming ms is ∙ rw wire refl
-  came g incoming (message.Retraction n ∷ ms) wire is = put g incoming ms is ∙ rw wire refl
-  came g incoming (message.Discovery d ∷ ms) wire is = changed members f (record m { controls = m.controls ++ ToDiscover g d ∷ []; incoming = incoming }) some within ∙ rw wire (λ i. record {
-    next_federate = t.next_federate;
-    joined = keep (λ x. x.joined) i;
-    name = keep (λ x. x.name) i;
-    serial = keep (λ x. x.next_serial) i;
-    ro = keep (λ x. x.received) i;
-    controls = upd t.controls f (m.controls ++ ToDiscover g d ∷ []);
+    local = upd t.local f l;
     wire = wires_after g incoming ms is i;
   })
 
   pub left_all : (incoming : List (List Message)) → AreQuiet incoming
-      → members_of (set members (f - 1) (record m { joined = false; received = []; controls = []; incoming = incoming })) ≡ with_member_withdrawn t f
-  left_all incoming quiet = changed members f (record m { joined = false; received = []; controls = []; incoming = incoming }) some within ∙ (λ i. record {
+      → members_of (set members (f - 1) (resigned_member m incoming)) ≡ with_member_withdrawn t f
+  left_all incoming quiet = changed members f (resigned_member m incoming) some within ∙ (λ i. record {
     next_federate = t.next_federate;
     joined = upd t.joined f false;
     name = keep (λ x. x.name) i;
     serial = keep (λ x. x.next_serial) i;
-    ro = upd t.ro f [];
-    controls = upd t.controls f [];
+    local = upd t.local f (resigned_local m.local);
     wire = ((λ j. λ h. upd (t.wire h) f (quiet h j)) ∙ upd-clear t.wire f []) i;
   })
 
 -- ---- one more member
-module _ (members : List MemberValue) (name : List ℕ) (incoming : List (List Message)) (quiet : AreQuiet incoming) where
+module _ (members : List MemberValue) (name : List ℕ) (local : LocalValue) (incoming : List (List Message)) (quiet : AreQuiet incoming) where
   abbrev n : ℕ
   n = length members + 1
 
   abbrev x : MemberValue
-  x = new_member name incoming
+  x = record (new_member name [] incoming) { local = local }
 
   pushed : {Y : Type 0} (p : MemberValue → Y) → (λ g. p (item no_member (members ++ x ∷ []) g)) ≡ upd (λ g. p (item no_member members g)) n (p x)
   pushed p = (λ i. λ g. p (item-push no_member members x i g)) ∙ upd-field p (item no_member members) n x
@@ -224,13 +198,46 @@ module _ (members : List MemberValue) (name : List ℕ) (incoming : List (List M
   no_wires zero = refl
   no_wires (suc k) = refl
 
-  pub joined : members_of (members ++ x ∷ []) ≡ with_member_admitted (members_of members) name
+  pub joined : members_of (members ++ x ∷ []) ≡ with_member_admitted (members_of members) name local
   joined = λ i. record {
     next_federate = length-append members (x ∷ []) i + 1;
     joined = pushed (λ m. m.joined) i;
     name = pushed (λ m. m.name) i;
     serial = same (λ m. m.next_serial) refl i;
-    ro = same (λ m. m.received) refl i;
-    controls = same (λ m. m.controls) refl i;
+    local = pushed (λ m. m.local) i;
     wire = λ g. same (λ m. item [] m.incoming g) (quiet g ∙ sym (no_wires g)) i;
   }
+
+-- who has not joined yet
+pub nobody_at : (members : List MemberValue) → (members_of members).local (members_of members).next_federate ≡ new_local []
+nobody_at members = ap (λ (m : MemberValue). m.local) (item-past no_member members)
+
+past : (members : List MemberValue) (g : ℕ) → length members + 1 ≤ g → item no_member members g ≡ no_member
+past members zero beyond = absurd (omega (arith, beyond))
+past members (suc k) beyond = get_or_past members k no_member (omega (arith, beyond))
+
+pub nobody_yet : (members : List MemberValue) (g : ℕ) → (members_of members).next_federate + 1 ≤ g
+    → IsUnmet (record { bound = λ h. ((members_of members).local h).last_announced; known_epoch = λ h. ((members_of members).local h).epoch }) g
+nobody_yet members g beyond = let none = past members g (omega (arith, beyond)) in record {
+  bound = ap (λ (m : MemberValue). m.local.last_announced) none;
+  epoch = ap (λ (m : MemberValue). m.local.epoch) none;
+}
+
+-- ---- meeting one after another
+pub met_more : {X : Type 0} (t b : ℕ → X) (d : X) (peer : ℕ) (x : X) → x ≡ t peer → ((g : ℕ) → b g ≡ cond (ltb g peer) (t g) d) → (g : ℕ) → upd b peer x g ≡ cond (ltb g (peer + 1)) (t g) d
+unfolding upd
+met_more t b d peer x is before g = ⊎_elim
+    (λ (y : eqb peer g ≡ true). let e : peer ≡ g = grind (arith, nat_tests) in let now : ltb g (peer + 1) ≡ true = grind (arith, nat_tests) in rw (y, now) (is ∙ ap t e))
+    (λ (n : eqb peer g ≡ false). let same : ltb g (peer + 1) ≡ ltb g peer = grind (arith, nat_tests) in rw (n, same) (before g))
+    (cases_Bool (eqb peer g))
+
+-- nobody has the number 0
+pub met_none : {X : Type 0} (p : LocalValue → X) (members : List MemberValue) (g : ℕ) → cond (ltb g 1) (p ((members_of members).local g)) (p (new_local [])) ≡ p (new_local [])
+met_none p members zero = refl
+met_none p members (suc k) = let n : ltb (suc k) 1 ≡ false = grind (arith, nat_tests) in ap (λ (b : Bool). cond b (p ((members_of members).local (suc k))) (p (new_local []))) n
+
+pub met_all : {X : Type 0} (p : LocalValue → X) (members : List MemberValue) (end g : ℕ) → length members + 1 ≤ end → cond (ltb g end) (p ((members_of members).local g)) (p (new_local [])) ≡ p ((members_of members).local g)
+met_all p members end g all = ⊎_elim
+    (λ (y : ltb g end ≡ true). rw y refl)
+    (λ (n : ltb g end ≡ false). let beyond : length members + 1 ≤ g = grind (arith, nat_tests) in rw n (sym (ap (λ (m : MemberValue). p m.local) (past members g beyond))))
+    (cases_Bool (ltb g end))

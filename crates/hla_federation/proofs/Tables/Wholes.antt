@@ -6,9 +6,11 @@ use Rattle.hla_base.specs.declared.fault.Fault.TheVariants as fault
 use Rattle.hla_base.specs.Tables.{upd, upd2}
 use Rattle.hla_fed_file.specs.CatalogueValue.{CatalogueValue}
 use Rattle.hla_declaration.specs.Declarations.{DeclarationsValue}
-use Rattle.hla_federation.specs.Tables.Members.{MemberTables}
-use Rattle.hla_federation.specs.Steps.State.{AreWhole}
-use Rattle.hla_base.proofs.Tables.{upd_other, upd_same, upd2_other}
+use Rattle.hla_lbts.specs.Peers.{peers_of}
+use Rattle.hla_local.specs.LocalValue.{LocalValue, resigned_local}
+use Rattle.hla_federation.specs.Tables.Members.{MemberTables, with_member_admitted}
+use Rattle.hla_federation.specs.Steps.State.{AreWhole, IsUnmet}
+use Rattle.hla_base.proofs.Tables.{upd_other, upd_same, upd2_other, upd_each}
 
 -- who is joined is not one who is not
 apart : (joined : ℕ → Bool) (f g : ℕ) → joined f ≡ true → joined g ≡ false → f ≢ g
@@ -21,6 +23,7 @@ module _ (c : CatalogueValue) (d : DeclarationsValue) (m : MemberTables) (whole 
     federates = whole.federates;
     object_classes = whole.object_classes;
     interaction_classes = whole.interaction_classes;
+    unmet = whole.unmet;
     silent = λ g k n. record { objects = upd2_other d.subscribed f class o g k (inl (apart m.joined f g joined n)) ∙ (whole.silent g k n).objects; interactions = (whole.silent g k n).interactions };
   }
 
@@ -30,8 +33,13 @@ module _ (c : CatalogueValue) (d : DeclarationsValue) (m : MemberTables) (whole 
     federates = whole.federates;
     object_classes = whole.object_classes;
     interaction_classes = whole.interaction_classes;
+    unmet = whole.unmet;
     silent = λ g k n. record { objects = (whole.silent g k n).objects; interactions = upd2_other d.subscribed_interaction f class b g k (inl (apart m.joined f g joined n)) ∙ (whole.silent g k n).interactions };
   }
+
+-- nor does another component, if it knows nothing of who has never joined
+pub unmet_with : (local : ℕ → LocalValue) (f : ℕ) (l : LocalValue) (g : ℕ) → IsUnmet (peers_of l.peers) g → ((k : ℕ) → IsUnmet (peers_of (local k).peers) g) → (k : ℕ) → IsUnmet (peers_of (upd local f l k).peers) g
+unmet_with local f l g here there k = upd_each local f l (λ j x. IsUnmet (peers_of x.peers) g) here (λ j ne. there j) k
 
 -- publishing changes nothing of that
 pub whole_published : (c : CatalogueValue) (d : DeclarationsValue) (m : MemberTables) → AreWhole c d m → (published : ℕ → ℕ → Option (List ℕ)) (interactions : ℕ → ℕ → Bool)
@@ -42,22 +50,25 @@ whole_published c d m whole published interactions = record {
   object_classes = whole.object_classes;
   interaction_classes = whole.interaction_classes;
   silent = λ g k no. record { objects = (whole.silent g k no).objects; interactions = (whole.silent g k no).interactions };
+  unmet = whole.unmet;
 }
 
 -- nor do messages and serials
-pub whole_same : (c : CatalogueValue) (d : DeclarationsValue) (m n : MemberTables) → AreWhole c d m → n.next_federate ≡ m.next_federate → n.joined ≡ m.joined → AreWhole c d n
-whole_same c d m n whole next joined = record {
+pub whole_same : (c : CatalogueValue) (d : DeclarationsValue) (m n : MemberTables) → AreWhole c d m → n.next_federate ≡ m.next_federate → n.joined ≡ m.joined
+    → ((f g : ℕ) → m.next_federate ≤ g → IsUnmet (peers_of (n.local f).peers) g) → AreWhole c d n
+whole_same c d m n whole next joined unmet = record {
   few = rw next whole.few;
   federates = whole.federates ∙ sym next;
   object_classes = whole.object_classes;
   interaction_classes = whole.interaction_classes;
   silent = λ g k no. whole.silent g k (ap (λ (j : ℕ → Bool). j g) (sym joined) ∙ no);
+  unmet = λ f g beyond. unmet f g (rw (sym next) beyond);
 }
 
 -- one more federate
-pub whole_admitted : (c : CatalogueValue) (d : DeclarationsValue) (m : MemberTables) (name : List ℕ) → AreWhole c d m → m.next_federate ≤ 16
-    → AreWhole c (record d { federates = d.federates + 1 }) (record m { next_federate = m.next_federate + 1; joined = upd m.joined m.next_federate true; name = upd m.name m.next_federate name })
-whole_admitted c d m name whole few = record {
+pub whole_admitted : (c : CatalogueValue) (d : DeclarationsValue) (m : MemberTables) (name : List ℕ) (local : LocalValue) → AreWhole c d m → m.next_federate ≤ 16
+    → ((g : ℕ) → m.next_federate + 1 ≤ g → IsUnmet (peers_of local.peers) g) → AreWhole c (record d { federates = d.federates + 1 }) (with_member_admitted m name local)
+whole_admitted c d m name local whole few own = record {
   few = omega (arith, few);
   federates = let e = whole.federates in omega (arith, e);
   object_classes = whole.object_classes;
@@ -67,12 +78,13 @@ whole_admitted c d m name whole few = record {
       (λ (ne : m.next_federate ≢ g).
       let was = whole.silent g k (sym (upd_other m.joined m.next_federate true g ne) ∙ no) in record { objects = was.objects; interactions = was.interactions })
       (cases_eq m.next_federate g);
+  unmet = λ f g beyond. unmet_with m.local m.next_federate local g (own g beyond) (λ k. whole.unmet k g (omega (arith, beyond))) f;
 }
 
 -- one federate fewer
-pub whole_withdrawn : (c : CatalogueValue) (d : DeclarationsValue) (m n : MemberTables) (f : ℕ) → AreWhole c d m → n.next_federate ≡ m.next_federate → n.joined ≡ upd m.joined f false
+pub whole_withdrawn : (c : CatalogueValue) (d : DeclarationsValue) (m n : MemberTables) (f : ℕ) → AreWhole c d m → n.next_federate ≡ m.next_federate → n.joined ≡ upd m.joined f false → n.local ≡ upd m.local f (resigned_local (m.local f))
     → AreWhole c (record d { published = upd d.published f (λ _. None); subscribed = upd d.subscribed f (λ _. None); published_interaction = upd d.published_interaction f (λ _. false); subscribed_interaction = upd d.subscribed_interaction f (λ _. false) }) n
-whole_withdrawn c d m n f whole next joined = record {
+whole_withdrawn c d m n f whole next joined local = record {
   few = rw next whole.few;
   federates = whole.federates ∙ sym next;
   object_classes = whole.object_classes;
@@ -89,6 +101,7 @@ whole_withdrawn c d m n f whole next joined = record {
         interactions = ap (λ (t : ℕ → Bool). t k) (upd_other d.subscribed_interaction f (λ _. false) g ne) ∙ (whole.silent g k was).interactions;
       })
       (cases_eq f g);
+  unmet = λ k g beyond. rw local (unmet_with m.local f (resigned_local (m.local f)) g (whole.unmet f g (rw (sym next) beyond)) (λ j. whole.unmet j g (rw (sym next) beyond)) k);
 }
 
 -- who may join is one of the first sixteen

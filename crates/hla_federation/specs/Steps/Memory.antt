@@ -1,9 +1,10 @@
 -- Which steps may be refused for want of memory; no other step ever is
-use Rattle.std.specs.Prelude.{◌≡◌, ◌⊎◌, ◌&&◌, ltb, Bool, true, false, Option, None, Some, slice_get}
+use Rattle.std.specs.Prelude.{◌≡◌, ◌⊎◌, ◌&&◌, ltb, Bool, true, false, None, Some, List, [], ◌∷◌}
 use Rattle.hla_base.specs.declared.fault.Fault.{Fault}
 use Rattle.hla_base.specs.declared.fault.Fault.TheVariants.{OutOfMemory}
 use Rattle.hla_null_message.specs.declared.message.Message.{Message}
-use Rattle.hla_null_message.specs.declared.message.Message.TheVariants as message
+use Rattle.hla_local.specs.Arriving.{message_takes_memory}
+use Rattle.hla_local.specs.Picking.{Pick, PickConstrains, pick}
 use Rattle.hla_machine.specs.declared.service.Service.{Service}
 use Rattle.hla_machine.specs.declared.service.Service.TheVariants as service
 use Rattle.hla_machine.specs.declared.step.Step.{Step}
@@ -11,14 +12,18 @@ use Rattle.hla_machine.specs.declared.step.Step.TheVariants.{Join, Call, Carry, 
 use Rattle.hla_machine.specs.Refusals.{refusal}
 use Rattle.hla_base.specs.Rows.{is_regulator}
 use Rattle.hla_components.specs.Components.{Components}
-use Rattle.hla_components.specs.Component.{promise}
+use Rattle.hla_components.specs.Component.{promise, local_bound}
 use Rattle.hla_components.specs.Next.{components_seen}
 
--- what a component keeps of a message that comes takes memory, but of a null message it keeps a number
-abbrev pub arrival_takes_memory : Option Message → Bool
-arrival_takes_memory None = false
-arrival_takes_memory (Some (message.Null k v)) = false
-arrival_takes_memory (Some m) = true
+-- the first message on a wire, if there is one
+abbrev pub arrival_takes_memory : List Message → Bool
+arrival_takes_memory [] = false
+arrival_takes_memory (m ∷ ms) = message_takes_memory m
+
+-- only what moves as a federate becomes constrained takes memory
+abbrev pub pick_takes_memory : Pick → Bool
+pick_takes_memory PickConstrains = true
+pick_takes_memory p = false
 
 -- lists, names and messages take memory, but no row of a federate does
 abbrev pub service_takes_memory : Service → Bool
@@ -52,9 +57,9 @@ service_takes_memory service = true
 abbrev pub takes_memory : Components → Step → Bool
 takes_memory s (Join name) = true
 takes_memory s (Call f service) = service_takes_memory service
-takes_memory s (Carry from to) = arrival_takes_memory (slice_get (s.wire from to) 0)
+takes_memory s (Carry from to) = arrival_takes_memory (s.wire from to)
 takes_memory s (Announce f) = is_regulator (s.row f) && ltb (s.last_announced f) (promise s f)
-takes_memory s (Tick f) = false
+takes_memory s (Tick f) = pick_takes_memory (pick (s.controls f) (s.row f) (s.ro f) (s.tso f) (local_bound s f))
 
 -- refused as the definitions say; or for want of memory, where they say nothing and the step takes any
 abbrev pub IsRefusedWith : Components → Step → Fault → Type 0

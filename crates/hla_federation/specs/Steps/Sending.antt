@@ -1,7 +1,9 @@
 -- The messages of services without stamps, by receiver
 use Rattle.std.specs.Prelude.{ℕ, ◌+◌, ◌≡◌, cond, eqb, false, None, Option, Some, List, [], ◌∷◌, ◌++◌}
 use Rattle.hla_base.specs.declared.content.Content.{Content}
-use Rattle.hla_base.specs.Tables.{is_other}
+use Rattle.hla_base.specs.Tables.{forever, is_other}
+use Rattle.hla_base.specs.Rows.{is_regulator}
+use Rattle.hla_components.specs.Components.{Components}
 use Rattle.hla_declaration.specs.declared.receiver.Receiver.{Receiver}
 use Rattle.hla_null_message.specs.declared.message.Message.{Message}
 use Rattle.hla_null_message.specs.declared.message.Message.TheVariants as message
@@ -34,3 +36,12 @@ HasAdded added old new = (h : ℕ) → item [] new h ≡ item [] old h ++ added 
 abbrev pub messages_among : (Receiver → List Message) → List Receiver → ℕ → List Message
 messages_among made [] h = []
 messages_among made (r ∷ rs) h = cond (eqb r.federate h) (made r) [] ++ messages_among made rs h
+
+-- ---- null messages
+-- what an announcement puts on the wire to a federate
+abbrev pub null_to : Directory → ℕ → ℕ → ℕ → ℕ → List Message
+null_to d f epoch bound h = cond (is_other d.joined f h) (message.Null epoch bound ∷ []) []
+
+-- and what a regulator that resigns announces last
+abbrev pub last_null_to : Components → ℕ → ℕ → List Message
+last_null_to s f h = cond (is_regulator (s.row f)) (null_to s.directory f (s.epoch f) forever h) []

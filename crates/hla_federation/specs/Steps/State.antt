@@ -1,10 +1,11 @@
--- The components and wires that a federation's parts stand for. What no service changes yet is as joining made it
+-- The components and wires that a federation's parts stand for. Of what was sent with a stamp nothing is kept yet
 use Rattle.std.specs.Prelude.{ℕ, ◌+◌, ◌≡◌, ◌≤◌, true, false, None, List, [], length, Result, Ok, Err}
 use Rattle.std.specs.List.{All}
 use Rattle.hla_base.specs.declared.fault.Fault.{Fault}
 use Rattle.hla_base.specs.Limits.{forever, max_joins}
-use Rattle.hla_base.specs.Rows.{new_row}
+use Rattle.hla_lbts.specs.Peers.{PeersValue, peers_of}
 use Rattle.hla_fed_file.specs.CatalogueValue.{CatalogueValue}
+use Rattle.hla_retraction.specs.SentEvents.{no_event}
 use Rattle.hla_declaration.specs.Declarations as declared
 use Rattle.hla_declaration.specs.Declarations.{DeclarationsValue}
 use Rattle.hla_object_registry.specs.Registered.{RegistryValue, registry_of}
@@ -13,8 +14,8 @@ use Rattle.hla_machine.specs.declared.service.Service.TheVariants as service
 use Rattle.hla_machine.specs.declared.step.Step.{Step}
 use Rattle.hla_machine.specs.declared.step.Step.TheVariants.{Join, Call, Carry, Announce, Tick}
 use Rattle.hla_machine.specs.declared.step.Answer.{Answer}
+use Rattle.hla_machine.specs.declared.step.Outcome.TheVariants as outcome
 use Rattle.hla_machine.specs.Directory.{Directory, default_name}
-use Rattle.hla_machine.specs.Central.{no_event}
 use Rattle.hla_components.specs.Components.{Components}
 use Rattle.hla_components.specs.Next.{next, answer_outcome}
 use Rattle.hla_federation.specs.Steps.Memory.{IsRefusedWith}
@@ -39,16 +40,16 @@ directory_from c d r m = record {
 abbrev pub state_from : CatalogueValue → DeclarationsValue → RegistryValue → MemberTables → Components
 state_from c d r m = record {
   directory = directory_from c d r m;
-  row = λ _. new_row;
+  row = λ f. (m.local f).row;
   serial = m.serial;
-  ro = m.ro;
-  tso = λ _. [];
-  controls = m.controls;
+  ro = λ f. (m.local f).ro;
+  tso = λ f. (m.local f).tso;
+  controls = λ f. (m.local f).controls;
   wire = m.wire;
-  bound = λ _ _. forever;
-  known_epoch = λ _ _. 0;
-  last_announced = λ _. forever;
-  epoch = λ _. 0;
+  bound = λ f. (peers_of (m.local f).peers).bound;
+  known_epoch = λ f. (peers_of (m.local f).peers).known_epoch;
+  last_announced = λ f. (m.local f).last_announced;
+  epoch = λ f. (m.local f).epoch;
   sent = λ _ _. no_event;
 }
 
@@ -72,6 +73,11 @@ pub record SubscribesNothing (d : DeclarationsValue) (f class : ℕ) : Type 0 wh
   pub objects : d.subscribed f class ≡ None
   pub interactions : d.subscribed_interaction f class ≡ false
 
+-- nothing is known of a federate that has never joined
+pub record IsUnmet (p : PeersValue) (g : ℕ) : Type 0 where
+  pub bound : p.bound g ≡ forever
+  pub epoch : p.known_epoch g ≡ 0
+
 -- the parts are of one execution
 pub record AreWhole (c : CatalogueValue) (d : DeclarationsValue) (m : MemberTables) : Type 0 where
   pub few : m.next_federate ≤ max_joins + 1
@@ -79,6 +85,7 @@ pub record AreWhole (c : CatalogueValue) (d : DeclarationsValue) (m : MemberTabl
   pub object_classes : d.object_classes ≡ length c.object_classes
   pub interaction_classes : d.interaction_classes ≡ length c.interaction_classes
   pub silent : (f class : ℕ) → m.joined f ≡ false → SubscribesNothing d f class
+  pub unmet : (f g : ℕ) → m.next_federate ≤ g → IsUnmet (peers_of (m.local f).peers) g
 
 -- the name of the next object is there once somebody is joined
 abbrev pub IsNamed : FederationValue → Type 0
@@ -94,6 +101,11 @@ pub record IsWhole (v : FederationValue) : Type 0 where
 abbrev pub Ends : FederationValue → Step → Result Answer Fault → FederationValue → Type 0
 Ends old step (Ok a) new = next (state_of old) step ≡ answer_outcome a (state_of new)
 Ends old step (Err e) new = IsRefusedWith (state_of old) step e × (new ≡ old)
+
+-- the same of a step that may choose
+abbrev pub EndsChosen : FederationValue → Step → Result Answer Fault → FederationValue → Type 0
+EndsChosen old step (Ok a) new = ((next (state_of old) step).outcome ≡ outcome.Done a) × ((next (state_of old) step).state ≡ state_of new)
+EndsChosen old step (Err e) new = IsRefusedWith (state_of old) step e × (new ≡ old)
 
 -- a step that only asks leaves all as it is
 abbrev pub Answers : FederationValue → Step → Result Answer Fault → Type 0

@@ -1,8 +1,7 @@
 -- What contracts see of the members of a federation
 use Rattle.std.specs.Prelude.{ℕ, Bool, List, zero, suc, slice_index_or, map}
-use Rattle.hla_base.specs.declared.content.Event.{Event}
 use Rattle.hla_null_message.specs.declared.message.Message.{Message}
-use Rattle.hla_order_queues.specs.declared.control.Control.{Control}
+use Rattle.hla_local.specs.LocalValue.{LocalValue}
 use Rattle.hla_null_message.specs.Wires.{WireValue}
 
 -- the wires to one member, by sender, counted from 1
@@ -14,8 +13,7 @@ pub record MemberValue : Type 0 where
   pub name : List ℕ
   pub joined : Bool
   pub next_serial : ℕ
-  pub received : List Event
-  pub controls : List Control
+  pub local : LocalValue
   pub incoming : List (List Message)
 
 -- a member, and the room on the wires to it

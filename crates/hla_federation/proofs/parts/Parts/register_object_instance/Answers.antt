@@ -45,6 +45,12 @@ reserve_all-requires c =
     let below : c.args.federate < (members_of c.args.self.now.members).next_federate = c.requires.sound.kept.kept.directory.members c.args.federate joined in
     (joined_some c.args.self.now.members c.args.federate joined, omega (arith, below, ap (λ (v : FederationValue). length v.members) c.self.view_is))
 
+pub post_all-requires-clause-end : goal.post_all-requires-clause-end
+post_all-requires-clause-end c =
+    let joined = c.requires.joined in
+    let below : c.args.federate < (members_of c.args.self.now.members).next_federate = c.requires.sound.kept.kept.directory.members c.args.federate joined in
+    (joined_some c.args.self.now.members c.args.federate joined, omega (arith, below, ap (λ (v : FederationValue). length v.members) c.self.view_is, ap (λ (ms : List MemberValue). length ms) c.in_ok-reserve_all.ensures.same))
+
 pub register-requires-clause-few : goal.register-requires-clause-few
 register-requires-clause-few c =
     let none : refusal (components_seen (state_of c.args.self.now)) (step.Call c.args.federate (service.RegisterObjectInstance c.args.class c.args.name.now)) ≡ None = sym c.register_fault.ensures ∙ c.in_default.is in

@@ -14,7 +14,7 @@ use Rattle.hla_federation.specs.Tables.FederationValue.{FederationValue}
 use Rattle.hla_federation.specs.Tables.MemberValue.{item}
 use Rattle.hla_federation.specs.Tables.Members.{MemberTables, members_of, with_member_withdrawn}
 use Rattle.hla_components.specs.Next.{answer_outcome, components_seen, with_federate_gone, with_messages_sent}
-use Rattle.hla_federation.specs.Steps.Sending.{messages_to}
+use Rattle.hla_federation.specs.Steps.Sending.{HasAdded, messages_to, last_null_to}
 use Rattle.hla_federation.specs.Steps.State.{state_of, state_from, directory_from}
 use Rattle.hla_federation.proofs.Steps.Doing.{does_next}
 use Rattle.hla_federation.proofs.Steps.Resigning.{resign_serials, resigned_state, resign_ways, joined_before, joined_below}
@@ -28,7 +28,7 @@ returns-clause-whole c =
     let new = c.resign.ensures ∙ ap (λ (t : MemberTables). with_member_withdrawn t c.args.federate) c.in_ok-send_all.ensures.ok in
     let joined = ap (λ (t : MemberTables). t.joined) new in
     record {
-      parts = rw c.withdraw.ensures (whole_withdrawn _ _ old _ c.args.federate whole.parts (ap (λ (t : MemberTables). t.next_federate) new) joined);
+      parts = rw c.withdraw.ensures (whole_withdrawn _ _ old _ c.args.federate whole.parts (ap (λ (t : MemberTables). t.next_federate) new) joined (ap (λ (t : MemberTables). t.local) new));
       named = λ g y. whole.named g (joined_before old.joined c.args.federate g (ap (λ (j : ℕ → Bool). j g) (sym joined) ∙ y)) ∙ ap (λ (r : RegistryValue). default_name r.next_object) (sym c.delete_owned_by.ensures);
     }
 
@@ -38,10 +38,12 @@ returns-clause-done c =
     let none : refusal (components_seen (state_of c.args.self.now)) (Call f (service.Resign c.args.action)) ≡ None = sym c.resign_fault.ensures ∙ c.in_default.is in
     let old = members_of c.self.inside.members.shown in
     let hs = c.in_ok-objects.objects in
-    let o = item [] c.address_removals.new.outbox in
+    let o = item [] c.address_last_null.new.outbox in
     let posted = rw (c.as_slice.ensures, c.next_serial-serial.ensures, ← c.self.view_is) at c.in_ok-address_removals.ensures.ok in
-    let is : (h : ℕ) → o h ≡ messages_to (directory_from c.self.inside.catalogue (declared.declarations_of c.self.inside.declarations) (registry_of c.self.inside.registry) (members_of c.self.inside.members.shown)) f (old.serial f) (deletions_sent hs) h = λ h. posted h
-    ∙ ap (λ (ms : List Message). ms ++ messages_to (directory_from c.self.inside.catalogue (declared.declarations_of c.self.inside.declarations) (registry_of c.self.inside.registry) (members_of c.self.inside.members.shown)) f (old.serial f) (deletions_sent hs) h) (c.in_ok-outbox.ensures.ok h) in
+    let last = subst (λ (v : FederationValue). HasAdded (last_null_to (state_of v) f) c.address_removals.new.outbox c.address_last_null.new.outbox) (sym c.self.view_is) c.in_ok-address_last_null.ensures.ok in
+    let is : (h : ℕ) → o h ≡ messages_to (directory_from c.self.inside.catalogue (declared.declarations_of c.self.inside.declarations) (registry_of c.self.inside.registry) (members_of c.self.inside.members.shown)) f (old.serial f) (deletions_sent hs) h ++ last_null_to (state_from c.self.inside.catalogue (declared.declarations_of c.self.inside.declarations) (registry_of c.self.inside.registry) (members_of c.self.inside.members.shown)) f h = λ h. last h
+    ∙ ap (λ (ms : List Message). ms ++ last_null_to (state_from c.self.inside.catalogue (declared.declarations_of c.self.inside.declarations) (registry_of c.self.inside.registry) (members_of c.self.inside.members.shown)) f h) (posted h
+    ∙ ap (λ (ms : List Message). ms ++ messages_to (directory_from c.self.inside.catalogue (declared.declarations_of c.self.inside.declarations) (registry_of c.self.inside.registry) (members_of c.self.inside.members.shown)) f (old.serial f) (deletions_sent hs) h) (c.in_ok-outbox.ensures.ok h)) in
     let sent = rw c.len.ensures at c.in_ok-send_all.ensures.ok in
     let members = c.resign.ensures ∙ ap (λ (t : MemberTables). with_member_withdrawn t f) sent in
     let new = state_from c.self.inside.catalogue (declared.declarations_of c.withdraw.new.self) (registry_of c.delete_owned_by.new.self) (members_of c.resign.new.self.shown) in

@@ -39,7 +39,7 @@ returns-then-next_serial-count_parts c =
     let serial = c.next_serial.ensures ∙ ap (λ (v : FederationValue). (members_of v.members).serial f) c.self.view_is in
     let count = c.count_parts.ensures.count h in
     let test = c.if-next_serial-count_parts.true in
-    too_many _ _ _ _ _ _ _ joined known defined owned published (timely (update_sent (state_of now).directory h c.args.values.now))
+    too_many _ _ _ _ _ _ _ joined known defined owned published (timely ((state_of now).row c.args.federate) (update_sent (state_of now).directory h c.args.values.now))
     (past_serials ((members_of now.members).serial f) (update_sent (state_of now).directory h c.args.values.now) c.next_serial.result c.count_parts.result serial count c.count_parts.ensures.few test)
 
 pub returns-else-next_serial-count_parts : goal.returns-else-next_serial-count_parts
@@ -56,5 +56,5 @@ returns-else-next_serial-count_parts c =
     let serial = c.next_serial.ensures ∙ ap (λ (v : FederationValue). (members_of v.members).serial f) c.self.view_is in
     let count = c.count_parts.ensures.count h in
     let test = c.if-next_serial-count_parts.false in
-    no_fault _ _ _ _ _ _ _ joined known defined owned published (timely (update_sent (state_of now).directory h c.args.values.now))
+    no_fault _ _ _ _ _ _ _ joined known defined owned published (timely ((state_of now).row c.args.federate) (update_sent (state_of now).directory h c.args.values.now))
     (within_serials ((members_of now.members).serial f) (update_sent (state_of now).directory h c.args.values.now) c.next_serial.result c.count_parts.result serial count c.count_parts.ensures.few test)

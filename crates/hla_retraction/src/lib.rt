@@ -1,0 +1,2 @@
+//! What a federate sent in time-stamp order and may take back.
+#![tactic(auto)]
