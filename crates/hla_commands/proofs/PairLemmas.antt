@@ -1,33 +1,36 @@
 -- One more pair.
-use Rattle.std.proofs.Common.{◌≡◌, ℕ, List, [], ◌∷◌, ◌++◌, Result, Ok, Err, refl, sym, ap, ◌∙◌, append_assoc}
+use Rattle.std.proofs.Common.{◌≡◌, ℕ, List, [], ◌∷◌, ◌++◌, Option, None, Some, Result, Ok, Err, refl, sym, ap, ◌∙◌, append_assoc}
 use Rattle.std.proofs.lemmas.List.{append-nil}
-use Rattle.hla_commands.specs.Reading.{read_then}
-use Rattle.hla_commands.specs.Script.{pair_of, pairs_of}
+use Rattle.hla_commands.specs.Reading.{Reading, read_then}
+use Rattle.hla_commands.specs.Script.{pair_of, stamp_of, pairs_where, pairs_and_stamp}
 use Rattle.hla_commands.specs.declared.lines.NameValuePair.{NameValuePair}
 use Rattle.hla_commands.specs.declared.lines.ScriptFaultKind.{ScriptFaultKind}
 
 abbrev Pairs : Type 0
-Pairs = Result (List NameValuePair) ScriptFaultKind
+Pairs = Reading (List NameValuePair × Option ℕ)
 
 -- pairs that were read before, and what is read then
 abbrev pub with_pairs : List NameValuePair → Pairs → Pairs
-with_pairs front (Ok ps) = Ok (front ++ ps)
+with_pairs front (Ok ps) = Ok ((front ++ ps.0.0, ps.0.1), ps.1)
 with_pairs front (Err k) = Err k
 
-regroup : (front : List NameValuePair) (p : NameValuePair) (r : Pairs) → with_pairs front (read_then r (λ ps. Ok (p ∷ ps))) ≡ with_pairs (front ++ p ∷ []) r
-regroup front p (Ok ps) = ap (λ (all : List NameValuePair). Ok all) (sym (append_assoc front (p ∷ []) ps))
+regroup : (front : List NameValuePair) (p : NameValuePair) (r : Pairs) → with_pairs front (read_then r (λ ps. Ok ((p ∷ ps.0.0, ps.0.1), ps.1))) ≡ with_pairs (front ++ p ∷ []) r
+regroup front p (Ok ps) = ap (λ (all : List NameValuePair). Ok ((all, ps.0.1), ps.1)) (sym (append_assoc front (p ∷ []) ps.0.0))
 regroup front p (Err k) = refl
 
-pub added_pair : (front : List NameValuePair) (w : List ℕ) (ws : List (List ℕ)) (p : NameValuePair) (all : Pairs) → pair_of w ≡ Ok p → with_pairs front (pairs_of (w ∷ ws)) ≡ all → with_pairs (front ++ p ∷ []) (pairs_of ws) ≡ all
-added_pair front w ws p all e h =
-    let one : with_pairs front (pairs_of (w ∷ ws)) ≡ with_pairs front (read_then (pairs_of ws) (λ ps. Ok (p ∷ ps))) = ap (λ (r : Result NameValuePair ScriptFaultKind). with_pairs front (read_then r (λ p. read_then (pairs_of ws) (λ ps. Ok (p ∷ ps))))) e in
-    sym (regroup front p (pairs_of ws)) ∙ sym one ∙ h
+-- a word is read by whether it is a stamp, and by what pair it is
+read_by : (front : List NameValuePair) (w : List ℕ) (ws : List (List ℕ)) (s : Option ℕ) (r : Result NameValuePair ScriptFaultKind) → stamp_of w ≡ s → pair_of w ≡ r → with_pairs front (pairs_and_stamp (w ∷ ws)) ≡ with_pairs front (pairs_where s r ws (pairs_and_stamp ws))
+read_by front w ws s r e f =
+    ap (λ (s : Option ℕ). with_pairs front (pairs_where s (pair_of w) ws (pairs_and_stamp ws))) e
+    ∙ ap (λ (r : Result NameValuePair ScriptFaultKind). with_pairs front (pairs_where s r ws (pairs_and_stamp ws))) f
 
-pub faulty_pair : (front : List NameValuePair) (w : List ℕ) (ws : List (List ℕ)) (k : ScriptFaultKind) (all : Pairs) → pair_of w ≡ Err k → with_pairs front (pairs_of (w ∷ ws)) ≡ all → all ≡ Err k
-faulty_pair front w ws k all e h =
-    let one : with_pairs front (pairs_of (w ∷ ws)) ≡ Err k = ap (λ (r : Result NameValuePair ScriptFaultKind). with_pairs front (read_then r (λ p. read_then (pairs_of ws) (λ ps. Ok (p ∷ ps))))) e in sym h ∙ one
+pub added_pair : (front : List NameValuePair) (w : List ℕ) (ws : List (List ℕ)) (p : NameValuePair) (all : Pairs) → stamp_of w ≡ None → pair_of w ≡ Ok p → with_pairs front (pairs_and_stamp (w ∷ ws)) ≡ all → with_pairs (front ++ p ∷ []) (pairs_and_stamp ws) ≡ all
+added_pair front w ws p all e f h = sym (regroup front p (pairs_and_stamp ws)) ∙ sym (read_by front w ws None (Ok p) e f) ∙ h
 
-pub end_of_pairs : (front : List NameValuePair) (all : Pairs) → with_pairs front (pairs_of []) ≡ all → all ≡ Ok front
-end_of_pairs front all h = sym h ∙ ap (λ (ps : List NameValuePair). Ok ps) (append-nil front)
+pub stamp_behind : (front : List NameValuePair) (w : List ℕ) (ws : List (List ℕ)) (t : ℕ) (all : Pairs) → stamp_of w ≡ Some t → with_pairs front (pairs_and_stamp (w ∷ ws)) ≡ all → all ≡ Ok ((front, Some t), ws)
+stamp_behind front w ws t all e h = sym h ∙ read_by front w ws (Some t) (pair_of w) e refl ∙ ap (λ (ps : List NameValuePair). Ok ((ps, Some t), ws)) (append-nil front)
 
-pub ruleset pair_steps = (added_pair, end_of_pairs)
+pub end_of_pairs : (front : List NameValuePair) (all : Pairs) → with_pairs front (pairs_and_stamp []) ≡ all → all ≡ Ok ((front, None), [])
+end_of_pairs front all h = sym h ∙ ap (λ (ps : List NameValuePair). Ok ((ps, None), [])) (append-nil front)
+
+pub ruleset pair_steps = (added_pair, stamp_behind, end_of_pairs)

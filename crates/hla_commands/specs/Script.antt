@@ -1,7 +1,7 @@
 -- What a script says, line by line, with the first fault
-use Rattle.std.specs.Prelude.{◌≡◌, ℕ, ◌+◌, Bool, not, ◌==◌, ◌||◌, ◌&&◌, nat_lt, nat_le, List, [], ◌∷◌, ◌++◌, length, map, Option, None, Some, Result, Ok, Err, if◌then◌else◌, codes, slice_index}
+use Rattle.std.specs.Prelude.{◌≡◌, ℕ, ◌+◌, Bool, not, ◌==◌, ◌||◌, ◌&&◌, nat_lt, nat_le, List, [], ◌∷◌, ◌++◌, length, map, Option, None, Some, Result, Ok, Err, if◌then◌else◌, slice_index, drop}
 use Rattle.std.specs.List.{list_all, before_first, after_first}
-use Rattle.std.specs.Str.{bytes_eq}
+use Rattle.std.specs.Result.{result_ok}
 use Rattle.std.specs.Str.Parse.{digits_value}
 use Rattle.std.specs.Char.{is_ascii_digit}
 use Rattle.bstr.specs.Text.{lines_of, without_terminator}
@@ -9,9 +9,7 @@ use Rattle.hla_base.specs.Limits.{max_script, max_script_line, largest_number}
 use Rattle.hla_commands.specs.declared.lines.Command.{Command}
 use Rattle.hla_commands.specs.declared.lines.Command.TheVariants as command
 use Rattle.hla_machine.specs.declared.service.ResignAction.{ResignAction}
-use Rattle.hla_machine.specs.declared.service.ResignAction.TheVariants as action
 use Rattle.hla_commands.specs.declared.lines.Declaration.{Declaration}
-use Rattle.hla_commands.specs.declared.lines.Declaration.TheVariants as declaration
 use Rattle.hla_commands.specs.declared.lines.Call.{Call}
 use Rattle.hla_commands.specs.declared.lines.Call.TheVariants as call
 use Rattle.hla_commands.specs.declared.lines.NameValuePair.{NameValuePair}
@@ -21,55 +19,13 @@ use Rattle.hla_commands.specs.declared.lines.Line.{Line}
 use Rattle.hla_commands.specs.declared.lines.ScriptFault.{ScriptFault}
 use Rattle.hla_commands.specs.declared.vocabulary.Opening.{Opening}
 use Rattle.hla_commands.specs.declared.vocabulary.Opening.TheVariants as opening
+use Rattle.hla_commands.specs.declared.vocabulary.TimeVerb.{TimeVerb}
+use Rattle.hla_commands.specs.declared.vocabulary.TimeVerb.TheVariants as time
 use Rattle.hla_commands.specs.declared.vocabulary.Verb.{Verb}
 use Rattle.hla_commands.specs.declared.vocabulary.Verb.TheVariants as verb
+use Rattle.hla_commands.specs.Vocabulary.{opening_of, verb_of, action_of}
 use Rattle.hla_commands.specs.Words.{words_of}
 use Rattle.hla_commands.specs.Reading.{Reading, read_then}
-
--- what the first word of a line opens
-unfoldable pub opening_of : List ℕ → Opening
-opening_of word =
-    if bytes_eq word (codes "create") then opening.Create
-    else if bytes_eq word (codes "destroy") then opening.Destroy
-    else if bytes_eq word (codes "join") then opening.Join
-    else if bytes_eq word (codes "carry") then opening.Carry
-    else if bytes_eq word (codes "announce") then opening.Unbuilt
-    else opening.Federate
-
--- which declaration a word makes or withdraws, if it is one of their words
-unfoldable pub declaration_verb_of : List ℕ → Option Verb
-declaration_verb_of word =
-    if bytes_eq word (codes "publishObject") then Some (verb.DeclareObject declaration.Publication)
-    else if bytes_eq word (codes "unpublishObject") then Some (verb.WithdrawObject declaration.Publication)
-    else if bytes_eq word (codes "subscribeObject") then Some (verb.DeclareObject declaration.Subscription)
-    else if bytes_eq word (codes "unsubscribeObject") then Some (verb.WithdrawObject declaration.Subscription)
-    else if bytes_eq word (codes "publishInteraction") then Some (verb.DeclareInteraction declaration.Publication)
-    else if bytes_eq word (codes "unpublishInteraction") then Some (verb.WithdrawInteraction declaration.Publication)
-    else if bytes_eq word (codes "subscribeInteraction") then Some (verb.DeclareInteraction declaration.Subscription)
-    else if bytes_eq word (codes "unsubscribeInteraction") then Some (verb.WithdrawInteraction declaration.Subscription)
-    else None
-
--- what a word behind a federate's name says, if it is known
-unfoldable pub verb_of : List ℕ → Option Verb
-verb_of word =
-    if bytes_eq word (codes "tick") then Some verb.Tick
-    else if bytes_eq word (codes "resign") then Some verb.Resign
-    else if bytes_eq word (codes "register") then Some verb.Register
-    else if bytes_eq word (codes "update") then Some verb.Update
-    else if bytes_eq word (codes "send") then Some verb.Send
-    else if bytes_eq word (codes "delete") then Some verb.Delete
-    else if bytes_eq word (codes "objectHandle") then Some verb.ObjectHandle
-    else if bytes_eq word (codes "objectName") then Some verb.ObjectName
-    else declaration_verb_of word
-
--- the action of a resignation that a word names, if it names one
-unfoldable pub action_of : List ℕ → Option ResignAction
-action_of word =
-    if bytes_eq word (codes "RELEASE_ATTRIBUTES") then Some action.ReleaseAttributes
-    else if bytes_eq word (codes "DELETE_OBJECTS") then Some action.DeleteObjects
-    else if bytes_eq word (codes "DELETE_OBJECTS_AND_RELEASE_ATTRIBUTES") then Some action.DeleteObjectsAndReleaseAttributes
-    else if bytes_eq word (codes "NO_ACTION") then Some action.NoAction
-    else None
 
 -- a name from the FED file
 abbrev pub name_in : List (List ℕ) → Reading (List ℕ)
@@ -118,10 +74,46 @@ pair_of word =
     if length (before_first (λ b. b == 61) word) == 0 || length (before_first (λ b. b == 61) word) == length word then Err kind.BadWord
     else Ok (record { name = before_first (λ b. b == 61) word; value = after_first (λ b. b == 61) word })
 
--- pairs up to the end of the line
-abbrev pub pairs_of : List (List ℕ) → Result (List NameValuePair) ScriptFaultKind
-pairs_of [] = Ok []
-pairs_of (word ∷ words) = read_then (pair_of word) (λ p. read_then (pairs_of words) (λ ps. Ok (p ∷ ps)))
+-- the ticks of a stamp, which is an `@` and a number, if the word is one
+unfoldable pub stamp_of : List ℕ → Option ℕ
+stamp_of word = if nat_lt 0 (length word) && slice_index word 0 == 64 then result_ok (word_number (drop 1 word)) else None
+
+abbrev pub stamp_where : Option ℕ → List (List ℕ) → Reading (Option ℕ)
+stamp_where None words = Err kind.BadWord
+stamp_where (Some ticks) words = Ok (Some ticks, words)
+
+-- a stamp that may be left out
+abbrev pub optional_stamp_in : List (List ℕ) → Reading (Option ℕ)
+optional_stamp_in [] = Ok (None, [])
+optional_stamp_in (word ∷ words) = stamp_where (stamp_of word) words
+
+-- where a word is a stamp, it ends the pairs; another is a pair, and there may be more behind it
+abbrev pub pairs_where : Option ℕ → Result NameValuePair ScriptFaultKind → List (List ℕ) → Reading (List NameValuePair × Option ℕ) → Reading (List NameValuePair × Option ℕ)
+pairs_where (Some ticks) pair words later = Ok (([], Some ticks), words)
+pairs_where None pair words later = read_then pair (λ p. read_then later (λ ps. Ok ((p ∷ ps.0.0, ps.0.1), ps.1)))
+
+-- pairs up to the end of the line, or up to a stamp, and that stamp
+abbrev pub pairs_and_stamp : List (List ℕ) → Reading (List NameValuePair × Option ℕ)
+pairs_and_stamp [] = Ok (([], None), [])
+pairs_and_stamp (word ∷ words) = pairs_where (stamp_of word) (pair_of word) words (pairs_and_stamp words)
+
+abbrev pub both_numbers : Option ℕ → Option ℕ → Option (ℕ × ℕ)
+both_numbers (Some sender) (Some serial) = Some (sender, serial)
+both_numbers sender serial = None
+
+-- the sender and the serial of a message, two numbers round the first `.`, if the word is its handle
+unfoldable pub handle_of : List ℕ → Option (ℕ × ℕ)
+handle_of word =
+    if length (before_first (λ b. b == 46) word) == length word then None
+    else both_numbers (result_ok (word_number (before_first (λ b. b == 46) word))) (result_ok (word_number (after_first (λ b. b == 46) word)))
+
+abbrev pub handle_where : Option (ℕ × ℕ) → List (List ℕ) → Reading (ℕ × ℕ)
+handle_where None words = Err kind.BadWord
+handle_where (Some handle) words = Ok (handle, words)
+
+abbrev pub handle_in : List (List ℕ) → Reading (ℕ × ℕ)
+handle_in [] = Err kind.MissingWord
+handle_in (word ∷ words) = handle_where (handle_of word) words
 
 -- an object class that is published or subscribed, with its attributes
 abbrev pub declare_object_in : Declaration → List (List ℕ) → Reading Call
@@ -131,18 +123,35 @@ abbrev pub register_in : List (List ℕ) → Reading Call
 register_in words = read_then (name_in words) (λ n. read_then (optional_in n.1) (λ o. Ok (call.Register n.0 o.0, o.1)))
 
 abbrev pub update_in : List (List ℕ) → Reading Call
-update_in words = read_then (number_word words) (λ h. read_then (name_in h.1) (λ n. read_then (pairs_of n.1) (λ ps. Ok (call.Update h.0 n.0 ps, []))))
+update_in words = read_then (number_word words) (λ h. read_then (name_in h.1) (λ n. read_then (pairs_and_stamp n.1) (λ ps. Ok (call.Update h.0 n.0 ps.0.0 ps.0.1, ps.1))))
 
 abbrev pub send_in : List (List ℕ) → Reading Call
-send_in words = read_then (name_in words) (λ n. read_then (pairs_of n.1) (λ ps. Ok (call.Send n.0 ps, [])))
-
--- only a stamp may stand behind the object, and none is read yet
-abbrev pub delete_where : ℕ → List (List ℕ) → Reading Call
-delete_where object [] = Ok (call.Delete object, [])
-delete_where object (word ∷ words) = Err kind.BadWord
+send_in words = read_then (name_in words) (λ n. read_then (pairs_and_stamp n.1) (λ ps. Ok (call.Send n.0 ps.0.0 ps.0.1, ps.1)))
 
 abbrev pub delete_in : List (List ℕ) → Reading Call
-delete_in words = read_then (number_word words) (λ h. delete_where h.0 h.1)
+delete_in words = read_then (number_word words) (λ h. read_then (optional_stamp_in h.1) (λ s. Ok (call.Delete h.0 s.0, s.1)))
+
+abbrev pub regulate_in : List (List ℕ) → Reading Call
+regulate_in words = read_then (number_word words) (λ t. read_then (number_word t.1) (λ l. Ok (call.EnableTimeRegulation t.0 l.0, l.1)))
+
+abbrev pub retract_in : List (List ℕ) → Reading Call
+retract_in words = read_then (handle_in words) (λ h. Ok (call.Retract h.0.0 h.0.1, h.1))
+
+-- a verb of time management with its words
+abbrev pub time_call_by : TimeVerb → List (List ℕ) → Reading Call
+time_call_by time.EnableTimeRegulation words = regulate_in words
+time_call_by time.DisableTimeRegulation words = Ok (call.DisableTimeRegulation, words)
+time_call_by time.EnableTimeConstrained words = Ok (call.EnableTimeConstrained, words)
+time_call_by time.DisableTimeConstrained words = Ok (call.DisableTimeConstrained, words)
+time_call_by (time.RequestAdvance k) words = read_then (number_word words) (λ t. Ok (call.RequestAdvance k t.0, t.1))
+time_call_by time.ModifyLookahead words = read_then (number_word words) (λ l. Ok (call.ModifyLookahead l.0, l.1))
+time_call_by time.EnableAsynchronousDelivery words = Ok (call.EnableAsynchronousDelivery, words)
+time_call_by time.DisableAsynchronousDelivery words = Ok (call.DisableAsynchronousDelivery, words)
+time_call_by time.Retract words = retract_in words
+time_call_by time.QueryLbts words = Ok (call.QueryLbts, words)
+time_call_by time.QueryFederateTime words = Ok (call.QueryFederateTime, words)
+time_call_by time.QueryMinNextEventTime words = Ok (call.QueryMinNextEventTime, words)
+time_call_by time.QueryLookahead words = Ok (call.QueryLookahead, words)
 
 -- a verb with its words
 abbrev pub call_by : Verb → List (List ℕ) → Reading Call
@@ -158,6 +167,7 @@ call_by verb.Send words = send_in words
 call_by verb.Delete words = delete_in words
 call_by verb.ObjectHandle words = read_then (name_in words) (λ n. Ok (call.ObjectHandle n.0, n.1))
 call_by verb.ObjectName words = read_then (number_word words) (λ h. Ok (call.ObjectName h.0, h.1))
+call_by (verb.Time v) words = time_call_by v words
 
 abbrev pub call_where : Option Verb → List (List ℕ) → Reading Call
 call_where None words = Err kind.UnknownWord
@@ -174,7 +184,7 @@ command_by opening.Create word words = Ok (command.Create, words)
 command_by opening.Destroy word words = Ok (command.Destroy, words)
 command_by opening.Join word words = read_then (federate_in words) (λ n. Ok (command.Join n.0, n.1))
 command_by opening.Carry word words = read_then (federate_in words) (λ from. read_then (federate_in from.1) (λ to. Ok (command.Carry from.0 to.0, to.1)))
-command_by opening.Unbuilt word words = Err kind.UnknownWord
+command_by opening.Announce word words = read_then (federate_in words) (λ n. Ok (command.Announce n.0, n.1))
 command_by opening.Federate word words = read_then (call_in words) (λ c. Ok (command.Federate word c.0, c.1))
 
 -- a command takes all words

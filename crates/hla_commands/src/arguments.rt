@@ -1,12 +1,12 @@
 //! The words of a command, one after another.
 
-ghost use Rattle.std.specs.Prelude.{◌≡◌, ◌==◌, ◌<◌, ◌≤◌, ◌++◌, ◌∷◌, [], length, not, true, nat_lt, IfOk, IfErr, OnOk, IfSome, MatchOption};
+ghost use Rattle.std.specs.Prelude.{◌≡◌, ◌==◌, ◌<◌, ◌≤◌, ◌++◌, ◌∷◌, [], length, not, true, nat_lt, IfOk, IfErr, IfSome, MatchOption};
 ghost use Rattle.std.specs.List.{prefix_len, position_or_len, list_all};
 ghost use Rattle.std.specs.Char.{is_ascii_digit};
 ghost use Rattle.std.specs.Str.Parse.{digits_value};
 ghost use Rattle.hla_base.specs.Limits.{largest_number};
 ghost use Rattle.hla_commands.specs.Reading.{Means, Reads};
-ghost use Rattle.hla_commands.specs.Script.{name_in, optional_in, names_in, federate_in, action_in, word_number, number_word, pair_of, pairs_of};
+ghost use Rattle.hla_commands.specs.Script.{name_in, optional_in, names_in, federate_in, action_in, word_number, number_word, pair_of, stamp_of, optional_stamp_in, pairs_and_stamp, handle_of, handle_in};
 
 use crate::lines::{NameValuePair, ScriptFaultKind};
 use crate::vocabulary::{Opening, action_of};
@@ -134,12 +134,12 @@ pub fn federate(alloc: Global, words: &mut Words<'_>) -> Result<List<u8>, Script
     }
 }
 
-/// How many bytes stand before the first `=`.
-fn name_len(word: &[u8]) -> usize
-    ensures count { result ≡ position_or_len (λ b. b == 61) word.now }
+/// How many bytes stand before the first of a byte, or all.
+fn len_before(word: &[u8], byte: u8) -> usize
+    ensures count { result ≡ position_or_len (λ b. b == byte) word.now }
     ensures within { result ≤ length word.now }
 {
-    word.iter().take_while(|b| **b != b'=').count()
+    word.iter().take_while(|b| **b != byte).count()
 }
 
 /// A name and a value round the first `=`.
@@ -147,7 +147,7 @@ fn name_len(word: &[u8]) -> usize
 pub fn pair(alloc: Global, word: &[u8]) -> Result<NameValuePair, ScriptFaultKind>
     ensures { Means result (pair_of word.now) }
 {
-    let len = name_len(word);
+    let len = len_before(word, b'=');
     if len == 0 || len == word.len() {
         return Err(ScriptFaultKind::BadWord);
     }
@@ -157,18 +157,73 @@ pub fn pair(alloc: Global, word: &[u8]) -> Result<NameValuePair, ScriptFaultKind
     })
 }
 
-/// Pairs up to the end of the line.
+/// The ticks of a stamp, which is an `@` and a number, if the word is one.
+#[tactic(auto, unfolding(crate::specs::Script::stamp_of))]
+fn stamp_of(word: &[u8]) -> Option<u64>
+    ensures { result ≡ stamp_of word.now }
+{
+    if word.len() > 0 && word[0] == b'@' {
+        number_of(&word[1..]).ok()
+    } else {
+        None
+    }
+}
+
+/// A stamp that may be left out.
+pub fn optional_stamp(words: &mut Words<'_>) -> Result<Option<u64>, ScriptFaultKind>
+    ensures { Reads result words.new (optional_stamp_in words.old) }
+{
+    let Some(word) = words.next() else {
+        return Ok(None);
+    };
+    match stamp_of(word) {
+        Some(ticks) => Ok(Some(ticks)),
+        None => Err(ScriptFaultKind::BadWord),
+    }
+}
+
+/// Pairs up to the end of the line, or up to a stamp, and that stamp.
 #[tactic(auto, using(crate::proofs::PairLemmas::pair_steps))]
-pub fn pairs(alloc: Global, words: &mut Words<'_>) -> Result<List<NameValuePair>, ScriptFaultKind>
-    ensures meant { Means result (pairs_of words.old) }
-    ensures all { OnOk result (words.new ≡ []) }
+pub fn pairs_and_stamp(
+    alloc: Global,
+    words: &mut Words<'_>,
+) -> Result<(List<NameValuePair>, Option<u64>), ScriptFaultKind>
+    ensures { Reads result words.new (pairs_and_stamp words.old) }
 {
     let mut found = List::new(alloc);
     while let Some(word) = words.next() {
+        if let Some(ticks) = stamp_of(word) {
+            return Ok((found, Some(ticks)));
+        }
         let pair = pair(alloc, word)?;
         if found.push(pair).is_err() {
             return Err(ScriptFaultKind::OutOfMemory);
         }
     }
-    Ok(found)
+    Ok((found, None))
+}
+
+/// The sender and the serial of a message, if the word is its handle: two numbers round the first `.`.
+#[tactic(auto, unfolding(crate::specs::Script::handle_of))]
+fn handle_of(word: &[u8]) -> Option<(u64, u64)>
+    ensures { result ≡ handle_of word.now }
+{
+    let len = len_before(word, b'.');
+    if len == word.len() {
+        return None;
+    }
+    let sender = number_of(&word[..len]).ok()?;
+    let serial = number_of(&word[len + 1..]).ok()?;
+    Some((sender, serial))
+}
+
+/// The sender and the serial of a message.
+pub fn handle(words: &mut Words<'_>) -> Result<(u64, u64), ScriptFaultKind>
+    ensures { Reads result words.new (handle_in words.old) }
+{
+    let word = word(words)?;
+    match handle_of(word) {
+        Some(handle) => Ok(handle),
+        None => Err(ScriptFaultKind::BadWord),
+    }
 }

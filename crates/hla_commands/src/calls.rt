@@ -2,11 +2,13 @@
 
 ghost use Rattle.std.specs.Prelude.{◌≡◌};
 ghost use Rattle.hla_commands.specs.Reading.{Reads};
-ghost use Rattle.hla_commands.specs.Script.{declare_object_in, register_in, update_in, send_in, delete_in, call_by, call_in};
+ghost use Rattle.hla_commands.specs.Script.{declare_object_in, register_in, update_in, send_in, delete_in, regulate_in, retract_in, time_call_by, call_by, call_in};
 
-use crate::arguments::{action, name, names, number, optional, pairs, word};
+use crate::arguments::{
+    action, handle, name, names, number, optional, optional_stamp, pairs_and_stamp, word,
+};
 use crate::lines::{Call, Declaration, ScriptFaultKind};
-use crate::vocabulary::Verb;
+use crate::vocabulary::{TimeVerb, Verb};
 use crate::words::Words;
 use std::alloc::Global;
 
@@ -42,11 +44,12 @@ fn update(alloc: Global, words: &mut Words<'_>) -> Result<Call, ScriptFaultKind>
 {
     let object = number(words)?;
     let class = name(alloc, words)?;
-    let values = pairs(alloc, words)?;
+    let (values, stamp) = pairs_and_stamp(alloc, words)?;
     Ok(Call::Update {
         object,
         class,
         values,
+        stamp,
     })
 }
 
@@ -55,18 +58,63 @@ fn send(alloc: Global, words: &mut Words<'_>) -> Result<Call, ScriptFaultKind>
     ensures { Reads result words.new (send_in words.old) }
 {
     let class = name(alloc, words)?;
-    let values = pairs(alloc, words)?;
-    Ok(Call::Send { class, values })
+    let (values, stamp) = pairs_and_stamp(alloc, words)?;
+    Ok(Call::Send {
+        class,
+        values,
+        stamp,
+    })
 }
 
-/// A deletion. Only a stamp may stand behind the object, and none is read yet.
+/// A deletion.
 fn delete(words: &mut Words<'_>) -> Result<Call, ScriptFaultKind>
     ensures { Reads result words.new (delete_in words.old) }
 {
     let object = number(words)?;
-    match words.next() {
-        None => Ok(Call::Delete { object }),
-        Some(_) => Err(ScriptFaultKind::BadWord),
+    let stamp = optional_stamp(words)?;
+    Ok(Call::Delete { object, stamp })
+}
+
+/// An enabling of time regulation.
+fn regulate(words: &mut Words<'_>) -> Result<Call, ScriptFaultKind>
+    ensures { Reads result words.new (regulate_in words.old) }
+{
+    let time = number(words)?;
+    let lookahead = number(words)?;
+    Ok(Call::EnableTimeRegulation { time, lookahead })
+}
+
+/// A retraction.
+fn retract(words: &mut Words<'_>) -> Result<Call, ScriptFaultKind>
+    ensures { Reads result words.new (retract_in words.old) }
+{
+    let (sender, serial) = handle(words)?;
+    Ok(Call::Retract { sender, serial })
+}
+
+/// A verb of time management with its words.
+fn time_call_by(verb: TimeVerb, words: &mut Words<'_>) -> Result<Call, ScriptFaultKind>
+    ensures { Reads result words.new (time_call_by verb words.old) }
+{
+    match verb {
+        TimeVerb::EnableTimeRegulation => regulate(words),
+        TimeVerb::DisableTimeRegulation => Ok(Call::DisableTimeRegulation),
+        TimeVerb::EnableTimeConstrained => Ok(Call::EnableTimeConstrained),
+        TimeVerb::DisableTimeConstrained => Ok(Call::DisableTimeConstrained),
+        TimeVerb::RequestAdvance(kind) => Ok(Call::RequestAdvance {
+            kind,
+            time: number(words)?,
+        }),
+        TimeVerb::ModifyLookahead => Ok(Call::ModifyLookahead {
+            lookahead: number(words)?,
+        }),
+        TimeVerb::EnableAsynchronousDelivery => Ok(Call::EnableAsynchronousDelivery),
+        TimeVerb::DisableAsynchronousDelivery => Ok(Call::DisableAsynchronousDelivery),
+        TimeVerb::Retract => retract(words),
+        TimeVerb::QueryLbts => Ok(Call::QueryLbts),
+        TimeVerb::QueryFederateTime => Ok(Call::QueryFederateTime),
+        TimeVerb::QueryMinNextEventTime => Ok(Call::QueryMinNextEventTime),
+        TimeVerb::QueryLookahead => Ok(Call::QueryLookahead),
     }
 }
 
@@ -102,6 +150,7 @@ fn call_by(alloc: Global, verb: Verb, words: &mut Words<'_>) -> Result<Call, Scr
         Verb::ObjectName => Ok(Call::ObjectName {
             object: number(words)?,
         }),
+        Verb::Time(verb) => time_call_by(verb, words),
     }
 }
 

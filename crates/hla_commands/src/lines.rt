@@ -3,7 +3,7 @@
 ghost use Rattle.std.specs.Prelude.{◌≡◌};
 ghost use Rattle.hla_commands.specs.FaultName.{kind_name};
 
-use hla_base::List;
+use hla_base::{AdvanceKind, List};
 use hla_machine::ResignAction;
 use thiserror::Error;
 
@@ -24,7 +24,7 @@ pub enum Declaration {
 }
 
 /// What a federate does. Classes, attributes and parameters are named as in the FED file; an object goes by its number,
-/// from 1, which may be larger than that of any object.
+/// from 1, which may be larger than that of any object. Times, stamps and lookaheads may be larger than any that is allowed.
 #[derive(Debug, Drop)]
 pub enum Call {
     /// Tick: it picks up a callback.
@@ -59,20 +59,23 @@ pub enum Call {
         class: List<u8>,
         name: Option<List<u8>>,
     },
-    /// Update Attribute Values, in receive order. The class is where the attributes are looked up.
+    /// Update Attribute Values, with a stamp in ticks or with none. The class is where the attributes are looked up.
     Update {
         object: u64,
         class: List<u8>,
         values: List<NameValuePair>,
+        stamp: Option<u64>,
     },
-    /// Send Interaction, in receive order.
+    /// Send Interaction, with a stamp in ticks or with none.
     Send {
         class: List<u8>,
         values: List<NameValuePair>,
+        stamp: Option<u64>,
     },
-    /// Delete Object Instance, in receive order.
+    /// Delete Object Instance, with a stamp in ticks or with none.
     Delete {
         object: u64,
+        stamp: Option<u64>,
     },
     /// Get Object Instance Handle.
     ObjectHandle {
@@ -82,6 +85,44 @@ pub enum Call {
     ObjectName {
         object: u64,
     },
+    /// Enable Time Regulation, at a time and with a lookahead, both in ticks.
+    EnableTimeRegulation {
+        time: u64,
+        lookahead: u64,
+    },
+    /// Disable Time Regulation.
+    DisableTimeRegulation,
+    /// Enable Time Constrained.
+    EnableTimeConstrained,
+    /// Disable Time Constrained.
+    DisableTimeConstrained,
+    /// Time Advance Request, Time Advance Request Available, Next Event Request, Next Event Request Available or Flush
+    /// Queue Request, to a time in ticks.
+    RequestAdvance {
+        kind: AdvanceKind,
+        time: u64,
+    },
+    /// Modify Lookahead, to so many ticks.
+    ModifyLookahead {
+        lookahead: u64,
+    },
+    /// Enable Asynchronous Delivery.
+    EnableAsynchronousDelivery,
+    /// Disable Asynchronous Delivery.
+    DisableAsynchronousDelivery,
+    /// Retract, of the message of that serial from the federate of that number. Both may be larger than any there is.
+    Retract {
+        sender: u64,
+        serial: u64,
+    },
+    /// Query LBTS.
+    QueryLbts,
+    /// Query Federate Time.
+    QueryFederateTime,
+    /// Query Minimum Next Event Time.
+    QueryMinNextEventTime,
+    /// Query Lookahead.
+    QueryLookahead,
 }
 
 /// What a line asks for.
@@ -95,6 +136,8 @@ pub enum Command {
     Join { name: List<u8> },
     /// The first message on the wire from one federate to another arrives.
     Carry { from: List<u8>, to: List<u8> },
+    /// The federate of that name announces its promise to the others.
+    Announce { name: List<u8> },
     /// The federate of that name does something.
     Federate { name: List<u8>, call: Call },
 }

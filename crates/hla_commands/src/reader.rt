@@ -34,7 +34,9 @@ fn command_by(
             let to = federate(alloc, words)?;
             Ok(Command::Carry { from, to })
         }
-        Opening::Unbuilt => Err(ScriptFaultKind::UnknownWord),
+        Opening::Announce => Ok(Command::Announce {
+            name: federate(alloc, words)?,
+        }),
         Opening::Federate => {
             let call = call(alloc, words)?;
             let name = word_bytes(alloc, first)?;

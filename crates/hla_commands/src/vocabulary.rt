@@ -1,9 +1,10 @@
 //! The words that scripts know.
 
 ghost use Rattle.std.specs.Prelude.{◌≡◌};
-ghost use Rattle.hla_commands.specs.Script.{opening_of, declaration_verb_of, verb_of, action_of};
+ghost use Rattle.hla_commands.specs.Vocabulary.{opening_of, declaration_verb_of, time_service_of, query_of, time_verb_of, verb_of, action_of};
 
 use crate::lines::Declaration;
+use hla_base::AdvanceKind;
 use hla_machine::ResignAction;
 
 /// What the first word of a line opens.
@@ -13,15 +14,14 @@ pub enum Opening {
     Destroy,
     Join,
     Carry,
-    /// A command that is not built.
-    Unbuilt,
+    Announce,
     /// A line that begins with a federate's name.
     Federate,
 }
 
 impl Opening {
     /// What a word opens.
-    #[tactic(auto, unfolding(crate::specs::Script::opening_of))]
+    #[tactic(auto, unfolding(crate::specs::Vocabulary::opening_of))]
     pub fn of(word: &[u8]) -> Opening
         ensures { result ≡ opening_of word.now }
     {
@@ -34,10 +34,91 @@ impl Opening {
         } else if word == b"carry".as_slice() {
             Opening::Carry
         } else if word == b"announce".as_slice() {
-            Opening::Unbuilt
+            Opening::Announce
         } else {
             Opening::Federate
         }
+    }
+}
+
+/// What a word of time management says.
+#[derive(Clone, Copy, Debug, PartialEq, Eq)]
+pub enum TimeVerb {
+    EnableTimeRegulation,
+    DisableTimeRegulation,
+    EnableTimeConstrained,
+    DisableTimeConstrained,
+    RequestAdvance(AdvanceKind),
+    ModifyLookahead,
+    EnableAsynchronousDelivery,
+    DisableAsynchronousDelivery,
+    Retract,
+    QueryLbts,
+    QueryFederateTime,
+    QueryMinNextEventTime,
+    QueryLookahead,
+}
+
+impl TimeVerb {
+    /// Which service a word asks for, if it is one of their words and no query.
+    #[tactic(auto, unfolding(crate::specs::Vocabulary::time_service_of))]
+    fn service(word: &[u8]) -> Option<TimeVerb>
+        ensures { result ≡ time_service_of word.now }
+    {
+        if word == b"regulate".as_slice() {
+            Some(TimeVerb::EnableTimeRegulation)
+        } else if word == b"unregulate".as_slice() {
+            Some(TimeVerb::DisableTimeRegulation)
+        } else if word == b"constrain".as_slice() {
+            Some(TimeVerb::EnableTimeConstrained)
+        } else if word == b"unconstrain".as_slice() {
+            Some(TimeVerb::DisableTimeConstrained)
+        } else if word == b"tar".as_slice() {
+            Some(TimeVerb::RequestAdvance(AdvanceKind::TimeAdvance))
+        } else if word == b"tara".as_slice() {
+            Some(TimeVerb::RequestAdvance(AdvanceKind::TimeAdvanceAvailable))
+        } else if word == b"ner".as_slice() {
+            Some(TimeVerb::RequestAdvance(AdvanceKind::NextEvent))
+        } else if word == b"nera".as_slice() {
+            Some(TimeVerb::RequestAdvance(AdvanceKind::NextEventAvailable))
+        } else if word == b"fqr".as_slice() {
+            Some(TimeVerb::RequestAdvance(AdvanceKind::FlushQueue))
+        } else if word == b"modifyLookahead".as_slice() {
+            Some(TimeVerb::ModifyLookahead)
+        } else if word == b"asyncOn".as_slice() {
+            Some(TimeVerb::EnableAsynchronousDelivery)
+        } else if word == b"asyncOff".as_slice() {
+            Some(TimeVerb::DisableAsynchronousDelivery)
+        } else if word == b"retract".as_slice() {
+            Some(TimeVerb::Retract)
+        } else {
+            None
+        }
+    }
+
+    /// Which query a word makes, if it is one of their words.
+    #[tactic(auto, unfolding(crate::specs::Vocabulary::query_of))]
+    fn query(word: &[u8]) -> Option<TimeVerb>
+        ensures { result ≡ query_of word.now }
+    {
+        if word == b"lbts".as_slice() {
+            Some(TimeVerb::QueryLbts)
+        } else if word == b"time".as_slice() {
+            Some(TimeVerb::QueryFederateTime)
+        } else if word == b"minNext".as_slice() {
+            Some(TimeVerb::QueryMinNextEventTime)
+        } else if word == b"lookahead".as_slice() {
+            Some(TimeVerb::QueryLookahead)
+        } else {
+            None
+        }
+    }
+
+    /// What a word says, if it is one of time management.
+    fn of(word: &[u8]) -> Option<TimeVerb>
+        ensures { result ≡ time_verb_of word.now }
+    {
+        TimeVerb::service(word).or_else(|| TimeVerb::query(word))
     }
 }
 
@@ -56,11 +137,12 @@ pub enum Verb {
     Delete,
     ObjectHandle,
     ObjectName,
+    Time(TimeVerb),
 }
 
 impl Verb {
     /// Which declaration a word makes or withdraws, if it is one of their words.
-    #[tactic(auto, unfolding(crate::specs::Script::declaration_verb_of))]
+    #[tactic(auto, unfolding(crate::specs::Vocabulary::declaration_verb_of))]
     fn declaration_verb(word: &[u8]) -> Option<Verb>
         ensures { result ≡ declaration_verb_of word.now }
     {
@@ -86,7 +168,7 @@ impl Verb {
     }
 
     /// What a word says, if it is known.
-    #[tactic(auto, unfolding(crate::specs::Script::verb_of))]
+    #[tactic(auto, unfolding(crate::specs::Vocabulary::verb_of))]
     pub fn of(word: &[u8]) -> Option<Verb>
         ensures { result ≡ verb_of word.now }
     {
@@ -107,13 +189,13 @@ impl Verb {
         } else if word == b"objectName".as_slice() {
             Some(Verb::ObjectName)
         } else {
-            Verb::declaration_verb(word)
+            Verb::declaration_verb(word).or_else(|| TimeVerb::of(word).map(Verb::Time))
         }
     }
 }
 
 /// The action of a resignation that a word names, if it names one.
-#[tactic(auto, unfolding(crate::specs::Script::action_of))]
+#[tactic(auto, unfolding(crate::specs::Vocabulary::action_of))]
 pub fn action_of(word: &[u8]) -> Option<ResignAction>
     ensures { result ≡ action_of word.now }
 {

@@ -2,6 +2,12 @@
 pub mod Doing
 -- Publications, subscriptions and arrivals
 pub mod Declaring
+-- The parts after one component changed
+pub mod Changing
+-- Null messages, and what each learns of who begins to regulate
+pub mod Announcing
+-- What a step chooses
+pub mod Choosing
 -- The messages of a service, and the state after them
 pub mod SendingAll
 -- What is put into an outbox for each receiver

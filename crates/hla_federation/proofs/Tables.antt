@@ -8,6 +8,10 @@ pub mod Wires
 pub mod Rooms
 -- The tables of a list of members, after a change of the list
 pub mod MemberTables
+-- The greatest of what components say
+pub mod Entries
+-- What each federate learns of one that begins to regulate
+pub mod Lowering
 -- Messages put along the wires from one federate, or to one
 pub mod Posting
 -- The parts stay of one execution

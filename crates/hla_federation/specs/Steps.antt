@@ -1,5 +1,7 @@
 -- What a service puts on the wires
 pub mod Sending
+-- The services that request an advance
+pub mod Advancing
 -- The discoveries of a new object
 pub mod Discovering
 -- The components that the parts stand for, and how a step may end

@@ -4,5 +4,7 @@ pub mod MemberValue
 pub mod Wiring
 -- Members as tables, and what is done with their wires
 pub mod Members
+-- What services change of one component
+pub mod Changes
 -- The value of a federation
 pub mod FederationValue

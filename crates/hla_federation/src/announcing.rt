@@ -1,14 +1,20 @@
 //! Null messages (Chandy and Misra 1979, Bryant 1977).
 
-ghost use Rattle.std.specs.Prelude.{◌≡◌, ◌<◌, [], OnOk, IfErr};
+ghost use Rattle.std.specs.Prelude.{◌≡◌, ◌<◌, [], OnOk, OnErr, IfErr};
 ghost use Rattle.hla_base.specs.declared.fault.Fault.TheVariants.{OutOfMemory};
 ghost use Rattle.hla_base.specs.Tables.{is_other};
-ghost use Rattle.hla_federation.specs.Steps.Sending.{HasAdded, null_to, last_null_to};
-ghost use Rattle.hla_federation.specs.Steps.State.{state_of, IsWhole};
+ghost use Rattle.hla_machine.specs.declared.step.Step.TheVariants as step;
+ghost use Rattle.hla_federation.specs.Tables.Members.{members_of, with_null_sent};
+ghost use Rattle.hla_federation.specs.Steps.Sending.{HasAdded, null_to, last_null_to, announcement};
+ghost use Rattle.hla_federation.specs.Steps.Soundness.{IsSound};
+ghost use Rattle.hla_federation.specs.Steps.State.{state_of, IsWhole, Ends};
 
+use crate::change::Change;
+use crate::direction::Direction;
 use crate::outbox::Outbox;
 use crate::parts::Parts;
 use hla_base::{FOREVER, Fault, FederateNo, Ticks};
+use hla_machine::Answer;
 use hla_null_message::Message;
 
 impl Parts {
@@ -39,6 +45,69 @@ impl Parts {
             }
         }
         Ok(())
+    }
+
+    /// Puts a null message on the wires from a federate to each other one that is joined; `OutOfMemory`, and all as it was,
+    /// where a growth was refused.
+    pub fn send_null(
+        &mut self,
+        sender: FederateNo,
+        epoch: u64,
+        bound: Ticks,
+    ) -> Result<(), Fault>
+        requires whole { IsWhole self.old }
+        requires some { 0 < sender }
+        requires within { sender < (state_of self.old).directory.next_federate }
+        ensures same { OnOk result (self.new ≡ record self.old { members = self.new.members }) }
+        ensures wires { OnOk result (members_of self.new.members ≡
+            with_null_sent (members_of self.old.members) sender epoch bound) }
+        ensures err { IfErr result (λ e. e ≡ Fault.OutOfMemory) }
+        ensures unchanged { OnErr result (self.new ≡ self.old) }
+    {
+        let mut outbox = Outbox::new(self.alloc)?;
+        self.address_null(&mut outbox, sender, epoch, bound)?;
+        let along = Direction::From(sender);
+        self.members.reserve_all(along, &outbox)?;
+        self.members.post_all(along, outbox);
+        Ok(())
+    }
+
+    /// What a federate announces now: what it may promise, if it regulates or has asked to and that is more than it announced
+    /// last.
+    fn announcement(&self, federate: FederateNo) -> Option<Ticks>
+        requires whole { IsWhole self.now }
+        requires some { 0 < federate }
+        requires within { federate < (state_of self.now).directory.next_federate }
+        ensures { result ≡ announcement (state_of self.now) federate }
+    {
+        let local = self.members.local(federate);
+        if !local.state().is_regulator() {
+            return None;
+        }
+        let bound = local.promise();
+        if local.last_announced() < bound {
+            Some(bound)
+        } else {
+            None
+        }
+    }
+
+    /// A federate announces what it may promise, if that is more than it announced last.
+    pub fn announce(&mut self, federate: FederateNo) -> Result<Answer, Fault>
+        requires { IsSound self.old }
+        ensures whole { IsWhole self.new }
+        ensures done { Ends self.old (step.Announce federate) result self.new }
+    {
+        if let Some(fault) = self.caller_fault(federate) {
+            return Err(fault);
+        }
+        let Some(bound) = self.announcement(federate) else {
+            return Ok(Answer::Announced(None));
+        };
+        let epoch = self.members.local(federate).epoch();
+        self.send_null(federate, epoch, bound)?;
+        self.members.change(federate, Change::Announce { bound });
+        Ok(Answer::Announced(Some(bound)))
     }
 
     /// Adds what a federate that resigns announces last, if it regulates or has asked to: `FOREVER`.

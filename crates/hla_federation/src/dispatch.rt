@@ -2,10 +2,10 @@
 
 ghost use Rattle.hla_machine.specs.declared.step.Step.TheVariants as step;
 ghost use Rattle.hla_federation.specs.Steps.Soundness.{IsSound, MayCall};
-ghost use Rattle.hla_federation.specs.Steps.State.{IsWhole, IsBuilt, IsBuiltService, IsLookUp, Ends, EndsChosen, Answers};
+ghost use Rattle.hla_federation.specs.Steps.State.{IsWhole, IsBuilt, IsBuiltService, IsTimeService, IsQuestion, IsLookUp, Ends, EndsChosen, Answers};
 
 use crate::parts::Parts;
-use hla_base::{Fault, FederateNo};
+use hla_base::{AdvanceKind, Fault, FederateNo};
 use hla_machine::{Answer, Service, Step};
 
 impl Parts {
@@ -73,6 +73,68 @@ impl Parts {
                 object,
                 stamp: None,
             } => self.delete_object_instance(federate, *object),
+            Service::QueryLbts
+            | Service::QueryFederateTime
+            | Service::QueryMinNextEventTime
+            | Service::QueryLookahead
+            | Service::GetObjectClassHandle { .. }
+            | Service::GetInteractionClassHandle { .. }
+            | Service::GetAttributeHandle { .. }
+            | Service::GetParameterHandle { .. }
+            | Service::GetObjectInstanceHandle { .. }
+            | Service::GetObjectInstanceName { .. } => self.answer(federate, service),
+            _ => self.manage_time(federate, service),
+        }
+    }
+
+    /// A service of time management that a federate calls, but for the queries.
+    #[tactic(auto, using(crate::proofs::Steps::Doing::ends_chosen))]
+    fn manage_time(&mut self, federate: FederateNo, service: &Service) -> Result<Answer, Fault>
+        requires may { MayCall self.old federate }
+        requires time { IsTimeService service.now }
+        ensures whole { IsWhole self.new }
+        ensures done { EndsChosen self.old (step.Call federate service.now) result self.new }
+    {
+        match service {
+            Service::EnableTimeRegulation { time, lookahead } => {
+                self.enable_time_regulation(federate, *time, *lookahead)
+            }
+            Service::DisableTimeRegulation => self.disable_time_regulation(federate),
+            Service::EnableTimeConstrained => self.enable_time_constrained(federate),
+            Service::DisableTimeConstrained => self.disable_time_constrained(federate),
+            Service::TimeAdvanceRequest { time } => {
+                self.request_advance(federate, AdvanceKind::TimeAdvance, *time)
+            }
+            Service::TimeAdvanceRequestAvailable { time } => {
+                self.request_advance(federate, AdvanceKind::TimeAdvanceAvailable, *time)
+            }
+            Service::NextEventRequest { time } => {
+                self.request_advance(federate, AdvanceKind::NextEvent, *time)
+            }
+            Service::NextEventRequestAvailable { time } => {
+                self.request_advance(federate, AdvanceKind::NextEventAvailable, *time)
+            }
+            Service::FlushQueueRequest { time } => {
+                self.request_advance(federate, AdvanceKind::FlushQueue, *time)
+            }
+            Service::ModifyLookahead { lookahead } => self.modify_lookahead(federate, *lookahead),
+            Service::EnableAsynchronousDelivery => self.enable_asynchronous_delivery(federate),
+            Service::DisableAsynchronousDelivery => self.disable_asynchronous_delivery(federate),
+            _ => unreachable!(),
+        }
+    }
+
+    /// A query or a support service that a federate calls.
+    fn answer(&self, federate: FederateNo, service: &Service) -> Result<Answer, Fault>
+        requires may { MayCall self.now federate }
+        requires question { IsQuestion service.now }
+        ensures { Answers self.now (step.Call federate service.now) result }
+    {
+        match service {
+            Service::QueryLbts => self.query_lbts(federate),
+            Service::QueryFederateTime => self.query_federate_time(federate),
+            Service::QueryMinNextEventTime => self.query_min_next_event_time(federate),
+            Service::QueryLookahead => self.query_lookahead(federate),
             _ => self.look_up(federate, service),
         }
     }
@@ -119,7 +181,7 @@ impl Parts {
             Step::Call { federate, service } => self.call(*federate, service),
             Step::Carry { from, to } => self.carry(*from, *to),
             Step::Tick { federate } => self.tick(*federate),
-            Step::Announce { .. } => unreachable!(),
+            Step::Announce { federate } => self.announce(*federate),
         }
     }
 }

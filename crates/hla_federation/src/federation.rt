@@ -3,7 +3,7 @@
 use crate::parts::Parts;
 use hla_base::Fault;
 use hla_fed_file::Catalogue;
-use hla_machine::{Answer, Step};
+use hla_machine::{Answer, Choice, Step};
 use std::alloc::Global;
 use std::marker::Model;
 
@@ -27,7 +27,7 @@ impl Model for Federation {
 }
 
 impl Federation {
-    ghost use Rattle.std.specs.Prelude.{◌≡◌, OnErr, OnOk, IfOk, IfErr};
+    ghost use Rattle.std.specs.Prelude.{◌≡◌, true, OnErr, OnOk, IfOk, IfErr};
     ghost use Rattle.hla_machine.specs.declared.step.Outcome.TheVariants as outcome;
     ghost use Rattle.hla_base.specs.declared.fault.Fault.TheVariants.{OutOfMemory};
     ghost use Rattle.hla_machine.specs.Discovered.{IsDiscoveredInTurn};
@@ -37,7 +37,7 @@ impl Federation {
     ghost use Rattle.hla_components.specs.Next.{next};
     ghost use Rattle.hla_components.specs.CentralOf.{central};
     ghost use Rattle.hla_federation.specs.Steps.State.{state_of, IsBuilt, AreBuilt};
-    ghost use Rattle.hla_federation.specs.Steps.Memory.{IsRefusedWith};
+    ghost use Rattle.hla_federation.specs.Steps.Memory.{IsRefusedWith, takes_memory};
     ghost use Rattle.hla_components.specs.Headline.{happening, happenings};
     ghost use Rattle.hla_federation.specs.Steps.Soundness.{IsSound, AreSteps, remembered_steps};
 
@@ -78,6 +78,17 @@ impl Federation {
         ensures unchanged { OnErr result (self.new ≡ self.old) }
     {
         self.parts.step(step)
+    }
+
+    /// What the next step would choose, if it were this one: from which stamp on a federate may send that enables regulation,
+    /// or which messages move to receive order. Nothing changes. `OutOfMemory` where the list of those was refused room, which
+    /// happens to no step but those that take memory themselves.
+    pub fn choice(&self, step: &Step) -> Result<Choice, Fault>
+        ensures ok { IfOk result (λ c. c ≡ (next (state_of self.now) step.now).choice) }
+        ensures err { IfErr result (λ e. e ≡ Fault.OutOfMemory) }
+        ensures memory { OnErr result (takes_memory (state_of self.now) step.now ≡ true) }
+    {
+        self.parts.choice(step)
     }
 
     /// One step after another, with what each answers. The answers are those of the components' next-state function, and

@@ -1,7 +1,10 @@
 //! A federation of local components that know of each other only by what comes over wires.
 #![tactic(auto)]
 
+mod advancing;
 mod announcing;
+mod change;
+mod choosing;
 mod declaring;
 mod delivering;
 mod direction;
@@ -19,6 +22,7 @@ mod pairs;
 mod parts;
 mod refusals;
 mod registering;
+mod regulating;
 mod sending;
 
 pub use federation::Federation;

@@ -10,8 +10,10 @@ ghost use Rattle.hla_local.specs.Picking.{PickConstrains, picked_by, local_pick,
 ghost use Rattle.hla_components.specs.Locals.{callback_given};
 ghost use Rattle.hla_federation.specs.Tables.MemberValue.{item};
 ghost use Rattle.hla_federation.specs.Tables.Members.{carried_of, new_member, resigned_member, AreQuiet, MayArrive, HasAccepted};
+ghost use Rattle.hla_federation.specs.Tables.Changes.{changed_local, local_unconstrained, peers_lowered, MayChange};
 ghost use Rattle.hla_federation.specs.Steps.Memory.{arrival_takes_memory};
 
+use crate::change::Change;
 use crate::incoming::Incoming;
 use crate::messages::callback_of;
 use hla_base::{Fault, FederateNo, List, Serial, Ticks};
@@ -174,6 +176,43 @@ impl Member {
     {
         let picked = self.local.pick()?;
         Ok(callback_of(picked))
+    }
+
+    /// Its component changes. It takes no memory.
+    pub fn change(&mut self, change: Change)
+        requires { MayChange change self.old.shown.local }
+        ensures { self.new ≡ record self.old {
+          shown = record self.old.shown { local = changed_local change self.old.shown.local };
+        } }
+    {
+        change.make(&mut self.local);
+    }
+
+    /// It ceases to be constrained: what waits in time-stamp order goes behind what waits in receive order; `OutOfMemory`, and
+    /// all as it was, where room for it was refused.
+    pub fn cease_constraint(&mut self) -> Result<(), Fault>
+        ensures ok { OnOk result (self.new ≡ record self.old {
+          shown = record self.old.shown { local = local_unconstrained self.old.shown.local };
+        }) }
+        ensures err { IfErr result (λ e. e ≡ Fault.OutOfMemory) }
+        ensures unchanged { OnErr result (self.new ≡ self.old) }
+    {
+        self.local.cease_constraint()
+    }
+
+    /// A peer begins to regulate, in a new epoch and from an entry on.
+    pub fn lower(&mut self, peer: FederateNo, epoch: u64, entry: Ticks)
+        requires some { 0 < peer }
+        requires within { peer ≤ max_joins }
+        ensures same { self.new ≡ record self.old {
+          shown = record self.old.shown {
+            local = record self.old.shown.local { peers = self.new.shown.local.peers };
+          };
+        } }
+        ensures peers { peers_of self.new.shown.local.peers ≡
+            peers_lowered peer epoch entry (peers_of self.old.shown.local.peers) }
+    {
+        self.local.lower(peer, epoch, entry);
     }
 
     /// It resigns: what waits for it and what is under way to it is dropped.

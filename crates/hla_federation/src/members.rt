@@ -5,8 +5,10 @@ ghost use Rattle.std.specs.List.{list_any};
 ghost use Rattle.std.specs.Str.{bytes_eq};
 ghost use Rattle.hla_base.specs.Limits.{max_joins, largest_number};
 ghost use Rattle.hla_base.specs.declared.fault.Fault.TheVariants.{OutOfMemory};
-ghost use Rattle.hla_base.specs.Tables.{upd, upd2, numbers_below};
+ghost use Rattle.hla_base.specs.Rows.{bar_of};
+ghost use Rattle.hla_base.specs.Tables.{upd, upd2, greatest, numbers_below};
 ghost use Rattle.hla_federation.specs.Tables.Members.{members_of, room_in, IsEnd, AreQuiet, new_member, with_member_admitted, with_member_withdrawn, with_component, HasRoom, wires_posted_below, MayArrive, HasAccepted, carried_of, with_arrival};
+ghost use Rattle.hla_federation.specs.Tables.Changes.{changed_local, local_unconstrained, entry_by, MayChange, AreLowered};
 ghost use Rattle.hla_federation.specs.declared.direction.Direction.TheVariants.{From};
 ghost use Rattle.hla_federation.specs.Tables.MemberValue.{item, RoomyMember};
 ghost use Rattle.hla_federation.specs.Steps.Memory.{arrival_takes_memory};
@@ -15,10 +17,11 @@ ghost use Rattle.hla_local.specs.LocalValue.{no_peers};
 ghost use Rattle.hla_local.specs.Picking.{PickConstrains, picked_by, local_pick, local_picking};
 ghost use Rattle.hla_components.specs.Locals.{callback_given};
 
+use crate::change::Change;
 use crate::direction::Direction;
 use crate::member::Member;
 use crate::outbox::Outbox;
-use hla_base::{Fault, FederateNo, Serial};
+use hla_base::{Fault, FederateNo, Serial, Ticks};
 use hla_callbacks::Callback;
 use hla_local::Local;
 use hla_machine::Carried;
@@ -317,5 +320,79 @@ impl Members {
         ensures unchanged { OnErr result (self.new.shown ≡ self.old.shown) }
     {
         self.members[federate as usize - 1].pick_up()
+    }
+
+    /// A federate's component changes. It takes no memory.
+    pub fn change(&mut self, federate: FederateNo, change: Change)
+        requires some { 0 < federate }
+        requires within { federate < (members_of self.old.shown).next_federate }
+        requires may { MayChange change ((members_of self.old.shown).local federate) }
+        ensures { members_of self.new.shown ≡ with_component (members_of self.old.shown) federate
+            (changed_local change ((members_of self.old.shown).local federate)) }
+    {
+        self.members[federate as usize - 1].change(change);
+    }
+
+    /// A federate ceases to be constrained; `OutOfMemory`, and all as it was, where room for what moves was refused.
+    pub fn cease_constraint(&mut self, federate: FederateNo) -> Result<(), Fault>
+        requires some { 0 < federate }
+        requires within { federate < (members_of self.old.shown).next_federate }
+        ensures ok { OnOk result (members_of self.new.shown ≡ with_component (members_of self.old.shown) federate
+            (local_unconstrained ((members_of self.old.shown).local federate))) }
+        ensures err { IfErr result (λ e. e ≡ Fault.OutOfMemory) }
+        ensures unchanged { OnErr result (self.new.shown ≡ self.old.shown) }
+    {
+        self.members[federate as usize - 1].cease_constraint()
+    }
+
+    /// The greatest of a time and of all bars, in ticks: nothing below a bar may still be sent to its federate.
+    pub fn greatest_bar(&self, earliest: Ticks) -> Ticks
+        ensures { result ≡ greatest (members_of self.now.shown).next_federate earliest
+            (λ g. bar_of ((members_of self.now.shown).local g).row) }
+    {
+        let mut entry = earliest;
+        let end = self.next_federate();
+        for peer in 1..end {
+            entry = entry.max(self.local(peer).bar());
+        }
+        entry
+    }
+
+    /// From which stamp on a federate may begin to regulate that would like to from a time on, in ticks: what it announces
+    /// last and the others have announced settles it, and no component is asked for more.
+    pub fn entry(&self, federate: FederateNo, earliest: Ticks) -> Ticks
+        ensures { result ≡ greatest (members_of self.now.shown).next_federate earliest
+            (entry_by (members_of self.now.shown).local federate) }
+    {
+        let mut entry = earliest;
+        let end = self.next_federate();
+        for peer in 1..end {
+            let local = self.local(peer);
+            let held = if peer == federate {
+                local.bar()
+            } else {
+                local.entry()
+            };
+            entry = entry.max(held);
+        }
+        entry
+    }
+
+    /// Each other joined federate learns that one begins to regulate, in a new epoch and from an entry on.
+    pub fn lower(&mut self, federate: FederateNo, epoch: u64, entry: Ticks)
+        requires some { 0 < federate }
+        requires within { federate ≤ max_joins }
+        ensures same { members_of self.new.shown ≡ record (members_of self.old.shown) {
+          local = (members_of self.new.shown).local;
+        } }
+        ensures lowered { AreLowered federate epoch entry (members_of self.old.shown).joined
+            (members_of self.old.shown).local (members_of self.new.shown).local }
+    {
+        let end = self.next_federate();
+        for peer in 1..end {
+            if peer != federate && self.is_joined(peer) {
+                self.members[peer as usize - 1].lower(federate, epoch, entry);
+            }
+        }
     }
 }

@@ -1,5 +1,5 @@
-use hla_base::MAX_SCRIPT;
-use hla_commands::parse;
+use hla_base::{AdvanceKind, MAX_SCRIPT};
+use hla_commands::{Call, Command, parse};
 use std::process::Abort;
 use std::test::Fail;
 
@@ -14,10 +14,11 @@ fn finds_the_first_fault(rt: HostRuntime) -> Result<(), Fail> {
         ("carry create", 1, "BadWord"),
         ("join announce x", 1, "BadWord"),
         ("A frobnicate", 1, "UnknownWord"),
-        ("announce A", 1, "UnknownWord"),
+        ("announce", 1, "MissingWord"),
+        ("announce carry", 1, "BadWord"),
+        ("announce A x", 1, "ExtraWord"),
         ("A send Hit x", 1, "BadWord"),
         ("A send Hit =x", 1, "BadWord"),
-        ("A send Hit @5", 1, "BadWord"),
         ("destroy x", 1, "ExtraWord"),
         ("join destroy", 1, "BadWord"),
         ("A resign", 1, "MissingWord"),
@@ -31,18 +32,16 @@ fn finds_the_first_fault(rt: HostRuntime) -> Result<(), Fail> {
         ("A update x Car", 1, "BadNumber"),
         ("A update 1", 1, "MissingWord"),
         ("A update 1 Car Pos", 1, "BadWord"),
-        ("A update 1 Car @5", 1, "BadWord"),
         ("A delete", 1, "MissingWord"),
         ("A delete +1", 1, "BadNumber"),
         ("A delete 1:", 1, "BadNumber"),
         ("A delete 18446744073709551616", 1, "BadNumber"),
         ("A delete 99999999999999999999", 1, "BadNumber"),
         ("A delete 1 x", 1, "BadWord"),
-        ("A delete 1 @5", 1, "BadWord"),
         ("A objectHandle", 1, "MissingWord"),
         ("A objectName /", 1, "BadNumber"),
         ("A objectName 1 2", 1, "ExtraWord"),
-        ("A retract 1.1", 1, "UnknownWord"),
+        ("A RETRACT 1.1", 1, "UnknownWord"),
         ("create\n# \x01\ncreate", 2, "BadByte"),
         ("create\rx\n", 1, "BadByte"),
         ("create\ncreate\r", 2, "BadByte"),
@@ -62,6 +61,76 @@ fn finds_the_first_fault(rt: HostRuntime) -> Result<(), Fail> {
 }
 
 #[test]
+fn finds_faults_of_stamps_and_handles(rt: HostRuntime) -> Result<(), Fail> {
+    let faults = [
+        ("A send Hit @", "BadWord"),
+        ("A send Hit @x", "BadWord"),
+        ("A send Hit x @5", "BadWord"),
+        ("A send Hit @18446744073709551616", "BadWord"),
+        ("A send Hit @5 a=1", "ExtraWord"),
+        ("A update 1 Car @5:", "BadWord"),
+        ("A update 1 Car @5 Pos", "ExtraWord"),
+        ("A update 1 Car Pos=1 @5 Pos=2", "ExtraWord"),
+        ("A delete @5", "BadNumber"),
+        ("A delete 1 5", "BadWord"),
+        ("A delete 1 @-5", "BadWord"),
+        ("A delete 1 @5=x", "BadWord"),
+        ("A delete 1 @5 @6", "ExtraWord"),
+        ("A retract", "MissingWord"),
+        ("A retract 1", "BadWord"),
+        ("A retract 1.", "BadWord"),
+        ("A retract .1", "BadWord"),
+        ("A retract 1.x", "BadWord"),
+        ("A retract 1.2.3", "BadWord"),
+        ("A retract 18446744073709551616.1", "BadWord"),
+        ("A retract 1.18446744073709551616", "BadWord"),
+        ("A retract 1.1 1.2", "ExtraWord"),
+    ];
+    for (text, kind) in faults {
+        match parse(rt.alloc(), text.as_bytes()) {
+            Ok(_) => panic!(rt; "{text:?} is read"),
+            Err(fault) => assert_eq!(rt; fault.kind.name(), kind, "in {text:?}"),
+        }
+    }
+    Ok(())
+}
+
+#[test]
+fn finds_faults_of_time_management(rt: HostRuntime) -> Result<(), Fail> {
+    let faults = [
+        ("A regulate", "MissingWord"),
+        ("A regulate 0", "MissingWord"),
+        ("A regulate @0 1", "BadNumber"),
+        ("A regulate 0 x", "BadNumber"),
+        ("A regulate 0 1 2", "ExtraWord"),
+        ("A unregulate 1", "ExtraWord"),
+        ("A constrain 1", "ExtraWord"),
+        ("A unconstrain x", "ExtraWord"),
+        ("A tar", "MissingWord"),
+        ("A tara 1.1", "BadNumber"),
+        ("A ner 1 2", "ExtraWord"),
+        ("A nera 18446744073709551616", "BadNumber"),
+        ("A fqr @5", "BadNumber"),
+        ("A modifyLookahead", "MissingWord"),
+        ("A modifyLookahead x", "BadNumber"),
+        ("A asyncOn x", "ExtraWord"),
+        ("A asyncOff x", "ExtraWord"),
+        ("A async", "UnknownWord"),
+        ("A lbts 1", "ExtraWord"),
+        ("A time 1", "ExtraWord"),
+        ("A minNext 1", "ExtraWord"),
+        ("A lookahead 1", "ExtraWord"),
+    ];
+    for (text, kind) in faults {
+        match parse(rt.alloc(), text.as_bytes()) {
+            Ok(_) => panic!(rt; "{text:?} is read"),
+            Err(fault) => assert_eq!(rt; fault.kind.name(), kind, "in {text:?}"),
+        }
+    }
+    Ok(())
+}
+
+#[test]
 fn reads_what_is_no_fault(rt: HostRuntime) -> Result<(), Fail> {
     for (text, lines) in [
         ("", 0usize),
@@ -75,9 +144,51 @@ fn reads_what_is_no_fault(rt: HostRuntime) -> Result<(), Fail> {
         ),
         ("A delete 18446744073709551615\nA objectName 007", 2),
         ("A resign DELETE_OBJECTS_AND_RELEASE_ATTRIBUTES", 1),
+        ("announce A\nannounce tick\njoin time", 3),
+        ("A regulate 0 18446744073709551615\nA unregulate", 2),
+        ("A constrain\nA unconstrain", 2),
+        ("A tar 1\nA tara 2\nA ner 3\nA nera 4\nA fqr 5", 5),
+        ("A modifyLookahead 0\nA asyncOn\nA asyncOff", 3),
+        ("A lbts\nA time\nA minNext\nA lookahead", 4),
+        ("A retract 0.18446744073709551615\nA retract 01.02", 2),
+        (
+            "A update 1 Car @5\nA send Hit @5\nA delete 1 @18446744073709551615",
+            3,
+        ),
     ] {
         let script = parse(rt.alloc(), text.as_bytes())?;
         assert_eq!(rt; script.len(), lines, "in {text:?}");
+    }
+    Ok(())
+}
+
+#[test]
+fn reads_numbers_where_they_stand(rt: HostRuntime) -> Result<(), Fail> {
+    let text = "A regulate 5 2
+A nera 6
+A send Hit @5=x @7
+A update 1 Car Pos=1 Paint=@2 @8
+A delete 3 @9
+A retract 1.4
+";
+    let script = parse(rt.alloc(), text.as_bytes())?;
+    assert_eq!(rt; script.len(), 6);
+    for line in script.as_slice() {
+        let is_read = match &line.command {
+            Command::Federate { call, .. } => match call {
+                Call::EnableTimeRegulation { time, lookahead } => *time == 5 && *lookahead == 2,
+                Call::RequestAdvance { kind, time } => {
+                    *kind == AdvanceKind::NextEventAvailable && *time == 6
+                }
+                Call::Send { values, stamp, .. } => values.len() == 1 && *stamp == Some(7),
+                Call::Update { values, stamp, .. } => values.len() == 2 && *stamp == Some(8),
+                Call::Delete { object, stamp } => *object == 3 && *stamp == Some(9),
+                Call::Retract { sender, serial } => *sender == 1 && *serial == 4,
+                _ => false,
+            },
+            _ => false,
+        };
+        assert!(rt; is_read, "line {}", line.number);
     }
     Ok(())
 }

@@ -15,13 +15,14 @@ use Rattle.hla_lbts.specs.Peers.{PeersValue, peers_of}
 use Rattle.hla_null_message.specs.declared.message.Message.{Message}
 use Rattle.hla_null_message.specs.declared.message.Message.TheVariants as message
 use Rattle.hla_local.specs.LocalValue.{LocalValue, new_local}
-use Rattle.hla_local.specs.Picking.{Pick, NoPick, PickControl, PickRo, PickRegulates, PickConstrains, PickTso, PickGrant, pick, picked_by, local_pick, local_picking}
+use Rattle.hla_local.specs.Picking.{Pick, NoPick, PickControl, PickRo, PickRegulates, PickConstrains, PickTso, PickGrant, pick, picked_by, local_pick, local_picking, least_bound}
 use Rattle.hla_machine.specs.declared.step.Answer.TheVariants as answer
 use Rattle.hla_machine.specs.declared.step.Carried.TheVariants as carried
 use Rattle.hla_components.specs.Components.{Components}
 use Rattle.hla_components.specs.Invariant.{Inv}
+use Rattle.hla_components.specs.Component.{local_bound}
 use Rattle.hla_components.specs.Locals.{with_local, KnowsPeers, callback_given, choice_given, carried_by}
-use Rattle.hla_components.specs.Next.{answer_outcome, chosen_outcome, tick_outcome, carry_outcome, with_federate_joined}
+use Rattle.hla_components.specs.Next.{Outcomes, next, answer_outcome, chosen_outcome, tick_outcome, carry_outcome, with_federate_joined}
 use Rattle.hla_components.proofs.Services.Locals.{ticked, may_come, bound_is}
 use Rattle.hla_machine.specs.declared.step.Step.TheVariants.{Tick}
 use Rattle.hla_federation.specs.Steps.Memory.{takes_memory, pick_takes_memory}
@@ -29,6 +30,7 @@ use Rattle.hla_components.proofs.Services.Locals.{came as each_came}
 use Rattle.hla_federation.specs.Tables.Members.{MemberTables, with_member_admitted, with_component, carried_of, MayArrive, HasAccepted}
 use Rattle.hla_federation.specs.Steps.State.{state_from, AreWhole, IsUnmet}
 use Rattle.hla_federation.proofs.Tables.MemberTables.{upd-self, upd-field}
+use Rattle.hla_federation.proofs.Steps.Doing.{does_next}
 
 pub and-false : (b : Bool) → b && false ≡ false
 and-false true = refl
@@ -67,6 +69,13 @@ module _ (c : CatalogueValue) (d : DeclarationsValue) (r : RegistryValue) (m : M
   picked f whole = let p = local_pick (m.local f) in
       ticked s f (m.local f).peers (knows whole f)
       ∙ ap (λ (t : Components). chosen_outcome (answer.Ticked (callback_given (picked_by (m.local f).row p))) (choice_given (m.local f) p) t) (sym (component_changed f (local_picking (m.local f) p)))
+
+  -- its bound, and what a tick would choose
+  pub bound_of : (f : ℕ) → AreWhole c d m → local_bound s f ≡ least_bound (m.local f)
+  bound_of f whole = bound_is s f (m.local f).peers (knows whole f)
+
+  pub picked_choice : (f : ℕ) → AreWhole c d m → m.joined f ≡ true → (next s (Tick f)).choice ≡ choice_given (m.local f) (local_pick (m.local f))
+  picked_choice f whole joined = ap (λ (o : Outcomes). o.choice) (does_next s (Tick f) (rw joined refl) ∙ picked f whole)
 
   pub pick_memory : (f : ℕ) → AreWhole c d m → local_pick (m.local f) ≡ PickConstrains → takes_memory s (Tick f) ≡ true
   pick_memory f whole enters = ap pick_takes_memory (ap (λ (b : ℕ). pick (s.controls f) (s.row f) (s.ro f) (s.tso f) b) (bound_is s f (m.local f).peers (knows whole f)) ∙ enters)

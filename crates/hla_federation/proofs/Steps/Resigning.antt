@@ -100,7 +100,7 @@ messages_none d f m [] h away = refl
 messages_none d f m (out ∷ outs) h away = rw (away, and-false, messages_none d f (m + 1) outs h away) refl
 
 -- who is another is joined
-other_joined : (joined : ℕ → Bool) (f h : ℕ) → is_other joined f h ≡ true → joined h ≡ true
+pub other_joined : (joined : ℕ → Bool) (f h : ℕ) → is_other joined f h ≡ true → joined h ≡ true
 other_joined joined f h y = ⊎_elim
     (λ (j : joined h ≡ true). j)
     (λ (n : joined h ≡ false). let t = rw (n, and-false) at y in absurd (cc))

@@ -212,7 +212,7 @@ module _ (members : List MemberValue) (name : List ℕ) (local : LocalValue) (in
 pub nobody_at : (members : List MemberValue) → (members_of members).local (members_of members).next_federate ≡ new_local []
 nobody_at members = ap (λ (m : MemberValue). m.local) (item-past no_member members)
 
-past : (members : List MemberValue) (g : ℕ) → length members + 1 ≤ g → item no_member members g ≡ no_member
+pub past : (members : List MemberValue) (g : ℕ) → length members + 1 ≤ g → item no_member members g ≡ no_member
 past members zero beyond = absurd (omega (arith, beyond))
 past members (suc k) beyond = get_or_past members k no_member (omega (arith, beyond))
 

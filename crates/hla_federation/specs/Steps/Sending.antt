@@ -1,9 +1,10 @@
 -- The messages of services without stamps, by receiver
-use Rattle.std.specs.Prelude.{ℕ, ◌+◌, ◌≡◌, cond, eqb, false, None, Option, Some, List, [], ◌∷◌, ◌++◌}
+use Rattle.std.specs.Prelude.{ℕ, ◌+◌, ◌≡◌, ◌&&◌, cond, eqb, ltb, false, None, Option, Some, List, [], ◌∷◌, ◌++◌}
 use Rattle.hla_base.specs.declared.content.Content.{Content}
 use Rattle.hla_base.specs.Tables.{forever, is_other}
 use Rattle.hla_base.specs.Rows.{is_regulator}
 use Rattle.hla_components.specs.Components.{Components}
+use Rattle.hla_components.specs.Component.{promise}
 use Rattle.hla_declaration.specs.declared.receiver.Receiver.{Receiver}
 use Rattle.hla_null_message.specs.declared.message.Message.{Message}
 use Rattle.hla_null_message.specs.declared.message.Message.TheVariants as message
@@ -45,3 +46,7 @@ null_to d f epoch bound h = cond (is_other d.joined f h) (message.Null epoch bou
 -- and what a regulator that resigns announces last
 abbrev pub last_null_to : Components → ℕ → ℕ → List Message
 last_null_to s f h = cond (is_regulator (s.row f)) (null_to s.directory f (s.epoch f) forever h) []
+
+-- what a federate announces now, if it is anything
+abbrev pub announcement : Components → ℕ → Option ℕ
+announcement s f = cond (is_regulator (s.row f) && ltb (s.last_announced f) (promise s f)) (Some (promise s f)) None

@@ -1,5 +1,5 @@
 -- The components and wires that a federation's parts stand for. Of what was sent with a stamp nothing is kept yet
-use Rattle.std.specs.Prelude.{ℕ, ◌+◌, ◌≡◌, ◌≤◌, true, false, None, List, [], length, Result, Ok, Err}
+use Rattle.std.specs.Prelude.{ℕ, ◌+◌, ◌≡◌, ◌≤◌, true, false, None, Some, List, [], length, Result, Ok, Err}
 use Rattle.std.specs.List.{All}
 use Rattle.hla_base.specs.declared.fault.Fault.{Fault}
 use Rattle.hla_base.specs.Limits.{forever, max_joins}
@@ -121,35 +121,41 @@ IsLookUp (service.GetObjectInstanceHandle name) = Unit {0}
 IsLookUp (service.GetObjectInstanceName object) = Unit {0}
 IsLookUp service = ⊥
 
--- the services that are built
+-- the queries and the support services, which change nothing
+abbrev pub IsQuestion : Service → Type 0
+IsQuestion service.QueryLbts = Unit {0}
+IsQuestion service.QueryFederateTime = Unit {0}
+IsQuestion service.QueryMinNextEventTime = Unit {0}
+IsQuestion service.QueryLookahead = Unit {0}
+IsQuestion service = IsLookUp service
+
+-- the services of time management that change something, but for Retract
+abbrev pub IsTimeService : Service → Type 0
+IsTimeService (service.EnableTimeRegulation time lookahead) = Unit {0}
+IsTimeService service.DisableTimeRegulation = Unit {0}
+IsTimeService service.EnableTimeConstrained = Unit {0}
+IsTimeService service.DisableTimeConstrained = Unit {0}
+IsTimeService (service.TimeAdvanceRequest time) = Unit {0}
+IsTimeService (service.TimeAdvanceRequestAvailable time) = Unit {0}
+IsTimeService (service.NextEventRequest time) = Unit {0}
+IsTimeService (service.NextEventRequestAvailable time) = Unit {0}
+IsTimeService (service.FlushQueueRequest time) = Unit {0}
+IsTimeService (service.ModifyLookahead lookahead) = Unit {0}
+IsTimeService service.EnableAsynchronousDelivery = Unit {0}
+IsTimeService service.DisableAsynchronousDelivery = Unit {0}
+IsTimeService service = ⊥
+
+-- the services that are built: all but Retract and those with a stamp
 abbrev pub IsBuiltService : Service → Type 0
-IsBuiltService (service.Resign way) = Unit {0}
-IsBuiltService (service.PublishObjectClass class attributes) = Unit {0}
-IsBuiltService (service.UnpublishObjectClass class) = Unit {0}
-IsBuiltService (service.SubscribeObjectClassAttributes class attributes) = Unit {0}
-IsBuiltService (service.UnsubscribeObjectClass class) = Unit {0}
-IsBuiltService (service.PublishInteractionClass class) = Unit {0}
-IsBuiltService (service.UnpublishInteractionClass class) = Unit {0}
-IsBuiltService (service.SubscribeInteractionClass class) = Unit {0}
-IsBuiltService (service.UnsubscribeInteractionClass class) = Unit {0}
-IsBuiltService (service.RegisterObjectInstance class name) = Unit {0}
-IsBuiltService (service.UpdateAttributeValues object values None) = Unit {0}
-IsBuiltService (service.SendInteraction class values None) = Unit {0}
-IsBuiltService (service.DeleteObjectInstance object None) = Unit {0}
-IsBuiltService (service.GetObjectClassHandle name) = Unit {0}
-IsBuiltService (service.GetInteractionClassHandle name) = Unit {0}
-IsBuiltService (service.GetAttributeHandle name class) = Unit {0}
-IsBuiltService (service.GetParameterHandle name class) = Unit {0}
-IsBuiltService (service.GetObjectInstanceHandle name) = Unit {0}
-IsBuiltService (service.GetObjectInstanceName object) = Unit {0}
-IsBuiltService service = ⊥
+IsBuiltService (service.UpdateAttributeValues object values (Some stamp)) = ⊥
+IsBuiltService (service.SendInteraction class values (Some stamp)) = ⊥
+IsBuiltService (service.DeleteObjectInstance object (Some stamp)) = ⊥
+IsBuiltService (service.Retract event) = ⊥
+IsBuiltService service = Unit {0}
 
 abbrev pub IsBuilt : Step → Type 0
-IsBuilt (Join name) = Unit {0}
 IsBuilt (Call f service) = IsBuiltService service
-IsBuilt (Carry from to) = Unit {0}
-IsBuilt (Announce f) = ⊥
-IsBuilt (Tick f) = Unit {0}
+IsBuilt step = Unit {0}
 
 abbrev pub AreBuilt : List Step → Type 0
 AreBuilt steps = All IsBuilt steps

@@ -1,9 +1,10 @@
 -- The members of a federation as tables, and what is done with their wires
 use Rattle.std.specs.Prelude.{ℕ, ◌+◌, ◌≡◌, ◌<◌, ◌≤◌, cond, eqb, ltb, not, ◌&&◌, Bool, true, false, List, [], ◌∷◌, ◌++◌, length, map, drop}
-use Rattle.hla_base.specs.Tables.{upd, upd2, upd_whole_column}
+use Rattle.hla_base.specs.Tables.{upd, upd2, upd_row, upd_whole_column}
 use Rattle.hla_lbts.specs.declared.row.PeerRow.{PeerRow}
 use Rattle.hla_lbts.specs.Peers.{peers_of}
 use Rattle.hla_null_message.specs.declared.message.Message.{Message}
+use Rattle.hla_null_message.specs.declared.message.Message.TheVariants as message
 use Rattle.hla_machine.specs.declared.step.Carried.{Carried}
 use Rattle.hla_machine.specs.declared.step.Carried.TheVariants as carried
 use Rattle.hla_local.specs.LocalValue.{LocalValue, new_local, resigned_local}
@@ -107,3 +108,7 @@ with_arrival g f local m = record m { local = upd m.local f local; wire = upd2 m
 
 abbrev pub with_component : MemberTables → ℕ → LocalValue → MemberTables
 with_component m f local = record m { local = upd m.local f local }
+
+-- a null message from f lies behind all else on its wires
+abbrev pub with_null_sent : MemberTables → ℕ → ℕ → ℕ → MemberTables
+with_null_sent m f epoch bound = record m { wire = upd_row m.wire m.joined f (λ _ ms. ms ++ message.Null epoch bound ∷ []) }

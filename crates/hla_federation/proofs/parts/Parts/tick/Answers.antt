@@ -1,7 +1,9 @@
-use Rattle.std.proofs.Common.{◌≡◌, ◌≤◌, ℕ, Bool, true, Option, None, refl, sym, ap, subst, ◌∙◌}
+use Rattle.std.proofs.Common.{◌≡◌, ◌≤◌, ℕ, List, Bool, true, Option, None, Result, inr, refl, sym, ap, subst, ◌∙◌}
 use Rattle.hla_base.specs.declared.fault.Fault.TheVariants.{OutOfMemory}
 use Rattle.hla_callbacks.specs.declared.callback.Callback.{Callback}
 use Rattle.hla_machine.specs.declared.step.Step.TheVariants.{Tick}
+use Rattle.hla_base.specs.declared.fault.Fault.{Fault}
+use Rattle.hla_machine.specs.declared.step.Answer.{Answer}
 use Rattle.hla_machine.specs.declared.step.Answer.TheVariants as answer
 use Rattle.hla_machine.specs.declared.step.Choice.{Choice}
 use Rattle.hla_declaration.specs.Declarations as declared
@@ -9,14 +11,18 @@ use Rattle.hla_object_registry.specs.Registered.{registry_of}
 use Rattle.hla_lbts.specs.Peers.{peers_of}
 use Rattle.hla_local.specs.Picking.{local_pick, local_picking}
 use Rattle.hla_components.specs.Locals.{choice_given}
-use Rattle.hla_components.specs.Next.{Outcomes, next}
+use Rattle.hla_components.specs.Next.{Outcomes, next, components_seen}
+use Rattle.hla_machine.specs.Refusals.{refusal}
 use Rattle.hla_machine.specs.declared.step.Outcome.TheVariants as outcome
 use Rattle.hla_federation.specs.Tables.FederationValue.{FederationValue}
 use Rattle.hla_federation.specs.Tables.Members.{MemberTables, members_of, with_component}
-use Rattle.hla_federation.specs.Steps.State.{state_of, state_from, IsUnmet, Ends}
+use Rattle.hla_federation.specs.Steps.State.{state_of, state_from, IsUnmet, EndsChosen}
 use Rattle.hla_federation.proofs.Steps.Doing.{does_next}
-use Rattle.hla_federation.proofs.Steps.Declaring.{picked, picking_peers, unmet_picked}
-use Rattle.hla_federation.proofs.Tables.Wholes.{whole_same, unmet_with}
+use Rattle.hla_federation.specs.Tables.MemberValue.{MemberValue}
+use Rattle.hla_federation.specs.Steps.Memory.{takes_memory}
+use Rattle.hla_federation.proofs.Steps.Declaring.{picked, pick_memory, unmet_picked}
+use Rattle.hla_federation.proofs.Tables.Wholes.{whole_same}
+use Rattle.hla_federation.proofs.Steps.Changing.{handed_on}
 use Rattle.hla_federation.proofs.parts.Parts.tick.Goals as goal
 
 pub returns-clause-whole : goal.returns-clause-whole
@@ -41,4 +47,14 @@ returns-clause-done c =
     c.self.view_is (
       ap (λ (o : Outcomes). o.outcome) does ∙ ap (λ (k : Option Callback). outcome.Done (answer.Ticked k)) (sym c.in_ok-callback.ensures.callback),
       ap (λ (o : Outcomes). o.state) does ∙ ap (λ (t : MemberTables). state_from c.self.inside.catalogue (declared.declarations_of c.self.inside.declarations) (registry_of c.self.inside.registry) t) (sym c.in_ok-callback.ensures.state),
+    )
+
+pub returns-in_err-callback-clause-done : goal.returns-in_err-callback-clause-done
+returns-in_err-callback-clause-done c =
+    let whole = rw (← c.self.view_is) at c.requires.whole in
+    let none : refusal (components_seen (state_of c.args.self.now)) (Tick c.args.federate) ≡ None = sym c.caller_fault.ensures ∙ c.in_default.is in
+    let takes = pick_memory c.self.inside.catalogue (declared.declarations_of c.self.inside.declarations) (registry_of c.self.inside.registry) (members_of c.self.inside.members.shown) c.args.federate whole.parts c.in_err-callback.ensures.memory in
+    handed_on c.in_err-callback.field-0.0 c.from_residual.result (λ (r : Result Answer Fault). EndsChosen c.args.self.now (Tick c.args.federate) r (record { catalogue = c.self.inside.catalogue; declarations = c.self.inside.declarations; objects = c.self.inside.registry; members = c.pick_up.new.self.shown; next_name = c.self.inside.next_name })) c.from_residual.ensures (
+      inr (none, c.in_err-callback.ensures.err, subst (λ (v : FederationValue). takes_memory (state_of v) (Tick c.args.federate) ≡ true) c.self.view_is takes),
+      ap (λ (ms : List MemberValue). record { catalogue = c.self.inside.catalogue; declarations = c.self.inside.declarations; objects = c.self.inside.registry; members = ms; next_name = c.self.inside.next_name }) c.in_err-callback.ensures.unchanged ∙ c.self.view_is,
     )
