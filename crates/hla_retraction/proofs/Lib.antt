@@ -1,0 +1,6 @@
+-- The table that rows are read as, and what a change of the rows does to it
+mod RowLemmas
+-- What a binary search among the rows finds
+mod SearchLemmas
+-- A set of federates after one was added
+mod ReceiverLemmas

@@ -1,2 +1,10 @@
 //! What a federate sent in time-stamp order and may take back.
 #![tactic(auto)]
+
+mod receivers;
+mod sent;
+#[cfg(test)]
+mod tests;
+
+pub use receivers::Receivers;
+pub use sent::{Sent, SentRow};

@@ -1,0 +1,13 @@
+-- The row with the serial is read.
+use Rattle.std.proofs.Common.{◌∙◌, sym, ap}
+use Rattle.std.proofs.lemmas.List.{get_or_default}
+use Rattle.hla_retraction.specs.SentRows.{IsRowAt, event_of, no_row}
+use Rattle.hla_retraction.proofs.RowLemmas.{sent_of-at}
+use Rattle.hla_retraction.proofs.sent.Sent.row.Goals as goal
+
+pub returns-in-Some : goal.returns-in-Some
+returns-in-Some c =
+    let rows = c.self.inside.rows.items in
+    let at : IsRowAt rows c.args.serial c.in-Some.place = rw c.self.view_is c.in-Some.ensures in
+    let read = c.index.ensures ∙ get_or_default rows c.in-Some.place c.index.result.now no_row at.in_range in
+    rw (← c.self.view_is) (sent_of-at rows c.args.serial c.in-Some.place c.self.invariant at ∙ ap event_of (sym read))
