@@ -1,11 +1,10 @@
--- The components and wires that a federation's parts stand for. Of what was sent with a stamp nothing is kept yet
+-- The components and wires that a federation's parts stand for
 use Rattle.std.specs.Prelude.{ℕ, ◌+◌, ◌≡◌, ◌≤◌, true, false, None, List, [], length, Result, Ok, Err}
 use Rattle.std.specs.List.{All}
 use Rattle.hla_base.specs.declared.fault.Fault.{Fault}
 use Rattle.hla_base.specs.Limits.{forever, max_joins}
 use Rattle.hla_lbts.specs.Peers.{PeersValue, peers_of}
 use Rattle.hla_fed_file.specs.CatalogueValue.{CatalogueValue}
-use Rattle.hla_retraction.specs.SentEvents.{no_event}
 use Rattle.hla_declaration.specs.Declarations as declared
 use Rattle.hla_declaration.specs.Declarations.{DeclarationsValue}
 use Rattle.hla_object_registry.specs.Registered.{RegistryValue, registry_of}
@@ -50,7 +49,7 @@ state_from c d r m = record {
   known_epoch = λ f. (peers_of (m.local f).peers).known_epoch;
   last_announced = λ f. (m.local f).last_announced;
   epoch = λ f. (m.local f).epoch;
-  sent = λ _ _. no_event;
+  sent = m.sent;
 }
 
 abbrev pub state_of : FederationValue → Components
@@ -133,9 +132,9 @@ IsBuiltService (service.UnpublishInteractionClass class) = Unit {0}
 IsBuiltService (service.SubscribeInteractionClass class) = Unit {0}
 IsBuiltService (service.UnsubscribeInteractionClass class) = Unit {0}
 IsBuiltService (service.RegisterObjectInstance class name) = Unit {0}
-IsBuiltService (service.UpdateAttributeValues object values None) = Unit {0}
-IsBuiltService (service.SendInteraction class values None) = Unit {0}
-IsBuiltService (service.DeleteObjectInstance object None) = Unit {0}
+IsBuiltService (service.UpdateAttributeValues object values stamp) = Unit {0}
+IsBuiltService (service.SendInteraction class values stamp) = Unit {0}
+IsBuiltService (service.DeleteObjectInstance object stamp) = Unit {0}
 IsBuiltService (service.GetObjectClassHandle name) = Unit {0}
 IsBuiltService (service.GetInteractionClassHandle name) = Unit {0}
 IsBuiltService (service.GetAttributeHandle name class) = Unit {0}

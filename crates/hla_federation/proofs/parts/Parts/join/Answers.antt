@@ -1,11 +1,11 @@
-use Rattle.std.proofs.Common.{◌≡◌, ◌+◌, ℕ, sym, ap, ◌∙◌}
+use Rattle.std.proofs.Common.{[], ◌≡◌, ◌+◌, ℕ, sym, ap, ◌∙◌}
 use Rattle.hla_machine.specs.declared.step.Step.TheVariants.{Join}
 use Rattle.hla_machine.specs.declared.step.Answer.TheVariants as answer
 use Rattle.hla_declaration.specs.Declarations as declared
 use Rattle.hla_declaration.specs.Declarations.{DeclarationsValue}
 use Rattle.hla_object_registry.specs.Registered.{registry_of}
 use Rattle.hla_local.specs.LocalValue.{LocalValue, new_local}
-use Rattle.hla_federation.specs.Tables.MemberValue.{MemberValue, RoomyMember}
+use Rattle.hla_federation.specs.Tables.MemberValue.{item, MemberValue, RoomyMember}
 use Rattle.hla_federation.specs.Tables.Members.{MemberTables, members_of, with_member_admitted}
 use Rattle.hla_components.specs.Next.{answer_outcome}
 use Rattle.hla_federation.specs.Steps.State.{state_from}
@@ -45,3 +45,6 @@ returns-clause-done c =
     ∙ ap (λ (n : ℕ). answer_outcome (answer.Federate n) (state_from c.self.inside.catalogue (record (declared.declarations_of c.self.inside.declarations) { federates = (declared.declarations_of c.self.inside.declarations).federates + 1 }) (registry_of c.self.inside.registry) after)) (sym c.next_federate-federate.ensures.number)
     ∙ ap (λ (d : DeclarationsValue). answer_outcome (answer.Federate c.next_federate-federate.result) (state_from c.self.inside.catalogue d (registry_of c.self.inside.registry) after)) (sym c.in_ok-admit.ensures.ok)
     ∙ ap (λ (t : MemberTables). answer_outcome (answer.Federate c.next_federate-federate.result) (state_from c.self.inside.catalogue (declared.declarations_of c.admit.new.self) (registry_of c.self.inside.registry) t)) (sym members))
+
+pub admit-requires-2-clause-quiet : goal.admit-requires-2-clause-quiet
+admit-requires-2-clause-quiet c = λ g. ap (λ (m : RoomyMember). item [] m.shown.incoming g) c.introduce.ensures.same ∙ c.in_ok-member.ensures.quiet g
