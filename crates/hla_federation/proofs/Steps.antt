@@ -10,12 +10,18 @@ pub mod Announcing
 pub mod Choosing
 -- The messages of a service, and the state after them
 pub mod SendingAll
+-- What is noted of the messages of a service
+pub mod Noting
 -- What is put into an outbox for each receiver
 pub mod Addressing
+-- To whom a message was put into an outbox
+pub mod Receiving
 -- The parts after messages were sent from an outbox
 pub mod Sent
 -- How many messages an update makes, and its refusals
 pub mod Updates
+-- With which stamps a service is refused
+pub mod Stamps
 -- What a federate is to discover once it subscribes a class
 pub mod FoundObjects
 -- After an object class was subscribed

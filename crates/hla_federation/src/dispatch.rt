@@ -62,17 +62,16 @@ impl Parts {
             Service::UpdateAttributeValues {
                 object,
                 values,
-                stamp: None,
-            } => self.update_attribute_values(federate, *object, values.as_slice()),
+                stamp,
+            } => self.update_attribute_values(federate, *object, values.as_slice(), *stamp),
             Service::SendInteraction {
                 class,
                 values,
-                stamp: None,
-            } => self.send_interaction(federate, *class, values.as_slice()),
-            Service::DeleteObjectInstance {
-                object,
-                stamp: None,
-            } => self.delete_object_instance(federate, *object),
+                stamp,
+            } => self.send_interaction(federate, *class, values.as_slice(), *stamp),
+            Service::DeleteObjectInstance { object, stamp } => {
+                self.delete_object_instance(federate, *object, *stamp)
+            }
             Service::QueryLbts
             | Service::QueryFederateTime
             | Service::QueryMinNextEventTime

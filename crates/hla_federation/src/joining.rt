@@ -1,7 +1,7 @@
 //! Joining and resigning.
 
 ghost use Rattle.hla_base.specs.Limits.{largest_number};
-ghost use Rattle.std.specs.Prelude.{◌≡◌, ◌+◌, ◌≤◌, length, OnOk, IfErr};
+ghost use Rattle.std.specs.Prelude.{◌≡◌, ◌+◌, ◌≤◌, length, None, OnOk, IfErr};
 ghost use Rattle.hla_base.specs.declared.fault.Fault.TheVariants.{OutOfMemory};
 ghost use Rattle.hla_machine.specs.Directory.{deletions_sent};
 ghost use Rattle.hla_machine.specs.declared.service.Service.TheVariants as service;
@@ -10,6 +10,7 @@ ghost use Rattle.hla_federation.specs.Steps.Sending.{HasAdded, messages_to};
 ghost use Rattle.hla_federation.specs.Steps.Soundness.{IsSound, MayCall};
 ghost use Rattle.hla_federation.specs.Steps.State.{state_of, IsWhole, Ends};
 
+use crate::heading::Heading;
 use crate::member::Member;
 use crate::naming::{default_name, name_copy};
 use crate::outbox::Outbox;
@@ -49,12 +50,17 @@ impl Parts {
         requires whole { IsWhole self.now }
         requires serials { serial + length objects.now ≤ largest_number }
         ensures ok { OnOk result (HasAdded (messages_to (state_of self.now).directory sender serial
-            (deletions_sent objects.now)) outbox.old outbox.new) }
+            ((state_of self.now).row sender) None (deletions_sent objects.now)) outbox.old outbox.new) }
         ensures err { IfErr result (λ e. e ≡ Fault.OutOfMemory) }
     {
         let mut next = serial;
         for object in objects {
-            self.address_removal(outbox, sender, next, *object)?;
+            let heading = Heading {
+                sender,
+                serial: next,
+                stamp: None,
+            };
+            self.address_removal(outbox, heading, *object)?;
             next += 1;
         }
         Ok(())
@@ -75,7 +81,7 @@ impl Parts {
         self.address_removals(&mut outbox, federate, serial, objects.as_slice())?;
         self.address_last_null(&mut outbox, federate)?;
         self.members
-            .send_all(federate, outbox, objects.len() as u64)?;
+            .send_all(federate, outbox, objects.len() as u64, None)?;
         self.registry.delete_owned_by(federate);
         self.declarations.withdraw(federate);
         self.members.resign(federate);

@@ -10,6 +10,7 @@ mod delivering;
 mod direction;
 mod dispatch;
 mod federation;
+mod heading;
 mod incoming;
 mod joining;
 mod lookups;

@@ -8,12 +8,16 @@ ghost use Rattle.hla_lbts.specs.Peers.{peers_of};
 ghost use Rattle.hla_local.specs.LocalValue.{new_local, no_peers};
 ghost use Rattle.hla_local.specs.Picking.{PickConstrains, picked_by, local_pick, local_picking};
 ghost use Rattle.hla_components.specs.Locals.{callback_given};
+ghost use Rattle.hla_retraction.specs.SentEvents.{no_event};
+ghost use Rattle.hla_retraction.specs.SentRows.{sent_of};
+ghost use Rattle.hla_federation.specs.Tables.Noting.{noted_event, IsUnsentFrom};
 ghost use Rattle.hla_federation.specs.Tables.MemberValue.{item};
 ghost use Rattle.hla_federation.specs.Tables.Members.{carried_of, new_member, resigned_member, AreQuiet, MayArrive, HasAccepted};
 ghost use Rattle.hla_federation.specs.Tables.Changes.{changed_local, local_unconstrained, peers_lowered, MayChange};
 ghost use Rattle.hla_federation.specs.Steps.Memory.{arrival_takes_memory};
 
 use crate::change::Change;
+use crate::heading::Note;
 use crate::incoming::Incoming;
 use crate::messages::callback_of;
 use hla_base::{Fault, FederateNo, List, Serial, Ticks};
@@ -21,16 +25,19 @@ use hla_callbacks::Callback;
 use hla_local::Local;
 use hla_machine::Carried;
 use hla_null_message::Message;
+use hla_retraction::Sent;
 use std::alloc::Global;
 use std::marker::Model;
 
-/// A federate with its component, and the wires that lead to it. One that has resigned keeps its name and its next serial.
+/// A federate with its component, what it may retract, and the wires that lead to it. One that has resigned keeps its name,
+/// its next serial and what it has sent.
 #[derive(Debug, Drop)]
 pub struct Member {
     name: List<u8>,
     joined: bool,
     next_serial: Serial,
     local: Local,
+    sent: Sent,
     incoming: Incoming,
 }
 
@@ -39,15 +46,19 @@ impl Model for Member {
 
     ghost Value = { RoomyMember };
 
-    ghost view = { λ m. record { shown = record { name = m.name; joined = m.joined; next_serial = m.next_serial; local = m.local; incoming = m.incoming.wires }; rooms = m.incoming.rooms } };
+    ghost view = { λ m. record { shown = record { name = m.name; joined = m.joined; next_serial = m.next_serial; local = m.local; sent = m.sent; incoming = m.incoming.wires }; rooms = m.incoming.rooms } };
 }
 
 impl Member {
     /// A federate that has just joined.
     pub fn new(alloc: Global, name: List<u8>) -> Result<Member, Fault>
-        ensures ok { IfOk result (λ m. m.shown ≡ record (new_member name [] m.shown.incoming) { local = m.shown.local }) }
+        ensures ok { IfOk result (λ m. m.shown ≡ record (new_member name [] m.shown.incoming) {
+          local = m.shown.local;
+          sent = m.shown.sent;
+        }) }
         ensures local { IfOk result (λ m. m.shown.local ≡ new_local m.shown.local.peers) }
         ensures unmet { IfOk result (λ m. peers_of m.shown.local.peers ≡ no_peers) }
+        ensures unsent { IfOk result (λ m. sent_of m.shown.sent ≡ (λ _. no_event)) }
         ensures quiet { IfOk result (λ m. AreQuiet m.shown.incoming) }
         ensures err { IfErr result (λ e. e ≡ Fault.OutOfMemory) }
     {
@@ -56,6 +67,7 @@ impl Member {
             joined: true,
             next_serial: 1,
             local: Local::new(alloc),
+            sent: Sent::new(alloc),
             incoming: Incoming::new(alloc)?,
         })
     }
@@ -89,6 +101,21 @@ impl Member {
         } }
     {
         self.next_serial += count;
+    }
+
+    /// Of a message that it may retract is noted what is needed for that; `OutOfMemory`, and all as it was, where a growth
+    /// was refused.
+    pub fn note(&mut self, note: Note) -> Result<(), Fault>
+        requires { IsUnsentFrom (sent_of self.old.shown.sent) note.serial }
+        ensures same { self.new ≡ record self.old {
+          shown = record self.old.shown { sent = self.new.shown.sent };
+        } }
+        ensures ok { OnOk result (sent_of self.new.shown.sent ≡ upd (sent_of self.old.shown.sent) note.serial
+            (noted_event note)) }
+        ensures err { IfErr result (λ e. e ≡ Fault.OutOfMemory) }
+        ensures unchanged { OnErr result (self.new ≡ self.old) }
+    {
+        self.sent.note(note.serial, note.stamp, note.receivers)
     }
 
     /// Makes room for this many more messages on the wire from a federate; `OutOfMemory` where that was refused.

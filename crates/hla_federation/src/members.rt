@@ -1,6 +1,6 @@
 //! The federates of an execution.
 
-ghost use Rattle.std.specs.Prelude.{◌≡◌, ◌≢◌, ◌<◌, ◌≤◌, ◌+◌, ◌++◌, [], ℕ, length, false, true, ◌&&◌, ◌⊎◌, IfOk, IfErr, OnOk, OnErr};
+ghost use Rattle.std.specs.Prelude.{◌≡◌, ◌≢◌, ◌<◌, ◌≤◌, ◌+◌, ◌++◌, [], ℕ, length, false, true, ◌&&◌, ◌⊎◌, IfOk, IfErr, IfSome, OnOk, OnErr};
 ghost use Rattle.std.specs.List.{list_any};
 ghost use Rattle.std.specs.Str.{bytes_eq};
 ghost use Rattle.hla_base.specs.Limits.{max_joins, largest_number};
@@ -16,9 +16,13 @@ ghost use Rattle.hla_lbts.specs.Peers.{peers_of};
 ghost use Rattle.hla_local.specs.LocalValue.{no_peers};
 ghost use Rattle.hla_local.specs.Picking.{PickConstrains, picked_by, local_pick, local_picking};
 ghost use Rattle.hla_components.specs.Locals.{callback_given};
+ghost use Rattle.hla_retraction.specs.SentEvents.{no_event};
+ghost use Rattle.hla_retraction.specs.SentRows.{sent_of};
+ghost use Rattle.hla_federation.specs.Tables.Noting.{with_noted, IsUnsentFrom};
 
 use crate::change::Change;
 use crate::direction::Direction;
+use crate::heading::Note;
 use crate::member::Member;
 use crate::outbox::Outbox;
 use hla_base::{Fault, FederateNo, Serial, Ticks};
@@ -139,6 +143,25 @@ impl Members {
         self.members[federate as usize - 1].count_messages(count);
     }
 
+    /// Of a message that a federate may retract, if there is one, is noted what is needed for that; `OutOfMemory`, and all
+    /// as it was, where a growth was refused.
+    fn note(&mut self, federate: FederateNo, note: Option<Note>) -> Result<(), Fault>
+        requires some { 0 < federate }
+        requires within { federate < (members_of self.old.shown).next_federate }
+        requires unsent { IfSome note (λ n. IsUnsentFrom ((members_of self.old.shown).sent federate) n.serial) }
+        ensures ok { OnOk result (members_of self.new.shown ≡ record (members_of self.old.shown) {
+          sent = with_noted (members_of self.old.shown).sent federate note;
+        }) }
+        ensures room { (g h : ℕ) → room_in self.new.rooms g h ≡ room_in self.old.rooms g h }
+        ensures err { IfErr result (λ e. e ≡ Fault.OutOfMemory) }
+        ensures unchanged { OnErr result (self.new.shown ≡ self.old.shown) }
+    {
+        match note {
+            Some(note) => self.members[federate as usize - 1].note(note),
+            None => Ok(()),
+        }
+    }
+
     /// Makes room for one more federate; `OutOfMemory` where that was refused.
     pub fn reserve_one(&mut self) -> Result<(), Fault>
         ensures same { self.new.shown ≡ self.old.shown }
@@ -178,7 +201,9 @@ impl Members {
         requires few { (members_of self.old.shown).next_federate ≤ max_joins }
         requires new { member.shown ≡ record (new_member member.shown.name [] member.shown.incoming) {
           local = member.shown.local;
+          sent = member.shown.sent;
         } }
+        requires unsent { sent_of member.shown.sent ≡ (λ _. no_event) }
         requires quiet { AreQuiet member.shown.incoming }
         ensures { members_of self.new.shown ≡ with_member_admitted (members_of self.old.shown)
             member.shown.name member.shown.local }
@@ -258,27 +283,31 @@ impl Members {
         }
     }
 
-    /// Puts all messages of an outbox on the wires from a federate, and counts them; `OutOfMemory`, and all as it was, where
-    /// a growth was refused.
+    /// Puts all messages of an outbox on the wires from a federate, counts them, and notes the one that may be retracted, if
+    /// there is one; `OutOfMemory`, and all as it was, where a growth was refused.
     pub fn send_all(
         &mut self,
         federate: FederateNo,
         outbox: Outbox,
         count: u64,
+        note: Option<Note>,
     ) -> Result<(), Fault>
         requires some { 0 < federate }
         requires within { federate < (members_of self.old.shown).next_federate }
         requires serials { (members_of self.old.shown).serial federate + count ≤ largest_number }
+        requires unsent { IfSome note (λ n. IsUnsentFrom ((members_of self.old.shown).sent federate) n.serial) }
         ensures ok { OnOk result (members_of self.new.shown ≡ record (members_of self.old.shown) {
           serial = upd (members_of self.old.shown).serial federate ((members_of self.old.shown).serial federate + count);
           wire = wires_posted_below (From federate) (item [] outbox) (members_of self.old.shown).next_federate
               (members_of self.old.shown).wire;
+          sent = with_noted (members_of self.old.shown).sent federate note;
         }) }
         ensures err { IfErr result (λ e. e ≡ Fault.OutOfMemory) }
         ensures unchanged { OnErr result (self.new.shown ≡ self.old.shown) }
     {
         let along = Direction::From(federate);
         self.reserve_all(along, &outbox)?;
+        self.note(federate, note)?;
         self.post_all(along, outbox);
         self.count_messages(federate, count);
         Ok(())

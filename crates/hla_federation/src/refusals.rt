@@ -1,6 +1,6 @@
 //! Which fault a step is refused with: the first of its list that applies.
 
-ghost use Rattle.std.specs.Prelude.{◌≡◌, ◌≤◌, ℕ, None, not, length, ◌∷◌, []};
+ghost use Rattle.std.specs.Prelude.{◌≡◌, ◌<◌, ◌≤◌, ℕ, not, length, ◌∷◌, []};
 ghost use Rattle.std.specs.List.{list_any};
 ghost use Rattle.hla_base.specs.declared.content.HandleValuePair.{HandleValuePair};
 ghost use Rattle.hla_fed_file.specs.Lookup.{attribute_order, has_attribute, has_parameter};
@@ -10,13 +10,15 @@ ghost use Rattle.hla_machine.specs.Refusals.{refusal, joined_test, no_object_cla
 ghost use Rattle.hla_machine.specs.declared.service.Service.TheVariants as service;
 ghost use Rattle.hla_machine.specs.declared.step.Step.TheVariants as step;
 ghost use Rattle.hla_components.specs.Next.{components_seen};
+ghost use Rattle.hla_federation.specs.Steps.Sending.{TellsBadStamp};
 ghost use Rattle.hla_federation.specs.Steps.Soundness.{MayCall};
 ghost use Rattle.hla_federation.specs.Steps.State.{state_of};
 
+use crate::heading::is_timestamp;
 use crate::parts::Parts;
 use hla_base::{
     AttributeNo, ClassNo, Fault, FederateNo, HandleValuePair, List, MAX_FEDERATE_NAME, MAX_JOINS,
-    MAX_NAME, MAX_OBJECTS, MAX_SERIAL, ObjectNo,
+    MAX_NAME, MAX_OBJECTS, MAX_SERIAL, MAX_TIME, ObjectNo, Ticks,
 };
 use hla_fed_file::Order;
 use hla_machine::ResignAction;
@@ -232,17 +234,34 @@ impl Parts {
         }
     }
 
-    /// Why an interaction without a stamp may not be sent, if it may not.
+    /// Whether a stamp is beyond `MAX_TIME` or, where some message goes in time-stamp order, below the least stamp that the
+    /// federate may send. `is_stamped` says whether some message has time-stamp order.
+    fn is_bad_stamp(&self, federate: FederateNo, stamp: Option<Ticks>, is_stamped: bool) -> bool
+        requires some { 0 < federate }
+        requires within { federate < (state_of self.now).directory.next_federate }
+        ensures { TellsBadStamp ((state_of self.now).row federate) stamp is_stamped result }
+    {
+        let Some(stamp) = stamp else {
+            return false;
+        };
+        let state = self.members.local(federate).state();
+        stamp > MAX_TIME
+            || (is_stamped && state.is_regulation_enabled() && stamp < state.least_stamp())
+    }
+
+    /// Why an interaction may not be sent with this stamp, if it may not.
     pub fn send_fault(
         &self,
         federate: FederateNo,
         class: ClassNo,
         values: &[HandleValuePair],
+        stamp: Option<Ticks>,
     ) -> Option<Fault>
         requires { MayCall self.now federate }
         ensures { result ≡ refusal (components_seen (state_of self.now))
-            (step.Call federate (service.SendInteraction class values.now None)) }
+            (step.Call federate (service.SendInteraction class values.now stamp)) }
     {
+        let is_stamped = is_timestamp(self.catalogue.interaction_order(class));
         if !self.catalogue.is_interaction_class(class) {
             Some(Fault::InteractionClassNotDefined)
         } else if self.lacks_parameter(class, values) {
@@ -252,6 +271,8 @@ impl Parts {
             .publishes_interaction_class(federate, class)
         {
             Some(Fault::InteractionClassNotPublished)
+        } else if self.is_bad_stamp(federate, stamp, is_stamped) {
+            Some(Fault::InvalidFederationTime)
         } else if self.members.next_serial(federate) > MAX_SERIAL {
             Some(Fault::LimitReached)
         } else {
@@ -295,18 +316,20 @@ impl Parts {
         u64::from(received) + u64::from(stamped)
     }
 
-    /// Why attributes may not be updated without a stamp, if they may not.
+    /// Why attributes may not be updated with this stamp, if they may not.
     pub fn update_fault(
         &self,
         federate: FederateNo,
         object: ObjectNo,
         values: &[HandleValuePair],
+        stamp: Option<Ticks>,
     ) -> Option<Fault>
         requires { MayCall self.now federate }
         ensures { result ≡ refusal (components_seen (state_of self.now))
-            (step.Call federate (service.UpdateAttributeValues object values.now None)) }
+            (step.Call federate (service.UpdateAttributeValues object values.now stamp)) }
     {
         let class = self.registry.class_of(object);
+        let is_stamped = self.has_order(Order::Timestamp, values);
         if !self.registry.is_known(object, federate) {
             Some(Fault::ObjectNotKnown)
         } else if self.lacks_value(class, values) {
@@ -315,6 +338,8 @@ impl Parts {
             Some(Fault::AttributeNotOwned)
         } else if self.lacks_publication(federate, class, values) {
             Some(Fault::AttributeNotPublished)
+        } else if self.is_bad_stamp(federate, stamp, is_stamped) {
+            Some(Fault::InvalidFederationTime)
         } else if self.members.next_serial(federate) > MAX_SERIAL + 1 - self.count_parts(values) {
             Some(Fault::LimitReached)
         } else {
@@ -322,16 +347,27 @@ impl Parts {
         }
     }
 
-    /// Why an object may not be deleted without a stamp, if it may not.
-    pub fn delete_fault(&self, federate: FederateNo, object: ObjectNo) -> Option<Fault>
+    /// Why an object may not be deleted with this stamp, if it may not.
+    pub fn delete_fault(
+        &self,
+        federate: FederateNo,
+        object: ObjectNo,
+        stamp: Option<Ticks>,
+    ) -> Option<Fault>
         requires { MayCall self.now federate }
         ensures { result ≡ refusal (components_seen (state_of self.now))
-            (step.Call federate (service.DeleteObjectInstance object None)) }
+            (step.Call federate (service.DeleteObjectInstance object stamp)) }
     {
+        let is_stamped = is_timestamp(
+            self.catalogue
+                .deletion_order(self.registry.class_of(object)),
+        );
         if !self.registry.is_known(object, federate) {
             Some(Fault::ObjectNotKnown)
         } else if self.registry.owner(object) != federate {
             Some(Fault::DeletePrivilegeNotHeld)
+        } else if self.is_bad_stamp(federate, stamp, is_stamped) {
+            Some(Fault::InvalidFederationTime)
         } else if self.members.next_serial(federate) > MAX_SERIAL {
             Some(Fault::LimitReached)
         } else {

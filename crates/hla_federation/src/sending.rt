@@ -1,39 +1,43 @@
-//! Sending messages without a stamp.
+//! Sending updates, interactions and deletions.
 
-ghost use Rattle.std.specs.Prelude.{◌≡◌, ◌≤◌, ◌<◌, ◌+◌, ◌&&◌, [], ◌∷◌, ℕ, None, false, true, length, filter, IfOk, IfErr, OnOk};
+ghost use Rattle.std.specs.Prelude.{◌≡◌, ◌≤◌, ◌<◌, ◌+◌, ◌&&◌, [], ◌∷◌, ℕ, false, true, length, filter, is_some, IfOk, IfErr, IfSome, OnOk};
 ghost use Rattle.hla_base.specs.declared.content.HandleValuePair.{HandleValuePair};
 ghost use Rattle.hla_base.specs.declared.fault.Fault.TheVariants.{OutOfMemory};
-ghost use Rattle.hla_base.specs.Tables.{is_other};
+ghost use Rattle.hla_base.specs.Tables.{is_other, one_if};
 ghost use Rattle.hla_fed_file.specs.Lookup.{has_parameter};
 ghost use Rattle.hla_fed_file.specs.declared.declared.Order.TheVariants.{Receive};
-ghost use Rattle.hla_machine.specs.Directory.{AnInteraction, AnUpdate, ADeletion, subscribed_values, values_of_order, part_sent};
+ghost use Rattle.hla_retraction.specs.Receivers.{receivers_of};
+ghost use Rattle.hla_machine.specs.Directory.{AnInteraction, AnUpdate, ADeletion, is_receiver, subscribed_values, values_of_order, part_sent};
 ghost use Rattle.hla_machine.specs.declared.service.Service.TheVariants as service;
 ghost use Rattle.hla_machine.specs.declared.step.Step.TheVariants as step;
-ghost use Rattle.hla_federation.specs.Steps.Sending.{HasAdded, message_to, messages_to, plain_event};
+ghost use Rattle.hla_federation.specs.Tables.Noting.{handle_noted};
+ghost use Rattle.hla_federation.specs.Steps.Sending.{HasAdded, heading_of, message_to, part_to};
 ghost use Rattle.hla_federation.specs.Steps.Soundness.{MayCall};
 ghost use Rattle.hla_federation.specs.Steps.State.{state_of, IsWhole, Ends};
 
+use crate::heading::{Heading, Note, is_timestamp};
 use crate::outbox::Outbox;
 use crate::pairs::by_handle;
 use crate::parts::Parts;
 use hla_base::{
-    ClassNo, Content, Event, Fault, FederateNo, HandleValuePair, List, ObjectNo, Plain, Serial,
+    ClassNo, Content, EventHandle, Fault, FederateNo, HandleValuePair, List, ObjectNo, Plain,
+    Serial, Ticks,
 };
 use hla_fed_file::Order;
 use hla_machine::Answer;
-use hla_null_message::Message;
+use hla_retraction::Receivers;
 
-/// A message in receive order.
-fn plain_event(sender: FederateNo, serial: Serial, content: Content) -> Message
-    ensures { result ≡ plain_event sender serial content }
+/// The handle by which its sender may retract a message, if there is one to retract.
+fn handle_noted(sender: FederateNo, note: &Option<Note>) -> Option<EventHandle>
+    ensures { result ≡ handle_noted sender note.now }
 {
-    Message::Event(Event {
-        sender,
-        serial,
-        ordered: false,
-        stamp: 0,
-        content,
-    })
+    match note {
+        Some(note) => Some(EventHandle {
+            sender,
+            serial: note.serial,
+        }),
+        None => None,
+    }
 }
 
 impl Parts {
@@ -98,64 +102,92 @@ impl Parts {
         Ok(part)
     }
 
-    /// Adds an interaction for each federate that receives it, at the class at which it does.
+    /// What heads a message of a federate that has this order: the stamp counts where the order is time-stamp order and the
+    /// federate regulates.
+    fn heading(
+        &self,
+        sender: FederateNo,
+        serial: Serial,
+        order: Order,
+        stamp: Option<Ticks>,
+    ) -> Heading
+        requires some { 0 < sender }
+        requires within { sender < (state_of self.now).directory.next_federate }
+        ensures { result ≡ heading_of sender serial ((state_of self.now).row sender) stamp order }
+    {
+        let is_regulating = self.members.local(sender).state().is_regulation_enabled();
+        let stamp = if is_timestamp(order) && is_regulating {
+            stamp
+        } else {
+            None
+        };
+        Heading {
+            sender,
+            serial,
+            stamp,
+        }
+    }
+
+    /// Adds an interaction for each federate that receives it, at the class at which it does, and answers who they are.
     fn address_interaction(
         &self,
         outbox: &mut Outbox,
-        sender: FederateNo,
-        serial: Serial,
+        heading: Heading,
         class: ClassNo,
         values: &[HandleValuePair],
-    ) -> Result<(), Fault>
+    ) -> Result<Receivers, Fault>
         requires { IsWhole self.now }
-        ensures ok { OnOk result (HasAdded (message_to (state_of self.now).directory sender serial (record {
-          order = Receive;
-          body = AnInteraction class values.now;
-        })) outbox.old outbox.new) }
+        ensures receivers { IfOk result (λ rs. receivers_of rs ≡ is_receiver (state_of self.now).directory
+            heading.sender (AnInteraction class values.now)) }
+        ensures ok { OnOk result (HasAdded (message_to (state_of self.now).directory heading
+            (AnInteraction class values.now)) outbox.old outbox.new) }
         ensures err { IfErr result (λ e. e ≡ Fault.OutOfMemory) }
     {
+        let mut told = Receivers::new();
         let receivers = self
             .declarations
-            .receivers_of_interaction_class(self.alloc, &self.catalogue, sender, class)?;
+            .receivers_of_interaction_class(self.alloc, &self.catalogue, heading.sender, class)?;
         for receiver in receivers.as_slice() {
             let values = self.shown_parameters(receiver.class, values)?;
             let content = Content::Interaction {
                 class: receiver.class,
                 values,
             };
-            outbox.put(receiver.federate, plain_event(sender, serial, content))?;
+            outbox.put(receiver.federate, heading.event(content))?;
+            told.add(receiver.federate);
         }
-        Ok(())
+        Ok(told)
     }
 
-    /// Adds an update for each federate that receives it, with the attributes that it is shown.
+    /// Adds an update for each federate that receives it, with the attributes that it is shown, and answers who they are.
     fn address_update(
         &self,
         outbox: &mut Outbox,
-        sender: FederateNo,
-        serial: Serial,
+        heading: Heading,
         object: ObjectNo,
         values: &[HandleValuePair],
-    ) -> Result<(), Fault>
+    ) -> Result<Receivers, Fault>
         requires { IsWhole self.now }
-        ensures ok { OnOk result (HasAdded (message_to (state_of self.now).directory sender serial (record {
-          order = Receive;
-          body = AnUpdate object values.now;
-        })) outbox.old outbox.new) }
+        ensures receivers { IfOk result (λ rs. receivers_of rs ≡ is_receiver (state_of self.now).directory
+            heading.sender (AnUpdate object values.now)) }
+        ensures ok { OnOk result (HasAdded (message_to (state_of self.now).directory heading
+            (AnUpdate object values.now)) outbox.old outbox.new) }
         ensures err { IfErr result (λ e. e ≡ Fault.OutOfMemory) }
     {
+        let mut told = Receivers::new();
         let class = self.registry.class_of(object);
         let receivers = self
             .declarations
-            .receivers_of_object_class(self.alloc, &self.catalogue, sender, class)?;
+            .receivers_of_object_class(self.alloc, &self.catalogue, heading.sender, class)?;
         for receiver in receivers.as_slice() {
             let values = self.shown_attributes(receiver.federate, receiver.class, values)?;
             if !values.is_empty() {
                 let content = Content::Reflection { object, values };
-                outbox.put(receiver.federate, plain_event(sender, serial, content))?;
+                outbox.put(receiver.federate, heading.event(content))?;
+                told.add(receiver.federate);
             }
         }
-        Ok(())
+        Ok(told)
     }
 
     /// Whether the removal of an object goes to a federate: to each other to which it is known.
@@ -172,86 +204,93 @@ impl Parts {
     pub fn address_removal(
         &self,
         outbox: &mut Outbox,
-        sender: FederateNo,
-        serial: Serial,
+        heading: Heading,
         object: ObjectNo,
     ) -> Result<(), Fault>
         requires { IsWhole self.now }
-        ensures ok { OnOk result (HasAdded (message_to (state_of self.now).directory sender serial (record {
-          order = Receive;
-          body = ADeletion object;
-        })) outbox.old outbox.new) }
+        ensures ok { OnOk result (HasAdded (message_to (state_of self.now).directory heading (ADeletion object))
+            outbox.old outbox.new) }
         ensures err { IfErr result (λ e. e ≡ Fault.OutOfMemory) }
     {
         let end = self.members.next_federate();
         for peer in 1..end {
-            if self.receives_removal(sender, object, peer) {
+            if self.receives_removal(heading.sender, object, peer) {
                 let content = Content::Removal { object };
-                outbox.put(peer, plain_event(sender, serial, content))?;
+                outbox.put(peer, heading.event(content))?;
             }
         }
         Ok(())
     }
 
-    /// Adds the part of an update that has one order, if there is one, and answers how many messages that makes.
+    /// Adds the part of an update that has one order, and answers who receives it; none where the part has no values, and so
+    /// makes no message.
     fn address_part(
         &self,
         outbox: &mut Outbox,
-        sender: FederateNo,
-        serial: Serial,
+        heading: Heading,
         object: ObjectNo,
         values: &[HandleValuePair],
-    ) -> Result<u64, Fault>
+    ) -> Result<Option<Receivers>, Fault>
         requires { IsWhole self.now }
-        ensures count { IfOk result (λ n. n ≡ length (part_sent Receive object values.now)) }
-        ensures ok { OnOk result (HasAdded (messages_to (state_of self.now).directory sender serial
-            (part_sent Receive object values.now)) outbox.old outbox.new) }
+        ensures count { IfOk result (λ told. one_if (is_some told) ≡ length (part_sent Receive object values.now)) }
+        ensures receivers { IfOk result (λ told. IfSome told (λ rs. receivers_of rs ≡ is_receiver
+            (state_of self.now).directory heading.sender (AnUpdate object values.now))) }
+        ensures ok { OnOk result (HasAdded (part_to (state_of self.now).directory heading object values.now)
+            outbox.old outbox.new) }
         ensures err { IfErr result (λ e. e ≡ Fault.OutOfMemory) }
     {
         if values.is_empty() {
-            return Ok(0);
+            return Ok(None);
         }
-        self.address_update(outbox, sender, serial, object, values)?;
-        Ok(1)
+        let told = self.address_update(outbox, heading, object, values)?;
+        Ok(Some(told))
     }
 
-    /// Send Interaction, without a stamp.
+    /// Send Interaction, with a stamp in ticks or without one. It goes in time-stamp order if its class has that order, a
+    /// stamp is given and the federate regulates.
     pub fn send_interaction(
         &mut self,
         federate: FederateNo,
         class: ClassNo,
         values: &[HandleValuePair],
+        stamp: Option<Ticks>,
     ) -> Result<Answer, Fault>
         requires { MayCall self.old federate }
         ensures whole { IsWhole self.new }
-        ensures done { Ends self.old (step.Call federate (service.SendInteraction class values.now None))
+        ensures done { Ends self.old (step.Call federate (service.SendInteraction class values.now stamp))
             result self.new }
     {
-        if let Some(fault) = self.send_fault(federate, class, values) {
+        if let Some(fault) = self.send_fault(federate, class, values, stamp) {
             return Err(fault);
         }
         let serial = self.members.next_serial(federate);
+        let order = self.catalogue.interaction_order(class);
+        let heading = self.heading(federate, serial, order, stamp);
         let values = by_handle(self.alloc, values)?;
         let mut outbox = Outbox::new(self.alloc)?;
-        self.address_interaction(&mut outbox, federate, serial, class, values.as_slice())?;
-        self.members.send_all(federate, outbox, 1)?;
-        Ok(Answer::Sent(None))
+        let told = self.address_interaction(&mut outbox, heading, class, values.as_slice())?;
+        let note = heading.note(told);
+        let handle = handle_noted(federate, &note);
+        self.members.send_all(federate, outbox, 1, note)?;
+        Ok(Answer::Sent(handle))
     }
 
-    /// Update Attribute Values, without a stamp. The attributes whose updates go in receive order make one message, the
-    /// others another one after it.
+    /// Update Attribute Values, with a stamp in ticks or without one. The attributes whose updates go in receive order make
+    /// one message, the others another one after it, which goes in time-stamp order if a stamp is given and the federate
+    /// regulates.
     pub fn update_attribute_values(
         &mut self,
         federate: FederateNo,
         object: ObjectNo,
         values: &[HandleValuePair],
+        stamp: Option<Ticks>,
     ) -> Result<Answer, Fault>
         requires { MayCall self.old federate }
         ensures whole { IsWhole self.new }
-        ensures done { Ends self.old (step.Call federate (service.UpdateAttributeValues object values.now None))
+        ensures done { Ends self.old (step.Call federate (service.UpdateAttributeValues object values.now stamp))
             result self.new }
     {
-        if let Some(fault) = self.update_fault(federate, object, values) {
+        if let Some(fault) = self.update_fault(federate, object, values, stamp) {
             return Err(fault);
         }
         let serial = self.members.next_serial(federate);
@@ -259,36 +298,42 @@ impl Parts {
         let received = self.values_of_order(Order::Receive, values.as_slice())?;
         let stamped = self.values_of_order(Order::Timestamp, values.as_slice())?;
         let mut outbox = Outbox::new(self.alloc)?;
-        let first = self.address_part(&mut outbox, federate, serial, object, received.as_slice())?;
-        let second = self.address_part(
-            &mut outbox,
-            federate,
-            serial + first,
-            object,
-            stamped.as_slice(),
-        )?;
-        self.members.send_all(federate, outbox, first + second)?;
-        Ok(Answer::Sent(None))
+        let first = self.heading(federate, serial, Order::Receive, stamp);
+        let received_by = self.address_part(&mut outbox, first, object, received.as_slice())?;
+        let first_count = u64::from(received_by.is_some());
+        let second = self.heading(federate, serial + first_count, Order::Timestamp, stamp);
+        let stamped_by = self.address_part(&mut outbox, second, object, stamped.as_slice())?;
+        let count = first_count + u64::from(stamped_by.is_some());
+        let note = second.note_part(stamped_by);
+        let handle = handle_noted(federate, &note);
+        self.members.send_all(federate, outbox, count, note)?;
+        Ok(Answer::Sent(handle))
     }
 
-    /// Delete Object Instance, without a stamp.
+    /// Delete Object Instance, with a stamp in ticks or without one. The removals go in time-stamp order if the class has
+    /// that order, a stamp is given and the federate regulates. A deletion cannot be retracted.
     pub fn delete_object_instance(
         &mut self,
         federate: FederateNo,
         object: ObjectNo,
+        stamp: Option<Ticks>,
     ) -> Result<Answer, Fault>
         requires { MayCall self.old federate }
         ensures whole { IsWhole self.new }
-        ensures done { Ends self.old (step.Call federate (service.DeleteObjectInstance object None))
+        ensures done { Ends self.old (step.Call federate (service.DeleteObjectInstance object stamp))
             result self.new }
     {
-        if let Some(fault) = self.delete_fault(federate, object) {
+        if let Some(fault) = self.delete_fault(federate, object, stamp) {
             return Err(fault);
         }
         let serial = self.members.next_serial(federate);
+        let order = self
+            .catalogue
+            .deletion_order(self.registry.class_of(object));
+        let heading = self.heading(federate, serial, order, stamp);
         let mut outbox = Outbox::new(self.alloc)?;
-        self.address_removal(&mut outbox, federate, serial, object)?;
-        self.members.send_all(federate, outbox, 1)?;
+        self.address_removal(&mut outbox, heading, object)?;
+        self.members.send_all(federate, outbox, 1, None)?;
         self.registry.delete(object);
         Ok(Answer::Done)
     }

@@ -14,12 +14,12 @@ use Rattle.hla_base.specs.declared.content.HandleValuePair.{HandleValuePair}
 use Rattle.hla_base.specs.Tables.{numbers_below, when, is_other, upd}
 use Rattle.hla_fed_file.specs.CatalogueValue.{CatalogueValue}
 use Rattle.hla_fed_file.specs.Lookup.{has_parameter, object_lineage, interaction_lineage}
-use Rattle.hla_fed_file.specs.declared.declared.Order.{Order}
 use Rattle.hla_declaration.specs.Declarations as declared
 use Rattle.hla_declaration.specs.Receivers.{receivers_of, object_class_served, interaction_class_served}
 use Rattle.hla_declaration.specs.declared.receiver.Receiver.{Receiver}
 use Rattle.hla_null_message.specs.declared.message.Message.{Message}
 use Rattle.hla_machine.specs.Directory.{Directory, AnInteraction, AnUpdate, ADeletion, reflection_of, subscribed_values}
+use Rattle.hla_federation.specs.declared.heading.Heading.{Heading}
 use Rattle.hla_federation.specs.Tables.FederationValue.{FederationValue}
 use Rattle.hla_federation.specs.Tables.MemberValue.{item, MemberValue}
 use Rattle.hla_federation.specs.Tables.Members.{no_member, members_of, is_number}
@@ -110,25 +110,25 @@ module _ (made : Receiver → List Message) (h : ℕ) where
         ≡ cond (not (eqb sender h) && ltb h (n + 1)) (option_map_or (λ k. made (record { federate = h; class = k })) (served h) []) []
     among_receivers n = among_below (n + 1)
 
-said_each : (sender serial : ℕ) (said_at : ℕ → Option Content) (o : Option ℕ) → option_map_or (λ k. said_messages sender serial (said_at k)) o [] ≡ said_messages sender serial (option_and_then said_at o)
-said_each sender serial said_at None = refl
-said_each sender serial said_at (Some k) = refl
+said_each : (head : Heading) (said_at : ℕ → Option Content) (o : Option ℕ) → option_map_or (λ k. said_messages head (said_at k)) o [] ≡ said_messages head (option_and_then said_at o)
+said_each head said_at None = refl
+said_each head said_at (Some k) = refl
 
 -- where who is not joined is not served, this goes to each other joined federate
-pub among_joined : (joined : ℕ → Bool) (served : ℕ → Option ℕ) (said_at : ℕ → ℕ → Option Content) (n sender serial h : ℕ)
+pub among_joined : (joined : ℕ → Bool) (served : ℕ → Option ℕ) (said_at : ℕ → ℕ → Option Content) (n : ℕ) (head : Heading) (h : ℕ)
     → (joined h ≡ true → h < n + 1) → (joined h ≡ false → served h ≡ None)
-    → messages_among (λ r. said_messages sender serial (said_at r.federate r.class)) (receivers_of served n sender) h
-    ≡ cond (is_other joined sender h) (said_messages sender serial (option_and_then (said_at h) (served h))) []
-among_joined joined served said_at n sender serial h within silent =
-    among_receivers (λ r. said_messages sender serial (said_at r.federate r.class)) h served sender n
+    → messages_among (λ r. said_messages head (said_at r.federate r.class)) (receivers_of served n head.sender) h
+    ≡ cond (is_other joined head.sender h) (said_messages head (option_and_then (said_at h) (served h))) []
+among_joined joined served said_at n head h within silent =
+    among_receivers (λ r. said_messages head (said_at r.federate r.class)) h served head.sender n
     ∙ ⊎_elim
     (λ (y : joined h ≡ true).
     let b : h < n + 1 = within y in
     let now : ltb h (n + 1) ≡ true = grind (arith, nat_tests) in
-    rw (now, y, said_each sender serial (said_at h) (served h)) refl)
+    rw (now, y, said_each head (said_at h) (served h)) refl)
     (λ (no : joined h ≡ false).
     let nobody = silent no in
-    rw (no, nobody, and-false (not (eqb sender h))) (cond-same (not (eqb sender h) && ltb h (n + 1)) []))
+    rw (no, nobody, and-false (not (eqb head.sender h))) (cond-same (not (eqb head.sender h) && ltb h (n + 1)) []))
     (cases_Bool (joined h))
 
 -- ---- who is joined has a number, and who is not is served nothing
@@ -172,35 +172,35 @@ map_then : {X Y : Type 0} (f : X → Y) (o : Option X) → option_and_then (λ x
 map_then f None = refl
 map_then f (Some x) = refl
 
-module _ (v : FederationValue) (whole : IsWhole v) (order : Order) (sender serial class : ℕ) (values : List HandleValuePair) (h : ℕ) where
+module _ (v : FederationValue) (whole : IsWhole v) (head : Heading) (class : ℕ) (values : List HandleValuePair) (h : ℕ) where
   joined_below : (members_of v.members).joined h ≡ true → h < (declared.declarations_of v.declarations).federates + 1
   joined_below y = let b = joined_within v.members h y in let same = whole.parts.federates in omega (arith, b, same)
 
-  pub interaction_added : messages_among (λ r. said_messages sender serial (interaction_at v.catalogue values r.federate r.class))
-      (receivers_of (λ g. interaction_class_served v.catalogue (declared.declarations_of v.declarations).subscribed_interaction g class) (declared.declarations_of v.declarations).federates sender) h
-      ≡ message_to (state_of v).directory sender serial (record { order = order; body = AnInteraction class values }) h
+  pub interaction_added : messages_among (λ r. said_messages head (interaction_at v.catalogue values r.federate r.class))
+      (receivers_of (λ g. interaction_class_served v.catalogue (declared.declarations_of v.declarations).subscribed_interaction g class) (declared.declarations_of v.declarations).federates head.sender) h
+      ≡ message_to (state_of v).directory head (AnInteraction class values) h
   interaction_added =
       among_joined (members_of v.members).joined (λ g. interaction_class_served v.catalogue (declared.declarations_of v.declarations).subscribed_interaction g class) (interaction_at v.catalogue values)
-      (declared.declarations_of v.declarations).federates sender serial h joined_below
+      (declared.declarations_of v.declarations).federates head h joined_below
       (λ no. find_none (λ k. (declared.declarations_of v.declarations).subscribed_interaction h k) (interaction_lineage v.catalogue class) (λ k. (whole.parts.silent h k no).interactions))
-      ∙ ap (λ (x : Option Content). cond (is_other (members_of v.members).joined sender h) (said_messages sender serial x) [])
+      ∙ ap (λ (x : Option Content). cond (is_other (members_of v.members).joined head.sender h) (said_messages head x) [])
       (map_then (λ k. content.Interaction k (filter (λ (p : HandleValuePair). has_parameter v.catalogue k p.handle) values)) (interaction_class_served v.catalogue (declared.declarations_of v.declarations).subscribed_interaction h class))
 
   pub update_added : (object : ℕ) → ((state_of v).directory.object object).class ≡ class
-      → messages_among (λ r. said_messages sender serial (reflection_at (state_of v).directory object values r.federate r.class))
-      (receivers_of (λ g. object_class_served v.catalogue (declared.declarations_of v.declarations).subscribed g class) (declared.declarations_of v.declarations).federates sender) h
-      ≡ message_to (state_of v).directory sender serial (record { order = order; body = AnUpdate object values }) h
+      → messages_among (λ r. said_messages head (reflection_at (state_of v).directory object values r.federate r.class))
+      (receivers_of (λ g. object_class_served v.catalogue (declared.declarations_of v.declarations).subscribed g class) (declared.declarations_of v.declarations).federates head.sender) h
+      ≡ message_to (state_of v).directory head (AnUpdate object values) h
   update_added object is =
       among_joined (members_of v.members).joined (λ g. object_class_served v.catalogue (declared.declarations_of v.declarations).subscribed g class) (reflection_at (state_of v).directory object values)
-      (declared.declarations_of v.declarations).federates sender serial h joined_below
+      (declared.declarations_of v.declarations).federates head h joined_below
       (λ no. find_none (λ k. is_some ((declared.declarations_of v.declarations).subscribed h k)) (object_lineage v.catalogue class) (λ k. ap (λ (o : Option (List ℕ)). is_some o) (whole.parts.silent h k no).objects))
       ∙ at_class
     where
-      at_class : cond (is_other (members_of v.members).joined sender h)
-          (said_messages sender serial (option_and_then (reflection_at (state_of v).directory object values h) (object_class_served v.catalogue (declared.declarations_of v.declarations).subscribed h class))) []
-          ≡ message_to (state_of v).directory sender serial (record { order = order; body = AnUpdate object values }) h
-      at_class = ap (λ (k : ℕ). cond (is_other (members_of v.members).joined sender h)
-          (said_messages sender serial (option_and_then (reflection_at (state_of v).directory object values h) (object_class_served v.catalogue (declared.declarations_of v.declarations).subscribed h k))) []) (sym is)
+      at_class : cond (is_other (members_of v.members).joined head.sender h)
+          (said_messages head (option_and_then (reflection_at (state_of v).directory object values h) (object_class_served v.catalogue (declared.declarations_of v.declarations).subscribed h class))) []
+          ≡ message_to (state_of v).directory head (AnUpdate object values) h
+      at_class = ap (λ (k : ℕ). cond (is_other (members_of v.members).joined head.sender h)
+          (said_messages head (option_and_then (reflection_at (state_of v).directory object values h) (object_class_served v.catalogue (declared.declarations_of v.declarations).subscribed h k))) []) (sym is)
 
 -- a reflection says something where there are values
 pub reflection_some : (object : ℕ) (values : List HandleValuePair) → length values ≢ 0 → reflection_of object values ≡ Some (content.Reflection object values)
@@ -233,26 +233,26 @@ module _ (added : ℕ → List Message) (peer : ℕ) (h : ℕ) where
       ∙ ap (λ (ms : List Message). cond (ltb h peer) (added h) [] ++ ms) (sym (cond-same (eqb peer h) []) ∙ ap (λ (ms : List Message). cond (eqb peer h) ms []) (sym none))
       ∙ added_at
 
-removal_at : (sender serial object : ℕ) (o known : Bool) → cond o (said_messages sender serial (when known (Some (content.Removal object)))) [] ≡ cond (o && known) (said_messages sender serial (Some (content.Removal object))) []
-removal_at sender serial object true true = refl
-removal_at sender serial object true false = refl
-removal_at sender serial object false known = refl
+removal_at : (head : Heading) (object : ℕ) (o known : Bool) → cond o (said_messages head (when known (Some (content.Removal object)))) [] ≡ cond (o && known) (said_messages head (Some (content.Removal object))) []
+removal_at head object true true = refl
+removal_at head object true false = refl
+removal_at head object false known = refl
 
-module _ (v : FederationValue) (order : Order) (sender serial object : ℕ) where
+module _ (v : FederationValue) (head : Heading) (object : ℕ) where
   -- to whom a removal goes
-  pub removal_to : (h : ℕ) → message_to (state_of v).directory sender serial (record { order = order; body = ADeletion object }) h
-      ≡ cond (is_other (state_of v).directory.joined sender h && (state_of v).directory.known object h) (said_messages sender serial (Some (content.Removal object))) []
-  removal_to h = removal_at sender serial object (is_other (state_of v).directory.joined sender h) ((state_of v).directory.known object h)
+  pub removal_to : (h : ℕ) → message_to (state_of v).directory head (ADeletion object) h
+      ≡ cond (is_other (state_of v).directory.joined head.sender h && (state_of v).directory.known object h) (said_messages head (Some (content.Removal object))) []
+  removal_to h = removal_at head object (is_other (state_of v).directory.joined head.sender h) ((state_of v).directory.known object h)
 
-  pub removal_first : (h : ℕ) → cond (ltb h 1) (message_to (state_of v).directory sender serial (record { order = order; body = ADeletion object }) h) [] ≡ []
-  removal_first zero = let nobody : is_other (state_of v).directory.joined sender 0 ≡ false = and-false (not (eqb sender 0)) in rw nobody (cond-same (ltb 0 1) [])
+  pub removal_first : (h : ℕ) → cond (ltb h 1) (message_to (state_of v).directory head (ADeletion object) h) [] ≡ []
+  removal_first zero = let nobody : is_other (state_of v).directory.joined head.sender 0 ≡ false = and-false (not (eqb head.sender 0)) in rw nobody (cond-same (ltb 0 1) [])
   removal_first (suc k) = let past : ltb (suc k) 1 ≡ false = grind (arith, nat_tests) in rw past refl
 
   pub removal_last : (end h : ℕ) → length v.members + 1 ≤ end
-      → cond (ltb h end) (message_to (state_of v).directory sender serial (record { order = order; body = ADeletion object }) h) [] ≡ message_to (state_of v).directory sender serial (record { order = order; body = ADeletion object }) h
+      → cond (ltb h end) (message_to (state_of v).directory head (ADeletion object) h) [] ≡ message_to (state_of v).directory head (ADeletion object) h
   removal_last end h all = ⊎_elim
       (λ (y : (members_of v.members).joined h ≡ true). let b = joined_within v.members h y in let below : h < end = omega (arith, b, all) in let now : ltb h end ≡ true = grind (arith, nat_tests) in rw now refl)
-      (λ (n : (members_of v.members).joined h ≡ false). rw (n, and-false (not (eqb sender h))) (cond-same (ltb h end) []))
+      (λ (n : (members_of v.members).joined h ≡ false). rw (n, and-false (not (eqb head.sender h))) (cond-same (ltb h end) []))
       (cases_Bool ((members_of v.members).joined h))
 
 -- ---- null messages, federate by federate

@@ -13,7 +13,7 @@ use Rattle.hla_lbts.specs.Peers.{peers_of}
 use Rattle.hla_local.specs.LocalValue.{LocalValue, resigned_local}
 use Rattle.hla_null_message.specs.declared.message.Message.TheVariants as message
 use Rattle.hla_fed_file.specs.CatalogueValue.{CatalogueValue}
-use Rattle.hla_fed_file.specs.declared.declared.Order.TheVariants.{Receive}
+use Rattle.hla_base.specs.declared.row.TimeRow.{TimeRow}
 use Rattle.hla_declaration.specs.Declarations.{DeclarationsValue}
 use Rattle.hla_object_registry.specs.Registered.{RegistryValue}
 use Rattle.hla_object_registry.specs.Queries.{without_owned}
@@ -29,10 +29,12 @@ use Rattle.hla_components.specs.Components.{Components}
 use Rattle.hla_federation.specs.Tables.MemberValue.{item, MemberValue}
 use Rattle.hla_federation.specs.Tables.Members.{no_member, MemberTables, members_of, is_number, wires_posted_below, with_member_withdrawn}
 use Rattle.hla_components.specs.Next.{put_behind, with_last_null, with_federate_gone, with_messages_sent, with_federate_resigned, components_seen}
-use Rattle.hla_federation.specs.Steps.Sending.{HasAdded, message_to, messages_to, last_null_to}
+use Rattle.hla_federation.specs.Tables.Noting.{IsUnsentFrom}
+use Rattle.hla_federation.specs.Steps.Sending.{HasAdded, heading_of, message_to, messages_to, last_null_to}
 use Rattle.hla_federation.specs.Steps.State.{state_from, directory_from}
 use Rattle.hla_federation.proofs.Tables.MemberTables.{upd-self, upd-field}
-use Rattle.hla_federation.proofs.Steps.SendingAll.{sent_wire, sent_all-plain}
+use Rattle.hla_federation.proofs.Steps.SendingAll.{sent_wire, sends_all}
+use Rattle.hla_federation.proofs.Steps.Noting.{deletions_noted}
 use Rattle.hla_federation.proofs.Steps.Declaring.{and-false}
 
 -- ---- The deletions of a federate that resigns
@@ -47,12 +49,13 @@ pub delete_refusal : (s : Seen) (f : ℕ) (b : Bool) → s.directory.joined f �
 delete_refusal s f b joined over = rw (joined, count_deletions (objects_of s.directory f), over) refl
 
 -- ---- removals one after another
-messages-append : (d : Directory) (f m : ℕ) (xs ys : List Outgoing) (h : ℕ) → messages_to d f m (xs ++ ys) h ≡ messages_to d f m xs h ++ messages_to d f (m + length xs) ys h
-messages-append d f m [] ys h = ap (λ (n : ℕ). messages_to d f n ys h) (omega arith)
-messages-append d f m (x ∷ xs) ys h =
+messages-append : (d : Directory) (f m : ℕ) (r : TimeRow) (xs ys : List Outgoing) (h : ℕ) → messages_to d f m r None (xs ++ ys) h ≡ messages_to d f m r None xs h ++ messages_to d f (m + length xs) r None ys h
+messages-append d f m r [] ys h = ap (λ (n : ℕ). messages_to d f n r None ys h) (omega arith)
+messages-append d f m r (x ∷ xs) ys h =
     let serials : m + 1 + length xs ≡ m + length (x ∷ xs) = omega arith in
-    ap (λ (ms : List Message). message_to d f m x h ++ ms) (messages-append d f (m + 1) xs ys h ∙ ap (λ (n : ℕ). messages_to d f (m + 1) xs h ++ messages_to d f n ys h) serials)
-    ∙ sym (append_assoc (message_to d f m x h) (messages_to d f (m + 1) xs h) (messages_to d f (m + length (x ∷ xs)) ys h))
+    let one = message_to d (heading_of f m r None x.order) x.body h in
+    ap (λ (ms : List Message). one ++ ms) (messages-append d f (m + 1) r xs ys h ∙ ap (λ (n : ℕ). messages_to d f (m + 1) r None xs h ++ messages_to d f n r None ys h) serials)
+    ∙ sym (append_assoc one (messages_to d f (m + 1) r None xs h) (messages_to d f (m + length (x ∷ xs)) r None ys h))
 
 deletions-append : (xs ys : List ℕ) → deletions_sent (xs ++ ys) ≡ deletions_sent xs ++ deletions_sent ys
 deletions-append [] ys = refl
@@ -68,20 +71,21 @@ take-length [] (suc k) b = absurd (omega (arith, b))
 take-length (x ∷ xs) (suc k) b = let rest = take-length xs k (omega (arith, b)) in omega (arith, rest)
 
 -- those of one object more
-pub removals_more : (d : Directory) (f serial k : ℕ) (hs : List ℕ) (h next : ℕ) (first old new : List (List Message)) → k < length hs → h ≡ get_or hs k 0 → next ≡ serial + k
-    → HasAdded (messages_to d f serial (deletions_sent (take k hs))) first old
-    → HasAdded (message_to d f next (record { order = Receive; body = ADeletion h })) old new
-    → HasAdded (messages_to d f serial (deletions_sent (take (k + 1) hs))) first new
-removals_more d f serial k hs h next first old new b read next_is before more g =
+pub removals_more : (d : Directory) (f serial : ℕ) (r : TimeRow) (k : ℕ) (hs : List ℕ) (h next : ℕ) (first old new : List (List Message)) → k < length hs → h ≡ get_or hs k 0 → next ≡ serial + k
+    → HasAdded (messages_to d f serial r None (deletions_sent (take k hs))) first old
+    → HasAdded (message_to d (record { sender = f; serial = next; stamp = None }) (ADeletion h)) old new
+    → HasAdded (messages_to d f serial r None (deletions_sent (take (k + 1) hs))) first new
+removals_more d f serial r k hs h next first old new b read next_is before more g =
     let one = deletions_sent (h ∷ []) in
+    let last = message_to d (record { sender = f; serial = next; stamp = None }) (ADeletion h) g in
+    let so_far = messages_to d f serial r None (deletions_sent (take k hs)) g in
     let all : deletions_sent (take (k + 1) hs) ≡ deletions_sent (take k hs) ++ one = ap deletions_sent (take_more hs k 0 b ∙ ap (λ (x : ℕ). take k hs ++ x ∷ []) (sym read)) ∙ deletions-append (take k hs) (h ∷ []) in
     let count : serial + length (deletions_sent (take k hs)) ≡ next = omega (arith, next_is, deletions-length (take k hs), take-length hs k (omega (arith, b))) in
-    let last_announced : messages_to d f (serial + length (deletions_sent (take k hs))) one g ≡ message_to d f next (record { order = Receive; body = ADeletion h }) g
-    = ap (λ (n : ℕ). messages_to d f n one g) count ∙ append-nil (message_to d f next (record { order = Receive; body = ADeletion h }) g) in
-    more g ∙ ap (λ (ms : List Message). ms ++ message_to d f next (record { order = Receive; body = ADeletion h }) g) (before g)
-    ∙ append_assoc (item [] first g) (messages_to d f serial (deletions_sent (take k hs)) g) (message_to d f next (record { order = Receive; body = ADeletion h }) g)
-    ∙ ap (λ (ms : List Message). item [] first g ++ ms) (ap (λ (ms : List Message). messages_to d f serial (deletions_sent (take k hs)) g ++ ms) (sym last_announced)
-    ∙ sym (messages-append d f serial (deletions_sent (take k hs)) one g) ∙ ap (λ (outs : List Outgoing). messages_to d f serial outs g) (sym all))
+    let last_sent : messages_to d f (serial + length (deletions_sent (take k hs))) r None one g ≡ last = ap (λ (n : ℕ). messages_to d f n r None one g) count ∙ append-nil last in
+    more g ∙ ap (λ (ms : List Message). ms ++ last) (before g)
+    ∙ append_assoc (item [] first g) so_far last
+    ∙ ap (λ (ms : List Message). item [] first g ++ ms) (ap (λ (ms : List Message). so_far ++ ms) (sym last_sent)
+    ∙ sym (messages-append d f serial r (deletions_sent (take k hs)) one g) ∙ ap (λ (outs : List Outgoing). messages_to d f serial r None outs g) (sym all))
 
 -- ---- who is joined has a number
 pub joined_below : (members : List MemberValue) (f : ℕ) → (members_of members).joined f ≡ true → is_number (length members + 1) f ≡ true
@@ -95,9 +99,9 @@ joined_below members (suc k) y = ⊎_elim
     (cases_Bool (ltb (suc k) (length members + 1)))
 
 -- ---- what is posted is what is sent
-messages_none : (d : Directory) (f m : ℕ) (outs : List Outgoing) (h : ℕ) → d.joined h ≡ false → messages_to d f m outs h ≡ []
-messages_none d f m [] h away = refl
-messages_none d f m (out ∷ outs) h away = rw (away, and-false, messages_none d f (m + 1) outs h away) refl
+messages_none : (d : Directory) (f m : ℕ) (r : TimeRow) (outs : List Outgoing) (h : ℕ) → d.joined h ≡ false → messages_to d f m r None outs h ≡ []
+messages_none d f m r [] h away = refl
+messages_none d f m r (out ∷ outs) h away = rw (away, and-false, messages_none d f (m + 1) r outs h away) refl
 
 -- who is another is joined
 pub other_joined : (joined : ℕ → Bool) (f h : ℕ) → is_other joined f h ≡ true → joined h ≡ true
@@ -116,26 +120,26 @@ nothing_behind true ws ms = ap (λ (xs : List Message). ws ++ xs) (append-nil ms
 nothing_behind false ws ms = ap (λ (xs : List Message). ws ++ xs) (append-nil ms)
 
 -- what is posted is the messages, and behind them the last null
-pub posted_last : (s : Components) (f m : ℕ) (outs : List Outgoing) (next : ℕ) (o : ℕ → List Message) → ((h : ℕ) → o h ≡ messages_to s.directory f m outs h ++ last_null_to s f h)
+pub posted_last : (s : Components) (f m : ℕ) (outs : List Outgoing) (next : ℕ) (o : ℕ → List Message) → ((h : ℕ) → o h ≡ messages_to s.directory f m (s.row f) None outs h ++ last_null_to s f h)
     → ((h : ℕ) → s.directory.joined h ≡ true → is_number next h ≡ true)
-    → wires_posted_below (From f) o next s.wire ≡ upd_row (sent_wire s.directory f m outs s.wire) s.directory.joined f (λ _. with_last_null s f)
+    → wires_posted_below (From f) o next s.wire ≡ upd_row (sent_wire s.directory f m (s.row f) None outs s.wire) s.directory.joined f (λ _. with_last_null s f)
 unfolding upd_row
 posted_last s f m outs next o is numbers = fun_ext (λ g. fun_ext (λ h. at g h))
   where
-    at : (g h : ℕ) → wires_posted_below (From f) o next s.wire g h ≡ upd_row (sent_wire s.directory f m outs s.wire) s.directory.joined f (λ _. with_last_null s f) g h
+    at : (g h : ℕ) → wires_posted_below (From f) o next s.wire g h ≡ upd_row (sent_wire s.directory f m (s.row f) None outs s.wire) s.directory.joined f (λ _. with_last_null s f) g h
     at g h = ⊎_elim
         (λ (y : eqb f g ≡ true). ⊎_elim
         (λ (z : is_other s.directory.joined f h ≡ true).
         let number = numbers h (other_joined s.directory.joined f h z) in
-        rw (y, z, number) (ap (λ (ms : List Message). s.wire g h ++ ms) (is h ∙ ap (λ (b : Bool). messages_to s.directory f m outs h ++ cond (is_regulator (s.row f)) (cond b (message.Null (s.epoch f) forever ∷ []) []) []) z)
-        ∙ null_behind (is_regulator (s.row f)) (s.epoch f) forever (s.wire g h) (messages_to s.directory f m outs h)))
+        rw (y, z, number) (ap (λ (ms : List Message). s.wire g h ++ ms) (is h ∙ ap (λ (b : Bool). messages_to s.directory f m (s.row f) None outs h ++ cond (is_regulator (s.row f)) (cond b (message.Null (s.epoch f) forever ∷ []) []) []) z)
+        ∙ null_behind (is_regulator (s.row f)) (s.epoch f) forever (s.wire g h) (messages_to s.directory f m (s.row f) None outs h)))
         (λ (z : is_other s.directory.joined f h ≡ false). ⊎_elim
         (λ (b : is_number next h ≡ true).
-        rw (y, z, b) (ap (λ (ms : List Message). s.wire g h ++ ms) (is h ∙ ap (λ (b : Bool). messages_to s.directory f m outs h ++ cond (is_regulator (s.row f)) (cond b (message.Null (s.epoch f) forever ∷ []) []) []) z)
-        ∙ nothing_behind (is_regulator (s.row f)) (s.wire g h) (messages_to s.directory f m outs h)))
+        rw (y, z, b) (ap (λ (ms : List Message). s.wire g h ++ ms) (is h ∙ ap (λ (b : Bool). messages_to s.directory f m (s.row f) None outs h ++ cond (is_regulator (s.row f)) (cond b (message.Null (s.epoch f) forever ∷ []) []) []) z)
+        ∙ nothing_behind (is_regulator (s.row f)) (s.wire g h) (messages_to s.directory f m (s.row f) None outs h)))
         (λ (b : is_number next h ≡ false).
         let away : s.directory.joined h ≡ false = ⊎_elim (λ (j : s.directory.joined h ≡ true). let t = numbers h j in absurd (cc)) (λ (n : s.directory.joined h ≡ false). n) (cases_Bool (s.directory.joined h)) in
-        rw (y, z, b, messages_none s.directory f m outs h away) (sym (append-nil (s.wire g h))))
+        rw (y, z, b, messages_none s.directory f m (s.row f) outs h away) (sym (append-nil (s.wire g h))))
         (cases_Bool (is_number next h)))
         (cases_Bool (is_other s.directory.joined f h)))
         (λ (n : eqb f g ≡ false). rw n refl)
@@ -165,14 +169,19 @@ module _ (c : CatalogueValue) (d : DeclarationsValue) (r : RegistryValue) (m : M
 
 -- with the deletions before
 module _ (c : CatalogueValue) (d : DeclarationsValue) (r : RegistryValue) (m : MemberTables) (f : ℕ) (hs : List ℕ) (o : ℕ → List Message)
-    (is : (h : ℕ) → o h ≡ messages_to (directory_from c d r m) f (m.serial f) (deletions_sent hs) h ++ last_null_to (state_from c d r m) f h) (numbers : (h : ℕ) → m.joined h ≡ true → is_number m.next_federate h ≡ true) where
+    (is : (h : ℕ) → o h ≡ messages_to (directory_from c d r m) f (m.serial f) (m.local f).row None (deletions_sent hs) h ++ last_null_to (state_from c d r m) f h)
+    (numbers : (h : ℕ) → m.joined h ≡ true → is_number m.next_federate h ≡ true) (unsent : IsUnsentFrom (m.sent f) (m.serial f)) where
   abbrev sent_members : MemberTables
-  sent_members = record m { serial = upd m.serial f (m.serial f + length (deletions_sent hs)); wire = sent_wire (directory_from c d r m) f (m.serial f) (deletions_sent hs) m.wire }
+  sent_members = record m { serial = upd m.serial f (m.serial f + length (deletions_sent hs)); wire = sent_wire (directory_from c d r m) f (m.serial f) (m.local f).row None (deletions_sent hs) m.wire }
+
+  deletions_state : with_messages_sent (state_from c d r m) f None (deletions_sent hs) ≡ state_from c d r sent_members
+  deletions_state = sends_all (state_from c d r m) f None (deletions_sent hs)
+      ∙ (λ i. state_from c d r (record sent_members { sent = deletions_noted (directory_from c d r m) f (m.serial f) (m.local f).row hs m.sent unsent i }))
 
   pub resigned_state : with_federate_gone (with_messages_sent (state_from c d r m) f None (deletions_sent hs)) f
       ≡ state_from c (withdrawn_declarations c d r m f) (without_owned r f) (with_member_withdrawn (record m { serial = upd m.serial f (m.serial f + length hs); wire = wires_posted_below (From f) o m.next_federate m.wire }) f)
   resigned_state =
-      ap (λ (s : Components). with_federate_gone s f) (sent_all-plain (state_from c d r m) f (deletions_sent hs) (λ g k. refl))
+      ap (λ (s : Components). with_federate_gone s f) deletions_state
       ∙ left_state c d r sent_members f (wires_posted_below (From f) o m.next_federate m.wire) (posted_last (state_from c d r m) f (m.serial f) (deletions_sent hs) m.next_federate o is numbers)
       ∙ (λ i. state_from c (withdrawn_declarations c d r m f) (without_owned r f) (with_member_withdrawn (record m {
         serial = upd m.serial f (m.serial f + deletions-length hs i);

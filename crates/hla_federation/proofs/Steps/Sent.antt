@@ -6,12 +6,16 @@ use Rattle.std.proofs.lemmas.List.{append-nil, append_assoc}
 use Rattle.std.proofs.Math.Path.{fun_ext}
 use Rattle.hla_base.specs.declared.fault.Fault.{Fault}
 use Rattle.hla_base.specs.declared.number.EventHandle.{EventHandle}
+use Rattle.hla_base.specs.declared.row.TimeRow.{TimeRow}
 use Rattle.hla_base.specs.Tables.{upd}
 use Rattle.hla_declaration.specs.Declarations as declared
 use Rattle.hla_object_registry.specs.Registered.{Registered, RegistryValue, registry_of}
 use Rattle.hla_null_message.specs.declared.message.Message.{Message}
 use Rattle.hla_machine.specs.declared.step.Answer.TheVariants as answer
 use Rattle.hla_machine.specs.Directory.{Directory, Outgoing, default_name, without_object}
+use Rattle.hla_machine.specs.Sends.{sent_handle}
+use Rattle.hla_federation.specs.declared.heading.Note.{Note}
+use Rattle.hla_federation.specs.Tables.Noting.{with_noted, handle_noted}
 use Rattle.hla_base.specs.RowRefusals.{Test, first_fault}
 use Rattle.hla_federation.specs.declared.direction.Direction.TheVariants.{From}
 use Rattle.hla_components.specs.Components.{Components}
@@ -19,53 +23,57 @@ use Rattle.hla_federation.specs.Tables.FederationValue.{FederationValue}
 use Rattle.hla_federation.specs.Tables.MemberValue.{item, MemberValue}
 use Rattle.hla_federation.specs.Tables.Members.{MemberTables, members_of, wires_posted_below, is_number, AreQuiet}
 use Rattle.hla_components.specs.Next.{answer_outcome, send_outcome, with_messages_sent, with_directory}
-use Rattle.hla_federation.specs.Steps.Sending.{HasAdded, message_to, messages_to}
+use Rattle.hla_federation.specs.Steps.Sending.{HasAdded, heading_of, message_to, messages_to}
 use Rattle.hla_federation.specs.Steps.State.{AreWhole, IsWhole, state_of, state_from}
 use Rattle.hla_federation.proofs.Steps.Addressing.{joined_number}
-use Rattle.hla_federation.proofs.Steps.SendingAll.{sent_wire, sent_all-plain, no_handle}
+use Rattle.hla_federation.proofs.Steps.SendingAll.{sent_wire, sent_events, sends_all}
 
 -- ---- what the outbox has
-pub one_added : (d : Directory) (f n m : ℕ) (out : Outgoing) (old new : List (List Message)) → AreQuiet old → HasAdded (message_to d f n out) old new → n ≡ m
-    → (h : ℕ) → item [] new h ≡ messages_to d f m (out ∷ []) h
-one_added d f n m out old new quiet added same h =
+pub one_added : (d : Directory) (f n m : ℕ) (r : TimeRow) (stamp : Option ℕ) (out : Outgoing) (old new : List (List Message)) → AreQuiet old
+    → HasAdded (message_to d (heading_of f n r stamp out.order) out.body) old new → n ≡ m → (h : ℕ) → item [] new h ≡ messages_to d f m r stamp (out ∷ []) h
+one_added d f n m r stamp out old new quiet added same h =
     added h
-    ∙ ap (λ (ms : List Message). ms ++ message_to d f n out h) (quiet h)
-    ∙ ap (λ (k : ℕ). message_to d f k out h) same
-    ∙ sym (append-nil (message_to d f m out h))
+    ∙ ap (λ (ms : List Message). ms ++ message_to d (heading_of f n r stamp out.order) out.body h) (quiet h)
+    ∙ ap (λ (k : ℕ). message_to d (heading_of f k r stamp out.order) out.body h) same
+    ∙ sym (append-nil (message_to d (heading_of f m r stamp out.order) out.body h))
 
-messages_append : (d : Directory) (f n : ℕ) (outs more : List Outgoing) (h : ℕ) → messages_to d f n (outs ++ more) h ≡ messages_to d f n outs h ++ messages_to d f (n + length outs) more h
-messages_append d f n [] more h = let same : n + 0 ≡ n = omega arith in rw same refl
-messages_append d f n (out ∷ outs) more h =
+messages_append : (d : Directory) (f n : ℕ) (r : TimeRow) (stamp : Option ℕ) (outs more : List Outgoing) (h : ℕ)
+    → messages_to d f n r stamp (outs ++ more) h ≡ messages_to d f n r stamp outs h ++ messages_to d f (n + length outs) r stamp more h
+messages_append d f n r stamp [] more h = let same : n + 0 ≡ n = omega arith in rw same refl
+messages_append d f n r stamp (out ∷ outs) more h =
     let same : n + 1 + length outs ≡ n + length (out ∷ outs) = omega arith in
-    ap (λ (ms : List Message). message_to d f n out h ++ ms) (messages_append d f (n + 1) outs more h ∙ ap (λ (k : ℕ). messages_to d f (n + 1) outs h ++ messages_to d f k more h) same)
-    ∙ sym (append_assoc (message_to d f n out h) (messages_to d f (n + 1) outs h) (messages_to d f (n + length (out ∷ outs)) more h))
+    let one = message_to d (heading_of f n r stamp out.order) out.body h in
+    ap (λ (ms : List Message). one ++ ms) (messages_append d f (n + 1) r stamp outs more h ∙ ap (λ (k : ℕ). messages_to d f (n + 1) r stamp outs h ++ messages_to d f k r stamp more h) same)
+    ∙ sym (append_assoc one (messages_to d f (n + 1) r stamp outs h) (messages_to d f (n + length (out ∷ outs)) r stamp more h))
 
-pub two_added : (d : Directory) (f n m k : ℕ) (outs more : List Outgoing) (old middle new : List (List Message)) → AreQuiet old → HasAdded (messages_to d f n outs) old middle
-    → HasAdded (messages_to d f k more) middle new → n ≡ m → k ≡ n + length outs → (h : ℕ) → item [] new h ≡ messages_to d f m (outs ++ more) h
-two_added d f n m k outs more old middle new quiet first second same next h =
+pub two_added : (d : Directory) (f n m k : ℕ) (r : TimeRow) (stamp : Option ℕ) (outs more : List Outgoing) (old middle new : List (List Message)) → AreQuiet old
+    → HasAdded (messages_to d f n r stamp outs) old middle → HasAdded (messages_to d f k r stamp more) middle new → n ≡ m → k ≡ n + length outs
+    → (h : ℕ) → item [] new h ≡ messages_to d f m r stamp (outs ++ more) h
+two_added d f n m k r stamp outs more old middle new quiet first second same next h =
     second h
-    ∙ ap (λ (ms : List Message). ms ++ messages_to d f k more h) (first h ∙ ap (λ (ms : List Message). ms ++ messages_to d f n outs h) (quiet h))
-    ∙ ap (λ (j : ℕ). messages_to d f n outs h ++ messages_to d f j more h) next
-    ∙ sym (messages_append d f n outs more h)
-    ∙ ap (λ (j : ℕ). messages_to d f j (outs ++ more) h) same
+    ∙ ap (λ (ms : List Message). ms ++ messages_to d f k r stamp more h) (first h ∙ ap (λ (ms : List Message). ms ++ messages_to d f n r stamp outs h) (quiet h))
+    ∙ ap (λ (j : ℕ). messages_to d f n r stamp outs h ++ messages_to d f j r stamp more h) next
+    ∙ sym (messages_append d f n r stamp outs more h)
+    ∙ ap (λ (j : ℕ). messages_to d f j r stamp (outs ++ more) h) same
 
 -- who is not joined is sent nothing
-nothing_to : (d : Directory) (f n : ℕ) (outs : List Outgoing) (h : ℕ) → d.joined h ≡ false → messages_to d f n outs h ≡ []
-nothing_to d f n [] h left = refl
-nothing_to d f n (out ∷ outs) h left = rw (left, and-false (not (eqb f h))) (nothing_to d f (n + 1) outs h left)
+nothing_to : (d : Directory) (f n : ℕ) (r : TimeRow) (stamp : Option ℕ) (outs : List Outgoing) (h : ℕ) → d.joined h ≡ false → messages_to d f n r stamp outs h ≡ []
+nothing_to d f n r stamp [] h left = refl
+nothing_to d f n r stamp (out ∷ outs) h left = rw (left, and-false (not (eqb f h))) (nothing_to d f (n + 1) r stamp outs h left)
 
--- ---- the state after the messages were put on their wires and counted
-module _ (v : FederationValue) (f n : ℕ) (outs : List Outgoing) (o : ℕ → List Message) (members : List MemberValue)
-    (is : members_of members ≡ record (members_of v.members) { serial = upd (members_of v.members).serial f ((members_of v.members).serial f + n); wire = wires_posted_below (From f) o (members_of v.members).next_federate (members_of v.members).wire })
+-- ---- the state after the messages were put on their wires, counted and noted
+module _ (v : FederationValue) (f n : ℕ) (stamp : Option ℕ) (outs : List Outgoing) (note : Option Note) (o : ℕ → List Message) (members : List MemberValue)
+    (is : members_of members ≡ record (members_of v.members) { serial = upd (members_of v.members).serial f ((members_of v.members).serial f + n); wire = wires_posted_below (From f) o (members_of v.members).next_federate (members_of v.members).wire; sent = with_noted (members_of v.members).sent f note })
     (many : n ≡ length outs)
-    (added : (h : ℕ) → o h ≡ messages_to (state_of v).directory f ((members_of v.members).serial f) outs h) where
-  wire_at : (g h : ℕ) → sent_wire (state_of v).directory f ((members_of v.members).serial f) outs (members_of v.members).wire g h
+    (added : (h : ℕ) → o h ≡ messages_to (state_of v).directory f ((members_of v.members).serial f) ((state_of v).row f) stamp outs h)
+    (noted : sent_events (state_of v).directory f ((members_of v.members).serial f) ((state_of v).row f) stamp outs (members_of v.members).sent ≡ with_noted (members_of v.members).sent f note) where
+  wire_at : (g h : ℕ) → sent_wire (state_of v).directory f ((members_of v.members).serial f) ((state_of v).row f) stamp outs (members_of v.members).wire g h
       ≡ wires_posted_below (From f) o (members_of v.members).next_federate (members_of v.members).wire g h
   wire_at g h = ⊎_elim
       (λ (y : eqb f g ≡ true). ⊎_elim
       (λ (z : (members_of v.members).joined h ≡ true). let number = joined_number v.members h z in rw (y, number, added h) refl)
       (λ (z : (members_of v.members).joined h ≡ false).
-      let none = nothing_to (state_of v).directory f ((members_of v.members).serial f) outs h z in
+      let none = nothing_to (state_of v).directory f ((members_of v.members).serial f) ((state_of v).row f) stamp outs h z in
       let same = added h ∙ none in
       rw (y, none, same, append-nil ((members_of v.members).wire g h)) (sym (either (is_number (members_of v.members).next_federate h) ((members_of v.members).wire g h))))
       (cases_Bool ((members_of v.members).joined h)))
@@ -76,15 +84,16 @@ module _ (v : FederationValue) (f n : ℕ) (outs : List Outgoing) (o : ℕ → L
       either true ms = refl
       either false ms = refl
 
-  pub sent_state : with_messages_sent (state_of v) f None outs ≡ state_of (record v { members = members })
+  pub sent_state : with_messages_sent (state_of v) f stamp outs ≡ state_of (record v { members = members })
   sent_state =
       let m = members_of v.members in
       let r = registry_of v.objects in
       let d = declared.declarations_of v.declarations in
-      sent_all-plain (state_of v) f outs (λ g k. refl)
+      sends_all (state_of v) f stamp outs
       ∙ (λ i. state_from v.catalogue d r (record m {
         serial = upd m.serial f (m.serial f + sym many i);
         wire = fun_ext (λ g. fun_ext (λ h. wire_at g h)) i;
+        sent = noted i;
       }))
       ∙ ap (λ (t : MemberTables). state_from v.catalogue d r t) (sym is)
 
@@ -102,15 +111,17 @@ module _ (v : FederationValue) (f n : ℕ) (outs : List Outgoing) (o : ℕ → L
         (λ g y. whole.named g y ∙ ap default_name (sym same));
   }
 
-  pub sends_done : send_outcome (state_of v) f None outs ≡ answer_outcome (answer.Sent None) (state_of (record v { members = members }))
-  sends_done =
-      ap (λ (x : Option EventHandle). answer_outcome (answer.Sent x) (with_messages_sent (state_of v) f None outs)) (no_handle f ((state_of v).row f) ((members_of v.members).serial f) outs)
-      ∙ ap (λ (s : Components). answer_outcome (answer.Sent None) s) sent_state
+  -- with the handle of the one that may be retracted
+  pub sends_done : sent_handle f ((state_of v).row f) stamp ((members_of v.members).serial f) outs ≡ handle_noted f note
+      → send_outcome (state_of v) f stamp outs ≡ answer_outcome (answer.Sent (handle_noted f note)) (state_of (record v { members = members }))
+  sends_done handle =
+      ap (λ (x : Option EventHandle). answer_outcome (answer.Sent x) (with_messages_sent (state_of v) f stamp outs)) handle
+      ∙ ap (λ (s : Components). answer_outcome (answer.Sent (handle_noted f note)) s) sent_state
 
   -- and an object does not exist any more
   pub deletes_state : (object : ℕ) (objects : List Registered)
       → registry_of objects ≡ record (registry_of v.objects) { object = upd (registry_of v.objects).object object (record ((registry_of v.objects).object object) { exists = false }) }
-      → with_directory (with_messages_sent (state_of v) f None outs) (without_object (with_messages_sent (state_of v) f None outs).directory object) ≡ state_of (record v { objects = objects; members = members })
+      → with_directory (with_messages_sent (state_of v) f stamp outs) (without_object (with_messages_sent (state_of v) f stamp outs).directory object) ≡ state_of (record v { objects = objects; members = members })
   deletes_state object objects gone =
       ap (λ (s : Components). with_directory s (without_object s.directory object)) sent_state
       ∙ ap (λ (r : RegistryValue). state_from v.catalogue (declared.declarations_of v.declarations) r (members_of members)) (sym gone)

@@ -22,6 +22,8 @@ use Rattle.hla_components.specs.Next.{Outcomes, next, answer_outcome}
 use Rattle.hla_federation.specs.Steps.Memory.{IsRefusedWith}
 use Rattle.hla_federation.specs.Steps.Soundness.{IsSound}
 use Rattle.hla_lbts.specs.Peers.{peers_of}
+use Rattle.hla_retraction.specs.SentEvents.{no_event}
+use Rattle.hla_retraction.specs.SentRows.{sent_of}
 use Rattle.hla_federation.specs.Steps.State.{state_of, state_from, IsWhole, IsUnmet, nothing_declared, EndsChosen}
 use Rattle.hla_components.proofs.Refinement.Runs.{each_step, inv_start}
 use Rattle.hla_components.proofs.Refinement.LedTo.{led_start, led_next}
@@ -66,6 +68,10 @@ no_wire : (g : ℕ) → item {X = List Message} [] [] g ≡ []
 no_wire zero = refl
 no_wire (suc k) = refl
 
+nothing_sent : sent_of [] ≡ (λ _. no_event)
+unfolding sent_of
+nothing_sent = fun_ext (λ m. refl)
+
 module _ (c : CatalogueValue) (v : FederationValue) (catalogue : v.catalogue ≡ c) (members : v.members ≡ [])
     (declarations : declared.declarations_of v.declarations ≡ nothing_declared (length c.object_classes) (length c.interaction_classes)) (objects : registry_of v.objects ≡ new_registry) where
   pub state_new : state_of v ≡ new_components c
@@ -84,6 +90,7 @@ module _ (c : CatalogueValue) (v : FederationValue) (catalogue : v.catalogue ≡
     last_announced = fun_ext (λ g. ap (λ (m : MemberValue). m.local.last_announced) (nobody g)) i;
     epoch = fun_ext (λ g. ap (λ (m : MemberValue). m.local.epoch) (nobody g)) i;
     wire = fun_ext (λ h. fun_ext (λ g. ap (λ (m : MemberValue). item [] m.incoming h) (nobody g) ∙ no_wire h)) i;
+    sent = fun_ext (λ g. ap (λ (m : MemberValue). sent_of m.sent) (nobody g) ∙ nothing_sent) i;
   })
 
   not_joined : (g : ℕ) → (members_of v.members).joined g ≡ false

@@ -1,9 +1,10 @@
 -- How many messages an update makes, and with which fault it is refused
-use Rattle.std.proofs.Common.{◌≡◌, ℕ, ◌+◌, ◌-◌, ◌<◌, ◌≤◌, List, [], ◌∷◌, ◌++◌, length, filter, cond, eqb, ltb, not, ◌||◌, true, false, Bool, Option, None, Some, refl, sym, ap, ◌∙◌, arith, ⊎_elim, length-append}
+use Rattle.std.proofs.Common.{◌≡◌, ℕ, ◌+◌, ◌-◌, ◌<◌, ◌≤◌, List, [], ◌∷◌, ◌++◌, length, filter, cond, eqb, ltb, not, ◌||◌, true, false, Bool, Option, None, Some, IfSome, is_some, refl, sym, ap, subst, ◌∙◌, arith, ⊎_elim, length-append}
 use Rattle.std.specs.List.{list_any}
-use Rattle.std.proofs.Math.Bool.{and-false}
+use Rattle.std.specs.Option.{option_and_then}
 use Rattle.std.proofs.lemmas.Bool.{cases_Bool}
 use Rattle.std.proofs.lemmas.Bool.Decides.{nat_tests}
+use Rattle.std.proofs.lemmas.List.{append-nil}
 use Rattle.hla_base.specs.declared.content.HandleValuePair.{HandleValuePair}
 use Rattle.hla_base.specs.declared.fault.Fault.{Fault}
 use Rattle.hla_base.specs.declared.fault.Fault.TheVariants as fault
@@ -12,13 +13,19 @@ use Rattle.hla_fed_file.specs.declared.declared.Order.{Order}
 use Rattle.hla_fed_file.specs.declared.declared.Order.TheVariants.{Receive, Timestamp}
 use Rattle.hla_base.specs.declared.row.TimeRow.{TimeRow}
 use Rattle.hla_null_message.specs.declared.message.Message.{Message}
-use Rattle.hla_machine.specs.Refusals.{is_bad_stamp, is_out_of_serials}
-use Rattle.hla_machine.specs.Sends.{is_some_ordered}
-use Rattle.hla_machine.specs.Directory.{Directory, Outgoing, put_pair, put_pairs, by_handle, is_of_order, part_sent, values_of_order, update_sent}
-use Rattle.hla_federation.proofs.Steps.SendingAll.{unstamped_order}
+use Rattle.hla_machine.specs.Refusals.{is_out_of_serials}
+use Rattle.hla_machine.specs.Sends.{sent_handle}
+use Rattle.hla_base.specs.Tables.{one_if}
+use Rattle.hla_retraction.specs.SentEvents.{SentEvent}
+use Rattle.hla_retraction.specs.Receivers.{receivers_of}
+use Rattle.hla_machine.specs.Directory.{Directory, Outgoing, AnUpdate, put_pair, put_pairs, by_handle, is_of_order, is_receiver, part_sent, values_of_order, update_sent}
+use Rattle.hla_federation.specs.declared.heading.Note.{Note}
+use Rattle.hla_federation.specs.Tables.Noting.{IsUnsentFrom, with_noted, handle_noted}
 use Rattle.hla_federation.specs.Tables.MemberValue.{item}
 use Rattle.hla_federation.specs.Tables.Members.{AreQuiet}
-use Rattle.hla_federation.specs.Steps.Sending.{HasAdded, messages_to}
+use Rattle.hla_federation.specs.Steps.Sending.{HasAdded, heading_of, message_to, messages_to, note_under, part_to}
+use Rattle.hla_federation.proofs.Steps.SendingAll.{sent_events}
+use Rattle.hla_federation.proofs.Steps.Noting.{parts_noted, parts_handle}
 use Rattle.hla_federation.proofs.Steps.Sent.{two_added}
 
 -- ---- a test of handles holds of some value by handle where it does of some value
@@ -102,20 +109,16 @@ module _ (joined known undefined unowned unpublished untimely many : Bool) (is_j
   pub not_published : unpublished ≡ true → Some fault.AttributeNotPublished ≡ update_result joined known undefined unowned unpublished untimely many
   not_published is = rw (is_joined, is_known, is_defined, is_owned, is) refl
 
+  pub not_timely : unpublished ≡ false → untimely ≡ true → Some fault.InvalidFederationTime ≡ update_result joined known undefined unowned unpublished untimely many
+  not_timely is late = rw (is_joined, is_known, is_defined, is_owned, is, late) refl
+
   pub too_many : unpublished ≡ false → untimely ≡ false → many ≡ true → Some fault.LimitReached ≡ update_result joined known undefined unowned unpublished untimely many
   too_many is timely full = rw (is_joined, is_known, is_defined, is_owned, is, timely, full) refl
 
   pub no_fault : unpublished ≡ false → untimely ≡ false → many ≡ false → None ≡ update_result joined known undefined unowned unpublished untimely many
   no_fault is timely full = rw (is_joined, is_known, is_defined, is_owned, is, timely, full) refl
 
-none_ordered : (r : TimeRow) (outs : List Outgoing) → is_some_ordered r None outs ≡ false
-none_ordered r [] = refl
-none_ordered r (out ∷ outs) = rw (unstamped_order r out) (none_ordered r outs)
-
--- without a stamp none is bad
-pub timely : (r : TimeRow) (outs : List Outgoing) → is_bad_stamp r None outs ≡ false
-timely r outs = rw (none_ordered r outs) refl
-
+-- ---- the serials that an update takes
 module _ (serial : ℕ) (outs : List Outgoing) (next count : ℕ) (same : next ≡ serial) (many : count ≡ length outs) (few : count ≤ 2) where
   pub past_serials : 1000000000000000001 - count < next → is_out_of_serials serial outs ≡ true
   past_serials test = let b : 1000000000000000001 < serial + length outs = omega (arith, same, many, few, test) in grind (arith, nat_tests)
@@ -131,32 +134,53 @@ part_length : (order other : Order) (object : ℕ) (values : List HandleValuePai
 part_length order other object [] = refl
 part_length order other object (v ∷ vs) = refl
 
-part_messages : (order other : Order) (d : Directory) (f n object : ℕ) (values : List HandleValuePair) (h : ℕ) → messages_to d f n (part_sent order object values) h ≡ messages_to d f n (part_sent other object values) h
-part_messages order other d f n object [] h = refl
-part_messages order other d f n object (v ∷ vs) h = refl
+part_messages : (order : Order) (d : Directory) (f n : ℕ) (r : TimeRow) (stamp : Option ℕ) (object : ℕ) (values : List HandleValuePair) (h : ℕ)
+    → part_to d (heading_of f n r stamp order) object values h ≡ messages_to d f n r stamp (part_sent order object values) h
+part_messages order d f n r stamp object [] h = refl
+part_messages order d f n r stamp object (v ∷ vs) h = sym (append-nil (message_to d (heading_of f n r stamp order) (AnUpdate object (v ∷ vs)) h))
 
-module _ (d : Directory) (f n m object : ℕ) (values received stamped : List HandleValuePair) (a b : ℕ)
-    (is_received : received ≡ values_of_order d Receive (by_handle values)) (is_stamped : stamped ≡ values_of_order d Timestamp (by_handle values))
-    (one : a ≡ length (part_sent Receive object received)) (two : b ≡ length (part_sent Receive object stamped)) where
+module _ (d : Directory) (f n m : ℕ) (r : TimeRow) (stamp : Option ℕ) (object : ℕ) (values received ordered : List HandleValuePair) (count : ℕ)
+    (is_received : received ≡ values_of_order d Receive (by_handle values)) (is_ordered : ordered ≡ values_of_order d Timestamp (by_handle values))
+    (same : n ≡ m) (one : count ≡ length (part_sent Receive object received)) where
   abbrev first_part : List Outgoing
   first_part = part_sent Receive object (values_of_order d Receive (by_handle values))
 
   abbrev second_part : List Outgoing
   second_part = part_sent Timestamp object (values_of_order d Timestamp (by_handle values))
 
-  one_is : a ≡ length first_part
+  one_is : count ≡ length first_part
   one_is = one ∙ ap (λ (vs : List HandleValuePair). length (part_sent Receive object vs)) is_received
 
-  pub parts_counted : a + b ≡ length (update_sent d object values)
-  parts_counted =
-      let second : b ≡ length second_part = two ∙ ap (λ (vs : List HandleValuePair). length (part_sent Receive object vs)) is_stamped ∙ part_length Receive Timestamp object (values_of_order d Timestamp (by_handle values)) in
-      sum_is a b (length first_part) (length second_part) one_is second ∙ sym (length-append first_part second_part)
+  pub parts_counted : (more : ℕ) → more ≡ length (part_sent Receive object ordered) → count + more ≡ length (update_sent d object values)
+  parts_counted more two =
+      let second : more ≡ length second_part = two ∙ ap (λ (vs : List HandleValuePair). length (part_sent Receive object vs)) is_ordered ∙ part_length Receive Timestamp object (values_of_order d Timestamp (by_handle values)) in
+      sum_is count more (length first_part) (length second_part) one_is second ∙ sym (length-append first_part second_part)
 
-  pub parts_added : (old middle new : List (List Message)) → AreQuiet old → HasAdded (messages_to d f n (part_sent Receive object received)) old middle
-      → HasAdded (messages_to d f (n + a) (part_sent Receive object stamped)) middle new → n ≡ m → (h : ℕ) → item [] new h ≡ messages_to d f m (update_sent d object values) h
-  parts_added old middle new quiet first second same =
-      two_added d f n m (n + a) first_part second_part old middle new quiet
-      (λ h. first h ∙ ap (λ (vs : List HandleValuePair). item [] old h ++ messages_to d f n (part_sent Receive object vs) h) is_received)
-      (λ h. second h ∙ ap (λ (vs : List HandleValuePair). item [] middle h ++ messages_to d f (n + a) (part_sent Receive object vs) h) is_stamped
-      ∙ ap (λ (ms : List Message). item [] middle h ++ ms) (part_messages Receive Timestamp d f (n + a) object (values_of_order d Timestamp (by_handle values)) h))
+  pub parts_added : (old middle new : List (List Message)) → AreQuiet old → HasAdded (part_to d (heading_of f n r stamp Receive) object received) old middle
+      → HasAdded (part_to d (heading_of f (n + count) r stamp Timestamp) object ordered) middle new → (h : ℕ) → item [] new h ≡ messages_to d f m r stamp (update_sent d object values) h
+  parts_added old middle new quiet first second =
+      two_added d f n m (n + count) r stamp first_part second_part old middle new quiet
+      (λ h. first h ∙ ap (λ (vs : List HandleValuePair). item [] old h ++ part_to d (heading_of f n r stamp Receive) object vs h) is_received
+      ∙ ap (λ (ms : List Message). item [] old h ++ ms) (part_messages Receive d f n r stamp object (values_of_order d Receive (by_handle values)) h))
+      (λ h. second h ∙ ap (λ (vs : List HandleValuePair). item [] middle h ++ part_to d (heading_of f (n + count) r stamp Timestamp) object vs h) is_ordered
+      ∙ ap (λ (ms : List Message). item [] middle h ++ ms) (part_messages Timestamp d f (n + count) r stamp object (values_of_order d Timestamp (by_handle values)) h))
       same (ap (λ (k : ℕ). n + k) one_is)
+
+  -- what is noted of it, and its handle
+  module _ (told : Option (List Bool)) (two : one_if (is_some told) ≡ length (part_sent Receive object ordered)) where
+    abbrev pub update_note : Option Note
+    update_note = option_and_then (λ rs. note_under (heading_of f (n + count) r stamp Timestamp) rs) told
+
+    next_is : n + count ≡ m + length (part_sent Receive object (values_of_order d Receive (by_handle values)))
+    next_is = sum_is n count m (length first_part) same one_is
+
+    two_is : one_if (is_some told) ≡ length (part_sent Receive object (values_of_order d Timestamp (by_handle values)))
+    two_is = two ∙ ap (λ (vs : List HandleValuePair). length (part_sent Receive object vs)) is_ordered
+
+    pub update_noted : (sent : ℕ → ℕ → SentEvent) → IsUnsentFrom (sent f) m → IfSome told (λ rs. receivers_of rs ≡ is_receiver d f (AnUpdate object ordered))
+        → sent_events d f m r stamp (update_sent d object values) sent ≡ with_noted sent f update_note
+    update_noted sent none receivers = parts_noted d f m (n + count) r stamp object (values_of_order d Receive (by_handle values)) (values_of_order d Timestamp (by_handle values)) told next_is two_is sent none
+        (subst (λ (vs : List HandleValuePair). IfSome told (λ rs. receivers_of rs ≡ is_receiver d f (AnUpdate object vs))) is_ordered receivers)
+
+    pub update_handle : sent_handle f r stamp m (update_sent d object values) ≡ handle_noted f update_note
+    update_handle = parts_handle d f m (n + count) r stamp object (values_of_order d Receive (by_handle values)) (values_of_order d Timestamp (by_handle values)) told next_is two_is

@@ -1,5 +1,5 @@
 -- The tables that a list of members stands for, after a change of the list
-use Rattle.std.proofs.Common.{◌≡◌, ◌≢◌, ℕ, zero, suc, ◌+◌, ◌-◌, ◌<◌, ◌≤◌, List, [], ◌∷◌, ◌++◌, length, get_or, set, drop, cond, eqb, ltb, ◌&&◌, Bool, true, false, refl, sym, ap, ◌∙◌, arith, length-set, length-append, get_or-set_same, get_or-set_other, ⊎_elim}
+use Rattle.std.proofs.Common.{◌≡◌, ◌≢◌, ℕ, zero, suc, ◌+◌, ◌-◌, ◌<◌, ◌≤◌, List, [], ◌∷◌, ◌++◌, length, get_or, set, drop, cond, eqb, ltb, ◌&&◌, Bool, true, false, Some, refl, sym, ap, ◌∙◌, arith, length-set, length-append, get_or-set_same, get_or-set_other, ⊎_elim}
 use Rattle.std.proofs.lemmas.Bool.{cases_Bool, cases_eq}
 use Rattle.std.proofs.lemmas.Bool.Decides.{nat_tests}
 use Rattle.std.proofs.lemmas.List.{get_or_default, get_or_past}
@@ -7,6 +7,11 @@ use Rattle.std.proofs.Math.Path.{fun_ext}
 use Rattle.hla_base.specs.Tables.{upd, upd2, upd_whole_column}
 use Rattle.hla_base.proofs.Tables.{upd_same}
 use Rattle.hla_null_message.specs.declared.message.Message.{Message}
+use Rattle.hla_retraction.specs.SentEvents.{SentEvent, no_event}
+use Rattle.hla_retraction.specs.SentRows.{sent_of}
+use Rattle.hla_retraction.specs.declared.sent.SentRow.{SentRow}
+use Rattle.hla_federation.specs.declared.heading.Note.{Note}
+use Rattle.hla_federation.specs.Tables.Noting.{noted_event, with_noted}
 use Rattle.hla_local.specs.LocalValue.{LocalValue, new_local, resigned_local}
 use Rattle.hla_federation.specs.Tables.MemberValue.{item, MemberValue}
 use Rattle.hla_federation.specs.Tables.Members.{no_member, MemberTables, members_of, new_member, resigned_member, AreQuiet, with_member_admitted, with_member_withdrawn, with_component}
@@ -76,6 +81,7 @@ module _ (members : List MemberValue) (f : ℕ) (x : MemberValue) (some : 0 < f)
     serial = upd (members_of members).serial f x.next_serial;
     local = upd (members_of members).local f x.local;
     wire = λ g. upd ((members_of members).wire g) f (item [] x.incoming g);
+    sent = upd (members_of members).sent f (sent_of x.sent);
   }
   changed = λ i. record {
     next_federate = length-set members (f - 1) x i + 1;
@@ -84,6 +90,7 @@ module _ (members : List MemberValue) (f : ℕ) (x : MemberValue) (some : 0 < f)
     serial = field (λ m. m.next_serial) i;
     local = field (λ m. m.local) i;
     wire = λ g. field (λ m. item [] m.incoming g) i;
+    sent = field (λ m. sent_of m.sent) i;
   }
 
   pub set_local : (members_of (set members (f - 1) x)).local f ≡ x.local
@@ -105,6 +112,20 @@ upd-wire t g f x = fun_ext (λ h. fun_ext (λ k. at h k))
         (λ (z : eqb g h ≡ false). rw (n, z) refl)
         (cases_Bool (eqb g h)))
         (cases_Bool (eqb f k))
+
+-- one entry of one table
+upd-entry : {X : Type 0} (t : ℕ → ℕ → X) (f k : ℕ) (x : X) → upd t f (upd (t f) k x) ≡ upd2 t f k x
+unfolding upd upd2
+upd-entry t f k x = fun_ext (λ g. fun_ext (λ j. at g j))
+  where
+    at : (g j : ℕ) → cond (eqb f g) (λ l. cond (eqb k l) x (t f l)) (t g) j ≡ cond (eqb f g && eqb k j) x (t g j)
+    at g j = ⊎_elim
+        (λ (y : eqb f g ≡ true). let e : f ≡ g = grind (arith, nat_tests) in ⊎_elim
+        (λ (z : eqb k j ≡ true). rw (y, z) refl)
+        (λ (z : eqb k j ≡ false). rw (y, z) (ap (λ (h : ℕ). t h j) e))
+        (cases_Bool (eqb k j)))
+        (λ (n : eqb f g ≡ false). rw n refl)
+        (cases_Bool (eqb f g))
 
 pub upd-clear : {X : Type 0} (t : ℕ → ℕ → X) (f : ℕ) (x : X) → (λ h. upd (t h) f x) ≡ upd_whole_column t f x
 unfolding upd upd_whole_column
@@ -131,6 +152,7 @@ module _ (members : List MemberValue) (f : ℕ) (some : 0 < f) (within : f ≤ l
     serial = upd t.serial f n;
     local = keep (λ x. x.local) i;
     wire = keep_wire i;
+    sent = keep (λ x. sent_of x.sent) i;
   })
 
   pub picked_up : (l : LocalValue) → members_of (set members (f - 1) (record m { local = l })) ≡ with_component t f l
@@ -141,6 +163,19 @@ module _ (members : List MemberValue) (f : ℕ) (some : 0 < f) (within : f ≤ l
     serial = keep (λ x. x.next_serial) i;
     local = upd t.local f l;
     wire = keep_wire i;
+    sent = keep (λ x. sent_of x.sent) i;
+  })
+
+  pub noted : (note : Note) (sent : List SentRow) → sent_of sent ≡ upd (sent_of m.sent) note.serial (noted_event note)
+      → members_of (set members (f - 1) (record m { sent = sent })) ≡ record t { sent = with_noted t.sent f (Some note) }
+  noted note sent is = changed members f (record m { sent = sent }) some within ∙ (λ i. record {
+    next_federate = t.next_federate;
+    joined = keep (λ x. x.joined) i;
+    name = keep (λ x. x.name) i;
+    serial = keep (λ x. x.next_serial) i;
+    local = keep (λ x. x.local) i;
+    wire = keep_wire i;
+    sent = ((λ j. upd t.sent f (is j)) ∙ upd-entry t.sent f note.serial (noted_event note)) i;
   })
 
   wires_after : (g : ℕ) (incoming : List (List Message)) (ms : List Message) → item [] incoming ≡ upd (item [] m.incoming) g ms
@@ -156,6 +191,7 @@ module _ (members : List MemberValue) (f : ℕ) (some : 0 < f) (within : f ≤ l
     serial = keep (λ x. x.next_serial) i;
     local = keep (λ x. x.local) i;
     wire = wires_after g incoming ms is i;
+    sent = keep (λ x. sent_of x.sent) i;
   })
 
   pub arrived : (g : ℕ) (l : LocalValue) (incoming : List (List Message)) (ms : List Message) → item [] incoming ≡ upd (item [] m.incoming) g ms
@@ -167,6 +203,7 @@ module _ (members : List MemberValue) (f : ℕ) (some : 0 < f) (within : f ≤ l
     serial = keep (λ x. x.next_serial) i;
     local = upd t.local f l;
     wire = wires_after g incoming ms is i;
+    sent = keep (λ x. sent_of x.sent) i;
   })
 
   pub left_all : (incoming : List (List Message)) → AreQuiet incoming
@@ -178,15 +215,16 @@ module _ (members : List MemberValue) (f : ℕ) (some : 0 < f) (within : f ≤ l
     serial = keep (λ x. x.next_serial) i;
     local = upd t.local f (resigned_local m.local);
     wire = ((λ j. λ h. upd (t.wire h) f (quiet h j)) ∙ upd-clear t.wire f []) i;
+    sent = keep (λ x. sent_of x.sent) i;
   })
 
 -- ---- one more member
-module _ (members : List MemberValue) (name : List ℕ) (local : LocalValue) (incoming : List (List Message)) (quiet : AreQuiet incoming) where
+module _ (members : List MemberValue) (name : List ℕ) (local : LocalValue) (sent : List SentRow) (incoming : List (List Message)) (unsent : sent_of sent ≡ (λ _. no_event)) (quiet : AreQuiet incoming) where
   abbrev n : ℕ
   n = length members + 1
 
   abbrev x : MemberValue
-  x = record (new_member name [] incoming) { local = local }
+  x = record (new_member name [] incoming) { local = local; sent = sent }
 
   pushed : {Y : Type 0} (p : MemberValue → Y) → (λ g. p (item no_member (members ++ x ∷ []) g)) ≡ upd (λ g. p (item no_member members g)) n (p x)
   pushed p = (λ i. λ g. p (item-push no_member members x i g)) ∙ upd-field p (item no_member members) n x
@@ -198,6 +236,10 @@ module _ (members : List MemberValue) (name : List ℕ) (local : LocalValue) (in
   no_wires zero = refl
   no_wires (suc k) = refl
 
+  nothing_sent : sent_of [] ≡ (λ _. no_event)
+  unfolding sent_of
+  nothing_sent = fun_ext (λ k. refl)
+
   pub joined : members_of (members ++ x ∷ []) ≡ with_member_admitted (members_of members) name local
   joined = λ i. record {
     next_federate = length-append members (x ∷ []) i + 1;
@@ -206,6 +248,7 @@ module _ (members : List MemberValue) (name : List ℕ) (local : LocalValue) (in
     serial = same (λ m. m.next_serial) refl i;
     local = pushed (λ m. m.local) i;
     wire = λ g. same (λ m. item [] m.incoming g) (quiet g ∙ sym (no_wires g)) i;
+    sent = same (λ m. sent_of m.sent) (unsent ∙ sym nothing_sent) i;
   }
 
 -- who has not joined yet

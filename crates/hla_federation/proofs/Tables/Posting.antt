@@ -51,6 +51,9 @@ room_more along messages peer old new before grow here g h y low high = ⊎_elim
     let have = before g h y low (omega (arith, high, ne)) in let more = grow g h in omega (arith, have, more))
     (cases_eq (peer_along along g h) peer)
 
+pub room_same : (along : Direction) (messages : ℕ → List Message) (end : ℕ) (old new : List (List ℕ)) → ((g h : ℕ) → room_in new g h ≡ room_in old g h) → HasRoom along messages 1 end old → HasRoom along messages 1 end new
+room_same along messages end old new same room g h y low high = let have = room g h y low high in let is = same g h in omega (arith, have, is)
+
 pub room_at : (along : Direction) (messages : ℕ → List Message) (peer end : ℕ) (rooms : List (List ℕ)) → HasRoom along messages peer end rooms → peer < end
     → length (messages peer) ≤ room_in rooms (source along peer) (target along peer)
 room_at along messages peer end rooms room below =

@@ -67,6 +67,12 @@ module _ {n : ℕ} (ms : List RoomyMember) (v : RoomyMembers) (is : roomy_member
         (λ (ne : f ≢ h). rw (room_there x g h ne) (omega arith))
         (cases_eq f h)
 
+    pub rooms_same : (y x : RoomyMember) → y ≡ get_or ms (f - 1) y → x.rooms ≡ y.rooms → (g h : ℕ) → room_in (map (λ (m : RoomyMember). m.rooms) (set ms (f - 1) x)) g h ≡ room_in v.rooms g h
+    rooms_same y x read same g h = ⊎_elim
+        (λ (e : f ≡ h). rw (← e) (room_here x g ∙ ap (λ (r : List ℕ). item 0 r g) (same ∙ read_rooms y read)))
+        (λ (ne : f ≢ h). room_there x g h ne)
+        (cases_eq f h)
+
     pub rooms_stay : (from : ℕ) (y x : RoomyMember) → y ≡ get_or ms (f - 1) y → ((g : ℕ) → from ≢ g → item 0 x.rooms g ≡ item 0 y.rooms g)
         → (g h : ℕ) → (from ≢ g) ⊎ (f ≢ h) → room_in (map (λ (m : RoomyMember). m.rooms) (set ms (f - 1) x)) g h ≡ room_in v.rooms g h
     rooms_stay from y x read stay g h ne = ⊎_elim

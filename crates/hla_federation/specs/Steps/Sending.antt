@@ -1,33 +1,62 @@
--- The messages of services without stamps, by receiver
-use Rattle.std.specs.Prelude.{ℕ, ◌+◌, ◌≡◌, ◌&&◌, cond, eqb, ltb, false, None, Option, Some, List, [], ◌∷◌, ◌++◌}
+-- The messages of services, by receiver
+use Rattle.std.specs.Prelude.{ℕ, ◌+◌, ◌≡◌, ◌&&◌, cond, eqb, ltb, Bool, None, Option, Some, is_some, option_map, unwrap_or, List, [], ◌∷◌, ◌++◌}
+use Rattle.std.specs.List.{list_any}
 use Rattle.hla_base.specs.declared.content.Content.{Content}
-use Rattle.hla_base.specs.Tables.{forever, is_other}
-use Rattle.hla_base.specs.Rows.{is_regulator}
+use Rattle.hla_base.specs.declared.content.HandleValuePair.{HandleValuePair}
+use Rattle.hla_base.specs.declared.row.TimeRow.{TimeRow}
+use Rattle.hla_base.specs.Tables.{forever, is_other, when}
+use Rattle.hla_base.specs.Rows.{is_enabled, is_regulator}
 use Rattle.hla_components.specs.Components.{Components}
 use Rattle.hla_components.specs.Component.{promise}
 use Rattle.hla_declaration.specs.declared.receiver.Receiver.{Receiver}
+use Rattle.hla_fed_file.specs.declared.declared.Order.{Order}
+use Rattle.hla_fed_file.specs.declared.declared.Order.TheVariants.{Timestamp}
 use Rattle.hla_null_message.specs.declared.message.Message.{Message}
 use Rattle.hla_null_message.specs.declared.message.Message.TheVariants as message
-use Rattle.hla_machine.specs.Directory.{Directory, Outgoing, content_for}
+use Rattle.hla_machine.specs.Directory.{Directory, Outgoing, Body, AnUpdate, content_for, is_of_order}
+use Rattle.hla_machine.specs.Refusals.{is_bad_stamp}
+use Rattle.hla_federation.specs.declared.heading.Heading.{Heading}
+use Rattle.hla_federation.specs.declared.heading.Note.{Note}
 use Rattle.hla_federation.specs.Tables.MemberValue.{item}
 
--- an event in receive order
-abbrev pub plain_event : ℕ → ℕ → Content → Message
-plain_event from serial x = message.Event (record { sender = from; serial = serial; ordered = false; stamp = 0; content = x })
+-- the stamp with which a message goes in time-stamp order: its order says so, its sender regulates and gave one
+abbrev pub order_stamp : TimeRow → Order → Option ℕ → Option ℕ
+order_stamp r order stamp = when (is_of_order Timestamp order && is_enabled r.regulating) stamp
 
--- the event that says something, if anything is said
-abbrev pub said_messages : ℕ → ℕ → Option Content → List Message
-said_messages from serial None = []
-said_messages from serial (Some x) = plain_event from serial x ∷ []
+-- what heads a message of f that has this order
+abbrev pub heading_of : ℕ → ℕ → TimeRow → Option ℕ → Order → Heading
+heading_of f serial r stamp order = record { sender = f; serial = serial; stamp = order_stamp r order stamp }
 
--- what one message of a service puts on the wire to a federate
-abbrev pub message_to : Directory → ℕ → ℕ → Outgoing → ℕ → List Message
-message_to d f serial out h = cond (is_other d.joined f h) (said_messages f serial (content_for d out.body h)) []
+-- the event that says something under a heading
+abbrev pub event_under : Heading → Content → Message
+event_under head x = message.Event (record { sender = head.sender; serial = head.serial; ordered = is_some head.stamp; stamp = unwrap_or head.stamp 0; content = x })
 
--- and what all of them do
-abbrev pub messages_to : Directory → ℕ → ℕ → List Outgoing → ℕ → List Message
-messages_to d f serial [] h = []
-messages_to d f serial (out ∷ outs) h = message_to d f serial out h ++ messages_to d f (serial + 1) outs h
+-- if anything is said
+abbrev pub said_messages : Heading → Option Content → List Message
+said_messages head None = []
+said_messages head (Some x) = event_under head x ∷ []
+
+-- what one message puts on the wire to a federate
+abbrev pub message_to : Directory → Heading → Body → ℕ → List Message
+message_to d head body h = cond (is_other d.joined head.sender h) (said_messages head (content_for d body h)) []
+
+-- what a part of an update does, where it has values
+abbrev pub part_to : Directory → Heading → ℕ → List HandleValuePair → ℕ → List Message
+part_to d head object [] h = []
+part_to d head object (v ∷ vs) h = message_to d head (AnUpdate object (v ∷ vs)) h
+
+-- and what all messages of a service do
+abbrev pub messages_to : Directory → ℕ → ℕ → TimeRow → Option ℕ → List Outgoing → ℕ → List Message
+messages_to d f serial r stamp [] h = []
+messages_to d f serial r stamp (out ∷ outs) h = message_to d (heading_of f serial r stamp out.order) out.body h ++ messages_to d f (serial + 1) r stamp outs h
+
+-- the answer whether a stamp is bad, for messages of which some has time-stamp order or none has
+abbrev pub TellsBadStamp : TimeRow → Option ℕ → Bool → Bool → Type 0
+TellsBadStamp r stamp is_stamped answer = (outs : List Outgoing) → list_any (λ (out : Outgoing). is_of_order Timestamp out.order) outs ≡ is_stamped → is_bad_stamp r stamp outs ≡ answer
+
+-- what is noted of a message that may be retracted, by its receivers: of one in receive order nothing is
+abbrev pub note_under : Heading → List Bool → Option Note
+note_under head receivers = option_map (λ (t : ℕ). record { serial = head.serial; stamp = t; receivers = receivers }) head.stamp
 
 -- an outbox that has had messages added, by receiver
 abbrev pub HasAdded : (ℕ → List Message) → List (List Message) → List (List Message) → Type 0

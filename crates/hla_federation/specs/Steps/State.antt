@@ -1,11 +1,10 @@
--- The components and wires that a federation's parts stand for. Of what was sent with a stamp nothing is kept yet
-use Rattle.std.specs.Prelude.{ℕ, ◌+◌, ◌≡◌, ◌≤◌, true, false, None, Some, List, [], length, Result, Ok, Err}
+-- The components and wires that a federation's parts stand for
+use Rattle.std.specs.Prelude.{ℕ, ◌+◌, ◌≡◌, ◌≤◌, true, false, None, List, [], length, Result, Ok, Err}
 use Rattle.std.specs.List.{All}
 use Rattle.hla_base.specs.declared.fault.Fault.{Fault}
 use Rattle.hla_base.specs.Limits.{forever, max_joins}
 use Rattle.hla_lbts.specs.Peers.{PeersValue, peers_of}
 use Rattle.hla_fed_file.specs.CatalogueValue.{CatalogueValue}
-use Rattle.hla_retraction.specs.SentEvents.{no_event}
 use Rattle.hla_declaration.specs.Declarations as declared
 use Rattle.hla_declaration.specs.Declarations.{DeclarationsValue}
 use Rattle.hla_object_registry.specs.Registered.{RegistryValue, registry_of}
@@ -50,7 +49,7 @@ state_from c d r m = record {
   known_epoch = λ f. (peers_of (m.local f).peers).known_epoch;
   last_announced = λ f. (m.local f).last_announced;
   epoch = λ f. (m.local f).epoch;
-  sent = λ _ _. no_event;
+  sent = m.sent;
 }
 
 abbrev pub state_of : FederationValue → Components
@@ -145,11 +144,8 @@ IsTimeService service.EnableAsynchronousDelivery = Unit {0}
 IsTimeService service.DisableAsynchronousDelivery = Unit {0}
 IsTimeService service = ⊥
 
--- the services that are built: all but Retract and those with a stamp
+-- the services that are built: all but Retract
 abbrev pub IsBuiltService : Service → Type 0
-IsBuiltService (service.UpdateAttributeValues object values (Some stamp)) = ⊥
-IsBuiltService (service.SendInteraction class values (Some stamp)) = ⊥
-IsBuiltService (service.DeleteObjectInstance object (Some stamp)) = ⊥
 IsBuiltService (service.Retract event) = ⊥
 IsBuiltService service = Unit {0}
 

@@ -3,6 +3,7 @@ use Rattle.std.specs.Prelude.{ℕ, Bool, List, zero, suc, slice_index_or, map}
 use Rattle.hla_null_message.specs.declared.message.Message.{Message}
 use Rattle.hla_local.specs.LocalValue.{LocalValue}
 use Rattle.hla_null_message.specs.Wires.{WireValue}
+use Rattle.hla_retraction.specs.declared.sent.SentRow.{SentRow}
 
 -- the wires to one member, by sender, counted from 1
 pub record IncomingValue : Type 0 where
@@ -14,6 +15,7 @@ pub record MemberValue : Type 0 where
   pub joined : Bool
   pub next_serial : ℕ
   pub local : LocalValue
+  pub sent : List SentRow  -- the messages that it may retract
   pub incoming : List (List Message)
 
 -- a member, and the room on the wires to it

@@ -10,6 +10,8 @@ use Rattle.hla_machine.specs.declared.step.Carried.TheVariants as carried
 use Rattle.hla_local.specs.LocalValue.{LocalValue, new_local, resigned_local}
 use Rattle.hla_local.specs.Arriving.{MayCome, local_accepting, peers_accepting}
 use Rattle.hla_components.specs.Locals.{carried_by}
+use Rattle.hla_retraction.specs.SentEvents.{SentEvent}
+use Rattle.hla_retraction.specs.SentRows.{sent_of}
 use Rattle.hla_federation.specs.declared.direction.Direction.{Direction}
 use Rattle.hla_federation.specs.declared.direction.Direction.TheVariants.{From, To}
 use Rattle.hla_federation.specs.Tables.Wiring.{is_along, peer_along}
@@ -17,7 +19,7 @@ use Rattle.hla_federation.specs.Tables.MemberValue.{MemberValue, RoomyMember, Ro
 
 -- ---- one member
 abbrev pub no_member : MemberValue
-no_member = record { name = []; joined = false; next_serial = 1; local = new_local []; incoming = [] }
+no_member = record { name = []; joined = false; next_serial = 1; local = new_local []; sent = []; incoming = [] }
 
 -- nothing is on these wires
 abbrev pub AreQuiet : List (List Message) → Type 0
@@ -25,7 +27,7 @@ AreQuiet wires = (g : ℕ) → item [] wires g ≡ []
 
 -- a federate that has just joined, and one that has resigned
 abbrev pub new_member : List ℕ → List PeerRow → List (List Message) → MemberValue
-new_member name peers incoming = record { name = name; joined = true; next_serial = 1; local = new_local peers; incoming = incoming }
+new_member name peers incoming = record { name = name; joined = true; next_serial = 1; local = new_local peers; sent = []; incoming = incoming }
 
 abbrev pub resigned_member : MemberValue → List (List Message) → MemberValue
 resigned_member m incoming = record m { joined = false; local = resigned_local m.local; incoming = incoming }
@@ -53,6 +55,7 @@ pub record MemberTables : Type 0 where
   pub serial : ℕ → ℕ
   pub local : ℕ → LocalValue
   pub wire : ℕ → ℕ → List Message  -- from, to
+  pub sent : ℕ → ℕ → SentEvent  -- by sender and serial
 
 abbrev pub members_of : List MemberValue → MemberTables
 members_of members = record {
@@ -62,6 +65,7 @@ members_of members = record {
   serial = λ f. (item no_member members f).next_serial;
   local = λ f. (item no_member members f).local;
   wire = λ g f. item [] (item no_member members f).incoming g;
+  sent = λ f. sent_of (item no_member members f).sent;
 }
 
 abbrev pub roomy_members : List RoomyMember → ℕ → RoomyMembers

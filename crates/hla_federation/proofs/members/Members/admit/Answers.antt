@@ -11,4 +11,4 @@ returns c =
     ∙ ap members_of (map-append (λ (m : RoomyMember). m.shown) c.self.inside.members.items (c.args.member ∷ []))
     ∙ ap (λ (v : RoomyMembers). members_of (v.shown ++ c.args.member.shown ∷ [])) c.self.view_is
     ∙ ap (λ (m : MemberValue). members_of (c.args.self.now.shown ++ m ∷ [])) c.requires.new
-    ∙ joined c.args.self.now.shown c.args.member.shown.name c.args.member.shown.local c.args.member.shown.incoming c.requires.quiet
+    ∙ joined c.args.self.now.shown c.args.member.shown.name c.args.member.shown.local c.args.member.shown.sent c.args.member.shown.incoming c.requires.unsent c.requires.quiet

@@ -14,9 +14,11 @@ use Rattle.hla_federation.specs.Tables.FederationValue.{FederationValue}
 use Rattle.hla_federation.specs.Tables.MemberValue.{item}
 use Rattle.hla_federation.specs.Tables.Members.{MemberTables, members_of, with_member_withdrawn}
 use Rattle.hla_components.specs.Next.{answer_outcome, components_seen, with_federate_gone, with_messages_sent}
+use Rattle.hla_federation.specs.Tables.Noting.{IsUnsentFrom}
 use Rattle.hla_federation.specs.Steps.Sending.{HasAdded, messages_to, last_null_to}
 use Rattle.hla_federation.specs.Steps.State.{state_of, state_from, directory_from}
 use Rattle.hla_federation.proofs.Steps.Doing.{does_next}
+use Rattle.hla_federation.proofs.Steps.Noting.{unsent_from}
 use Rattle.hla_federation.proofs.Steps.Resigning.{resign_serials, resigned_state, resign_ways, joined_before, joined_below}
 use Rattle.hla_federation.proofs.Tables.Wholes.{whole_withdrawn}
 use Rattle.hla_federation.proofs.parts.Parts.resign.Goals as goal
@@ -39,17 +41,19 @@ returns-clause-done c =
     let old = members_of c.self.inside.members.shown in
     let hs = c.in_ok-objects.objects in
     let o = item [] c.address_last_null.new.outbox in
-    let posted = rw (c.as_slice.ensures, c.next_serial-serial.ensures, ← c.self.view_is) at c.in_ok-address_removals.ensures.ok in
+    let posted = subst (λ (v : FederationValue). HasAdded (messages_to (state_of v).directory f (old.serial f) ((state_of v).row f) None (deletions_sent hs)) c.in_ok-outbox.outbox c.address_removals.new.outbox) (sym c.self.view_is)
+    (rw (c.as_slice.ensures, c.next_serial-serial.ensures) at c.in_ok-address_removals.ensures.ok) in
     let last = subst (λ (v : FederationValue). HasAdded (last_null_to (state_of v) f) c.address_removals.new.outbox c.address_last_null.new.outbox) (sym c.self.view_is) c.in_ok-address_last_null.ensures.ok in
-    let is : (h : ℕ) → o h ≡ messages_to (directory_from c.self.inside.catalogue (declared.declarations_of c.self.inside.declarations) (registry_of c.self.inside.registry) (members_of c.self.inside.members.shown)) f (old.serial f) (deletions_sent hs) h ++ last_null_to (state_from c.self.inside.catalogue (declared.declarations_of c.self.inside.declarations) (registry_of c.self.inside.registry) (members_of c.self.inside.members.shown)) f h = λ h. last h
+    let is : (h : ℕ) → o h ≡ messages_to (directory_from c.self.inside.catalogue (declared.declarations_of c.self.inside.declarations) (registry_of c.self.inside.registry) (members_of c.self.inside.members.shown)) f (old.serial f) (old.local f).row None (deletions_sent hs) h ++ last_null_to (state_from c.self.inside.catalogue (declared.declarations_of c.self.inside.declarations) (registry_of c.self.inside.registry) (members_of c.self.inside.members.shown)) f h = λ h. last h
     ∙ ap (λ (ms : List Message). ms ++ last_null_to (state_from c.self.inside.catalogue (declared.declarations_of c.self.inside.declarations) (registry_of c.self.inside.registry) (members_of c.self.inside.members.shown)) f h) (posted h
-    ∙ ap (λ (ms : List Message). ms ++ messages_to (directory_from c.self.inside.catalogue (declared.declarations_of c.self.inside.declarations) (registry_of c.self.inside.registry) (members_of c.self.inside.members.shown)) f (old.serial f) (deletions_sent hs) h) (c.in_ok-outbox.ensures.ok h)) in
+    ∙ ap (λ (ms : List Message). ms ++ messages_to (directory_from c.self.inside.catalogue (declared.declarations_of c.self.inside.declarations) (registry_of c.self.inside.registry) (members_of c.self.inside.members.shown)) f (old.serial f) (old.local f).row None (deletions_sent hs) h) (c.in_ok-outbox.ensures.ok h)) in
     let sent = rw c.len.ensures at c.in_ok-send_all.ensures.ok in
+    let unsent = subst (λ (v : FederationValue). IsUnsentFrom ((members_of v.members).sent f) ((members_of v.members).serial f)) (sym c.self.view_is) (unsent_from c.args.self.now f c.requires.sound.kept) in
     let members = c.resign.ensures ∙ ap (λ (t : MemberTables). with_member_withdrawn t f) sent in
     let new = state_from c.self.inside.catalogue (declared.declarations_of c.withdraw.new.self) (registry_of c.delete_owned_by.new.self) (members_of c.resign.new.self.shown) in
     let left : with_federate_gone (with_messages_sent (state_from c.self.inside.catalogue (declared.declarations_of c.self.inside.declarations) (registry_of c.self.inside.registry) (members_of c.self.inside.members.shown)) f None (deletions_sent (objects_of (directory_from c.self.inside.catalogue (declared.declarations_of c.self.inside.declarations) (registry_of c.self.inside.registry) (members_of c.self.inside.members.shown)) f))) f ≡ new
     = ap (λ (ks : List ℕ). with_federate_gone (with_messages_sent (state_from c.self.inside.catalogue (declared.declarations_of c.self.inside.declarations) (registry_of c.self.inside.registry) (members_of c.self.inside.members.shown)) f None (deletions_sent ks)) f) (sym c.in_ok-objects.ensures.ok)
-    ∙ resigned_state c.self.inside.catalogue (declared.declarations_of c.self.inside.declarations) (registry_of c.self.inside.registry) (members_of c.self.inside.members.shown) f hs o is (joined_below c.self.inside.members.shown)
+    ∙ resigned_state c.self.inside.catalogue (declared.declarations_of c.self.inside.declarations) (registry_of c.self.inside.registry) (members_of c.self.inside.members.shown) f hs o is (joined_below c.self.inside.members.shown) unsent
     ∙ (λ i. state_from c.self.inside.catalogue (sym c.withdraw.ensures i) (sym c.delete_owned_by.ensures i) (sym members i)) in
     does_next (state_of c.args.self.now) (Call f (service.Resign c.args.action)) none
     ∙ ap (λ (s : Components). answer_outcome answer.Done s) (resign_ways (state_of c.args.self.now) f c.args.action none

@@ -9,7 +9,8 @@ use Rattle.hla_machine.specs.Refusals.{is_published}
 use Rattle.hla_federation.specs.Tables.FederationValue.{FederationValue}
 use Rattle.hla_federation.specs.Tables.Members.{members_of}
 use Rattle.hla_federation.specs.Steps.State.{state_of}
-use Rattle.hla_federation.proofs.Steps.Updates.{not_published, too_many, no_fault, timely, past_serials, within_serials}
+use Rattle.hla_federation.proofs.Steps.Stamps.{any_stamped}
+use Rattle.hla_federation.proofs.Steps.Updates.{not_published, not_timely, too_many, no_fault, past_serials, within_serials}
 use Rattle.hla_federation.proofs.parts.Parts.update_fault.Goals as goal
 
 pub returns-then-lacks_publication : goal.returns-then-lacks_publication
@@ -25,6 +26,20 @@ returns-then-lacks_publication c =
     let published = ap (λ (k : ℕ). list_any (λ (v : HandleValuePair). not (is_published (state_of now).directory f k v.handle)) c.args.values.now) class ∙ sym c.lacks_publication.ensures ∙ c.if-lacks_publication.true in
     not_published _ _ _ _ _ _ _ joined known defined owned published
 
+pub returns-then-is_bad_stamp : goal.returns-then-is_bad_stamp
+returns-then-is_bad_stamp c =
+    let now = c.args.self.now in
+    let f = c.args.federate in
+    let h = c.args.object in
+    let joined = c.requires.joined in
+    let known = ap (λ (v : FederationValue). is_known_in (registry_of v.objects) f h) (sym c.self.view_is) ∙ sym c.is_known.ensures ∙ c.if-not-is_known.false in
+    let class = ap (λ (v : FederationValue). ((registry_of v.objects).object h).class) (sym c.self.view_is) ∙ sym c.class_of-class.ensures in
+    let defined = ap (λ (k : ℕ). list_any (λ (v : HandleValuePair). not (has_attribute now.catalogue k v.handle)) c.args.values.now) class ∙ sym c.lacks_value.ensures ∙ c.if-lacks_value.false in
+    let owned = sym c.lacks_ownership.ensures ∙ c.if-lacks_ownership.false in
+    let published = ap (λ (k : ℕ). list_any (λ (v : HandleValuePair). not (is_published (state_of now).directory f k v.handle)) c.args.values.now) class ∙ sym c.lacks_publication.ensures ∙ c.if-lacks_publication.false in
+    let any = any_stamped (state_of now).directory h c.args.values.now ∙ sym c.has_order-is_stamped.ensures in
+    not_timely _ _ _ _ _ _ _ joined known defined owned published (c.is_bad_stamp.ensures (update_sent (state_of now).directory h c.args.values.now) any ∙ c.if-is_bad_stamp.true)
+
 pub returns-then-next_serial-count_parts : goal.returns-then-next_serial-count_parts
 returns-then-next_serial-count_parts c =
     let now = c.args.self.now in
@@ -36,10 +51,11 @@ returns-then-next_serial-count_parts c =
     let defined = ap (λ (k : ℕ). list_any (λ (v : HandleValuePair). not (has_attribute now.catalogue k v.handle)) c.args.values.now) class ∙ sym c.lacks_value.ensures ∙ c.if-lacks_value.false in
     let owned = sym c.lacks_ownership.ensures ∙ c.if-lacks_ownership.false in
     let published = ap (λ (k : ℕ). list_any (λ (v : HandleValuePair). not (is_published (state_of now).directory f k v.handle)) c.args.values.now) class ∙ sym c.lacks_publication.ensures ∙ c.if-lacks_publication.false in
+    let any = any_stamped (state_of now).directory h c.args.values.now ∙ sym c.has_order-is_stamped.ensures in
     let serial = c.next_serial.ensures ∙ ap (λ (v : FederationValue). (members_of v.members).serial f) c.self.view_is in
     let count = c.count_parts.ensures.count h in
     let test = c.if-next_serial-count_parts.true in
-    too_many _ _ _ _ _ _ _ joined known defined owned published (timely ((state_of now).row c.args.federate) (update_sent (state_of now).directory h c.args.values.now))
+    too_many _ _ _ _ _ _ _ joined known defined owned published (c.is_bad_stamp.ensures (update_sent (state_of now).directory h c.args.values.now) any ∙ c.if-is_bad_stamp.false)
     (past_serials ((members_of now.members).serial f) (update_sent (state_of now).directory h c.args.values.now) c.next_serial.result c.count_parts.result serial count c.count_parts.ensures.few test)
 
 pub returns-else-next_serial-count_parts : goal.returns-else-next_serial-count_parts
@@ -53,8 +69,9 @@ returns-else-next_serial-count_parts c =
     let defined = ap (λ (k : ℕ). list_any (λ (v : HandleValuePair). not (has_attribute now.catalogue k v.handle)) c.args.values.now) class ∙ sym c.lacks_value.ensures ∙ c.if-lacks_value.false in
     let owned = sym c.lacks_ownership.ensures ∙ c.if-lacks_ownership.false in
     let published = ap (λ (k : ℕ). list_any (λ (v : HandleValuePair). not (is_published (state_of now).directory f k v.handle)) c.args.values.now) class ∙ sym c.lacks_publication.ensures ∙ c.if-lacks_publication.false in
+    let any = any_stamped (state_of now).directory h c.args.values.now ∙ sym c.has_order-is_stamped.ensures in
     let serial = c.next_serial.ensures ∙ ap (λ (v : FederationValue). (members_of v.members).serial f) c.self.view_is in
     let count = c.count_parts.ensures.count h in
     let test = c.if-next_serial-count_parts.false in
-    no_fault _ _ _ _ _ _ _ joined known defined owned published (timely ((state_of now).row c.args.federate) (update_sent (state_of now).directory h c.args.values.now))
+    no_fault _ _ _ _ _ _ _ joined known defined owned published (c.is_bad_stamp.ensures (update_sent (state_of now).directory h c.args.values.now) any ∙ c.if-is_bad_stamp.false)
     (within_serials ((members_of now.members).serial f) (update_sent (state_of now).directory h c.args.values.now) c.next_serial.result c.count_parts.result serial count c.count_parts.ensures.few test)

@@ -1,0 +1,68 @@
+//! What heads the copies of a message, and what is noted of one that may be retracted.
+
+ghost use Rattle.std.specs.Prelude.{◌≡◌};
+ghost use Rattle.std.specs.Option.{option_and_then};
+ghost use Rattle.hla_fed_file.specs.declared.declared.Order.TheVariants.{Timestamp};
+ghost use Rattle.hla_machine.specs.Directory.{is_of_order};
+ghost use Rattle.hla_federation.specs.Steps.Sending.{event_under, note_under};
+
+use hla_base::{Content, Event, FederateNo, Serial, Ticks};
+use hla_fed_file::Order;
+use hla_null_message::Message;
+use hla_retraction::Receivers;
+
+/// Whether messages of this order go in time-stamp order, where their sender gives a stamp and regulates.
+pub fn is_timestamp(order: Order) -> bool
+    ensures { result ≡ is_of_order Timestamp order }
+{
+    order == Order::Timestamp
+}
+
+/// Who sends a message, under which serial, and with which stamp, in ticks, if it goes in time-stamp order. A message in
+/// receive order has none.
+#[derive(Clone, Copy, Debug)]
+pub struct Heading {
+    pub sender: FederateNo,
+    pub serial: Serial,
+    pub stamp: Option<Ticks>,
+}
+
+/// A message that its sender may retract: an update or an interaction in time-stamp order.
+#[derive(Debug, Drop)]
+pub struct Note {
+    pub serial: Serial,
+    pub stamp: Ticks,
+    pub receivers: Receivers,
+}
+
+impl Heading {
+    /// The message that says this.
+    pub fn event(self, content: Content) -> Message
+        ensures { result ≡ event_under self content }
+    {
+        Message::Event(Event {
+            sender: self.sender,
+            serial: self.serial,
+            ordered: self.stamp.is_some(),
+            stamp: self.stamp.unwrap_or(0),
+            content,
+        })
+    }
+
+    /// What is to be noted of an update or an interaction that goes to these: nothing if it goes in receive order.
+    pub fn note(self, receivers: Receivers) -> Option<Note>
+        ensures { result ≡ note_under self receivers }
+    {
+        self.stamp.map(|stamp| Note {
+            serial: self.serial,
+            stamp,
+            receivers,
+        })
+    }
+    /// What is to be noted of a part of an update that goes to these: nothing if the part makes no message.
+    pub fn note_part(self, told: Option<Receivers>) -> Option<Note>
+        ensures { result ≡ option_and_then (λ receivers. note_under self receivers) told }
+    {
+        told.and_then(|receivers| self.note(receivers))
+    }
+}
