@@ -14,6 +14,7 @@ use Rattle.hla_machine.specs.declared.step.Answer.{Answer}
 use Rattle.hla_machine.specs.declared.step.Answer.TheVariants as answer
 use Rattle.hla_machine.specs.declared.step.Outcome.{Outcome}
 use Rattle.hla_machine.specs.declared.step.Outcome.TheVariants as outcome
+use Rattle.hla_machine.specs.declared.step.Choice.{Choice}
 use Rattle.hla_machine.specs.declared.step.Choice.TheVariants as choice
 use Rattle.hla_machine.specs.declared.step.Record.{Record}
 use Rattle.hla_components.specs.CentralOf.{central}
@@ -21,13 +22,12 @@ use Rattle.hla_components.specs.Components.{Components, new_components}
 use Rattle.hla_components.specs.Next.{Outcomes, next, components_seen}
 use Rattle.hla_federation.specs.Tables.FederationValue.{FederationValue}
 use Rattle.hla_federation.specs.Steps.Memory.{IsRefusedWith}
-use Rattle.hla_federation.specs.Steps.State.{state_of, IsBuilt}
+use Rattle.hla_federation.specs.Steps.State.{state_of}
 use Rattle.hla_script.specs.declared.members.Member.{Member}
 use Rattle.hla_components.specs.Executions.{Federations, no_federations, central_executions, with_created, with_destroyed, ending_unless, next_act, after_record, step_in, IsNext, AreNext}
 use Rattle.hla_script.specs.Keeping.{components_of, DoesNext, IsStepped, Standing, Holds, execution_after_destroy, IsDestroyed, Leads, IsActed, IsKept}
 use Rattle.hla_script.specs.Playing.{created_catalogue}
 use Rattle.hla_script.specs.Members.{members_from, member_after}
-use Rattle.hla_script.proofs.ChoiceLemmas.{built_choice}
 
 -- ---- creating
 no_choice : (f : Option Fault) (x y : Federations) → choice.None ≡ (ending_unless f x y).choice
@@ -193,53 +193,54 @@ unfolding components_of
 opened_components f c e = e
 
 -- ---- a step
-pub steps_done : (old new : FederationValue) (s : Step) (a : Answer) → IsBuilt s → (next (state_of old) s).outcome ≡ outcome.Done a → state_of new ≡ (next (state_of old) s).state
-    → IsStepped (Some (components_of old)) s (outcome.Done a) (Some (components_of new))
+pub steps_done : (old new : FederationValue) (s : Step) (a : Answer) (chosen : Choice) → (next (state_of old) s).outcome ≡ outcome.Done a → chosen ≡ (next (state_of old) s).choice → state_of new ≡ (next (state_of old) s).state
+    → IsStepped (Some (components_of old)) s (outcome.Done a) chosen (Some (components_of new))
 unfolding components_of
-steps_done old new s a built ends leads = record {
+steps_done old new s a chosen ends chooses leads = record {
   remembered = λ e. cc;
-  does = (sym ends, sym (built_choice old s built), ap (λ (c : Components). Some c) leads);
+  does = (sym ends, chooses, ap (λ (c : Components). Some c) leads);
 }
 
 refused_outcome : (c : Components) (s : Step) (e : Fault) → refusal (components_seen c) s ≡ Some e → next c s ≡ record { outcome = outcome.Refused e; choice = choice.None; state = c }
 refused_outcome c s e is = rw is refl
 
-pub steps_refused : (old new : FederationValue) (s : Step) (e : Fault) → new ≡ old → IsRefusedWith (state_of old) s e → (e ≡ fault.OutOfMemory → ⊥) → IsStepped (Some (components_of old)) s (outcome.Refused e) (Some (components_of new))
+pub steps_refused : (old new : FederationValue) (s : Step) (e : Fault) (chosen : Choice) → new ≡ old → chosen ≡ (next (state_of old) s).choice → IsRefusedWith (state_of old) s e → (e ≡ fault.OutOfMemory → ⊥)
+    → IsStepped (Some (components_of old)) s (outcome.Refused e) chosen (Some (components_of new))
 unfolding components_of
-steps_refused old new s e same h some =
+steps_refused old new s e chosen same chooses h some =
     let is : refusal (components_seen (state_of old)) s ≡ Some e = elim h [ inl r ↦ r | inr p ↦ absurd (some p.1) ] in
     let does = refused_outcome (state_of old) s e is in
     record {
       remembered = λ is. let out : e ≡ fault.OutOfMemory = cc in some out;
-      does = (sym (ap (λ (o : Outcomes). o.outcome) does), sym (ap (λ (o : Outcomes). o.choice) does), ap (λ (f : FederationValue). Some (state_of f)) same ∙ sym (ap (λ (o : Outcomes). Some o.state) does));
+      does = (sym (ap (λ (o : Outcomes). o.outcome) does), chooses, ap (λ (f : FederationValue). Some (state_of f)) same ∙ sym (ap (λ (o : Outcomes). Some o.state) does));
     }
 
 -- ---- the record of a step
-abbrev pub step_record : Step → Outcome → Record
-step_record s out = record { actor = 0; execution = codes "play"; act = act.Step s; outcome = out; choice = choice.None }
+abbrev pub step_record : Step → Outcome → Choice → Record
+step_record s out chosen = record { actor = 0; execution = codes "play"; act = act.Step s; outcome = out; choice = chosen }
 
-stepped_next : (here : Option Components) (x : Federations) (s : Step) (out : Outcome) (new : Option Components) → DoesNext here s out new → (out ≡ (step_in x (codes "play") here s).outcome) × (choice.None ≡ (step_in x (codes "play") here s).choice)
-stepped_next None x s out new does = (does.0, refl)
-stepped_next (Some c) x s out new does = (does.0, does.1)
+stepped_next : (here : Option Components) (x : Federations) (s : Step) (out : Outcome) (chosen : Choice) (new : Option Components) → DoesNext here s out chosen new → (out ≡ (step_in x (codes "play") here s).outcome) × (chosen ≡ (step_in x (codes "play") here s).choice)
+stepped_next None x s out chosen new does = (does.0, does.1)
+stepped_next (Some c) x s out chosen new does = (does.0, does.1)
 
-stepped_holds : (n : ℕ) (here : Option Components) (x : Federations) (s : Step) (out : Outcome) (new : Option Components) → DoesNext here s out new → Holds x (record { creates = n; here = here })
+stepped_holds : (n : ℕ) (here : Option Components) (x : Federations) (s : Step) (out : Outcome) (chosen : Choice) (new : Option Components) → DoesNext here s out chosen new → Holds x (record { creates = n; here = here })
     → Holds (step_in x (codes "play") here s).executions (record { creates = n; here = new })
-stepped_holds n None x s out new does h = rw does.1 h
-stepped_holds n (Some c) x s out new does h = rw does.2 (record { creates = h.creates; present = h.present; execution = refl })
+stepped_holds n None x s out chosen new does h = rw does.2 h
+stepped_holds n (Some c) x s out chosen new does h = rw does.2 (record { creates = h.creates; present = h.present; execution = refl })
 
-pub step_acts : (n : ℕ) (old new : Option Components) (ms after : List Member) (s : Step) (out : Outcome) (r : Record) → IsStepped old s out new → r ≡ step_record s out → after ≡ member_after ms (act.Step s) out
+pub step_acts : (n : ℕ) (old new : Option Components) (ms after : List Member) (s : Step) (out : Outcome) (chosen : Choice) (r : Record) → IsStepped old s out chosen new → r ≡ step_record s out chosen → after ≡ member_after ms (act.Step s) out
     → IsActed (act.Step s) (record { creates = n; here = old }) ms r (record { creates = n; here = new }) after
-step_acts n old new ms after s out r is same joined =
-    let main : IsActed (act.Step s) (record { creates = n; here = old }) ms (step_record s out) (record { creates = n; here = new }) after =
+step_acts n old new ms after s out chosen r is same joined =
+    let main : IsActed (act.Step s) (record { creates = n; here = old }) ms (step_record s out chosen) (record { creates = n; here = new }) after =
     record {
       same = refl;
       remembered = is.remembered;
       members = joined;
       leads = record {
         next = λ x h.
-            let e = subst (λ (here : Option Components). (out ≡ (step_in x (codes "play") here s).outcome) × (choice.None ≡ (step_in x (codes "play") here s).choice)) (sym h.execution) (stepped_next old x s out new is.does) in
+            let e = subst (λ (here : Option Components). (out ≡ (step_in x (codes "play") here s).outcome) × (chosen ≡ (step_in x (codes "play") here s).choice)) (sym h.execution) (stepped_next old x s out chosen new is.does) in
             record { outcome = e.0; choice = e.1 };
-        follows = λ x h. subst (λ (here : Option Components). Holds (step_in x (codes "play") here s).executions (record { creates = n; here = new })) (sym h.execution) (stepped_holds n old x s out new is.does h);
+        follows = λ x h. subst (λ (here : Option Components). Holds (step_in x (codes "play") here s).executions (record { creates = n; here = new })) (sym h.execution) (stepped_holds n old x s out chosen new is.does h);
       };
     } in
     rw same main

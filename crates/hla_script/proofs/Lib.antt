@@ -1,7 +1,5 @@
 -- One more member that a resignation has passed over.
 pub mod MemberLemmas
--- What is built chooses nothing: no role in time changes yet.
-pub mod ChoiceLemmas
 -- What records lead to.
 pub mod KeepLemmas
 -- What a line adds.

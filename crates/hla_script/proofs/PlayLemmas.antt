@@ -36,11 +36,11 @@ adds_none_in c other line before old new given e same ends printed =
 
 -- a line that adds one
 pub adds_one : (c other : CatalogueValue) (line : Line) (before : List Record) (asked : Request) (r : Record) (old new : List ℕ) → other ≡ c → IsAdmitted c before line.command asked
-    → (r.outcome ≡ outcome.Refused fault.OutOfMemory → ⊥) → r ≡ record_of c asked r.outcome → new ≡ old ++ line_text other line.number r.outcome → IsAnswered c line before (before ++ r ∷ []) old new
+    → (r.outcome ≡ outcome.Refused fault.OutOfMemory → ⊥) → r ≡ record_of c asked r.outcome r.choice → new ≡ old ++ line_text other line.number r.outcome → IsAnswered c line before (before ++ r ∷ []) old new
 adds_one c other line before asked r old new same admitted remembered is printed = record {
   ended = r.outcome;
   added = r ∷ [];
-  ends = Recorded asked admitted remembered (ap (λ (x : Record). x ∷ []) is);
+  ends = Recorded asked r.choice admitted remembered (ap (λ (x : Record). x ∷ []) is);
   records = refl;
   text = printed ∙ ap (λ (t : CatalogueValue). old ++ line_text t line.number r.outcome) same;
 }

@@ -5,28 +5,22 @@ use Rattle.hla_components.specs.CentralOf.{central}
 use Rattle.hla_components.specs.Components.{Components}
 use Rattle.hla_components.specs.Next.{next}
 use Rattle.hla_federation.specs.Tables.FederationValue.{FederationValue}
-use Rattle.hla_federation.specs.Steps.State.{state_of, IsBuilt}
+use Rattle.hla_federation.specs.Steps.State.{state_of}
 use Rattle.hla_machine.specs.Runs.{EndsAs, destroy_fault}
 use Rattle.hla_machine.specs.declared.step.Step.{Step}
 use Rattle.hla_machine.specs.declared.step.Act.{Act}
 use Rattle.hla_machine.specs.declared.step.Outcome.{Outcome}
 use Rattle.hla_machine.specs.declared.step.Outcome.TheVariants as outcome
+use Rattle.hla_machine.specs.declared.step.Choice.{Choice}
 use Rattle.hla_machine.specs.declared.step.Choice.TheVariants as choice
 use Rattle.hla_machine.specs.declared.step.Record.{Record}
 use Rattle.hla_script.specs.declared.members.Member.{Member}
-use Rattle.hla_script.specs.declared.steps.Request.{Request}
-use Rattle.hla_script.specs.declared.steps.Request.TheVariants as request
 use Rattle.hla_components.specs.Executions.{Federations, no_federations, IsNext, AreNext, after_record}
 use Rattle.hla_script.specs.Members.{members, member_after}
 
 -- the components and wires that a federation stands for
 unfoldable pub components_of : FederationValue → Components
 components_of f = state_of f
-
--- the federation's code does what is asked
-abbrev pub IsBuiltRequest : Request → Type 0
-IsBuiltRequest (request.Step s) = IsBuilt s
-IsBuiltRequest r = Unit {0}
 
 -- how many executions there are
 abbrev pub count_of : Option Components → ℕ
@@ -47,15 +41,15 @@ pub record Holds (x : Federations) (s : Standing) : Type 0 where
   pub present : x.present ≡ count_of s.here
   pub execution : x.execution (codes "play") ≡ s.here
 
--- a step in the execution ends as the next-state function says, chooses nothing, and leads from one state to another
-abbrev pub DoesNext : Option Components → Step → Outcome → Option Components → Type 0
-DoesNext None s out new = (out ≡ outcome.Refused fault.FederationExecutionDoesNotExist) × (new ≡ None)
-DoesNext (Some c) s out new = (out ≡ (next c s).outcome) × (choice.None ≡ (next c s).choice) × (new ≡ Some (next c s).state)
+-- a step in the execution ends and chooses as the next-state function says, and leads from one state to another
+abbrev pub DoesNext : Option Components → Step → Outcome → Choice → Option Components → Type 0
+DoesNext None s out chosen new = (out ≡ outcome.Refused fault.FederationExecutionDoesNotExist) × (chosen ≡ choice.None) × (new ≡ None)
+DoesNext (Some c) s out chosen new = (out ≡ (next c s).outcome) × (chosen ≡ (next c s).choice) × (new ≡ Some (next c s).state)
 
 -- the same, and memory was not wanting
-pub record IsStepped (old : Option Components) (s : Step) (out : Outcome) (new : Option Components) : Type 0 where
+pub record IsStepped (old : Option Components) (s : Step) (out : Outcome) (chosen : Choice) (new : Option Components) : Type 0 where
   pub remembered : out ≢ outcome.Refused fault.OutOfMemory
-  pub does : DoesNext old s out new
+  pub does : DoesNext old s out chosen new
 
 abbrev pub execution_after_destroy : Option Components → Outcome → Option Components
 execution_after_destroy here (outcome.Done a) = None
@@ -73,7 +67,7 @@ pub record Leads (r : Record) (old new : Standing) : Type 0 where
 
 -- a record of an act leads from one state and its members to others
 pub record IsActed (act : Act) (old : Standing) (joined : List Member) (r : Record) (new : Standing) (joined_then : List Member) : Type 0 where
-  pub same : r ≡ record { actor = 0; execution = codes "play"; act = act; outcome = r.outcome; choice = choice.None }
+  pub same : r ≡ record { actor = 0; execution = codes "play"; act = act; outcome = r.outcome; choice = r.choice }
   pub remembered : r.outcome ≢ outcome.Refused fault.OutOfMemory
   pub members : joined_then ≡ member_after joined act r.outcome
   pub leads : Leads r old new

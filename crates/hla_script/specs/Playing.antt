@@ -11,7 +11,7 @@ use Rattle.hla_machine.specs.declared.step.Act.{Act}
 use Rattle.hla_machine.specs.declared.step.Act.TheVariants as act
 use Rattle.hla_machine.specs.declared.step.Outcome.{Outcome}
 use Rattle.hla_machine.specs.declared.step.Outcome.TheVariants as outcome
-use Rattle.hla_machine.specs.declared.step.Choice.TheVariants as choice
+use Rattle.hla_machine.specs.declared.step.Choice.{Choice}
 use Rattle.hla_machine.specs.declared.step.Record.{Record}
 use Rattle.hla_commands.specs.declared.lines.Command.{Command}
 use Rattle.hla_commands.specs.declared.lines.Line.{Line}
@@ -38,9 +38,9 @@ act_of c request.Create out = act.Create (created_catalogue c out)
 act_of c request.Destroy out = act.Destroy
 act_of c (request.Step s) out = act.Step s
 
--- the record of a line's step, by its outcome
-abbrev pub record_of : CatalogueValue → Request → Outcome → Record
-record_of c asked out = record { actor = 0; execution = codes "play"; act = act_of c asked out; outcome = out; choice = choice.None }
+-- the record of a line's step, by its outcome and what was chosen
+abbrev pub record_of : CatalogueValue → Request → Outcome → Choice → Record
+record_of c asked out chosen = record { actor = 0; execution = codes "play"; act = act_of c asked out; outcome = out; choice = chosen }
 
 -- ---- the lines in turn
 -- a line asks for something behind some records, and there is room for its record
@@ -60,8 +60,8 @@ pub data LineEnds (c : CatalogueValue) (before : List Record) (command : Command
   Full : (asked : Request) → request_of c (members before) command ≡ Ok asked → max_history ≤ length before → out ≡ outcome.Refused fault.HistoryFull → added ≡ [] → LineEnds c before command out added
   -- memory ran out
   OutOfMemory : (asked : Request) → IsAdmitted c before command asked → out ≡ outcome.Refused fault.OutOfMemory → added ≡ [] → LineEnds c before command out added
-  -- its step is recorded
-  Recorded : (asked : Request) → IsAdmitted c before command asked → out ≢ outcome.Refused fault.OutOfMemory → added ≡ record_of c asked out ∷ [] → LineEnds c before command out added
+  -- its step is recorded, with the choice that the next-state function makes
+  Recorded : (asked : Request) (chosen : Choice) → IsAdmitted c before command asked → out ≢ outcome.Refused fault.OutOfMemory → added ≡ record_of c asked out chosen ∷ [] → LineEnds c before command out added
 
 -- the lines end so, one after another, and lead from some records to others
 abbrev pub Plays : CatalogueValue → List Record → List Line → List Outcome → List Record → Type 0

@@ -17,6 +17,7 @@ use Rattle.hla_commands.specs.declared.lines.Command.TheVariants as command
 use Rattle.hla_commands.specs.declared.lines.Call.{Call}
 use Rattle.hla_commands.specs.declared.lines.Call.TheVariants as call
 use Rattle.hla_commands.specs.declared.lines.NameValuePair.{NameValuePair}
+use Rattle.hla_federation.specs.Steps.Advancing.{request_service}
 use Rattle.hla_script.specs.declared.members.Member.{Member}
 use Rattle.hla_script.specs.declared.lookups.AskFault.{AskFault}
 use Rattle.hla_script.specs.declared.lookups.AskFault.TheVariants as stop
@@ -97,13 +98,16 @@ with_last_handle meant n = ask_then meant (λ ns. Ok (ns ++ n ∷ []))
 abbrev pub with_last_pair : Result (List HandleValuePair) Fault → ℕ → List ℕ → Result (List HandleValuePair) Fault
 with_last_pair meant n value = ask_then meant (λ ps. unless_too_long value (ps ++ record { handle = n; value = value } ∷ []))
 
--- the largest number of 32 bits. No object has it, since an execution has at most `max_objects`
-abbrev pub max_object_number : ℕ
-max_object_number = 4294967295
+-- the largest number of 32 bits. No object and no federate has it, since an execution has at most `max_objects` and `max_joins`
+abbrev pub max_short_number : ℕ
+max_short_number = 4294967295
 
--- the number of the object that a number word names: the word's own number, but the largest for all that are above it
+-- the number of the object or of the federate that a number names: itself, but the largest for all that are above it
 abbrev pub object_number : ℕ → ℕ
-object_number number = min number max_object_number
+object_number number = min number max_short_number
+
+abbrev pub federate_number : ℕ → ℕ
+federate_number number = min number max_short_number
 
 abbrev pub declared_object : Declaration → ℕ → List ℕ → Service
 declared_object declaration.Publication class attributes = service.PublishObjectClass class attributes
@@ -137,29 +141,46 @@ interaction_withdrawal c d name = ask_then (interaction_class_of c name) (λ k. 
 abbrev pub registration : CatalogueValue → List ℕ → Option (List ℕ) → Result Service Fault
 registration c name object = ask_then (object_class_of c name) (λ k. Ok (service.RegisterObjectInstance k object))
 
-abbrev pub update_of : CatalogueValue → ℕ → List ℕ → List NameValuePair → Result Service Fault
-update_of c object name values = ask_then (object_class_of c name) (λ k. ask_then (named_pairs (handle_named c (class.Object k)) values) (λ ps. Ok (service.UpdateAttributeValues (object_number object) ps None)))
+abbrev pub update_of : CatalogueValue → ℕ → List ℕ → List NameValuePair → Option ℕ → Result Service Fault
+update_of c object name values stamp = ask_then (object_class_of c name) (λ k. ask_then (named_pairs (handle_named c (class.Object k)) values) (λ ps. Ok (service.UpdateAttributeValues (object_number object) ps stamp)))
 
-abbrev pub interaction_of : CatalogueValue → List ℕ → List NameValuePair → Result Service Fault
-interaction_of c name values = ask_then (interaction_class_of c name) (λ k. ask_then (named_pairs (handle_named c (class.Interaction k)) values) (λ ps. Ok (service.SendInteraction k ps None)))
+abbrev pub interaction_of : CatalogueValue → List ℕ → List NameValuePair → Option ℕ → Result Service Fault
+interaction_of c name values stamp = ask_then (interaction_class_of c name) (λ k. ask_then (named_pairs (handle_named c (class.Interaction k)) values) (λ ps. Ok (service.SendInteraction k ps stamp)))
 
 abbrev pub optional_call : Result Service Fault → Result (Option Service) Fault
 optional_call called = ask_then called (λ s. Ok (Some s))
 
+-- the service of time management that a federate calls, if it is one
+abbrev pub time_service_of : Call → Option Service
+time_service_of (call.EnableTimeRegulation time lookahead) = Some (service.EnableTimeRegulation time lookahead)
+time_service_of call.DisableTimeRegulation = Some service.DisableTimeRegulation
+time_service_of call.EnableTimeConstrained = Some service.EnableTimeConstrained
+time_service_of call.DisableTimeConstrained = Some service.DisableTimeConstrained
+time_service_of (call.RequestAdvance kind time) = Some (request_service kind time)
+time_service_of (call.ModifyLookahead lookahead) = Some (service.ModifyLookahead lookahead)
+time_service_of call.EnableAsynchronousDelivery = Some service.EnableAsynchronousDelivery
+time_service_of call.DisableAsynchronousDelivery = Some service.DisableAsynchronousDelivery
+time_service_of (call.Retract sender serial) = Some (service.Retract (record { sender = federate_number sender; serial = serial }))
+time_service_of call.QueryLbts = Some service.QueryLbts
+time_service_of call.QueryFederateTime = Some service.QueryFederateTime
+time_service_of call.QueryMinNextEventTime = Some service.QueryMinNextEventTime
+time_service_of call.QueryLookahead = Some service.QueryLookahead
+time_service_of x = None
+
 -- the service that a federate calls; a tick calls none
 abbrev pub service_of : CatalogueValue → Call → Result (Option Service) Fault
-service_of c call.Tick = Ok None
 service_of c (call.Resign way) = Ok (Some (service.Resign way))
 service_of c (call.DeclareObject d name names) = optional_call (object_declaration c d name names)
 service_of c (call.WithdrawObject d name) = optional_call (object_withdrawal c d name)
 service_of c (call.DeclareInteraction d name) = optional_call (interaction_declaration c d name)
 service_of c (call.WithdrawInteraction d name) = optional_call (interaction_withdrawal c d name)
 service_of c (call.Register name object) = optional_call (registration c name object)
-service_of c (call.Update object name values) = optional_call (update_of c object name values)
-service_of c (call.Send name values) = optional_call (interaction_of c name values)
-service_of c (call.Delete object) = Ok (Some (service.DeleteObjectInstance (object_number object) None))
+service_of c (call.Update object name values stamp) = optional_call (update_of c object name values stamp)
+service_of c (call.Send name values stamp) = optional_call (interaction_of c name values stamp)
+service_of c (call.Delete object stamp) = Ok (Some (service.DeleteObjectInstance (object_number object) stamp))
 service_of c (call.ObjectHandle name) = Ok (Some (service.GetObjectInstanceHandle name))
 service_of c (call.ObjectName object) = Ok (Some (service.GetObjectInstanceName (object_number object)))
+service_of c x = Ok (time_service_of x)
 
 -- ---- what a line asks for
 abbrev pub step_by : ℕ → Option Service → Step
@@ -174,3 +195,4 @@ request_of c ms command.Destroy = Ok request.Destroy
 request_of c ms (command.Join name) = Ok (request.Step (step.Join name))
 request_of c ms (command.Carry from to) = ask_then (known_federate ms from) (λ g. ask_then (known_federate ms to) (λ f. Ok (request.Step (step.Carry g f))))
 request_of c ms (command.Federate name call) = ask_then (joined_federate ms name) (λ f. ask_then (service_of c call) (λ s. Ok (request.Step (step_by f s))))
+request_of c ms (command.Announce name) = ask_then (joined_federate ms name) (λ f. Ok (request.Step (step.Announce f)))

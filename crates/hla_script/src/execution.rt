@@ -1,11 +1,9 @@
 //! The execution that a script plays.
 
 ghost use Rattle.std.specs.Prelude.{◌≡◌, ◌<◌, ◌+◌, ◌≤◌, [], Some, None, IfOk, IfErr, OnErr, option_map, codes, vec_len, vec_capacity};
-ghost use Rattle.hla_machine.specs.declared.step.Choice.TheVariants as choice;
 ghost use Rattle.hla_machine.specs.declared.step.Act.TheVariants as act;
 ghost use Rattle.hla_script.specs.Playing.{act_of, created_catalogue};
-ghost use Rattle.hla_federation.specs.Steps.State.{IsBuilt};
-ghost use Rattle.hla_script.specs.Keeping.{components_of, standing, IsStepped, IsDestroyed, IsActed, IsBuiltRequest};
+ghost use Rattle.hla_script.specs.Keeping.{components_of, standing, IsStepped, IsDestroyed, IsActed};
 
 use crate::members::{Change, Member, note};
 use crate::steps::Request;
@@ -28,24 +26,40 @@ pub struct Execution {
     pub members: Vec<Member>,
 }
 
+/// How a step ended, and what it chose.
+#[derive(Drop)]
+struct Ending {
+    outcome: Outcome,
+    choice: Choice,
+}
+
 /// Does a step, and answers how it ended; where memory ran out it is not done.
-fn do_step(federation: &mut Option<Federation>, step: &Step) -> Result<Outcome, Fault>
-    requires { IsBuilt step.now }
-    ensures ok { IfOk result (λ out. IsStepped (option_map components_of federation.old) step.now out
-        (option_map components_of federation.new)) }
+fn do_step(federation: &mut Option<Federation>, step: &Step) -> Result<Ending, Fault>
+    ensures ok { IfOk result (λ e. IsStepped (option_map components_of federation.old) step.now e.outcome
+        e.choice (option_map components_of federation.new)) }
     ensures err { OnErr result (federation.new ≡ federation.old) }
 {
-    match federation {
-        None => Ok(Outcome::Refused(Fault::FederationExecutionDoesNotExist)),
-        Some(federation) => match federation.step(step) {
-            Ok(answer) => Ok(Outcome::Done(answer)),
-            Err(fault) => {
-                if fault.number() == 38 {
-                    return Err(fault);
-                }
-                Ok(Outcome::Refused(fault))
+    let Some(federation) = federation else {
+        return Ok(Ending {
+            outcome: Outcome::Refused(Fault::FederationExecutionDoesNotExist),
+            choice: Choice::None,
+        });
+    };
+    let choice = federation.choice(step)?;
+    match federation.step(step) {
+        Ok(answer) => Ok(Ending {
+            outcome: Outcome::Done(answer),
+            choice,
+        }),
+        Err(fault) => {
+            if fault.number() == 38 {
+                return Err(fault);
             }
-        },
+            Ok(Ending {
+                outcome: Outcome::Refused(fault),
+                choice,
+            })
+        }
     }
 }
 
@@ -66,13 +80,13 @@ fn destroy_unless_joined(federation: &mut Option<Federation>) -> Outcome
     Outcome::Done(Answer::Done)
 }
 
-fn script_record(name: ExecutionName, act: Act, outcome: Outcome) -> Record
+fn script_record(name: ExecutionName, act: Act, outcome: Outcome, choice: Choice) -> Record
     ensures { result ≡ record {
       actor = 0;
       execution = name;
       act = act;
       outcome = outcome;
-      choice = choice.None;
+      choice = choice;
     } }
 {
     Record {
@@ -80,7 +94,7 @@ fn script_record(name: ExecutionName, act: Act, outcome: Outcome) -> Record
         execution: name,
         act,
         outcome,
-        choice: Choice::None,
+        choice,
     }
 }
 
@@ -106,7 +120,6 @@ impl Execution {
     /// Does what is asked, and answers its record. Where memory runs out, nothing has changed.
     pub fn act(&mut self, request: Request) -> Result<Record, Fault>
         requires name { self.old.name ≡ codes "play" }
-        requires built { IsBuiltRequest request }
         ensures ok { IfOk result (λ r. IsActed (act_of self.old.catalogue request r.outcome)
             (standing self.old.creates self.old.federation) self.old.members.items r
             (standing self.new.creates self.new.federation) self.new.members.items) }
@@ -140,6 +153,7 @@ impl Execution {
                 self.name,
                 Act::Create { catalogue: None },
                 Outcome::Refused(Fault::FederationExecutionAlreadyExists),
+                Choice::None,
             ));
         }
         let held = self.catalogue.copy()?;
@@ -150,6 +164,7 @@ impl Execution {
                     catalogue: Some(held),
                 },
                 Outcome::Refused(Fault::LimitReached),
+                Choice::None,
             ));
         }
         let used = self.catalogue.copy()?;
@@ -162,6 +177,7 @@ impl Execution {
                 catalogue: Some(held),
             },
             Outcome::Done(Answer::Done),
+            Choice::None,
         ))
     }
 
@@ -175,13 +191,12 @@ impl Execution {
         ensures name { self.new.name ≡ self.old.name }
     {
         let outcome = destroy_unless_joined(&mut self.federation);
-        script_record(self.name, Act::Destroy, outcome)
+        script_record(self.name, Act::Destroy, outcome, Choice::None)
     }
 
     /// Does a step of the execution.
     fn take(&mut self, step: Step) -> Result<Record, Fault>
         requires name { self.old.name ≡ codes "play" }
-        requires built { IsBuilt step }
         ensures ok { IfOk result (λ r. IsActed (act.Step step)
             (standing self.old.creates self.old.federation) self.old.members.items r
             (standing self.new.creates self.new.federation) self.new.members.items) }
@@ -195,8 +210,8 @@ impl Execution {
         if self.members.reserve(1).is_err() {
             return Err(Fault::OutOfMemory);
         }
-        let outcome = do_step(&mut self.federation, &step)?;
+        let Ending { outcome, choice } = do_step(&mut self.federation, &step)?;
         note(&mut self.members, change, &outcome);
-        Ok(script_record(self.name, Act::Step(step), outcome))
+        Ok(script_record(self.name, Act::Step(step), outcome, choice))
     }
 }

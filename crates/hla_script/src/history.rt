@@ -5,7 +5,7 @@ ghost use Rattle.hla_base.specs.Limits.{max_history};
 ghost use Rattle.hla_script.specs.Playing.{IsAnswered, LineEnds, IsAdmitted, HasNoRoom};
 ghost use Rattle.hla_script.specs.Members.{members};
 ghost use Rattle.hla_transcript.specs.Printed.{line_text};
-ghost use Rattle.hla_script.specs.Keeping.{standing, IsKept, IsBuiltRequest};
+ghost use Rattle.hla_script.specs.Keeping.{standing, IsKept};
 ghost use Rattle.hla_machine.specs.declared.step.Outcome.TheVariants as outcome;
 
 use crate::execution::Execution;
@@ -62,7 +62,6 @@ fn request_with_room(
 ) -> Result<Request, Fault>
     requires { execution.now.members.items ≡ members records.old.items }
     ensures admitted { IfOk result (IsAdmitted execution.now.catalogue records.old.items command.now) }
-    ensures built { IfOk result IsBuiltRequest }
     ensures room { OnOk result (vec_len records.new + 1 ≤ vec_capacity records.new) }
     ensures refused { IfErr result (λ e. LineEnds execution.now.catalogue records.old.items command.now
         (outcome.Refused e) []) }

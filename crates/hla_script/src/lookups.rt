@@ -3,7 +3,7 @@
 ghost use Rattle.std.specs.Prelude.{◌≡◌, ℕ, List, Result, min};
 ghost use Rattle.hla_base.specs.declared.fault.Fault.{Fault};
 ghost use Rattle.hla_base.specs.declared.content.HandleValuePair.{HandleValuePair};
-ghost use Rattle.hla_script.specs.Requests.{Asks, Finds, number_or, known_federate, joined_federate, object_class_of, interaction_class_of, handle_named, named_handles, named_pairs, with_last_handle, with_last_pair, object_number};
+ghost use Rattle.hla_script.specs.Requests.{Asks, Finds, number_or, known_federate, joined_federate, object_class_of, interaction_class_of, handle_named, named_handles, named_pairs, with_last_handle, with_last_pair, object_number, federate_number};
 
 use crate::members::{Member, federate_named, joined_federate_named};
 use hla_base::{AttributeNo, ClassNo, Fault, FederateNo, HandleValuePair, List, ObjectNo, Value};
@@ -76,6 +76,13 @@ pub fn object_number(number: u64) -> ObjectNo
     ensures { result ≡ object_number number }
 {
     number.min(u64::from(ObjectNo::MAX)) as ObjectNo
+}
+
+/// The number of the federate that a number names.
+pub fn federate_number(number: u64) -> FederateNo
+    ensures { result ≡ federate_number number }
+{
+    number.min(u64::from(FederateNo::MAX)) as FederateNo
 }
 
 impl Class {

@@ -1,16 +1,15 @@
 //! What a line asks of the execution.
 
-ghost use Rattle.std.specs.Prelude.{◌≡◌, IfOk, IfErr, IfSome};
-ghost use Rattle.hla_federation.specs.Steps.State.{IsBuilt, IsBuiltService};
-ghost use Rattle.hla_script.specs.Keeping.{IsBuiltRequest};
-ghost use Rattle.hla_script.specs.Requests.{Asks, object_declaration, object_withdrawal, interaction_declaration, interaction_withdrawal, registration, update_of, interaction_of, service_of, request_of};
+ghost use Rattle.std.specs.Prelude.{◌≡◌, IfOk, IfErr};
+ghost use Rattle.hla_federation.specs.Steps.Advancing.{request_service};
+ghost use Rattle.hla_script.specs.Requests.{Asks, object_declaration, object_withdrawal, interaction_declaration, interaction_withdrawal, registration, update_of, interaction_of, time_service_of, service_of, request_of};
 
 use crate::lookups::{
-    AskFault, Class, attributes, interaction_class, joined_federate, known_federate, object_class,
-    object_number, pairs,
+    AskFault, Class, attributes, federate_number, interaction_class, joined_federate,
+    known_federate, object_class, object_number, pairs,
 };
 use crate::members::Member;
-use hla_base::{List, Plain};
+use hla_base::{AdvanceKind, EventHandle, List, Plain, Ticks};
 use hla_commands::{Call, Command, Declaration, NameValuePair};
 use hla_fed_file::Catalogue;
 use hla_machine::{Service, Step};
@@ -45,8 +44,7 @@ fn declare_object(
     class: &List<u8>,
     names: &List<List<u8>>,
 ) -> Result<Service, AskFault>
-    ensures meant { Asks result (object_declaration catalogue.now declaration class.now names.now) }
-    ensures built { IfOk result IsBuiltService }
+    ensures { Asks result (object_declaration catalogue.now declaration class.now names.now) }
 {
     let class = object_class(catalogue, class.as_slice())?;
     let attributes = attributes(alloc, catalogue, Class::Object(class), names.as_slice())?;
@@ -64,8 +62,7 @@ fn withdraw_object(
     declaration: Declaration,
     class: &List<u8>,
 ) -> Result<Service, AskFault>
-    ensures meant { Asks result (object_withdrawal catalogue.now declaration class.now) }
-    ensures built { IfOk result IsBuiltService }
+    ensures { Asks result (object_withdrawal catalogue.now declaration class.now) }
 {
     let class = object_class(catalogue, class.as_slice())?;
     match declaration {
@@ -79,8 +76,7 @@ fn declare_interaction(
     declaration: Declaration,
     class: &List<u8>,
 ) -> Result<Service, AskFault>
-    ensures meant { Asks result (interaction_declaration catalogue.now declaration class.now) }
-    ensures built { IfOk result IsBuiltService }
+    ensures { Asks result (interaction_declaration catalogue.now declaration class.now) }
 {
     let class = interaction_class(catalogue, class.as_slice())?;
     match declaration {
@@ -94,8 +90,7 @@ fn withdraw_interaction(
     declaration: Declaration,
     class: &List<u8>,
 ) -> Result<Service, AskFault>
-    ensures meant { Asks result (interaction_withdrawal catalogue.now declaration class.now) }
-    ensures built { IfOk result IsBuiltService }
+    ensures { Asks result (interaction_withdrawal catalogue.now declaration class.now) }
 {
     let class = interaction_class(catalogue, class.as_slice())?;
     match declaration {
@@ -109,8 +104,7 @@ fn register(
     class: &List<u8>,
     name: &Option<List<u8>>,
 ) -> Result<Service, AskFault>
-    ensures meant { Asks result (registration catalogue.now class.now name.now) }
-    ensures built { IfOk result IsBuiltService }
+    ensures { Asks result (registration catalogue.now class.now name.now) }
 {
     let class = object_class(catalogue, class.as_slice())?;
     let name = plain_copy(name)?;
@@ -123,16 +117,16 @@ fn update(
     object: u64,
     class: &List<u8>,
     values: &List<NameValuePair>,
+    stamp: Option<Ticks>,
 ) -> Result<Service, AskFault>
-    ensures meant { Asks result (update_of catalogue.now object class.now values.now) }
-    ensures built { IfOk result IsBuiltService }
+    ensures { Asks result (update_of catalogue.now object class.now values.now stamp) }
 {
     let class = object_class(catalogue, class.as_slice())?;
     let values = pairs(alloc, catalogue, Class::Object(class), values.as_slice())?;
     Ok(Service::UpdateAttributeValues {
         object: object_number(object),
         values,
-        stamp: None,
+        stamp,
     })
 }
 
@@ -141,9 +135,9 @@ fn send(
     catalogue: &Catalogue,
     class: &List<u8>,
     values: &List<NameValuePair>,
+    stamp: Option<Ticks>,
 ) -> Result<Service, AskFault>
-    ensures meant { Asks result (interaction_of catalogue.now class.now values.now) }
-    ensures built { IfOk result IsBuiltService }
+    ensures { Asks result (interaction_of catalogue.now class.now values.now stamp) }
 {
     let class = interaction_class(catalogue, class.as_slice())?;
     let values = pairs(
@@ -155,50 +149,100 @@ fn send(
     Ok(Service::SendInteraction {
         class,
         values,
-        stamp: None,
+        stamp,
     })
+}
+
+/// The service that requests an advance of this kind.
+fn advance_service(kind: AdvanceKind, time: Ticks) -> Service
+    ensures { result ≡ request_service kind time }
+{
+    match kind {
+        AdvanceKind::TimeAdvance => Service::TimeAdvanceRequest { time },
+        AdvanceKind::TimeAdvanceAvailable => Service::TimeAdvanceRequestAvailable { time },
+        AdvanceKind::NextEvent => Service::NextEventRequest { time },
+        AdvanceKind::NextEventAvailable => Service::NextEventRequestAvailable { time },
+        AdvanceKind::FlushQueue => Service::FlushQueueRequest { time },
+    }
+}
+
+/// The service of time management that a federate calls, if it is one.
+fn time_service(call: &Call) -> Option<Service>
+    ensures { result ≡ time_service_of call.now }
+{
+    match call {
+        Call::EnableTimeRegulation { time, lookahead } => Some(Service::EnableTimeRegulation {
+            time: *time,
+            lookahead: *lookahead,
+        }),
+        Call::DisableTimeRegulation => Some(Service::DisableTimeRegulation),
+        Call::EnableTimeConstrained => Some(Service::EnableTimeConstrained),
+        Call::DisableTimeConstrained => Some(Service::DisableTimeConstrained),
+        Call::RequestAdvance { kind, time } => Some(advance_service(*kind, *time)),
+        Call::ModifyLookahead { lookahead } => Some(Service::ModifyLookahead {
+            lookahead: *lookahead,
+        }),
+        Call::EnableAsynchronousDelivery => Some(Service::EnableAsynchronousDelivery),
+        Call::DisableAsynchronousDelivery => Some(Service::DisableAsynchronousDelivery),
+        Call::Retract { sender, serial } => Some(Service::Retract {
+            event: EventHandle {
+                sender: federate_number(*sender),
+                serial: *serial,
+            },
+        }),
+        Call::QueryLbts => Some(Service::QueryLbts),
+        Call::QueryFederateTime => Some(Service::QueryFederateTime),
+        Call::QueryMinNextEventTime => Some(Service::QueryMinNextEventTime),
+        Call::QueryLookahead => Some(Service::QueryLookahead),
+        _ => None,
+    }
 }
 
 /// The service that a federate calls; a tick calls none.
 fn service(alloc: Global, catalogue: &Catalogue, call: &Call) -> Result<Option<Service>, AskFault>
-    ensures meant { Asks result (service_of catalogue.now call.now) }
-    ensures built { IfOk result (λ service. IfSome service IsBuiltService) }
+    ensures { Asks result (service_of catalogue.now call.now) }
 {
-    match call {
-        Call::Tick => Ok(None),
-        Call::Resign { action } => Ok(Some(Service::Resign { action: *action })),
+    let service = match call {
+        Call::Resign { action } => Service::Resign { action: *action },
         Call::DeclareObject {
             declaration,
             class,
             attributes,
-        } => Ok(Some(declare_object(alloc, catalogue, *declaration, class, attributes)?)),
+        } => declare_object(alloc, catalogue, *declaration, class, attributes)?,
         Call::WithdrawObject { declaration, class } => {
-            Ok(Some(withdraw_object(catalogue, *declaration, class)?))
+            withdraw_object(catalogue, *declaration, class)?
         }
         Call::DeclareInteraction { declaration, class } => {
-            Ok(Some(declare_interaction(catalogue, *declaration, class)?))
+            declare_interaction(catalogue, *declaration, class)?
         }
         Call::WithdrawInteraction { declaration, class } => {
-            Ok(Some(withdraw_interaction(catalogue, *declaration, class)?))
+            withdraw_interaction(catalogue, *declaration, class)?
         }
-        Call::Register { class, name } => Ok(Some(register(catalogue, class, name)?)),
+        Call::Register { class, name } => register(catalogue, class, name)?,
         Call::Update {
             object,
             class,
             values,
-        } => Ok(Some(update(alloc, catalogue, *object, class, values)?)),
-        Call::Send { class, values } => Ok(Some(send(alloc, catalogue, class, values)?)),
-        Call::Delete { object } => Ok(Some(Service::DeleteObjectInstance {
+            stamp,
+        } => update(alloc, catalogue, *object, class, values, *stamp)?,
+        Call::Send {
+            class,
+            values,
+            stamp,
+        } => send(alloc, catalogue, class, values, *stamp)?,
+        Call::Delete { object, stamp } => Service::DeleteObjectInstance {
             object: object_number(*object),
-            stamp: None,
-        })),
-        Call::ObjectHandle { name } => Ok(Some(Service::GetObjectInstanceHandle {
+            stamp: *stamp,
+        },
+        Call::ObjectHandle { name } => Service::GetObjectInstanceHandle {
             name: plain_copy(name)?,
-        })),
-        Call::ObjectName { object } => Ok(Some(Service::GetObjectInstanceName {
+        },
+        Call::ObjectName { object } => Service::GetObjectInstanceName {
             object: object_number(*object),
-        })),
-    }
+        },
+        _ => return Ok(time_service(call)),
+    };
+    Ok(Some(service))
 }
 
 impl Request {
@@ -209,9 +253,8 @@ impl Request {
         members: &[Member],
         command: &Command,
     ) -> Result<Request, AskFault>
-        ensures meant { Asks result (request_of catalogue.now members.now command.now) }
-        ensures built { IfOk result IsBuiltRequest }
-    {
+        ensures { Asks result (request_of catalogue.now members.now command.now) }
+        {
         match command {
             Command::Create => Ok(Request::Create),
             Command::Destroy => Ok(Request::Destroy),
@@ -222,6 +265,10 @@ impl Request {
                 let from = known_federate(members, from.as_slice())?;
                 let to = known_federate(members, to.as_slice())?;
                 Ok(Request::Step(Step::Carry { from, to }))
+            }
+            Command::Announce { name } => {
+                let federate = joined_federate(members, name.as_slice())?;
+                Ok(Request::Step(Step::Announce { federate }))
             }
             Command::Federate { name, call } => {
                 let federate = joined_federate(members, name.as_slice())?;
