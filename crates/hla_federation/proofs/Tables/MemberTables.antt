@@ -1,5 +1,5 @@
 -- The tables that a list of members stands for, after a change of the list
-use Rattle.std.proofs.Common.{◌≡◌, ◌≢◌, ℕ, zero, suc, ◌+◌, ◌-◌, ◌<◌, ◌≤◌, List, [], ◌∷◌, ◌++◌, length, get_or, set, drop, cond, eqb, ltb, ◌&&◌, Bool, true, false, Some, refl, sym, ap, ◌∙◌, arith, length-set, length-append, get_or-set_same, get_or-set_other, ⊎_elim}
+use Rattle.std.proofs.Common.{◌≡◌, ◌≢◌, ℕ, zero, suc, ◌+◌, ◌-◌, ◌<◌, ◌≤◌, List, [], ◌∷◌, ◌++◌, length, get_or, set, cond, eqb, ltb, ◌&&◌, Bool, true, false, Some, refl, sym, ap, ◌∙◌, arith, length-set, length-append, get_or-set_same, get_or-set_other, ⊎_elim}
 use Rattle.std.proofs.lemmas.Bool.{cases_Bool, cases_eq}
 use Rattle.std.proofs.lemmas.Bool.Decides.{nat_tests}
 use Rattle.std.proofs.lemmas.List.{get_or_default, get_or_past}
@@ -7,7 +7,7 @@ use Rattle.std.proofs.Math.Path.{fun_ext}
 use Rattle.hla_base.specs.Tables.{upd, upd2, upd_whole_column}
 use Rattle.hla_base.proofs.Tables.{upd_same}
 use Rattle.hla_null_message.specs.declared.message.Message.{Message}
-use Rattle.hla_retraction.specs.SentEvents.{SentEvent, no_event}
+use Rattle.hla_retraction.specs.SentEvents.{no_event}
 use Rattle.hla_retraction.specs.SentRows.{sent_of}
 use Rattle.hla_retraction.specs.declared.sent.SentRow.{SentRow}
 use Rattle.hla_federation.specs.declared.heading.Note.{Note}
