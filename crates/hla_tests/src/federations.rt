@@ -1,5 +1,3 @@
-ghost use Rattle.hla_federation.specs.Steps.State.{IsBuiltService};
-
 use hla_base::{Fault, List};
 use hla_fed_file::read;
 use hla_federation::Federation;
@@ -30,7 +28,6 @@ fn federation(rt: &impl Abort, alloc: Global) -> Result<Federation, Fail> {
 
 /// The number that a look-up of the first federate answers; 0 where it is refused.
 fn handle(federation: &mut Federation, service: Service) -> u32
-    requires { IsBuiltService service }
 {
     let step = Step::Call {
         federate: 1,
