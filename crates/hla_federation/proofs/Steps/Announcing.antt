@@ -1,14 +1,14 @@
 -- Null messages, and what each learns of who begins to regulate
-use Rattle.std.proofs.Common.{◌≡◌, ◌≢◌, ◌≤◌, ◌<◌, ◌+◌, ◌*◌, ◌-◌, ℕ, min, cond, eqb, ltb, not, ◌&&◌, Bool, true, false, Option, None, Some, List, [], ◌∷◌, ◌++◌, refl, sym, ap, subst, ◌∙◌, ⊎_elim, arith}
+use Rattle.std.proofs.Common.{◌≡◌, ◌≢◌, ◌≤◌, ◌+◌, ℕ, min, cond, eqb, ltb, ◌&&◌, Bool, true, false, None, Some, List, [], ◌∷◌, refl, sym, ap, subst, ◌∙◌, ⊎_elim, arith}
 use Rattle.std.proofs.Math.Bool.{and-false}
 use Rattle.std.proofs.lemmas.Bool.{cases_Bool}
 use Rattle.std.proofs.lemmas.Bool.Decides.{nat_tests}
 use Rattle.std.proofs.lemmas.List.{append-nil}
 use Rattle.std.proofs.Math.Path.{fun_ext}
-use Rattle.hla_base.specs.Limits.{max_time, max_enablings, largest_number}
+use Rattle.hla_base.specs.Limits.{max_time, max_enablings}
 use Rattle.hla_base.specs.declared.row.TimeRow.{TimeRow}
-use Rattle.hla_base.specs.Tables.{forever, upd, upd_row, upd_column, is_other, greatest}
-use Rattle.hla_base.specs.Rows.{is_regulator, is_constrained, row_with_entry, RowNumbers, bar_of}
+use Rattle.hla_base.specs.Tables.{upd, upd_row, upd_column, is_other, greatest}
+use Rattle.hla_base.specs.Rows.{is_regulator, is_constrained, row_with_entry, RowNumbers}
 use Rattle.hla_base.specs.RowRefusals.{first_fault, regulation_tests}
 use Rattle.hla_base.proofs.Tables.{upd_same, upd_other}
 use Rattle.hla_fed_file.specs.CatalogueValue.{CatalogueValue}

@@ -1,5 +1,5 @@
 -- The parts after one component changed, and what a component would pick up
-use Rattle.std.proofs.Common.{◌≡◌, ◌≤◌, ℕ, Bool, true, Option, None, List, Result, Ok, Err, IsErr, IsErrAnd, refl, sym, ap, subst, ◌∙◌}
+use Rattle.std.proofs.Common.{◌≡◌, ℕ, true, None, List, Result, Ok, Err, IsErr, IsErrAnd, refl, sym, ap, subst, ◌∙◌}
 use Rattle.hla_base.specs.declared.content.Event.{Event}
 use Rattle.hla_base.specs.declared.fault.Fault.{Fault}
 use Rattle.hla_base.specs.declared.row.AdvanceKind.{AdvanceKind}
@@ -12,24 +12,22 @@ use Rattle.hla_fed_file.specs.CatalogueValue.{CatalogueValue}
 use Rattle.hla_declaration.specs.Declarations as declared
 use Rattle.hla_declaration.specs.Declarations.{DeclarationsValue}
 use Rattle.hla_object_registry.specs.Registered.{RegistryValue, registry_of}
-use Rattle.hla_lbts.specs.Peers.{PeersValue, peers_of}
+use Rattle.hla_lbts.specs.Peers.{peers_of}
 use Rattle.hla_local.specs.LocalValue.{LocalValue}
 use Rattle.hla_local.specs.declared.picked.NextPick.TheVariants as following
 use Rattle.hla_local.specs.Picking.{Pick, NoPick, PickControl, PickRo, PickRegulates, PickConstrains, PickTso, PickGrant, next_pick_by}
 use Rattle.hla_machine.specs.declared.service.Service.TheVariants as service
-use Rattle.hla_machine.specs.declared.step.Answer.TheVariants as answer
-use Rattle.hla_machine.specs.declared.step.Choice.{Choice}
 use Rattle.hla_machine.specs.declared.step.Choice.TheVariants as choice
 use Rattle.hla_machine.specs.declared.step.Step.TheVariants.{Call}
 use Rattle.hla_machine.specs.Refusals.{Seen, refusal}
 use Rattle.hla_components.specs.Components.{Components}
 use Rattle.hla_components.specs.Locals.{choice_given}
-use Rattle.hla_components.specs.Next.{Outcomes, next, with_row, answer_outcome, done_outcome, components_seen}
+use Rattle.hla_components.specs.Next.{next, with_row, done_outcome, components_seen}
 use Rattle.hla_federation.specs.Tables.FederationValue.{FederationValue}
 use Rattle.hla_federation.specs.Tables.MemberValue.{MemberValue}
 use Rattle.hla_federation.specs.Tables.Members.{MemberTables, members_of, with_component}
 use Rattle.hla_federation.specs.Steps.Advancing.{request_service}
-use Rattle.hla_federation.specs.Steps.State.{state_of, state_from, AreWhole, IsWhole, IsUnmet}
+use Rattle.hla_federation.specs.Steps.State.{state_of, state_from, IsWhole, IsUnmet}
 use Rattle.hla_federation.proofs.Tables.MemberTables.{upd-self, upd-field}
 use Rattle.hla_federation.proofs.Tables.Wholes.{whole_same, unmet_with}
 use Rattle.hla_federation.proofs.Steps.Doing.{does_next}

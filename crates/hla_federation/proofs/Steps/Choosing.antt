@@ -1,16 +1,14 @@
 -- What a step chooses
-use Rattle.std.proofs.Common.{◌≡◌, ℕ, true, false, Bool, Option, None, Some, List, [], ◌∷◌, refl, sym, ap, ◌∙◌, cond, ltb, ◌&&◌}
+use Rattle.std.proofs.Common.{◌≡◌, ℕ, true, false, Bool, Option, None, Some, List, [], ◌∷◌, refl, cond, ltb, ◌&&◌}
 use Rattle.hla_base.specs.declared.fault.Fault.{Fault}
-use Rattle.hla_base.specs.declared.fault.Fault.TheVariants as fault
 use Rattle.hla_base.specs.Rows.{is_regulator}
 use Rattle.hla_null_message.specs.declared.message.Message.{Message}
 use Rattle.hla_null_message.specs.declared.message.Message.TheVariants as message
 use Rattle.hla_machine.specs.declared.service.Service.{Service}
 use Rattle.hla_machine.specs.declared.service.Service.TheVariants as service
 use Rattle.hla_machine.specs.declared.step.Answer.TheVariants as answer
-use Rattle.hla_machine.specs.declared.step.Choice.{Choice}
 use Rattle.hla_machine.specs.declared.step.Choice.TheVariants as choice
-use Rattle.hla_machine.specs.declared.step.Step.TheVariants.{Join, Call, Carry, Announce, Tick}
+use Rattle.hla_machine.specs.declared.step.Step.TheVariants.{Join, Call, Carry, Announce}
 use Rattle.hla_machine.specs.Refusals.{refusal}
 use Rattle.hla_components.specs.Components.{Components}
 use Rattle.hla_components.specs.Component.{promise}

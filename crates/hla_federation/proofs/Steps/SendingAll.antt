@@ -1,5 +1,5 @@
 -- Messages that a service sends, and how the state stands after them
-use Rattle.std.proofs.Common.{◌≡◌, ℕ, ◌+◌, ◌≤◌, List, [], ◌∷◌, ◌++◌, length, cond, eqb, ◌&&◌, Bool, true, false, Option, None, Some, is_some, unwrap_or, refl, sym, ap, ◌∙◌, arith, ⊎_elim}
+use Rattle.std.proofs.Common.{◌≡◌, ℕ, ◌+◌, List, [], ◌∷◌, ◌++◌, length, cond, eqb, ◌&&◌, Bool, true, false, Option, None, Some, is_some, unwrap_or, refl, sym, ap, ◌∙◌, arith, ⊎_elim}
 use Rattle.std.proofs.lemmas.Bool.{cases_Bool}
 use Rattle.std.proofs.lemmas.Bool.Decides.{nat_tests}
 use Rattle.std.proofs.lemmas.List.{append-nil, append_assoc}
@@ -14,8 +14,8 @@ use Rattle.hla_null_message.specs.declared.message.Message.TheVariants as messag
 use Rattle.hla_machine.specs.Directory.{Directory, Outgoing, content_for, is_of_order}
 use Rattle.hla_machine.specs.Sends.{is_ordered, kept_stamp, sent_event}
 use Rattle.hla_components.specs.Components.{Components}
-use Rattle.hla_components.specs.Next.{with_message_sent, with_messages_sent, event_of, put_event}
-use Rattle.hla_federation.specs.Steps.Sending.{order_stamp, heading_of, event_under, said_messages, message_to, messages_to}
+use Rattle.hla_components.specs.Next.{with_message_sent, with_messages_sent, put_event}
+use Rattle.hla_federation.specs.Steps.Sending.{order_stamp, heading_of, said_messages, message_to, messages_to}
 use Rattle.hla_base.proofs.Tables.{upd_same}
 use Rattle.hla_retraction.specs.SentEvents.{SentEvent}
 

@@ -1,5 +1,5 @@
 -- With which stamps a service is refused, and with which fault
-use Rattle.std.proofs.Common.{◌≡◌, ℕ, ◌≤◌, ◌<◌, List, [], ◌∷◌, ◌++◌, filter, cond, ltb, not, ◌&&◌, ◌||◌, true, false, Bool, Option, None, Some, is_some, unwrap_or, refl, sym, ap, ◌∙◌, arith, ⊎_elim}
+use Rattle.std.proofs.Common.{◌≡◌, ℕ, ◌≤◌, ◌<◌, List, [], ◌∷◌, ◌++◌, filter, cond, ltb, not, ◌&&◌, ◌||◌, true, false, Bool, Option, None, Some, is_some, unwrap_or, refl, ap, ◌∙◌, arith, ⊎_elim}
 use Rattle.std.specs.List.{list_any}
 use Rattle.std.proofs.lemmas.Bool.{cases_Bool}
 use Rattle.std.proofs.lemmas.Bool.Decides.{nat_tests}

@@ -1,5 +1,5 @@
 -- The greatest of what the components of federates say, one after another
-use Rattle.std.proofs.Common.{◌≡◌, ◌≤◌, ◌<◌, ◌+◌, ℕ, suc, max, sym, ap, ◌∙◌, arith}
+use Rattle.std.proofs.Common.{◌≡◌, ◌+◌, ℕ, suc, max, sym, ap, ◌∙◌, arith}
 use Rattle.hla_base.specs.Tables.{greatest}
 
 -- the entry of number 0 is nothing

@@ -1,12 +1,10 @@
-use Rattle.std.proofs.Common.{◌≡◌, ◌≤◌, ◌-◌, List, length, [], drop, ap, sym, ◌∙◌, arith}
+use Rattle.std.proofs.Common.{◌≤◌, ◌-◌, List, length, [], drop, ap, ◌∙◌, arith}
 use Rattle.std.proofs.Math.Seq.{map-set_same}
 use Rattle.hla_null_message.specs.declared.message.Message.{Message}
 use Rattle.hla_null_message.specs.Wires.{WireValue}
 use Rattle.hla_base.specs.Tables.{upd}
 use Rattle.hla_federation.specs.Tables.MemberValue.{item, IncomingValue}
-use Rattle.hla_federation.specs.Tables.Members.{carried_of, MayArrive, HasAccepted}
-use Rattle.hla_federation.specs.Steps.Memory.{arrival_takes_memory}
-use Rattle.hla_federation.proofs.Tables.Rooms.{on_ok, on_err, if_ok}
+use Rattle.hla_federation.proofs.Tables.Rooms.{on_ok, on_err}
 use Rattle.hla_federation.proofs.Tables.Wires.{read_messages, set_messages}
 use Rattle.hla_federation.proofs.incoming.Incoming.hand_over.Goals as goal
 

@@ -1,4 +1,4 @@
-use Rattle.std.proofs.Common.{◌≡◌, ◌-◌, [], set, drop, ap, sym, subst, ◌∙◌, refl}
+use Rattle.std.proofs.Common.{◌-◌, [], set, drop, ap, sym, subst, ◌∙◌}
 use Rattle.hla_base.specs.Tables.{upd}
 use Rattle.hla_local.specs.LocalValue.{LocalValue}
 use Rattle.hla_federation.specs.Steps.Memory.{arrival_takes_memory}

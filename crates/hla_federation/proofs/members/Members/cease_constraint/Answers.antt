@@ -1,4 +1,4 @@
-use Rattle.std.proofs.Common.{◌≡◌, ◌-◌, set, ap, ◌∙◌}
+use Rattle.std.proofs.Common.{◌-◌, set, ap, ◌∙◌}
 use Rattle.hla_federation.specs.Tables.Changes.{local_unconstrained}
 use Rattle.hla_federation.specs.Tables.MemberValue.{MemberValue, RoomyMember}
 use Rattle.hla_federation.specs.Tables.Members.{members_of}

@@ -1,4 +1,4 @@
-use Rattle.std.proofs.Common.{◌+◌, ◌≤◌, ◌<◌, length, refl, sym, ap, ◌∙◌, arith}
+use Rattle.std.proofs.Common.{◌+◌, length, refl, ap, ◌∙◌, arith}
 use Rattle.hla_base.specs.Rows.{bar_of}
 use Rattle.hla_local.specs.LocalValue.{LocalValue}
 use Rattle.hla_federation.specs.Tables.Members.{members_of}

@@ -1,7 +1,6 @@
 use Rattle.std.proofs.Common.{◌≡◌}
 use Rattle.hla_base.specs.Rows.{bar_of}
 use Rattle.hla_base.specs.Tables.{greatest}
-use Rattle.hla_federation.specs.Tables.Changes.{entry_by}
 use Rattle.hla_federation.specs.Tables.Members.{members_of}
 use Rattle.hla_federation.proofs.members.Members.greatest_bar.Given as goal
 

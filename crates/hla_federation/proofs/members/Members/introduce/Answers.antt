@@ -1,11 +1,11 @@
-use Rattle.std.proofs.Common.{◌≡◌, ◌+◌, ◌≤◌, ◌<◌, ℕ, length, refl, sym, ap, ◌∙◌, arith}
+use Rattle.std.proofs.Common.{◌+◌, ◌≤◌, ◌<◌, length, refl, sym, ap, ◌∙◌, arith}
 use Rattle.std.proofs.Math.Path.{fun_ext}
 use Rattle.hla_lbts.specs.Peers.{PeersValue}
 use Rattle.hla_base.specs.Tables.{forever}
 use Rattle.hla_local.specs.LocalValue.{LocalValue}
-use Rattle.hla_federation.specs.Tables.MemberValue.{MemberValue, RoomyMember, RoomyMembers}
+use Rattle.hla_federation.specs.Tables.MemberValue.{MemberValue, RoomyMember}
 use Rattle.hla_federation.specs.Tables.Members.{members_of}
-use Rattle.hla_federation.proofs.Tables.Rooms.{read_shown, same_length}
+use Rattle.hla_federation.proofs.Tables.Rooms.{read_shown}
 use Rattle.hla_federation.proofs.Tables.MemberTables.{met_none, met_more, met_all}
 use Rattle.hla_federation.proofs.members.Members.introduce.Goals as goal
 

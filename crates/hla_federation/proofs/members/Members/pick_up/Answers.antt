@@ -1,5 +1,5 @@
-use Rattle.std.proofs.Common.{◌≡◌, ◌-◌, set, sym, ap, ◌∙◌}
-use Rattle.hla_local.specs.Picking.{PickConstrains, picked_by, local_pick, local_picking}
+use Rattle.std.proofs.Common.{◌-◌, set, sym, ap, ◌∙◌}
+use Rattle.hla_local.specs.Picking.{picked_by, local_pick, local_picking}
 use Rattle.hla_components.specs.Locals.{callback_given}
 use Rattle.hla_federation.specs.Tables.MemberValue.{MemberValue}
 use Rattle.hla_federation.specs.Tables.Members.{members_of}

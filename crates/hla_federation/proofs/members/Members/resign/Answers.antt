@@ -1,4 +1,4 @@
-use Rattle.std.proofs.Common.{◌-◌, [], set, false, ap, ◌∙◌}
+use Rattle.std.proofs.Common.{◌-◌, set, ap, ◌∙◌}
 use Rattle.hla_federation.specs.Tables.MemberValue.{MemberValue}
 use Rattle.hla_federation.specs.Tables.Members.{members_of, resigned_member}
 use Rattle.hla_federation.proofs.Tables.Rooms.{read_shown, set_shown, within_shown}

@@ -1,4 +1,4 @@
-use Rattle.std.proofs.Common.{◌≡◌, ℕ, ltb, Bool, true, false, None, Some, sym, ap, subst, ◌∙◌, arith}
+use Rattle.std.proofs.Common.{◌≡◌, ℕ, ltb, true, false, None, Some, sym, ap, subst, ◌∙◌, arith}
 use Rattle.std.proofs.lemmas.Bool.Decides.{nat_tests}
 use Rattle.hla_base.specs.Rows.{is_regulator}
 use Rattle.hla_base.specs.declared.row.TimeRow.{TimeRow}
@@ -7,7 +7,6 @@ use Rattle.hla_object_registry.specs.Registered.{registry_of}
 use Rattle.hla_local.specs.LocalValue.{LocalValue}
 use Rattle.hla_local.specs.Picking.{least_bound}
 use Rattle.hla_local.specs.Promising.{promise_of}
-use Rattle.hla_components.specs.Component.{promise}
 use Rattle.hla_federation.specs.Tables.FederationValue.{FederationValue}
 use Rattle.hla_federation.specs.Tables.Members.{members_of}
 use Rattle.hla_federation.specs.Steps.Sending.{announcement}

@@ -1,13 +1,12 @@
-use Rattle.std.proofs.Common.{◌≡◌, ◌≢◌, ◌≤◌, ◌<◌, ℕ, Bool, refl, sym, ap, subst, ◌∙◌, arith}
+use Rattle.std.proofs.Common.{◌≡◌, refl, sym, ap, subst, ◌∙◌, arith}
 use Rattle.hla_lbts.specs.Peers.{peers_of}
-use Rattle.hla_local.specs.LocalValue.{LocalValue}
 use Rattle.hla_machine.specs.declared.step.Step.TheVariants.{Carry}
 use Rattle.hla_machine.specs.declared.step.Carried.{Carried}
 use Rattle.hla_machine.specs.declared.step.Answer.TheVariants as answer
 use Rattle.hla_declaration.specs.Declarations as declared
 use Rattle.hla_object_registry.specs.Registered.{registry_of}
 use Rattle.hla_federation.specs.Tables.FederationValue.{FederationValue}
-use Rattle.hla_federation.specs.Tables.Members.{MemberTables, members_of, with_arrival, HasAccepted}
+use Rattle.hla_federation.specs.Tables.Members.{MemberTables, members_of, with_arrival}
 use Rattle.hla_components.specs.Next.{next, answer_outcome}
 use Rattle.hla_federation.specs.Steps.State.{state_of, state_from, IsUnmet}
 use Rattle.hla_federation.proofs.Steps.Doing.{does_next}

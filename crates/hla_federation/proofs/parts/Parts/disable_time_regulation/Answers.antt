@@ -1,4 +1,4 @@
-use Rattle.std.proofs.Common.{◌≡◌, ◌≤◌, ◌+◌, ℕ, Bool, true, false, Option, None, Some, List, Result, inr, refl, sym, ap, subst, ◌∙◌, arith}
+use Rattle.std.proofs.Common.{◌≡◌, ℕ, None, refl, sym, ap, subst, ◌∙◌}
 use Rattle.hla_base.specs.declared.row.Role.TheVariants.{Disabled}
 use Rattle.hla_base.specs.declared.row.TimeRow.{TimeRow}
 use Rattle.hla_base.specs.RowRefusals.{first_fault, unregulate_tests}
@@ -15,7 +15,6 @@ use Rattle.hla_components.specs.Next.{next, answer_outcome, components_seen}
 use Rattle.hla_federation.specs.declared.change.Change.TheVariants as change
 use Rattle.hla_federation.specs.Tables.Changes.{changed_local}
 use Rattle.hla_federation.specs.Tables.FederationValue.{FederationValue}
-use Rattle.hla_federation.specs.Tables.MemberValue.{MemberValue}
 use Rattle.hla_federation.specs.Tables.Members.{MemberTables, members_of, with_component, with_null_sent}
 use Rattle.hla_federation.specs.Steps.State.{state_of, state_from, IsWhole}
 use Rattle.hla_federation.proofs.Steps.Doing.{does_next}

@@ -1,4 +1,4 @@
-use Rattle.std.proofs.Common.{◌≡◌, ◌≤◌, ◌<◌, ◌+◌, ℕ, Bool, true, false, Option, None, Some, List, Result, inr, refl, sym, ap, subst, ◌∙◌, arith}
+use Rattle.std.proofs.Common.{◌≡◌, ◌≤◌, ◌<◌, ◌+◌, ℕ, None, refl, sym, ap, subst, ◌∙◌, arith}
 use Rattle.std.proofs.lemmas.Bool.Decides.{nat_tests}
 use Rattle.hla_base.specs.Limits.{max_time}
 use Rattle.hla_base.specs.Tables.{greatest}
@@ -15,17 +15,15 @@ use Rattle.hla_object_registry.specs.Registered.{registry_of}
 use Rattle.hla_local.specs.LocalValue.{LocalValue}
 use Rattle.hla_machine.specs.Refusals.{refusal}
 use Rattle.hla_machine.specs.declared.step.Answer.TheVariants as answer
-use Rattle.hla_components.specs.Components.{Components}
-use Rattle.hla_components.specs.Next.{next, answer_outcome, components_seen}
+use Rattle.hla_components.specs.Next.{next, components_seen}
 use Rattle.hla_federation.specs.declared.change.Change.TheVariants as change
 use Rattle.hla_federation.specs.Tables.Changes.{changed_local}
 use Rattle.hla_federation.specs.Tables.FederationValue.{FederationValue}
-use Rattle.hla_federation.specs.Tables.MemberValue.{MemberValue}
 use Rattle.hla_federation.specs.Tables.Members.{MemberTables, members_of, with_component, with_null_sent}
 use Rattle.hla_federation.specs.Steps.State.{state_of, state_from, IsWhole}
 use Rattle.hla_federation.proofs.Steps.Doing.{does_next}
 use Rattle.hla_federation.proofs.parts.Parts.enable_time_regulation.Goals as goal
-use Rattle.hla_federation.specs.Tables.Changes.{AreLowered, MayRegulate, entry_by}
+use Rattle.hla_federation.specs.Tables.Changes.{AreLowered, entry_by}
 use Rattle.hla_federation.specs.Steps.State.{IsUnmet}
 use Rattle.hla_federation.proofs.Steps.Announcing.{entry_is, may_regulate, entered, enabled_state, lowered_unmet}
 use Rattle.hla_federation.proofs.Steps.Resigning.{joined_below}

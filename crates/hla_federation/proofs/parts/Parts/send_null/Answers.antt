@@ -1,4 +1,4 @@
-use Rattle.std.proofs.Common.{◌≡◌, ℕ, [], ◌++◌, List, refl, sym, ap, ◌∙◌}
+use Rattle.std.proofs.Common.{ℕ, [], ◌++◌, List, sym, ap, ◌∙◌}
 use Rattle.hla_federation.specs.declared.direction.Direction.TheVariants.{From}
 use Rattle.hla_null_message.specs.declared.message.Message.{Message}
 use Rattle.hla_federation.specs.Steps.Sending.{null_to}

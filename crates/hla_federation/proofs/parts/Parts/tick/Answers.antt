@@ -1,21 +1,17 @@
-use Rattle.std.proofs.Common.{◌≡◌, ◌≤◌, ℕ, List, Bool, true, Option, None, Result, inr, refl, sym, ap, subst, ◌∙◌}
-use Rattle.hla_base.specs.declared.fault.Fault.TheVariants.{OutOfMemory}
+use Rattle.std.proofs.Common.{◌≡◌, List, true, Option, None, Result, inr, sym, ap, subst, ◌∙◌}
 use Rattle.hla_callbacks.specs.declared.callback.Callback.{Callback}
 use Rattle.hla_machine.specs.declared.step.Step.TheVariants.{Tick}
 use Rattle.hla_base.specs.declared.fault.Fault.{Fault}
 use Rattle.hla_machine.specs.declared.step.Answer.{Answer}
 use Rattle.hla_machine.specs.declared.step.Answer.TheVariants as answer
-use Rattle.hla_machine.specs.declared.step.Choice.{Choice}
 use Rattle.hla_declaration.specs.Declarations as declared
 use Rattle.hla_object_registry.specs.Registered.{registry_of}
 use Rattle.hla_lbts.specs.Peers.{peers_of}
-use Rattle.hla_local.specs.Picking.{local_pick, local_picking}
-use Rattle.hla_components.specs.Locals.{choice_given}
 use Rattle.hla_components.specs.Next.{Outcomes, next, components_seen}
 use Rattle.hla_machine.specs.Refusals.{refusal}
 use Rattle.hla_machine.specs.declared.step.Outcome.TheVariants as outcome
 use Rattle.hla_federation.specs.Tables.FederationValue.{FederationValue}
-use Rattle.hla_federation.specs.Tables.Members.{MemberTables, members_of, with_component}
+use Rattle.hla_federation.specs.Tables.Members.{MemberTables, members_of}
 use Rattle.hla_federation.specs.Steps.State.{state_of, state_from, IsUnmet, EndsChosen}
 use Rattle.hla_federation.proofs.Steps.Doing.{does_next}
 use Rattle.hla_federation.specs.Tables.MemberValue.{MemberValue}

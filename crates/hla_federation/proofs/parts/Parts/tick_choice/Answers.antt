@@ -1,5 +1,4 @@
-use Rattle.std.proofs.Common.{◌≡◌, ◌<◌, ℕ, Bool, true, List, Result, OnErr, filter, refl, sym, ap, subst, ◌∙◌, arith}
-use Rattle.hla_base.specs.declared.content.Event.{Event}
+use Rattle.std.proofs.Common.{◌≡◌, ◌<◌, ℕ, true, List, Result, OnErr, filter, sym, ap, subst, ◌∙◌, arith}
 use Rattle.hla_base.specs.declared.number.EventHandle.{EventHandle}
 use Rattle.hla_base.specs.declared.fault.Fault.{Fault}
 use Rattle.hla_base.specs.declared.row.TimeRow.{TimeRow}
@@ -9,7 +8,7 @@ use Rattle.hla_object_registry.specs.Registered.{registry_of}
 use Rattle.hla_order_queues.specs.Queues.{handles_of}
 use Rattle.hla_local.specs.LocalValue.{LocalValue}
 use Rattle.hla_local.specs.declared.picked.NextPick.TheVariants as following
-use Rattle.hla_local.specs.Picking.{Pick, PickConstrains, next_pick_by, local_pick, is_below}
+use Rattle.hla_local.specs.Picking.{Pick, next_pick_by, local_pick, is_below}
 use Rattle.hla_machine.specs.declared.step.Choice.{Choice}
 use Rattle.hla_machine.specs.declared.step.Choice.TheVariants as choice
 use Rattle.hla_machine.specs.declared.step.Step.TheVariants.{Tick}
