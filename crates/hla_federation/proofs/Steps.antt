@@ -6,6 +6,8 @@ pub mod Declaring
 pub mod Changing
 -- Null messages, and what each learns of who begins to regulate
 pub mod Announcing
+-- Retractions, and the parts after one was sent
+pub mod Retracting
 -- What a step chooses
 pub mod Choosing
 -- The messages of a service, and the state after them

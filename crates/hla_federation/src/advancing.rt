@@ -26,7 +26,8 @@ impl Parts {
         if let Some(fault) = self.members.local(federate).state().request_fault(time) {
             return Err(fault);
         }
-        self.members.change(federate, Change::Request { kind, asked: time });
+        self.members
+            .change(federate, Change::Request { kind, asked: time });
         Ok(Answer::Done)
     }
 
@@ -66,10 +67,16 @@ impl Parts {
         ensures whole { IsWhole self.new }
         ensures done { Ends self.old (step.Call federate (service.ModifyLookahead lookahead)) result self.new }
     {
-        if let Some(fault) = self.members.local(federate).state().lookahead_fault(lookahead) {
+        if let Some(fault) = self
+            .members
+            .local(federate)
+            .state()
+            .lookahead_fault(lookahead)
+        {
             return Err(fault);
         }
-        self.members.change(federate, Change::SetLookahead { lookahead });
+        self.members
+            .change(federate, Change::SetLookahead { lookahead });
         Ok(Answer::Done)
     }
 
@@ -93,7 +100,12 @@ impl Parts {
         ensures whole { IsWhole self.new }
         ensures done { Ends self.old (step.Call federate service.DisableAsynchronousDelivery) result self.new }
     {
-        if let Some(fault) = self.members.local(federate).state().asynchronous_off_fault() {
+        if let Some(fault) = self
+            .members
+            .local(federate)
+            .state()
+            .asynchronous_off_fault()
+        {
             return Err(fault);
         }
         self.members

@@ -19,7 +19,7 @@ use hla_null_message::Message;
 
 impl Parts {
     /// Whether a federate is joined and another one than the sender.
-    fn is_other(&self, sender: FederateNo, peer: FederateNo) -> bool
+    pub fn is_other(&self, sender: FederateNo, peer: FederateNo) -> bool
         ensures { result ≡ is_other (state_of self.now).directory.joined sender peer }
     {
         sender != peer && self.members.is_joined(peer)
@@ -49,12 +49,7 @@ impl Parts {
 
     /// Puts a null message on the wires from a federate to each other one that is joined; `OutOfMemory`, and all as it was,
     /// where a growth was refused.
-    pub fn send_null(
-        &mut self,
-        sender: FederateNo,
-        epoch: u64,
-        bound: Ticks,
-    ) -> Result<(), Fault>
+    pub fn send_null(&mut self, sender: FederateNo, epoch: u64, bound: Ticks) -> Result<(), Fault>
         requires whole { IsWhole self.old }
         requires some { 0 < sender }
         requires within { sender < (state_of self.old).directory.next_federate }

@@ -2,7 +2,7 @@
 
 ghost use Rattle.hla_machine.specs.declared.step.Step.TheVariants as step;
 ghost use Rattle.hla_federation.specs.Steps.Soundness.{IsSound, MayCall};
-ghost use Rattle.hla_federation.specs.Steps.State.{IsWhole, IsBuilt, IsBuiltService, IsTimeService, IsQuestion, IsLookUp, Ends, EndsChosen, Answers};
+ghost use Rattle.hla_federation.specs.Steps.State.{IsWhole, IsTimeService, IsQuestion, IsLookUp, Ends, EndsChosen, Answers};
 
 use crate::parts::Parts;
 use hla_base::{AdvanceKind, Fault, FederateNo};
@@ -12,7 +12,6 @@ impl Parts {
     /// A service that a federate calls, if it is joined.
     fn call(&mut self, federate: FederateNo, service: &Service) -> Result<Answer, Fault>
         requires sound { IsSound self.old }
-        requires built { IsBuiltService service.now }
         ensures whole { IsWhole self.new }
         ensures done { EndsChosen self.old (step.Call federate service.now) result self.new }
     {
@@ -26,7 +25,6 @@ impl Parts {
     #[tactic(auto, using(crate::proofs::Steps::Doing::ends_chosen))]
     fn serve(&mut self, federate: FederateNo, service: &Service) -> Result<Answer, Fault>
         requires may { MayCall self.old federate }
-        requires built { IsBuiltService service.now }
         ensures whole { IsWhole self.new }
         ensures done { EndsChosen self.old (step.Call federate service.now) result self.new }
     {
@@ -119,6 +117,7 @@ impl Parts {
             Service::ModifyLookahead { lookahead } => self.modify_lookahead(federate, *lookahead),
             Service::EnableAsynchronousDelivery => self.enable_asynchronous_delivery(federate),
             Service::DisableAsynchronousDelivery => self.disable_asynchronous_delivery(federate),
+            Service::Retract { event } => self.retract(federate, *event),
             _ => unreachable!(),
         }
     }
@@ -171,7 +170,6 @@ impl Parts {
     #[tactic(auto, using(crate::proofs::Steps::Doing::ends_chosen))]
     pub fn step(&mut self, step: &Step) -> Result<Answer, Fault>
         requires sound { IsSound self.old }
-        requires built { IsBuilt step.now }
         ensures whole { IsWhole self.new }
         ensures done { EndsChosen self.old step.now result self.new }
     {

@@ -36,7 +36,7 @@ impl Federation {
     ghost use Rattle.hla_components.specs.Components.{new_components};
     ghost use Rattle.hla_components.specs.Next.{next};
     ghost use Rattle.hla_components.specs.CentralOf.{central};
-    ghost use Rattle.hla_federation.specs.Steps.State.{state_of, IsBuilt, AreBuilt};
+    ghost use Rattle.hla_federation.specs.Steps.State.{state_of};
     ghost use Rattle.hla_federation.specs.Steps.Memory.{IsRefusedWith, takes_memory};
     ghost use Rattle.hla_components.specs.Headline.{happening, happenings};
     ghost use Rattle.hla_federation.specs.Steps.Soundness.{IsSound, AreSteps, remembered_steps};
@@ -69,7 +69,6 @@ impl Federation {
     /// central machine. Refused, it changes nothing: with the fault that the definitions give, or with `OutOfMemory` where
     /// they give none, the step is one that takes memory, and a growth was refused.
     pub fn step(&mut self, step: &Step) -> Result<Answer, Fault>
-        requires { IsBuilt step.now }
         ensures outcome { IfOk result (λ a. (next (state_of self.old) step.now).outcome ≡ outcome.Done a) }
         ensures state { OnOk result (state_of self.new ≡ (next (state_of self.old) step.now).state) }
         ensures machine { OnOk result (IsMachineStep (central (state_of self.old))
@@ -97,7 +96,6 @@ impl Federation {
     /// object before anything is said of it, in this run or before it, and once. The room for the answers is taken first;
     /// `OutOfMemory`, and nothing done, where that was refused.
     pub fn run(&mut self, steps: &[Step]) -> Result<Vec<Result<Answer, Fault>>, Fault>
-        requires { AreBuilt steps.now }
         ensures steps { IfOk result (λ answers. AreSteps (state_of self.old) steps.now answers.items
             (state_of self.new)) }
         ensures machine { IfOk result (λ answers. IsRun (central (state_of self.old))

@@ -24,6 +24,7 @@ mod parts;
 mod refusals;
 mod registering;
 mod regulating;
+mod retracting;
 mod sending;
 
 pub use federation::Federation;

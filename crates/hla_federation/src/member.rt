@@ -118,6 +118,25 @@ impl Member {
         self.sent.note(note.serial, note.stamp, note.receivers)
     }
 
+    /// What it sent in time-stamp order and may retract.
+    pub fn sent(&self) -> &Sent
+        ensures { result.now ≡ self.now.shown.sent }
+    {
+        &self.sent
+    }
+
+    /// A message that it may retract is retracted. It takes no memory.
+    pub fn retract(&mut self, serial: Serial)
+        requires { (sent_of self.old.shown.sent serial).retractable ≡ true }
+        ensures same { self.new ≡ record self.old {
+          shown = record self.old.shown { sent = self.new.shown.sent };
+        } }
+        ensures retracted { sent_of self.new.shown.sent ≡ upd (sent_of self.old.shown.sent) serial
+            (record (sent_of self.old.shown.sent serial) { retracted = true }) }
+    {
+        self.sent.retract(serial);
+    }
+
     /// Makes room for this many more messages on the wire from a federate; `OutOfMemory` where that was refused.
     pub fn reserve(&mut self, from: FederateNo, count: usize) -> Result<(), Fault>
         requires some { 0 < from }

@@ -18,7 +18,7 @@ ghost use Rattle.hla_local.specs.Picking.{PickConstrains, picked_by, local_pick,
 ghost use Rattle.hla_components.specs.Locals.{callback_given};
 ghost use Rattle.hla_retraction.specs.SentEvents.{no_event};
 ghost use Rattle.hla_retraction.specs.SentRows.{sent_of};
-ghost use Rattle.hla_federation.specs.Tables.Noting.{with_noted, IsUnsentFrom};
+ghost use Rattle.hla_federation.specs.Tables.Noting.{with_noted, with_retracted, IsUnsentFrom};
 
 use crate::change::Change;
 use crate::direction::Direction;
@@ -30,6 +30,7 @@ use hla_callbacks::Callback;
 use hla_local::Local;
 use hla_machine::Carried;
 use hla_null_message::Message;
+use hla_retraction::Sent;
 use std::alloc::Global;
 use std::marker::Model;
 
@@ -160,6 +161,27 @@ impl Members {
             Some(note) => self.members[federate as usize - 1].note(note),
             None => Ok(()),
         }
+    }
+
+    /// What a federate sent in time-stamp order and may retract.
+    pub fn sent(&self, federate: FederateNo) -> &Sent
+        requires some { 0 < federate }
+        requires within { federate < (members_of self.now.shown).next_federate }
+        ensures { sent_of result.now ≡ (members_of self.now.shown).sent federate }
+    {
+        self.members[federate as usize - 1].sent()
+    }
+
+    /// A message that a federate may retract is retracted. It takes no memory.
+    pub fn retract(&mut self, federate: FederateNo, serial: Serial)
+        requires some { 0 < federate }
+        requires within { federate < (members_of self.old.shown).next_federate }
+        requires retractable { ((members_of self.old.shown).sent federate serial).retractable ≡ true }
+        ensures { members_of self.new.shown ≡ record (members_of self.old.shown) {
+          sent = with_retracted (members_of self.old.shown).sent federate serial;
+        } }
+    {
+        self.members[federate as usize - 1].retract(serial);
     }
 
     /// Makes room for one more federate; `OutOfMemory` where that was refused.

@@ -166,17 +166,21 @@ module _ (members : List MemberValue) (f : ℕ) (some : 0 < f) (within : f ≤ l
     sent = keep (λ x. sent_of x.sent) i;
   })
 
-  pub noted : (note : Note) (sent : List SentRow) → sent_of sent ≡ upd (sent_of m.sent) note.serial (noted_event note)
-      → members_of (set members (f - 1) (record m { sent = sent })) ≡ record t { sent = with_noted t.sent f (Some note) }
-  noted note sent is = changed members f (record m { sent = sent }) some within ∙ (λ i. record {
+  pub written : (k : ℕ) (e : SentEvent) (sent : List SentRow) → sent_of sent ≡ upd (sent_of m.sent) k e
+      → members_of (set members (f - 1) (record m { sent = sent })) ≡ record t { sent = upd2 t.sent f k e }
+  written k e sent is = changed members f (record m { sent = sent }) some within ∙ (λ i. record {
     next_federate = t.next_federate;
     joined = keep (λ x. x.joined) i;
     name = keep (λ x. x.name) i;
     serial = keep (λ x. x.next_serial) i;
     local = keep (λ x. x.local) i;
     wire = keep_wire i;
-    sent = ((λ j. upd t.sent f (is j)) ∙ upd-entry t.sent f note.serial (noted_event note)) i;
+    sent = ((λ j. upd t.sent f (is j)) ∙ upd-entry t.sent f k e) i;
   })
+
+  pub noted : (note : Note) (sent : List SentRow) → sent_of sent ≡ upd (sent_of m.sent) note.serial (noted_event note)
+      → members_of (set members (f - 1) (record m { sent = sent })) ≡ record t { sent = with_noted t.sent f (Some note) }
+  noted note sent is = written note.serial (noted_event note) sent is
 
   wires_after : (g : ℕ) (incoming : List (List Message)) (ms : List Message) → item [] incoming ≡ upd (item [] m.incoming) g ms
       → (λ h. upd (t.wire h) f (item [] incoming h)) ≡ upd2 t.wire g f ms

@@ -15,6 +15,7 @@ use Rattle.hla_null_message.specs.declared.message.Message.{Message}
 use Rattle.hla_null_message.specs.declared.message.Message.TheVariants as message
 use Rattle.hla_machine.specs.Directory.{Directory, Outgoing, Body, AnUpdate, content_for, is_of_order}
 use Rattle.hla_machine.specs.Refusals.{is_bad_stamp}
+use Rattle.hla_machine.specs.Sends.{is_told}
 use Rattle.hla_federation.specs.declared.heading.Heading.{Heading}
 use Rattle.hla_federation.specs.declared.heading.Note.{Note}
 use Rattle.hla_federation.specs.Tables.MemberValue.{item}
@@ -79,3 +80,8 @@ last_null_to s f h = cond (is_regulator (s.row f)) (null_to s.directory f (s.epo
 -- what a federate announces now, if it is anything
 abbrev pub announcement : Components → ℕ → Option ℕ
 announcement s f = cond (is_regulator (s.row f) && ltb (s.last_announced f) (promise s f)) (Some (promise s f)) None
+
+-- ---- retractions
+-- what a retraction puts on the wire to a federate
+abbrev pub retraction_to : Components → ℕ → ℕ → ℕ → List Message
+retraction_to s f m h = cond (is_told s.directory f (s.sent f m) h) (message.Retraction m ∷ []) []

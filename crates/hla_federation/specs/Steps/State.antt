@@ -1,6 +1,5 @@
 -- The components and wires that a federation's parts stand for
-use Rattle.std.specs.Prelude.{ℕ, ◌+◌, ◌≡◌, ◌≤◌, true, false, None, List, length, Result, Ok, Err}
-use Rattle.std.specs.List.{All}
+use Rattle.std.specs.Prelude.{ℕ, ◌+◌, ◌≡◌, ◌≤◌, true, false, None, length, Result, Ok, Err}
 use Rattle.hla_base.specs.declared.fault.Fault.{Fault}
 use Rattle.hla_base.specs.Limits.{forever, max_joins}
 use Rattle.hla_lbts.specs.Peers.{PeersValue, peers_of}
@@ -11,7 +10,6 @@ use Rattle.hla_object_registry.specs.Registered.{RegistryValue, registry_of}
 use Rattle.hla_machine.specs.declared.service.Service.{Service}
 use Rattle.hla_machine.specs.declared.service.Service.TheVariants as service
 use Rattle.hla_machine.specs.declared.step.Step.{Step}
-use Rattle.hla_machine.specs.declared.step.Step.TheVariants.{Call}
 use Rattle.hla_machine.specs.declared.step.Answer.{Answer}
 use Rattle.hla_machine.specs.declared.step.Outcome.TheVariants as outcome
 use Rattle.hla_machine.specs.Directory.{Directory, default_name}
@@ -128,7 +126,7 @@ IsQuestion service.QueryMinNextEventTime = Unit {0}
 IsQuestion service.QueryLookahead = Unit {0}
 IsQuestion service = IsLookUp service
 
--- the services of time management that change something, but for Retract
+-- the services of time management that change something
 abbrev pub IsTimeService : Service → Type 0
 IsTimeService (service.EnableTimeRegulation time lookahead) = Unit {0}
 IsTimeService service.DisableTimeRegulation = Unit {0}
@@ -142,16 +140,5 @@ IsTimeService (service.FlushQueueRequest time) = Unit {0}
 IsTimeService (service.ModifyLookahead lookahead) = Unit {0}
 IsTimeService service.EnableAsynchronousDelivery = Unit {0}
 IsTimeService service.DisableAsynchronousDelivery = Unit {0}
+IsTimeService (service.Retract event) = Unit {0}
 IsTimeService service = ⊥
-
--- the services that are built: all but Retract
-abbrev pub IsBuiltService : Service → Type 0
-IsBuiltService (service.Retract event) = ⊥
-IsBuiltService service = Unit {0}
-
-abbrev pub IsBuilt : Step → Type 0
-IsBuilt (Call f service) = IsBuiltService service
-IsBuilt step = Unit {0}
-
-abbrev pub AreBuilt : List Step → Type 0
-AreBuilt steps = All IsBuilt steps

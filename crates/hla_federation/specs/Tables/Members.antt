@@ -1,6 +1,6 @@
 -- The members of a federation as tables, and what is done with their wires
 use Rattle.std.specs.Prelude.{ℕ, ◌+◌, ◌≡◌, ◌<◌, ◌≤◌, cond, eqb, ltb, not, ◌&&◌, Bool, true, false, List, [], ◌∷◌, ◌++◌, length, map, drop}
-use Rattle.hla_base.specs.Tables.{upd, upd2, upd_row, upd_whole_column}
+use Rattle.hla_base.specs.Tables.{upd, upd2, upd_row, upd_whole_column, is_other}
 use Rattle.hla_lbts.specs.declared.row.PeerRow.{PeerRow}
 use Rattle.hla_lbts.specs.Peers.{peers_of}
 use Rattle.hla_null_message.specs.declared.message.Message.{Message}
@@ -116,3 +116,7 @@ with_component m f local = record m { local = upd m.local f local }
 -- a null message from f lies behind all else on its wires
 abbrev pub with_null_sent : MemberTables → ℕ → ℕ → ℕ → MemberTables
 with_null_sent m f epoch bound = record m { wire = upd_row m.wire m.joined f (λ _ ms. ms ++ message.Null epoch bound ∷ []) }
+
+-- and so does a retraction, on the wire to each other one that is joined and was sent the message
+abbrev pub with_retraction_sent : MemberTables → ℕ → ℕ → MemberTables
+with_retraction_sent m f k = record m { wire = upd_row m.wire m.joined f (λ h ms. cond (is_other m.joined f h && (m.sent f k).receivers h) (ms ++ message.Retraction k ∷ []) ms) }

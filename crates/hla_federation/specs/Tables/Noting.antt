@@ -21,3 +21,7 @@ with_noted sent f (Some note) = upd2 sent f note.serial (noted_event note)
 -- the handle by which its sender may retract it
 abbrev pub handle_noted : ℕ → Option Note → Option EventHandle
 handle_noted f note = option_map (λ (n : Note). record { sender = f; serial = n.serial }) note
+
+-- what each federate sent, with one message of f retracted
+abbrev pub with_retracted : (ℕ → ℕ → SentEvent) → ℕ → ℕ → ℕ → ℕ → SentEvent
+with_retracted sent f m = upd2 sent f m (record (sent f m) { retracted = true })

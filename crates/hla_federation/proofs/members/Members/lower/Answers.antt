@@ -55,6 +55,7 @@ loop-peer-preserved c =
 pub returns-clause-lowered : goal.returns-clause-lowered
 returns-clause-lowered c = λ g.
     let members = c.args.self.now.shown in
-    let all : length members + 1 ≤ c.loop-peer.peer = omega (arith, c.loop-peer-test.false, c.next_federate-end.ensures.number) in
-    (c.loop-peer.invariant.own g,
-    c.loop-peer.invariant.peers g ∙ lowered_all c.args.federate c.args.epoch c.args.entry (members_of members) c.loop-peer.peer g (λ beyond. ap (λ (m : MemberValue). m.joined) (past members g (omega (arith, all, beyond)))))
+    let all : length members + 1 ≤ c.loop-peer.peer = omega (arith, c.loop-peer-test.false, c.next_federate-end.ensures.number) in (
+      c.loop-peer.invariant.own g,
+      c.loop-peer.invariant.peers g ∙ lowered_all c.args.federate c.args.epoch c.args.entry (members_of members) c.loop-peer.peer g (λ beyond. ap (λ (m : MemberValue). m.joined) (past members g (omega (arith, all, beyond)))),
+    )

@@ -25,7 +25,7 @@ returns c =
     let x = c.args.lookahead in
     let row = c.state.ensures ∙ ap (λ (l : LocalValue). l.row) c.local.ensures in
     let low : t ≤ max_time → x ≤ max_time → c.greatest_bar-low.result ≡ low_entry s.directory s.row (t + x) = λ small little.
-        let sum : c.saturating_add.result ≡ t + x = omega (arith, small, little, c.saturating_add.ensures) in
-        c.greatest_bar-low.ensures ∙ ap (λ (n : ℕ). greatest s.directory.next_federate n (λ g. bar_of (s.row g))) sum in
+    let sum : c.saturating_add.result ≡ t + x = omega (arith, small, little, c.saturating_add.ensures) in
+    c.greatest_bar-low.ensures ∙ ap (λ (n : ℕ). greatest s.directory.next_federate n (λ g. bar_of (s.row g))) sum in
     let tests = c.regulation_fault.ensures ∙ ap (λ (r : TimeRow). first_fault (regulation_tests r c.greatest_bar-low.result t x)) row ∙ regulation_same (s.row c.args.federate) c.greatest_bar-low.result (low_entry s.directory s.row (t + x)) t x low in
     subst (λ (w : FederationValue). c.regulation_fault.result ≡ refusal (components_seen (state_of w)) (Call c.args.federate (service.EnableTimeRegulation t x))) c.self.view_is (tests ∙ sym (rw joined refl))
