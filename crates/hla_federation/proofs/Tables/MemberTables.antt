@@ -7,7 +7,7 @@ use Rattle.std.proofs.Math.Path.{fun_ext}
 use Rattle.hla_base.specs.Tables.{upd, upd2, upd_whole_column}
 use Rattle.hla_base.proofs.Tables.{upd_same}
 use Rattle.hla_null_message.specs.declared.message.Message.{Message}
-use Rattle.hla_retraction.specs.SentEvents.{no_event}
+use Rattle.hla_retraction.specs.SentEvents.{SentEvent, no_event}
 use Rattle.hla_retraction.specs.SentRows.{sent_of}
 use Rattle.hla_retraction.specs.declared.sent.SentRow.{SentRow}
 use Rattle.hla_federation.specs.declared.heading.Note.{Note}
