@@ -10,7 +10,30 @@ use std::rt::Runtime;
 use std::{fs, io};
 
 /// The examples, by name.
-const NAMES: [&str; 3] = ["ancestor", "late_subscriber", "refusals"];
+const NAMES: [&str; 22] = [
+    "ancestor",
+    "late_subscriber",
+    "refusals",
+    "lockstep",
+    "late_joiner",
+    "stamped_deletion",
+    "boundary",
+    "floor",
+    "largest_time",
+    "two_orders_and_a_tie",
+    "stale_bound",
+    "creep",
+    "creep_available",
+    "newcomer",
+    "epoch",
+    "retraction",
+    "flush",
+    "asynchronous_delivery",
+    "regulator_resigns",
+    "ceasing_to_be_constrained",
+    "pick_then_grant",
+    "bar_above_entry",
+];
 
 /// The status where an example differs from what is expected, or could not be read.
 const DIFFERS: u8 = 1;

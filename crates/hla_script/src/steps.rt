@@ -254,7 +254,7 @@ impl Request {
         command: &Command,
     ) -> Result<Request, AskFault>
         ensures { Asks result (request_of catalogue.now members.now command.now) }
-        {
+    {
         match command {
             Command::Create => Ok(Request::Create),
             Command::Destroy => Ok(Request::Destroy),

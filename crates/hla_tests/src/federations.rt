@@ -27,8 +27,7 @@ fn federation(rt: &impl Abort, alloc: Global) -> Result<Federation, Fail> {
 }
 
 /// The number that a look-up of the first federate answers; 0 where it is refused.
-fn handle(federation: &mut Federation, service: Service) -> u32
-{
+fn handle(federation: &mut Federation, service: Service) -> u32 {
     let step = Step::Call {
         federate: 1,
         service,
