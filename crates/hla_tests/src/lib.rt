@@ -12,3 +12,7 @@ mod playing;
 mod random_scripts;
 #[cfg(test)]
 mod scenarios;
+#[cfg(test)]
+mod timed_books;
+#[cfg(test)]
+mod timed_scripts;

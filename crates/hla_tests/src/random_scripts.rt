@@ -8,11 +8,18 @@ use std::test::Fail;
 
 /// Numbers that hang only on the first, by the xorshift generator of 64 bits.
 #[derive(Drop)]
-struct Numbers {
+pub struct Numbers {
     last: u64,
 }
 
 impl Numbers {
+    /// The numbers of a seed.
+    pub fn of(seed: u64) -> Numbers {
+        Numbers {
+            last: seed.wrapping_mul(0x9E37_79B9_7F4A_7C15) | 1,
+        }
+    }
+
     fn next(&mut self) -> u64 {
         self.last ^= self.last << 13;
         self.last ^= self.last >> 7;
@@ -21,7 +28,7 @@ impl Numbers {
     }
 
     /// One of some texts; the empty text where there are none.
-    fn pick(&mut self, texts: &'static [&'static str]) -> &'static str {
+    pub fn pick(&mut self, texts: &'static [&'static str]) -> &'static str {
         let drawn = self.next();
         if texts.is_empty() {
             return "";
@@ -167,9 +174,7 @@ fn add_line(script: &mut String, numbers: &mut Numbers, line: &str) -> Result<()
 
 /// The script of a seed, of some thirty lines.
 fn script_of(alloc: Global, seed: u64) -> Result<String, AllocError> {
-    let mut numbers = Numbers {
-        last: seed.wrapping_mul(0x9E37_79B9_7F4A_7C15) | 1,
-    };
+    let mut numbers = Numbers::of(seed);
     let mut script = String::new(alloc);
     for line in OPENING {
         add_line(&mut script, &mut numbers, line)?;
@@ -196,7 +201,7 @@ fn script_of(alloc: Global, seed: u64) -> Result<String, AllocError> {
 }
 
 /// What a script prints.
-fn transcript(alloc: Global, script: &[u8]) -> Result<Vec<u8>, Fail> {
+pub fn transcript(alloc: Global, script: &[u8]) -> Result<Vec<u8>, Fail> {
     let mut out = Vec::new(alloc);
     let _ = play(alloc, FED.as_bytes(), script, &mut Watched::new(&mut out))?;
     Ok(out)
