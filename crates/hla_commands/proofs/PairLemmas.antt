@@ -2,7 +2,7 @@
 use Rattle.std.proofs.Common.{◌≡◌, ℕ, List, [], ◌∷◌, ◌++◌, Option, None, Some, Result, Ok, Err, refl, sym, ap, ◌∙◌, append_assoc}
 use Rattle.std.proofs.lemmas.List.{append-nil}
 use Rattle.hla_commands.specs.Reading.{Reading, read_then}
-use Rattle.hla_commands.specs.Script.{pair_of, stamp_of, pairs_where, pairs_and_stamp}
+use Rattle.hla_commands.specs.Script.{pair_of, word_stamp, pairs_where, pairs_and_stamp}
 use Rattle.hla_commands.specs.declared.lines.NameValuePair.{NameValuePair}
 use Rattle.hla_commands.specs.declared.lines.ScriptFaultKind.{ScriptFaultKind}
 
@@ -19,15 +19,15 @@ regroup front p (Ok ps) = ap (λ (all : List NameValuePair). Ok ((all, ps.0.1), 
 regroup front p (Err k) = refl
 
 -- a word is read by whether it is a stamp, and by what pair it is
-read_by : (front : List NameValuePair) (w : List ℕ) (ws : List (List ℕ)) (s : Option ℕ) (r : Result NameValuePair ScriptFaultKind) → stamp_of w ≡ s → pair_of w ≡ r → with_pairs front (pairs_and_stamp (w ∷ ws)) ≡ with_pairs front (pairs_where s r ws (pairs_and_stamp ws))
+read_by : (front : List NameValuePair) (w : List ℕ) (ws : List (List ℕ)) (s : Option ℕ) (r : Result NameValuePair ScriptFaultKind) → word_stamp w ≡ s → pair_of w ≡ r → with_pairs front (pairs_and_stamp (w ∷ ws)) ≡ with_pairs front (pairs_where s r ws (pairs_and_stamp ws))
 read_by front w ws s r e f =
     ap (λ (s : Option ℕ). with_pairs front (pairs_where s (pair_of w) ws (pairs_and_stamp ws))) e
     ∙ ap (λ (r : Result NameValuePair ScriptFaultKind). with_pairs front (pairs_where s r ws (pairs_and_stamp ws))) f
 
-pub added_pair : (front : List NameValuePair) (w : List ℕ) (ws : List (List ℕ)) (p : NameValuePair) (all : Pairs) → stamp_of w ≡ None → pair_of w ≡ Ok p → with_pairs front (pairs_and_stamp (w ∷ ws)) ≡ all → with_pairs (front ++ p ∷ []) (pairs_and_stamp ws) ≡ all
+pub added_pair : (front : List NameValuePair) (w : List ℕ) (ws : List (List ℕ)) (p : NameValuePair) (all : Pairs) → word_stamp w ≡ None → pair_of w ≡ Ok p → with_pairs front (pairs_and_stamp (w ∷ ws)) ≡ all → with_pairs (front ++ p ∷ []) (pairs_and_stamp ws) ≡ all
 added_pair front w ws p all e f h = sym (regroup front p (pairs_and_stamp ws)) ∙ sym (read_by front w ws None (Ok p) e f) ∙ h
 
-pub stamp_behind : (front : List NameValuePair) (w : List ℕ) (ws : List (List ℕ)) (t : ℕ) (all : Pairs) → stamp_of w ≡ Some t → with_pairs front (pairs_and_stamp (w ∷ ws)) ≡ all → all ≡ Ok ((front, Some t), ws)
+pub stamp_behind : (front : List NameValuePair) (w : List ℕ) (ws : List (List ℕ)) (t : ℕ) (all : Pairs) → word_stamp w ≡ Some t → with_pairs front (pairs_and_stamp (w ∷ ws)) ≡ all → all ≡ Ok ((front, Some t), ws)
 stamp_behind front w ws t all e h = sym h ∙ read_by front w ws (Some t) (pair_of w) e refl ∙ ap (λ (ps : List NameValuePair). Ok ((ps, Some t), ws)) (append-nil front)
 
 pub end_of_pairs : (front : List NameValuePair) (all : Pairs) → with_pairs front (pairs_and_stamp []) ≡ all → all ≡ Ok ((front, None), [])

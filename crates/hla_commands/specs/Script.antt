@@ -75,8 +75,8 @@ pair_of word =
     else Ok (record { name = before_first (λ b. b == 61) word; value = after_first (λ b. b == 61) word })
 
 -- the ticks of a stamp, which is an `@` and a number, if the word is one
-unfoldable pub stamp_of : List ℕ → Option ℕ
-stamp_of word = if nat_lt 0 (length word) && slice_index word 0 == 64 then result_ok (word_number (drop 1 word)) else None
+unfoldable pub word_stamp : List ℕ → Option ℕ
+word_stamp word = if nat_lt 0 (length word) && slice_index word 0 == 64 then result_ok (word_number (drop 1 word)) else None
 
 abbrev pub stamp_where : Option ℕ → List (List ℕ) → Reading (Option ℕ)
 stamp_where None words = Err kind.BadWord
@@ -85,7 +85,7 @@ stamp_where (Some ticks) words = Ok (Some ticks, words)
 -- a stamp that may be left out
 abbrev pub optional_stamp_in : List (List ℕ) → Reading (Option ℕ)
 optional_stamp_in [] = Ok (None, [])
-optional_stamp_in (word ∷ words) = stamp_where (stamp_of word) words
+optional_stamp_in (word ∷ words) = stamp_where (word_stamp word) words
 
 -- where a word is a stamp, it ends the pairs; another is a pair, and there may be more behind it
 abbrev pub pairs_where : Option ℕ → Result NameValuePair ScriptFaultKind → List (List ℕ) → Reading (List NameValuePair × Option ℕ) → Reading (List NameValuePair × Option ℕ)
@@ -95,15 +95,15 @@ pairs_where None pair words later = read_then pair (λ p. read_then later (λ ps
 -- pairs up to the end of the line, or up to a stamp, and that stamp
 abbrev pub pairs_and_stamp : List (List ℕ) → Reading (List NameValuePair × Option ℕ)
 pairs_and_stamp [] = Ok (([], None), [])
-pairs_and_stamp (word ∷ words) = pairs_where (stamp_of word) (pair_of word) words (pairs_and_stamp words)
+pairs_and_stamp (word ∷ words) = pairs_where (word_stamp word) (pair_of word) words (pairs_and_stamp words)
 
 abbrev pub both_numbers : Option ℕ → Option ℕ → Option (ℕ × ℕ)
 both_numbers (Some sender) (Some serial) = Some (sender, serial)
 both_numbers sender serial = None
 
 -- the sender and the serial of a message, two numbers round the first `.`, if the word is its handle
-unfoldable pub handle_of : List ℕ → Option (ℕ × ℕ)
-handle_of word =
+unfoldable pub word_handle : List ℕ → Option (ℕ × ℕ)
+word_handle word =
     if length (before_first (λ b. b == 46) word) == length word then None
     else both_numbers (result_ok (word_number (before_first (λ b. b == 46) word))) (result_ok (word_number (after_first (λ b. b == 46) word)))
 
@@ -113,7 +113,7 @@ handle_where (Some handle) words = Ok (handle, words)
 
 abbrev pub handle_in : List (List ℕ) → Reading (ℕ × ℕ)
 handle_in [] = Err kind.MissingWord
-handle_in (word ∷ words) = handle_where (handle_of word) words
+handle_in (word ∷ words) = handle_where (word_handle word) words
 
 -- an object class that is published or subscribed, with its attributes
 abbrev pub declare_object_in : Declaration → List (List ℕ) → Reading Call

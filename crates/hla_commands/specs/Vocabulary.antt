@@ -37,8 +37,8 @@ declaration_verb_of word =
     else None
 
 -- which service of time management a word asks for, if it is one of their words and no query
-unfoldable pub time_service_of : List ℕ → Option TimeVerb
-time_service_of word =
+unfoldable pub time_service_named : List ℕ → Option TimeVerb
+time_service_named word =
     if bytes_eq word (codes "regulate") then Some time.EnableTimeRegulation
     else if bytes_eq word (codes "unregulate") then Some time.DisableTimeRegulation
     else if bytes_eq word (codes "constrain") then Some time.EnableTimeConstrained
@@ -65,7 +65,7 @@ query_of word =
 
 -- what a word says of time management, if it is one of its words
 abbrev pub time_verb_of : List ℕ → Option TimeVerb
-time_verb_of word = option_or (time_service_of word) (query_of word)
+time_verb_of word = option_or (time_service_named word) (query_of word)
 
 -- what a word behind a federate's name says, if it is known
 unfoldable pub verb_of : List ℕ → Option Verb

@@ -6,7 +6,7 @@ ghost use Rattle.std.specs.Char.{is_ascii_digit};
 ghost use Rattle.std.specs.Str.Parse.{digits_value};
 ghost use Rattle.hla_base.specs.Limits.{largest_number};
 ghost use Rattle.hla_commands.specs.Reading.{Means, Reads};
-ghost use Rattle.hla_commands.specs.Script.{name_in, optional_in, names_in, federate_in, action_in, word_number, number_word, pair_of, stamp_of, optional_stamp_in, pairs_and_stamp, handle_of, handle_in};
+ghost use Rattle.hla_commands.specs.Script.{name_in, optional_in, names_in, federate_in, action_in, word_number, number_word, pair_of, word_stamp, optional_stamp_in, pairs_and_stamp, word_handle, handle_in};
 
 use crate::lines::{NameValuePair, ScriptFaultKind};
 use crate::vocabulary::{Opening, action_of};
@@ -158,9 +158,9 @@ pub fn pair(alloc: Global, word: &[u8]) -> Result<NameValuePair, ScriptFaultKind
 }
 
 /// The ticks of a stamp, which is an `@` and a number, if the word is one.
-#[tactic(auto, unfolding(crate::specs::Script::stamp_of))]
-fn stamp_of(word: &[u8]) -> Option<u64>
-    ensures { result ≡ stamp_of word.now }
+#[tactic(auto, unfolding(crate::specs::Script::word_stamp))]
+fn word_stamp(word: &[u8]) -> Option<u64>
+    ensures { result ≡ word_stamp word.now }
 {
     if word.len() > 0 && word[0] == b'@' {
         number_of(&word[1..]).ok()
@@ -176,7 +176,7 @@ pub fn optional_stamp(words: &mut Words<'_>) -> Result<Option<u64>, ScriptFaultK
     let Some(word) = words.next() else {
         return Ok(None);
     };
-    match stamp_of(word) {
+    match word_stamp(word) {
         Some(ticks) => Ok(Some(ticks)),
         None => Err(ScriptFaultKind::BadWord),
     }
@@ -192,7 +192,7 @@ pub fn pairs_and_stamp(
 {
     let mut found = List::new(alloc);
     while let Some(word) = words.next() {
-        if let Some(ticks) = stamp_of(word) {
+        if let Some(ticks) = word_stamp(word) {
             return Ok((found, Some(ticks)));
         }
         let pair = pair(alloc, word)?;
@@ -204,9 +204,9 @@ pub fn pairs_and_stamp(
 }
 
 /// The sender and the serial of a message, if the word is its handle: two numbers round the first `.`.
-#[tactic(auto, unfolding(crate::specs::Script::handle_of))]
-fn handle_of(word: &[u8]) -> Option<(u64, u64)>
-    ensures { result ≡ handle_of word.now }
+#[tactic(auto, unfolding(crate::specs::Script::word_handle))]
+fn word_handle(word: &[u8]) -> Option<(u64, u64)>
+    ensures { result ≡ word_handle word.now }
 {
     let len = len_before(word, b'.');
     if len == word.len() {
@@ -222,7 +222,7 @@ pub fn handle(words: &mut Words<'_>) -> Result<(u64, u64), ScriptFaultKind>
     ensures { Reads result words.new (handle_in words.old) }
 {
     let word = word(words)?;
-    match handle_of(word) {
+    match word_handle(word) {
         Some(handle) => Ok(handle),
         None => Err(ScriptFaultKind::BadWord),
     }

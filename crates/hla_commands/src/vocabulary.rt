@@ -1,7 +1,7 @@
 //! The words that scripts know.
 
 ghost use Rattle.std.specs.Prelude.{◌≡◌};
-ghost use Rattle.hla_commands.specs.Vocabulary.{opening_of, declaration_verb_of, time_service_of, query_of, time_verb_of, verb_of, action_of};
+ghost use Rattle.hla_commands.specs.Vocabulary.{opening_of, declaration_verb_of, time_service_named, query_of, time_verb_of, verb_of, action_of};
 
 use crate::lines::Declaration;
 use hla_base::AdvanceKind;
@@ -61,9 +61,9 @@ pub enum TimeVerb {
 
 impl TimeVerb {
     /// Which service a word asks for, if it is one of their words and no query.
-    #[tactic(auto, unfolding(crate::specs::Vocabulary::time_service_of))]
+    #[tactic(auto, unfolding(crate::specs::Vocabulary::time_service_named))]
     fn service(word: &[u8]) -> Option<TimeVerb>
-        ensures { result ≡ time_service_of word.now }
+        ensures { result ≡ time_service_named word.now }
     {
         if word == b"regulate".as_slice() {
             Some(TimeVerb::EnableTimeRegulation)

@@ -7,7 +7,7 @@ use Rattle.std.proofs.Math.Path.{fun_ext}
 use Rattle.hla_base.specs.Tables.{upd}
 use Rattle.hla_retraction.specs.declared.sent.SentRow.{SentRow}
 use Rattle.hla_retraction.specs.SentEvents.{SentEvent, no_event}
-use Rattle.hla_retraction.specs.SentRows.{sent_of, event_of, no_row, serial_at, AreRising, IsRowAt}
+use Rattle.hla_retraction.specs.SentRows.{sent_of, row_event, no_row, serial_at, AreRising, IsRowAt}
 
 -- all rows have serials below this one
 abbrev pub AreBelow : List SentRow → ℕ → Type 0
@@ -31,7 +31,7 @@ sent_of-absent (row ∷ rows) serial none =
     let apart : eqb row.serial serial ≡ false = ne_eqb _ _ (none 0 (omega arith)) in
     rw apart (sent_of-absent rows serial (λ i within. none (suc i) (omega arith)))
 
-pub sent_of-at : (rows : List SentRow) (serial i : ℕ) → AreRising rows → IsRowAt rows serial i → sent_of rows serial ≡ event_of (get_or rows i no_row)
+pub sent_of-at : (rows : List SentRow) (serial i : ℕ) → AreRising rows → IsRowAt rows serial i → sent_of rows serial ≡ row_event (get_or rows i no_row)
 unfolding sent_of
 sent_of-at [] serial i rising at = absurd (omega (arith, at.in_range))
 sent_of-at (row ∷ rows) serial zero rising at =
@@ -62,7 +62,7 @@ rising_push rows row rising below i j less within =
       | inr high ↦ omega (arith, old i (omega arith), new j (omega arith), below i (omega arith))
     ]
 
-push_at : (rows : List SentRow) (row : SentRow) (m : ℕ) → AreBelow rows row.serial → sent_of (rows ++ row ∷ []) m ≡ cond (eqb row.serial m) (event_of row) (sent_of rows m)
+push_at : (rows : List SentRow) (row : SentRow) (m : ℕ) → AreBelow rows row.serial → sent_of (rows ++ row ∷ []) m ≡ cond (eqb row.serial m) (row_event row) (sent_of rows m)
 unfolding sent_of
 push_at [] row m below = refl
 push_at (first ∷ rows) row m below = elim (cases_eq row.serial m) [
@@ -72,15 +72,15 @@ push_at (first ∷ rows) row m below = elim (cases_eq row.serial m) [
       rw (no, yes) (push_at rows row m (below_tail first rows row.serial below) ∙ rw yes refl)
   | inr there ↦
       let no : eqb row.serial m ≡ false = ne_eqb _ _ there in
-      rw no (ap (cond (eqb first.serial m) (event_of first)) (push_at rows row m (below_tail first rows row.serial below) ∙ rw no refl))
+      rw no (ap (cond (eqb first.serial m) (row_event first)) (push_at rows row m (below_tail first rows row.serial below) ∙ rw no refl))
 ]
 
-pub sent_of-push : (rows : List SentRow) (row : SentRow) → AreBelow rows row.serial → sent_of (rows ++ row ∷ []) ≡ upd (sent_of rows) row.serial (event_of row)
+pub sent_of-push : (rows : List SentRow) (row : SentRow) → AreBelow rows row.serial → sent_of (rows ++ row ∷ []) ≡ upd (sent_of rows) row.serial (row_event row)
 unfolding upd
 sent_of-push rows row below = fun_ext (λ m. push_at rows row m below)
 
 -- ---- a row in the place of one with its serial
-set_at : (rows : List SentRow) (i : ℕ) (row : SentRow) (m : ℕ) → AreRising rows → IsRowAt rows row.serial i → sent_of (set rows i row) m ≡ cond (eqb row.serial m) (event_of row) (sent_of rows m)
+set_at : (rows : List SentRow) (i : ℕ) (row : SentRow) (m : ℕ) → AreRising rows → IsRowAt rows row.serial i → sent_of (set rows i row) m ≡ cond (eqb row.serial m) (row_event row) (sent_of rows m)
 unfolding sent_of
 set_at [] i row m rising at = absurd (omega (arith, at.in_range))
 set_at (first ∷ rows) zero row m rising at = elim (cases_eq row.serial m) [
@@ -100,7 +100,7 @@ set_at (first ∷ rows) (suc i) row m rising at =
           rw (no, yes) (set_at rows i row m tail at_tail ∙ rw yes refl)
       | inr there ↦
           let no : eqb row.serial m ≡ false = ne_eqb _ _ there in
-          rw no (ap (cond (eqb first.serial m) (event_of first)) (set_at rows i row m tail at_tail ∙ rw no refl))
+          rw no (ap (cond (eqb first.serial m) (row_event first)) (set_at rows i row m tail at_tail ∙ rw no refl))
     ]
 
 -- a row is marked as retracted
@@ -116,5 +116,5 @@ sent_of-marked rows serial i row rising at is =
     let read : row ≡ get_or rows i no_row = is ∙ get_or_default rows i row no_row at.in_range in
     let has : row.serial ≡ serial = ap (λ (r : SentRow). r.serial) read ∙ at.has_serial in
     let at_row : IsRowAt rows row.serial i = record { in_range = at.in_range; has_serial = at.has_serial ∙ sym has } in
-    let event : event_of row ≡ sent_of rows serial = ap event_of read ∙ sym (sent_of-at rows serial i rising at) in
-    fun_ext (λ m. set_at rows i (marked row) m rising at_row ∙ ap (λ s. cond (eqb s m) (event_of (marked row)) (sent_of rows m)) has ∙ ap (λ e. cond (eqb serial m) (marked_event e) (sent_of rows m)) event)
+    let event : row_event row ≡ sent_of rows serial = ap row_event read ∙ sym (sent_of-at rows serial i rising at) in
+    fun_ext (λ m. set_at rows i (marked row) m rising at_row ∙ ap (λ s. cond (eqb s m) (row_event (marked row)) (sent_of rows m)) has ∙ ap (λ e. cond (eqb serial m) (marked_event e) (sent_of rows m)) event)

@@ -5,13 +5,13 @@ use Rattle.hla_retraction.specs.SentEvents.{SentEvent, no_event}
 use Rattle.hla_retraction.specs.Receivers.{receivers_of}
 
 -- what a row keeps of its message
-abbrev pub event_of : SentRow → SentEvent
-event_of row = record { stamp = row.stamp; retractable = true; retracted = row.retracted; receivers = receivers_of row.receivers }
+abbrev pub row_event : SentRow → SentEvent
+row_event row = record { stamp = row.stamp; retractable = true; retracted = row.retracted; receivers = receivers_of row.receivers }
 
 -- the message with a serial, where a row has it
 unfoldable pub sent_of : List SentRow → ℕ → SentEvent
 sent_of [] serial = no_event
-sent_of (row ∷ rows) serial = cond (eqb row.serial serial) (event_of row) (sent_of rows serial)
+sent_of (row ∷ rows) serial = cond (eqb row.serial serial) (row_event row) (sent_of rows serial)
 
 -- stands past the last row, where lists are read by place
 abbrev pub no_row : SentRow

@@ -7,7 +7,7 @@ ghost use Rattle.hla_base.specs.Rows.{is_enabled, least_stamp};
 ghost use Rattle.hla_base.specs.Tables.{upd};
 ghost use Rattle.hla_retraction.specs.SentEvents.{no_event, may_retract};
 ghost use Rattle.hla_retraction.specs.Receivers.{receivers_of};
-ghost use Rattle.hla_retraction.specs.SentRows.{sent_of, event_of, IsRowAt};
+ghost use Rattle.hla_retraction.specs.SentRows.{sent_of, row_event, IsRowAt};
 
 use crate::receivers::Receivers;
 use hla_base::{Fault, FederateNo, Serial, Ticks};
@@ -120,7 +120,7 @@ impl Sent {
 
     fn row(&self, serial: Serial) -> Option<&SentRow>
         ensures { MatchOption result (sent_of self.now serial ≡ no_event)
-            (λ row. sent_of self.now serial ≡ event_of row.now) }
+            (λ row. sent_of self.now serial ≡ row_event row.now) }
     {
         let place = self.place_of(serial)?;
         Some(&self.rows[place])
