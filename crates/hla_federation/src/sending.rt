@@ -6,7 +6,7 @@ ghost use Rattle.hla_base.specs.declared.fault.Fault.TheVariants.{OutOfMemory};
 ghost use Rattle.hla_base.specs.Tables.{is_other, one_if};
 ghost use Rattle.hla_fed_file.specs.Lookup.{has_parameter};
 ghost use Rattle.hla_fed_file.specs.declared.declared.Order.TheVariants.{Receive};
-ghost use Rattle.hla_retraction.specs.Receivers.{receivers_of};
+ghost use Rattle.hla_retraction.specs.Receivers.{receiver_set};
 ghost use Rattle.hla_machine.specs.Directory.{AnInteraction, AnUpdate, ADeletion, is_receiver, subscribed_values, values_of_order, part_sent};
 ghost use Rattle.hla_machine.specs.declared.service.Service.TheVariants as service;
 ghost use Rattle.hla_machine.specs.declared.step.Step.TheVariants as step;
@@ -137,7 +137,7 @@ impl Parts {
         values: &[HandleValuePair],
     ) -> Result<Receivers, Fault>
         requires { IsWhole self.now }
-        ensures receivers { IfOk result (λ rs. receivers_of rs ≡ is_receiver (state_of self.now).directory
+        ensures receivers { IfOk result (λ rs. receiver_set rs ≡ is_receiver (state_of self.now).directory
             heading.sender (AnInteraction class values.now)) }
         ensures ok { OnOk result (HasAdded (message_to (state_of self.now).directory heading
             (AnInteraction class values.now)) outbox.old outbox.new) }
@@ -168,7 +168,7 @@ impl Parts {
         values: &[HandleValuePair],
     ) -> Result<Receivers, Fault>
         requires { IsWhole self.now }
-        ensures receivers { IfOk result (λ rs. receivers_of rs ≡ is_receiver (state_of self.now).directory
+        ensures receivers { IfOk result (λ rs. receiver_set rs ≡ is_receiver (state_of self.now).directory
             heading.sender (AnUpdate object values.now)) }
         ensures ok { OnOk result (HasAdded (message_to (state_of self.now).directory heading
             (AnUpdate object values.now)) outbox.old outbox.new) }
@@ -233,7 +233,7 @@ impl Parts {
     ) -> Result<Option<Receivers>, Fault>
         requires { IsWhole self.now }
         ensures count { IfOk result (λ told. one_if (is_some told) ≡ length (part_sent Receive object values.now)) }
-        ensures receivers { IfOk result (λ told. IfSome told (λ rs. receivers_of rs ≡ is_receiver
+        ensures receivers { IfOk result (λ told. IfSome told (λ rs. receiver_set rs ≡ is_receiver
             (state_of self.now).directory heading.sender (AnUpdate object values.now))) }
         ensures ok { OnOk result (HasAdded (part_to (state_of self.now).directory heading object values.now)
             outbox.old outbox.new) }

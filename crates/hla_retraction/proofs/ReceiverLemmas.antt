@@ -5,10 +5,10 @@ use Rattle.std.proofs.lemmas.List.{get_or-set_same, get_or-set_other}
 use Rattle.std.proofs.Math.Path.{fun_ext}
 use Rattle.hla_base.specs.Tables.{upd}
 use Rattle.hla_base.proofs.Tables.{upd_same, upd_other}
-use Rattle.hla_retraction.specs.Receivers.{receivers_of}
+use Rattle.hla_retraction.specs.Receivers.{receiver_set}
 
-pub receivers_of-set : (flags : List Bool) (f : ℕ) → f < length flags → receivers_of (set flags f true) ≡ upd (receivers_of flags) f true
-receivers_of-set flags f within = fun_ext (λ g. ⊎_elim
-    (λ (same : f ≡ g). rw (← same) (get_or-set_same flags f true false within ∙ sym (upd_same (receivers_of flags) f true)))
-    (λ (apart : f ≡ g → ⊥). get_or-set_other flags f g true false (λ e. apart (sym e)) ∙ sym (upd_other (receivers_of flags) f true g apart))
+pub receiver_set-set : (flags : List Bool) (f : ℕ) → f < length flags → receiver_set (set flags f true) ≡ upd (receiver_set flags) f true
+receiver_set-set flags f within = fun_ext (λ g. ⊎_elim
+    (λ (same : f ≡ g). rw (← same) (get_or-set_same flags f true false within ∙ sym (upd_same (receiver_set flags) f true)))
+    (λ (apart : f ≡ g → ⊥). get_or-set_other flags f g true false (λ e. apart (sym e)) ∙ sym (upd_other (receiver_set flags) f true g apart))
     (cases_eq f g))

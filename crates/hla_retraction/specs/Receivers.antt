@@ -3,8 +3,8 @@ use Rattle.std.specs.Prelude.{◌≡◌, ℕ, ◌+◌, Bool, false, List, length
 use Rattle.hla_base.specs.Limits.{max_joins}
 
 -- which numbers are in the set that flags stand for
-abbrev pub receivers_of : List Bool → ℕ → Bool
-receivers_of flags = λ f. slice_index_or flags f false
+abbrev pub receiver_set : List Bool → ℕ → Bool
+receiver_set flags = λ f. slice_index_or flags f false
 
 -- a flag for each number that a federate may have, and one for 0, which is not in the set
 pub record AreFlags (flags : List Bool) : Type 0 where

@@ -6,7 +6,7 @@ ghost use Rattle.hla_base.specs.declared.row.TimeRow.{TimeRow};
 ghost use Rattle.hla_base.specs.Rows.{is_enabled, least_stamp};
 ghost use Rattle.hla_base.specs.Tables.{upd};
 ghost use Rattle.hla_retraction.specs.SentEvents.{no_event, may_retract};
-ghost use Rattle.hla_retraction.specs.Receivers.{receivers_of};
+ghost use Rattle.hla_retraction.specs.Receivers.{receiver_set};
 ghost use Rattle.hla_retraction.specs.SentRows.{sent_of, row_event, IsRowAt};
 
 use crate::receivers::Receivers;
@@ -65,7 +65,7 @@ impl Sent {
           stamp = stamp;
           retractable = true;
           retracted = false;
-          receivers = receivers_of receivers;
+          receivers = receiver_set receivers;
         })) }
         ensures err { IfErr result (λ e. e ≡ Fault.OutOfMemory) }
         ensures unchanged { OnErr result (self.new ≡ self.old) }

@@ -74,7 +74,7 @@ loop-receiver-preserved c =
           ∙ ap (λ (vs : List HandleValuePair). item [] c.args.outbox.now h ++ (messages_among made (take i items) h ++ cond (eqb to h) (said vs) [])) c.in_ok-values.ensures.ok
           ∙ ap (λ (ms : List Message). item [] c.args.outbox.now h ++ ms) (sym (among-more made h items i none (omega arith)));
       told = λ g. ap (λ (t : ℕ → Bool). t g) c.add.ensures
-          ∙ told_more (told.receivers_of c.loop-receiver.told) (messages_among made (take i items)) to x c.loop-receiver.invariant.told g
+          ∙ told_more (told.receiver_set c.loop-receiver.told) (messages_among made (take i items)) to x c.loop-receiver.invariant.told g
           ∙ ap (λ (vs : List HandleValuePair). has_message (messages_among made (take i items) g ++ cond (eqb to g) (said vs) [])) c.in_ok-values.ensures.ok
           ∙ ap has_message (sym (among-more made g items i none (omega arith)));
     }

@@ -79,9 +79,9 @@ loop-receiver-preserved c =
                 ∙ added_more (messages_among made (take i items)) c.args.outbox.now c.loop-receiver.outbox w.put.new.self to w.event.result c.loop-receiver.invariant.added w.in_ok-put.ensures.ok h
                 ∙ ap (λ (ms : List Message). item [] c.args.outbox.now h ++ (messages_among made (take i items) h ++ cond (eqb to h) ms [])) (ap (λ (m : Message). m ∷ []) w.event.ensures ∙ said)
                 ∙ ap (λ (ms : List Message). item [] c.args.outbox.now h ++ ms) (sym (among-more made h items i none (omega arith)));
-            told = λ g. ap (λ (rs : List Bool). told.receivers_of rs g) w.told-is
+            told = λ g. ap (λ (rs : List Bool). told.receiver_set rs g) w.told-is
                 ∙ ap (λ (t : ℕ → Bool). t g) w.add.ensures
-                ∙ told_more (told.receivers_of c.loop-receiver.told) (messages_among made (take i items)) to x c.loop-receiver.invariant.told g
+                ∙ told_more (told.receiver_set c.loop-receiver.told) (messages_among made (take i items)) to x c.loop-receiver.invariant.told g
                 ∙ ap (λ (ms : List Message). has_message (messages_among made (take i items) g ++ cond (eqb to g) ms [])) said
                 ∙ ap has_message (sym (among-more made g items i none (omega arith)));
           }
@@ -92,7 +92,7 @@ loop-receiver-preserved c =
             added = λ h. ap (λ (o : List (List Message)). item [] o h) w.outbox-is
                 ∙ c.loop-receiver.invariant.added h
                 ∙ ap (λ (ms : List Message). item [] c.args.outbox.now h ++ ms) (sym (among-none made h items i none (omega arith) nothing));
-            told = λ g. ap (λ (rs : List Bool). told.receivers_of rs g) w.told-is
+            told = λ g. ap (λ (rs : List Bool). told.receiver_set rs g) w.told-is
                 ∙ c.loop-receiver.invariant.told g
                 ∙ ap has_message (sym (among-none made g items i none (omega arith) nothing));
           }
