@@ -1,3 +1,7 @@
+-- Values by rising handle
+pub mod Pairs
+-- The parts stay of one execution
+pub mod Wholes
 -- What is not refused is done
 pub mod Doing
 -- Publications, subscriptions and arrivals

@@ -16,7 +16,7 @@ pub struct Federation {
 }
 
 impl Model for Federation {
-    ghost use Rattle.hla_federation.specs.Tables.FederationValue.{FederationValue};
+    ghost use Rattle.hla_federation.specs.FederationValue.{FederationValue};
     ghost use Rattle.hla_federation.specs.Steps.Soundness.{IsSound};
 
     ghost Value = { FederationValue };

@@ -1,4 +1,4 @@
-//! What heads the copies of a message, and what is noted of one that may be retracted.
+//! What heads the copies of a message.
 
 ghost use Rattle.std.specs.Prelude.{◌≡◌};
 ghost use Rattle.std.specs.Option.{option_and_then};
@@ -8,6 +8,7 @@ ghost use Rattle.hla_federation.specs.Steps.Sending.{event_under, note_under};
 
 use hla_base::{Content, Event, FederateNo, Serial, Ticks};
 use hla_fed_file::Order;
+use hla_members::Note;
 use hla_null_message::Message;
 use hla_retraction::Receivers;
 
@@ -25,14 +26,6 @@ pub struct Heading {
     pub sender: FederateNo,
     pub serial: Serial,
     pub stamp: Option<Ticks>,
-}
-
-/// A message that its sender may retract: an update or an interaction in time-stamp order.
-#[derive(Debug, Drop)]
-pub struct Note {
-    pub serial: Serial,
-    pub stamp: Ticks,
-    pub receivers: Receivers,
 }
 
 impl Heading {

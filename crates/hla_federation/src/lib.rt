@@ -3,22 +3,15 @@
 
 mod advancing;
 mod announcing;
-mod change;
 mod choosing;
 mod declaring;
 mod delivering;
-mod direction;
 mod dispatch;
 mod federation;
 mod heading;
-mod incoming;
 mod joining;
 mod lookups;
-mod member;
-mod members;
-mod messages;
 mod naming;
-mod outbox;
 mod pairs;
 mod parts;
 mod refusals;

@@ -1,9 +1,7 @@
 -- Which steps may be refused for want of memory; no other step ever is
-use Rattle.std.specs.Prelude.{◌≡◌, ◌⊎◌, ◌&&◌, ltb, Bool, true, false, None, Some, List, [], ◌∷◌}
+use Rattle.std.specs.Prelude.{◌≡◌, ◌⊎◌, ◌&&◌, ltb, Bool, true, false, None, Some}
 use Rattle.hla_base.specs.declared.fault.Fault.{Fault}
 use Rattle.hla_base.specs.declared.fault.Fault.TheVariants.{OutOfMemory}
-use Rattle.hla_null_message.specs.declared.message.Message.{Message}
-use Rattle.hla_local.specs.Arriving.{message_takes_memory}
 use Rattle.hla_local.specs.Picking.{Pick, PickConstrains, pick}
 use Rattle.hla_machine.specs.declared.service.Service.{Service}
 use Rattle.hla_machine.specs.declared.service.Service.TheVariants as service
@@ -14,11 +12,7 @@ use Rattle.hla_base.specs.Rows.{is_regulator}
 use Rattle.hla_components.specs.Components.{Components}
 use Rattle.hla_components.specs.Component.{promise, local_bound}
 use Rattle.hla_components.specs.Next.{components_seen}
-
--- the first message on a wire, if there is one
-abbrev pub arrival_takes_memory : List Message → Bool
-arrival_takes_memory [] = false
-arrival_takes_memory (m ∷ ms) = message_takes_memory m
+use Rattle.hla_members.specs.Members.{arrival_takes_memory}
 
 -- only what moves as a federate becomes constrained takes memory
 abbrev pub pick_takes_memory : Pick → Bool
