@@ -42,3 +42,5 @@ pub mod Resigning
 pub mod Sound
 -- Lists of steps are runs of the machine
 pub mod Running
+-- How a step would end
+pub mod Foreseeing

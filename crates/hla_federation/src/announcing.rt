@@ -67,7 +67,7 @@ impl Parts {
 
     /// What a federate announces now: what it may promise, if it regulates or has asked to and that is more than it announced
     /// last.
-    fn announcement(&self, federate: FederateNo) -> Option<Ticks>
+    pub fn announcement(&self, federate: FederateNo) -> Option<Ticks>
         requires whole { IsWhole self.now }
         requires some { 0 < federate }
         requires within { federate < (state_of self.now).directory.next_federate }

@@ -4,9 +4,9 @@ ghost use Rattle.std.specs.Prelude.{◌≡◌};
 ghost use Rattle.std.specs.Option.{option_and_then};
 ghost use Rattle.hla_fed_file.specs.declared.declared.Order.TheVariants.{Timestamp};
 ghost use Rattle.hla_machine.specs.Directory.{is_of_order};
-ghost use Rattle.hla_federation.specs.Steps.Sending.{event_under, note_under};
+ghost use Rattle.hla_federation.specs.Steps.Sending.{event_under, handle_under, note_under};
 
-use hla_base::{Content, Event, FederateNo, Serial, Ticks};
+use hla_base::{Content, Event, EventHandle, FederateNo, Serial, Ticks};
 use hla_fed_file::Order;
 use hla_members::Note;
 use hla_null_message::Message;
@@ -39,6 +39,16 @@ impl Heading {
             ordered: self.stamp.is_some(),
             stamp: self.stamp.unwrap_or(0),
             content,
+        })
+    }
+
+    /// The handle by which its sender may retract the message, if it goes in time-stamp order.
+    pub fn handle(self) -> Option<EventHandle>
+        ensures { result ≡ handle_under self }
+    {
+        self.stamp.map(|_stamp| EventHandle {
+            sender: self.sender,
+            serial: self.serial,
         })
     }
 

@@ -8,6 +8,7 @@ mod declaring;
 mod delivering;
 mod dispatch;
 mod federation;
+mod foreseeing;
 mod heading;
 mod joining;
 mod lookups;
@@ -21,3 +22,4 @@ mod retracting;
 mod sending;
 
 pub use federation::Federation;
+pub use foreseeing::Foreseen;

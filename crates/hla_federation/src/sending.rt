@@ -104,7 +104,7 @@ impl Parts {
 
     /// What heads a message of a federate that has this order: the stamp counts where the order is time-stamp order and the
     /// federate regulates.
-    fn heading(
+    pub fn heading(
         &self,
         sender: FederateNo,
         serial: Serial,
