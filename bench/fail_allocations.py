@@ -21,9 +21,9 @@ READING = re.compile(rb"(fed|script) line \d+: OutOfMemory\n")
 
 
 def build():
-    with open(CRATE / "stdin", "rb") as example:
-        subprocess.run(["rt", "run"], cwd=CRATE, check=True, stdin=example,
-                       stdout=subprocess.DEVNULL, stderr=subprocess.DEVNULL)
+    example = BENCH.parent / "examples" / "text-f.fed"
+    subprocess.run(["rt", "run", "--", "fed", str(example)], cwd=CRATE, check=True, stdin=subprocess.DEVNULL,
+                   stdout=subprocess.DEVNULL, stderr=subprocess.DEVNULL)
 
 
 class Player:

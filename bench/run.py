@@ -1,5 +1,6 @@
 #!/usr/bin/env python3
-"""Builds hlaplay, plays a quarter, a half and the whole of the lockstep script, and prints steps per second and peak memory."""
+"""Builds hlaplay, plays lockstep scripts of three lengths, without and with time management, and of more federates, and prints
+steps per second and peak memory."""
 import os
 import pathlib
 import subprocess
@@ -14,9 +15,9 @@ REPEATS = 5
 
 
 def build():
-    with open(CRATE / "stdin", "rb") as example:
-        subprocess.run(["rt", "run"], cwd=CRATE, check=True, stdin=example,
-                       stdout=subprocess.DEVNULL, stderr=subprocess.DEVNULL)
+    example = BENCH.parent / "examples" / "text-f.fed"
+    subprocess.run(["rt", "run", "--", "fed", str(example)], cwd=CRATE, check=True, stdin=subprocess.DEVNULL,
+                   stdout=subprocess.DEVNULL, stderr=subprocess.DEVNULL)
 
 
 def play(data):
@@ -36,19 +37,27 @@ def play(data):
         return seconds, used.ru_maxrss, printed.read().splitlines()
 
 
+def measure(words):
+    """Plays the script that lockstep.py writes for these words, and prints its figures."""
+    data = subprocess.run([sys.executable, str(BENCH / "lockstep.py"), *words], check=True, capture_output=True).stdout
+    runs = [play(data) for _ in range(REPEATS)]
+    seconds = min(run[0] for run in runs)
+    lines = runs[0][2]
+    if any(b" ok" not in line for line in lines):
+        sys.exit("a step was refused")
+    memory = max(run[1] for run in runs)
+    print(f"{' '.join(words)}: {len(lines)} steps: {len(lines) / seconds:,.0f} steps per second, "
+          f"{seconds * 1000:.1f} ms, peak memory {memory / 1024:.1f} MiB")
+
+
 def main():
     build()
-    for steps in [8_192, 16_384, 32_768]:
-        data = subprocess.run([sys.executable, str(BENCH / "lockstep.py"), str(steps)],
-                              check=True, capture_output=True).stdout
-        runs = [play(data) for _ in range(REPEATS)]
-        seconds = min(run[0] for run in runs)
-        lines = runs[0][2]
-        if any(b" ok" not in line for line in lines):
-            sys.exit("a step was refused")
-        memory = max(run[1] for run in runs)
-        print(f"{len(lines)} steps: {len(lines) / seconds:,.0f} steps per second, "
-              f"{seconds * 1000:.1f} ms, peak memory {memory / 1024:.1f} MiB")
+    for rounds in ["72", "144", "289"]:
+        measure(["--receive-order", "4", "4", rounds])
+    for rounds in ["60", "120", "240"]:
+        measure(["4", "4", rounds])
+    for federates, rounds in [("2", "1000"), ("8", "56"), ("16", "14")]:
+        measure([federates, "4", rounds])
 
 
 if __name__ == "__main__":
