@@ -1,0 +1,2 @@
+-- Each step keeps what is known of peers once all has come, and what rows have raised
+pub mod Keeping

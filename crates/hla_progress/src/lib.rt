@@ -1,0 +1,4 @@
+//! That a federation gets on: what rounds of announcing, carrying and ticking bring, as laws of the components' definitions alone.
+#![tactic(auto)]
+
+pub mod promises;
