@@ -4,5 +4,7 @@ pub mod Bounds
 pub mod Changes
 -- Federates that join and resign
 pub mod Members
+-- Federates are numbered from 1
+pub mod Numbers
 -- Each step and each list of steps
 pub mod Steps

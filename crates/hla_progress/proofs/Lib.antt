@@ -1,2 +1,4 @@
 -- Each step keeps what is known of peers once all has come, and what rows have raised
 pub mod Keeping
+-- What waits for nobody else comes at once
+pub mod Waiting
