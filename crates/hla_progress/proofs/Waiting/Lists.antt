@@ -1,5 +1,5 @@
 -- Lists of steps, and rounds
-use Rattle.std.proofs.Common.{◌≡◌, ◌≢◌, ℕ, zero, suc, ◌+◌, ◌≤◌, ◌<◌, eqb, true, refl, ◌∙◌, inl, inr, ⊎_elim, arith, eq-eqb, List, [], ◌∷◌, ◌++◌, replicate}
+use Rattle.std.proofs.Common.{◌≡◌, ◌≢◌, ℕ, zero, suc, ◌+◌, ◌≤◌, ◌<◌, eqb, true, refl, ◌∙◌, inl, inr, ⊎_elim, arith, eq-eqb, List, [], ◌∷◌, ◌++◌, replicate, Some, None, le_trans, ap, false, sym, subst}
 use Rattle.std.proofs.lemmas.Bool.{cases_eq, cond_both}
 use Rattle.hla_base.specs.Tables.{one_if}
 use Rattle.hla_callbacks.specs.declared.callback.Callback.{Callback}
@@ -12,22 +12,65 @@ use Rattle.hla_components.specs.Next.{next}
 use Rattle.hla_components.proofs.Basics.Each.{EachOf-append}
 use Rattle.hla_components.proofs.Refinement.Runs.{each_step}
 use Rattle.hla_components.proofs.Refinement.LedTo.{led_inv}
+use Rattle.hla_callbacks.specs.declared.callback.Callback.TheVariants as callback
+use Rattle.hla_base.specs.declared.row.AdvanceRequest.{AdvanceRequest}
+use Rattle.hla_base.specs.declared.row.TimeRow.{TimeRow}
+use Rattle.hla_base.specs.Rows.{is_constrained, is_enabled, is_next, is_flush, reach}
+use Rattle.hla_base.proofs.Tables.{least-mono, least_le-forever}
+use Rattle.hla_components.specs.Component.{local_bound}
+use Rattle.hla_components.specs.Invariant.{RowInv}
+use Rattle.hla_progress.specs.Promises.{is_raised_late}
 use Rattle.hla_progress.specs.Rounds.{announcements, carries_from, carries_to, ticks, round, rounds, IsOfRounds, is_tick_of, ticks_of, IsGiven, IsGivenAtLast}
-use Rattle.hla_progress.specs.AtOnce.{WaitsForNobody, IsAwaited, due_before, EachTickAnswersAtOnce, EachComesAtOnce}
+use Rattle.hla_progress.specs.AtOnce.{WaitsForNobody, IsAwaited, due_before, EachTickAnswersAtOnce, EachComesAtOnce, EachReachedComesAtOnce}
 use Rattle.hla_progress.proofs.Keeping.Numbers.{joined_from_one}
-use Rattle.hla_progress.proofs.Waiting.Steps.{WaitsOn, step_brings}
+use Rattle.hla_progress.proofs.Waiting.Picks.{IsDuePick, pick_due, pick_reached}
+use Rattle.hla_progress.proofs.Waiting.Steps.{WaitsOn, step_brings, picked_at}
 
-list_brings : (s : Components) (steps : List Step) (f : ℕ) (P : Callback → Type 0) → Inv s → s.directory.joined f ≡ true → WaitsForNobody (s.row f) → ((k : Callback) → IsAwaited (s.row f) k → P k)
-    → EachOf IsOfRounds steps → due_before s f < ticks_of f steps → IsGivenAtLast (happenings s steps) f P
-list_brings s [] f P inv member waits to of less = absurd (omega (arith, less))
-list_brings s (step ∷ steps) f P inv member waits to of less = ⊎_elim
-    (λ (g : IsGiven (happening step (next s step)) f (IsAwaited (s.row f))). inl (g.0, g.1, to g.0 g.2))
-    (λ (w : (is_tick_of f step ≡ true → IsGiven (happening step (next s step)) f (λ _. Unit {0})) × WaitsOn s (next s step).state f (one_if (is_tick_of f step))).
-    inr (w.0, list_brings (next s step).state steps f P (each_step s step inv).kept (w.1.joined ∙ member) (w.1.waits waits) (λ k a. to k (w.1.same k a)) of.1 (omega (arith, less, w.1.less))))
-    (step_brings s f inv member waits step of.0)
+-- what makes each pick of f due, and lasts while f waits
+module _ (f : ℕ) (C : Components → Type 0) (due : (s : Components) → Inv s → C s → IsDuePick (s.row f) (picked_at s f)) (lasts : (s t : Components) (x : ℕ) → WaitsOn s t f x → C s → C t) where
+  pub list_brings : (s : Components) (steps : List Step) (P : Callback → Type 0) → Inv s → s.directory.joined f ≡ true → C s → ((k : Callback) → IsAwaited (s.row f) k → P k)
+      → EachOf IsOfRounds steps → due_before s f < ticks_of f steps → IsGivenAtLast (happenings s steps) f P
+  list_brings s [] P inv member c to of less = absurd (omega (arith, less))
+  list_brings s (step ∷ steps) P inv member c to of less = ⊎_elim
+      (λ (g : IsGiven (happening step (next s step)) f (IsAwaited (s.row f))). inl (g.0, g.1, to g.0 g.2))
+      (λ (w : (is_tick_of f step ≡ true → IsGiven (happening step (next s step)) f (λ _. Unit {0})) × WaitsOn s (next s step).state f (one_if (is_tick_of f step))).
+      inr (w.0, list_brings (next s step).state steps P (each_step s step inv).kept (w.1.joined ∙ member) (lasts s (next s step).state _ w.1 c) (λ k a. to k (w.1.same k a)) of.1 (omega (arith, less, w.1.less))))
+      (step_brings s f inv member (due s inv c) step of.0)
+
+nobody_due : (f : ℕ) (s : Components) → Inv s → WaitsForNobody (s.row f) → IsDuePick (s.row f) (picked_at s f)
+nobody_due f s inv waits = pick_due (s.row f) (local_bound s f) (s.controls f) (s.ro f) (s.tso f) (inv.kept.time.rows f) waits
 
 pub tick_answers : EachTickAnswersAtOnce
-tick_answers s steps f is member waits of less = list_brings s steps f (IsAwaited (s.row f)) (led_inv s is) member waits (λ k a. a) of less
+tick_answers s steps f is member waits of less = list_brings f (λ t. WaitsForNobody (t.row f)) (nobody_due f) (λ s t x w. w.waits) s steps (IsAwaited (s.row f)) (led_inv s is) member waits (λ k a. a) of less
+
+-- ---- a goal that is reached
+-- a constrained federate in Time Advance Request (Available), whose goal is at most the least bound that it knows
+record HasReached (q : AdvanceRequest) (f : ℕ) (s : Components) : Type 0 where
+  asks : (s.row f).advance ≡ Some q
+  constrained : is_constrained (s.row f) ≡ true
+  within : reach q.kind q.asked ≤ local_bound s f
+
+reached_lasts : (q : AdvanceRequest) (f : ℕ) (s t : Components) (x : ℕ) → WaitsOn s t f x → HasReached q f s → HasReached q f t
+reached_lasts q f s t x w h = record {
+  asks = w.advance ∙ h.asks;
+  constrained = ap is_enabled w.constrained ∙ h.constrained;
+  within = le_trans h.within (rw w.numbers (least-mono s.directory.next_federate (s.bound f) (t.bound f) (λ g _. w.bounds g)));
+}
+
+reached_is_due : (q : AdvanceRequest) (f : ℕ) → is_next q.kind ≡ false → is_flush q.kind ≡ false → (s : Components) → Inv s → HasReached q f s → IsDuePick (s.row f) (picked_at s f)
+reached_is_due q f nx fl s inv h = pick_reached (s.row f) (local_bound s f) q h.asks h.constrained nx fl h.within (s.controls f) (s.ro f) (s.tso f) (least_le-forever s.directory.next_federate (s.bound f)) (inv.kept.time.rows f)
+
+-- what it waits for is the grant of the time that it asked for
+awaited_grant : (r : TimeRow) (q : AdvanceRequest) → RowInv r → r.advance ≡ Some q → is_next q.kind ≡ false → is_flush q.kind ≡ false → (k : Callback) → IsAwaited r k → k ≡ callback.TimeAdvanceGrant q.asked
+awaited_grant r q inv asks nx fl (callback.TimeRegulationEnabled t) a = absurd (let none : r.advance ≡ None = inv.idle a.0 in let no : Some q ≡ None = sym asks ∙ none in cc)
+awaited_grant r q inv asks nx fl (callback.TimeAdvanceGrant t) a =
+    let same : Some q ≡ Some a.0 = sym asks ∙ a.1 in let is : q ≡ a.0 = cc in
+    ap callback.TimeAdvanceGrant (a.3 (subst (λ (x : AdvanceRequest). is_raised_late r x ≡ false) is (rw (nx, fl) refl)) ∙ ap (λ (x : AdvanceRequest). x.asked) (sym is))
+awaited_grant r q inv asks nx fl k a = absurd a
+
+pub reached_comes : EachReachedComesAtOnce
+reached_comes s steps f q is member con asks nx fl within of less = list_brings f (HasReached q f) (reached_is_due q f nx fl) (reached_lasts q f) s steps (λ k. k ≡ callback.TimeAdvanceGrant q.asked) (led_inv s is) member
+    (record { asks = asks; constrained = con; within = within }) (awaited_grant (s.row f) q ((led_inv s is).kept.time.rows f) asks nx fl) of less
 
 -- ---- rounds
 ticks_of-append : (f : ℕ) (xs ys : List Step) → ticks_of f (xs ++ ys) ≡ ticks_of f xs + ticks_of f ys
