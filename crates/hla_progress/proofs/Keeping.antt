@@ -8,3 +8,5 @@ pub mod Members
 pub mod Numbers
 -- Each step and each list of steps
 pub mod Steps
+-- What a component knows of itself, and of the number 0
+pub mod Own

@@ -2,3 +2,5 @@
 pub mod Keeping
 -- What waits for nobody else comes at once
 pub mod Waiting
+-- What the machine's own bound lets a federate have, rounds give it
+pub mod CatchUp

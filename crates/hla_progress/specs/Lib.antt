@@ -4,3 +4,5 @@ pub mod Promises
 pub mod Rounds
 -- Who waits for nobody else, and what may come before its callback
 pub mod AtOnce
+-- What the machine's own bound lets a federate have, rounds give it
+pub mod CatchingUp

@@ -2,4 +2,5 @@
 #![tactic(auto)]
 
 pub mod at_once;
+pub mod catching_up;
 pub mod promises;

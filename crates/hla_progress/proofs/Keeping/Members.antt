@@ -26,7 +26,7 @@ module _ (s : Components) (k : KeepsPromises s) (inv : Inv s) where
   abbrev n : ℕ
   n = s.directory.next_federate
 
-  unheard : is_regulator (s.row n) ≡ false
+  pub unheard : is_regulator (s.row n) ≡ false
   unheard = ⊎_elim
       (λ (y : is_regulator (s.row n) ≡ true). absurd (not_below_itself n (inv.kept.directory.members n (inv.kept.time.regulators n y))))
       (λ (e : is_regulator (s.row n) ≡ false). e)

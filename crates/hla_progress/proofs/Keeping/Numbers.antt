@@ -63,7 +63,7 @@ numbered_done s (Carry g f) n = numbered_carry s g f (s.wire g f) n
 numbered_done s (Announce f) n = cond_both (is_regulator (s.row f) && ltb (s.last_announced f) (promise s f)) (answer_outcome (answer.Announced (Some (promise s f))) (with_null_announced s f (promise s f))) (answer_outcome (answer.Announced None) s) (λ (o : Outcomes). IsNumbered o.state.directory) (λ _. n) (λ _. n)
 numbered_done s (Tick f) n = numbered_pick s f _ n
 
-numbered_unless : (s : Components) (step : Step) (o : Option Fault) → IsNumbered s.directory → IsNumbered (unless_refused o s (step_outcome s step)).state.directory
+pub numbered_unless : (s : Components) (step : Step) (o : Option Fault) → IsNumbered s.directory → IsNumbered (unless_refused o s (step_outcome s step)).state.directory
 numbered_unless s step None n = numbered_done s step n
 numbered_unless s step (Some e) n = n
 

@@ -45,23 +45,23 @@ tick_answers s steps f is member waits of less = list_brings f (λ t. WaitsForNo
 
 -- ---- a goal that is reached
 -- a constrained federate in Time Advance Request (Available), whose goal is at most the least bound that it knows
-record HasReached (q : AdvanceRequest) (f : ℕ) (s : Components) : Type 0 where
-  asks : (s.row f).advance ≡ Some q
-  constrained : is_constrained (s.row f) ≡ true
-  within : reach q.kind q.asked ≤ local_bound s f
+pub record HasReached (q : AdvanceRequest) (f : ℕ) (s : Components) : Type 0 where
+  pub asks : (s.row f).advance ≡ Some q
+  pub constrained : is_constrained (s.row f) ≡ true
+  pub within : reach q.kind q.asked ≤ local_bound s f
 
-reached_lasts : (q : AdvanceRequest) (f : ℕ) (s t : Components) (x : ℕ) → WaitsOn s t f x → HasReached q f s → HasReached q f t
+pub reached_lasts : (q : AdvanceRequest) (f : ℕ) (s t : Components) (x : ℕ) → WaitsOn s t f x → HasReached q f s → HasReached q f t
 reached_lasts q f s t x w h = record {
   asks = w.advance ∙ h.asks;
   constrained = ap is_enabled w.constrained ∙ h.constrained;
   within = le_trans h.within (rw w.numbers (least-mono s.directory.next_federate (s.bound f) (t.bound f) (λ g _. w.bounds g)));
 }
 
-reached_is_due : (q : AdvanceRequest) (f : ℕ) → is_next q.kind ≡ false → is_flush q.kind ≡ false → (s : Components) → Inv s → HasReached q f s → IsDuePick (s.row f) (picked_at s f)
+pub reached_is_due : (q : AdvanceRequest) (f : ℕ) → is_next q.kind ≡ false → is_flush q.kind ≡ false → (s : Components) → Inv s → HasReached q f s → IsDuePick (s.row f) (picked_at s f)
 reached_is_due q f nx fl s inv h = pick_reached (s.row f) (local_bound s f) q h.asks h.constrained nx fl h.within (s.controls f) (s.ro f) (s.tso f) (least_le-forever s.directory.next_federate (s.bound f)) (inv.kept.time.rows f)
 
 -- what it waits for is the grant of the time that it asked for
-awaited_grant : (r : TimeRow) (q : AdvanceRequest) → RowInv r → r.advance ≡ Some q → is_next q.kind ≡ false → is_flush q.kind ≡ false → (k : Callback) → IsAwaited r k → k ≡ callback.TimeAdvanceGrant q.asked
+pub awaited_grant : (r : TimeRow) (q : AdvanceRequest) → RowInv r → r.advance ≡ Some q → is_next q.kind ≡ false → is_flush q.kind ≡ false → (k : Callback) → IsAwaited r k → k ≡ callback.TimeAdvanceGrant q.asked
 awaited_grant r q inv asks nx fl (callback.TimeRegulationEnabled t) a = absurd (let none : r.advance ≡ None = inv.idle a.0 in let no : Some q ≡ None = sym asks ∙ none in cc)
 awaited_grant r q inv asks nx fl (callback.TimeAdvanceGrant t) a =
     let same : Some q ≡ Some a.0 = sym asks ∙ a.1 in let is : q ≡ a.0 = cc in
@@ -73,11 +73,11 @@ reached_comes s steps f q is member con asks nx fl within of less = list_brings 
     (record { asks = asks; constrained = con; within = within }) (awaited_grant (s.row f) q ((led_inv s is).kept.time.rows f) asks nx fl) of less
 
 -- ---- rounds
-ticks_of-append : (f : ℕ) (xs ys : List Step) → ticks_of f (xs ++ ys) ≡ ticks_of f xs + ticks_of f ys
+pub ticks_of-append : (f : ℕ) (xs ys : List Step) → ticks_of f (xs ++ ys) ≡ ticks_of f xs + ticks_of f ys
 ticks_of-append f [] ys = omega arith
 ticks_of-append f (x ∷ xs) ys = omega (arith, ticks_of-append f xs ys)
 
-everyone_ticks : (f n : ℕ) → 1 ≤ f → f ≤ n → 1 ≤ ticks_of f (ticks n)
+pub everyone_ticks : (f n : ℕ) → 1 ≤ f → f ≤ n → 1 ≤ ticks_of f (ticks n)
 unfolding ticks
 everyone_ticks f zero a b = absurd (omega arith)
 everyone_ticks f (suc n) a b = ⊎_elim
@@ -88,16 +88,16 @@ everyone_ticks f (suc n) a b = ⊎_elim
 round_ticks : (f n m : ℕ) → 1 ≤ f → f ≤ n → 1 ≤ ticks_of f (round n m)
 round_ticks f n m a b = omega (arith, ticks_of-append f (announcements n) (carries_to n (m + 1) n ++ ticks n), ticks_of-append f (carries_to n (m + 1) n) (ticks n), everyone_ticks f n a b)
 
-rounds_tick : (k f n m : ℕ) → 1 ≤ f → f ≤ n → k ≤ ticks_of f (rounds k n m)
+pub rounds_tick : (k f n m : ℕ) → 1 ≤ f → f ≤ n → k ≤ ticks_of f (rounds k n m)
 rounds_tick zero f n m a b = omega arith
 rounds_tick (suc k) f n m a b = omega (arith, ticks_of-append f (round n m) (rounds k n m), round_ticks f n m a b, rounds_tick k f n m a b)
 
-announcements_of : (n : ℕ) → EachOf IsOfRounds (announcements n)
+pub announcements_of : (n : ℕ) → EachOf IsOfRounds (announcements n)
 unfolding announcements
 announcements_of zero = tt
 announcements_of (suc n) = EachOf-append IsOfRounds (announcements n) _ (announcements_of n) (tt, tt)
 
-ticks_are : (n : ℕ) → EachOf IsOfRounds (ticks n)
+pub ticks_are : (n : ℕ) → EachOf IsOfRounds (ticks n)
 unfolding ticks
 ticks_are zero = tt
 ticks_are (suc n) = EachOf-append IsOfRounds (ticks n) _ (ticks_are n) (tt, tt)
@@ -112,7 +112,7 @@ carries_from_of g times zero = tt
 carries_from_of g times (suc n) = EachOf-append IsOfRounds (carries_from g times n) _ (carries_from_of g times n)
     (cond_both (eqb g (suc n)) [] (replicate times (Carry g (suc n))) (EachOf IsOfRounds) (λ _. tt) (λ _. carried_often times g (suc n)))
 
-carries_to_of : (n times g : ℕ) → EachOf IsOfRounds (carries_to n times g)
+pub carries_to_of : (n times g : ℕ) → EachOf IsOfRounds (carries_to n times g)
 unfolding carries_to
 carries_to_of n times zero = tt
 carries_to_of n times (suc g) = EachOf-append IsOfRounds (carries_to n times g) _ (carries_to_of n times g) (carries_from_of (suc g) times n)
@@ -120,7 +120,7 @@ carries_to_of n times (suc g) = EachOf-append IsOfRounds (carries_to n times g) 
 round_of : (n m : ℕ) → EachOf IsOfRounds (round n m)
 round_of n m = EachOf-append IsOfRounds (announcements n) _ (announcements_of n) (EachOf-append IsOfRounds (carries_to n (m + 1) n) _ (carries_to_of n (m + 1) n) (ticks_are n))
 
-rounds_of : (k n m : ℕ) → EachOf IsOfRounds (rounds k n m)
+pub rounds_of : (k n m : ℕ) → EachOf IsOfRounds (rounds k n m)
 rounds_of zero n m = tt
 rounds_of (suc k) n m = EachOf-append IsOfRounds (round n m) _ (round_of n m) (rounds_of k n m)
 

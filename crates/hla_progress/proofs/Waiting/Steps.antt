@@ -75,7 +75,7 @@ waits_untouched s t f u = record {
   numbers = u.directory;
 }
 
-unchanged : (s : Components) (f : ℕ) → WaitsOn s s f 0
+pub unchanged : (s : Components) (f : ℕ) → WaitsOn s s f 0
 unchanged s f = record { joined = refl; waits = λ w. w; same = λ k a. a; less = omega arith; advance = refl; constrained = refl; bounds = λ g. omega arith; numbers = refl }
 
 announce_untouched : (s : Components) (g f : ℕ) → IsUntouched s (announce_outcome s g).state f
