@@ -1,0 +1,6 @@
+-- Each step keeps what is known of peers once all has come, and what rows have raised
+pub mod Keeping
+-- What waits for nobody else comes at once
+pub mod Waiting
+-- What the machine's own bound lets a federate have, rounds give it
+pub mod CatchUp

@@ -1,0 +1,96 @@
+-- Who waits for nobody else, what may be given to it before its callback, and that the callback comes
+use Rattle.std.specs.Prelude.{ℕ, zero, suc, ◌+◌, ◌≡◌, ◌≤◌, ◌<◌, ◌⊎◌, cond, leb, not, ◌&&◌, ◌||◌, Bool, true, false, Option, Some, None, List, [], ◌∷◌, length}
+use Rattle.hla_base.specs.declared.content.Event.{Event}
+use Rattle.hla_base.specs.declared.row.AdvanceRequest.{AdvanceRequest}
+use Rattle.hla_base.specs.declared.row.TimeRow.{TimeRow}
+use Rattle.hla_base.specs.Tables.{one_if}
+use Rattle.hla_base.specs.Rows.{is_next, reach, is_flush, is_pending, is_constrained, is_advancing}
+use Rattle.hla_callbacks.specs.declared.callback.Callback.{Callback}
+use Rattle.hla_callbacks.specs.declared.callback.Callback.TheVariants as callback
+use Rattle.hla_null_message.specs.declared.message.Message.{Message}
+use Rattle.hla_null_message.specs.declared.message.Message.TheVariants as message
+use Rattle.hla_order_queues.specs.declared.control.Control.{Control}
+use Rattle.hla_local.specs.Arriving.{is_kept_in_order}
+use Rattle.hla_local.specs.Picking.{is_held_back}
+use Rattle.hla_machine.specs.declared.step.Step.{Step}
+use Rattle.hla_components.specs.Components.{Components}
+use Rattle.hla_components.specs.Component.{local_bound}
+use Rattle.hla_components.specs.Invariant.{EachOf}
+use Rattle.hla_components.specs.Headline.{IsLedTo, happenings}
+use Rattle.hla_progress.specs.Promises.{is_raised_late}
+use Rattle.hla_progress.specs.Rounds.{rounds, IsOfRounds, ticks_of, IsGivenAtLast}
+
+-- ---- who waits for nobody else
+abbrev pub is_flush_asked : Option AdvanceRequest → Bool
+is_flush_asked None = false
+is_flush_asked (Some q) = is_flush q.kind
+
+-- a pending regulation, and an advance of a federate that is not constrained or flushes
+abbrev pub WaitsForNobody : TimeRow → Type 0
+WaitsForNobody r = (is_pending r.regulating ≡ true) ⊎ ((is_advancing r ≡ true) × ((is_constrained r ≡ false) ⊎ (is_flush_asked r.advance ≡ true)))
+
+-- the callback for which a federate waits: that it regulates from now on, or its grant, which is of the time that it asked for, but
+-- of a constrained federate in a next-event or flush request of no more
+abbrev pub IsAwaited : TimeRow → Callback → Type 0
+IsAwaited r (callback.TimeRegulationEnabled t) = (is_pending r.regulating ≡ true) × (t ≡ r.regulation_time)
+IsAwaited r (callback.TimeAdvanceGrant t) = (q : AdvanceRequest) × (r.advance ≡ Some q) × (t ≤ q.asked) × (is_raised_late r q ≡ false → t ≡ q.asked)
+IsAwaited r k = ⊥
+
+-- ---- what may be given before it
+-- what waits in receive order, unless it is held back
+abbrev pub is_ro_due : TimeRow → Bool
+is_ro_due r = not (is_held_back r)
+
+abbrev pub is_tso_asked : Option AdvanceRequest → Event → Bool
+is_tso_asked None e = false
+is_tso_asked (Some q) e = is_flush q.kind || leb e.stamp q.asked
+
+-- what waits in time-stamp order: in a flush all, in another advance what is at most the time that is asked for
+abbrev pub is_tso_due : TimeRow → Event → Bool
+is_tso_due r e = is_constrained r && is_tso_asked r.advance e
+
+-- how many callbacks may come of a message on a wire: of a null message none
+abbrev pub due_of : TimeRow → Message → ℕ
+due_of r (message.Event e) = one_if (cond (is_kept_in_order r e) (is_tso_due r e) (is_ro_due r))
+due_of r (message.Null k v) = 0
+due_of r (message.Retraction m) = 1
+due_of r (message.Discovery d) = 1
+
+abbrev pub due_on_wire : TimeRow → List Message → ℕ
+due_on_wire r [] = 0
+due_on_wire r (m ∷ ms) = due_of r m + due_on_wire r ms
+
+abbrev pub due_in_order : TimeRow → List Event → ℕ
+due_in_order r [] = 0
+due_in_order r (e ∷ es) = one_if (is_tso_due r e) + due_in_order r es
+
+abbrev pub due_in_queues : TimeRow → List Control → List Event → List Event → ℕ
+due_in_queues r controls ro tso = length controls + (cond (is_ro_due r) (length ro) 0 + due_in_order r tso)
+
+-- the sum of the first n entries
+unfoldable pub total : ℕ → (ℕ → ℕ) → ℕ
+total zero t = 0
+total (suc n) t = total n t + t n
+
+-- how many callbacks may be given to f before the one for which it waits, if nothing more is sent to it
+abbrev pub due_before : Components → ℕ → ℕ
+due_before s f = due_in_queues (s.row f) (s.controls f) (s.ro f) (s.tso f) + total s.directory.next_federate (λ g. due_on_wire (s.row f) (s.wire g f))
+
+-- ---- the theorems
+-- the callback comes among announcements, carries and ticks in whatever order, once f ticks more often than callbacks are due before
+-- it; and each tick of f until then answers
+abbrev pub EachTickAnswersAtOnce : Type 0
+EachTickAnswersAtOnce = (s : Components) (steps : List Step) (f : ℕ) → IsLedTo s → s.directory.joined f ≡ true → WaitsForNobody (s.row f) →
+    EachOf IsOfRounds steps → due_before s f < ticks_of f steps → IsGivenAtLast (happenings s steps) f (IsAwaited (s.row f))
+
+-- so it comes by the round 1 + what is due before it, where n is at least the number of the last federate that joined
+abbrev pub EachComesAtOnce : Type 0
+EachComesAtOnce = (s : Components) (f n m : ℕ) → IsLedTo s → s.directory.joined f ≡ true → s.directory.next_federate ≤ n + 1 → WaitsForNobody (s.row f) →
+    IsGivenAtLast (happenings s (rounds (1 + due_before s f) n m)) f (IsAwaited (s.row f))
+
+-- a constrained federate in Time Advance Request (Available) is not held back either once its goal (what its request reaches to) is at
+-- most the least bound that it knows: it is granted exactly the time that it asked for
+abbrev pub EachReachedComesAtOnce : Type 0
+EachReachedComesAtOnce = (s : Components) (steps : List Step) (f : ℕ) (q : AdvanceRequest) → IsLedTo s → s.directory.joined f ≡ true →
+    is_constrained (s.row f) ≡ true → (s.row f).advance ≡ Some q → is_next q.kind ≡ false → is_flush q.kind ≡ false → reach q.kind q.asked ≤ local_bound s f →
+    EachOf IsOfRounds steps → due_before s f < ticks_of f steps → IsGivenAtLast (happenings s steps) f (λ k. k ≡ callback.TimeAdvanceGrant q.asked)

@@ -1,0 +1,8 @@
+-- What is known of a peer once all that lies on its wire has come, and what a row has raised: kept beside the components' invariant
+pub mod Promises
+-- Rounds of announcing, carrying and ticking
+pub mod Rounds
+-- Who waits for nobody else, and what may come before its callback
+pub mod AtOnce
+-- What the machine's own bound lets a federate have, rounds give it
+pub mod CatchingUp
