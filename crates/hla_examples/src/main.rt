@@ -10,13 +10,16 @@ use std::rt::Runtime;
 use std::{fs, io};
 
 /// The examples, by name.
-const NAMES: [&str; 22] = [
+const NAMES: [&str; 25] = [
     "ancestor",
     "late_subscriber",
     "refusals",
     "lockstep",
     "late_joiner",
     "stamped_deletion",
+    "next_events",
+    "optimistic",
+    "coming_back",
     "boundary",
     "floor",
     "largest_time",

@@ -27,6 +27,12 @@ impl Numbers {
         self.last
     }
 
+    /// A number below a limit, or 0 where that is 0.
+    pub fn below(&mut self, limit: u64) -> u64 {
+        let drawn = self.next();
+        if limit == 0 { 0 } else { drawn % limit }
+    }
+
     /// One of some texts; the empty text where there are none.
     pub fn pick(&mut self, texts: &'static [&'static str]) -> &'static str {
         let drawn = self.next();

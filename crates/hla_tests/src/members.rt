@@ -1,0 +1,158 @@
+//! What the books keep of each federate, and of the wires between them.
+
+use crate::clocks::Clock;
+use crate::receivers::Subscriptions;
+use crate::texts::FOREVER;
+use std::alloc::{AllocError, Global};
+
+/// What a federate knows of another: its epoch, and a bound that it sends nothing below.
+#[derive(Clone, Copy)]
+struct Row {
+    peer: u32,
+    epoch: u32,
+    bound: u64,
+}
+
+/// What a federate is told at any tick.
+#[derive(Clone, Copy)]
+pub enum Control {
+    Discovery { object: u32 },
+    Retraction { sender: u32, serial: u32 },
+}
+
+/// A federate, by its number from 1 on.
+#[derive(Drop)]
+pub struct Member<'a> {
+    pub number: u32,
+    pub name: &'a str,
+    pub is_joined: bool,
+    pub next_serial: u32,
+    pub clock: Clock,
+    pub subscriptions: Subscriptions<'a>,
+    rows: Vec<Row>,
+    pub controls: Vec<Control>,
+    /// The sender and the serial of what waits in receive order.
+    pub received: Vec<(u32, u32)>,
+    /// The stamp of what it was given last in time-stamp order, flushes left out.
+    pub last_stamp: u64,
+}
+
+/// What lies on a wire.
+#[derive(Clone, Copy)]
+pub enum Letter {
+    Message { serial: u32 },
+    Retraction { serial: u32 },
+    Discovery { object: u32 },
+    Null { epoch: u32, bound: u64 },
+}
+
+#[derive(Clone, Copy)]
+struct Posted {
+    from: u32,
+    to: u32,
+    letter: Letter,
+}
+
+/// The wires between all federates.
+#[derive(Drop)]
+pub struct Wires {
+    posted: Vec<Posted>,
+}
+
+impl<'a> Member<'a> {
+    pub fn new(alloc: Global, number: u32, name: &'a str) -> Member<'a> {
+        Member {
+            number,
+            name,
+            is_joined: true,
+            next_serial: 1,
+            clock: Clock::new(),
+            subscriptions: Subscriptions::new(alloc),
+            rows: Vec::new(alloc),
+            controls: Vec::new(alloc),
+            received: Vec::new(alloc),
+            last_stamp: 0,
+        }
+    }
+
+    /// It resigns.
+    pub fn leave(&mut self) {
+        self.is_joined = false;
+        self.clock = Clock::new();
+        self.subscriptions.clear();
+        self.controls.clear();
+        self.received.clear();
+    }
+
+    /// The least of what it knows of its peers.
+    pub fn bound(&self) -> u64 {
+        let mut least = FOREVER;
+        for row in self.rows.as_slice() {
+            least = least.min(row.bound);
+        }
+        least
+    }
+
+    /// It learns at once that a peer begins an epoch, and from where on that peer may send.
+    pub fn hear_entry(&mut self, peer: u32, epoch: u32, entry: u64) -> Result<(), AllocError> {
+        for row in self.rows.iter_mut() {
+            if row.peer == peer {
+                row.epoch = epoch;
+                row.bound = row.bound.min(entry);
+                return Ok(());
+            }
+        }
+        self.rows.push(Row {
+            peer,
+            epoch,
+            bound: entry,
+        })?;
+        Ok(())
+    }
+
+    /// A null message comes, and says whether it was of the epoch that is known.
+    pub fn hear_null(&mut self, peer: u32, epoch: u32, bound: u64) -> bool {
+        for row in self.rows.iter_mut() {
+            if row.peer == peer {
+                let is_known = row.epoch == epoch;
+                if is_known {
+                    row.bound = row.bound.max(bound);
+                }
+                return is_known;
+            }
+        }
+        false
+    }
+}
+
+impl Wires {
+    pub fn new(alloc: Global) -> Wires {
+        Wires {
+            posted: Vec::new(alloc),
+        }
+    }
+
+    pub fn clear(&mut self) {
+        self.posted.clear();
+    }
+
+    pub fn put(&mut self, from: u32, to: u32, letter: Letter) -> Result<(), AllocError> {
+        self.posted.push(Posted { from, to, letter })?;
+        Ok(())
+    }
+
+    /// Takes what was put first on the wire from one federate to another.
+    pub fn take_first(&mut self, from: u32, to: u32) -> Option<Letter> {
+        let place = self
+            .posted
+            .iter()
+            .position(|posted| posted.from == from && posted.to == to)?;
+        let posted = self.posted.remove(place);
+        Some(posted.letter)
+    }
+
+    /// A federate has resigned: what lies on wires to it is dropped.
+    pub fn drop_all(&mut self, to: u32) {
+        self.posted.retain(|posted| posted.to != to);
+    }
+}

@@ -1,0 +1,127 @@
+//! Who receives what: subscriptions by the words of their lines, and the objects that there are.
+
+use crate::texts::{cut, has_word, name_in, path_of};
+use std::alloc::{AllocError, Global};
+
+/// The part of an update that goes in one order: of the attributes of the FED file only `Paint` is in receive order.
+#[derive(Clone, Copy, PartialEq, Eq)]
+pub enum Part {
+    Receive,
+    TimeStamp,
+}
+
+/// What a federate subscribes.
+#[derive(Drop)]
+pub struct Subscriptions<'a> {
+    /// The attributes that it subscribes of the class `Car`, if it subscribes the class, and of `ObjectRoot`.
+    car: Option<&'a str>,
+    root: Option<&'a str>,
+    interactions: Vec<&'a str>,
+}
+
+/// An object, by its number from 1 on.
+#[derive(Drop)]
+pub struct Object {
+    pub owner: u32,
+    pub is_car: bool,
+    pub is_there: bool,
+    /// To whom it is known.
+    pub known: Vec<u32>,
+}
+
+/// Whether a name is that of the class `Car`, and not `ObjectRoot`.
+pub fn is_car(class: &str) -> bool {
+    class.ends_with("Car")
+}
+
+/// Whether an attribute goes with a part of an update.
+fn is_of(part: Part, pair: &str) -> bool {
+    (name_in(pair) == "Paint") == (part == Part::Receive)
+}
+
+/// Whether an update has a part.
+pub fn has_part(part: Part, line: &str) -> bool {
+    line.split_whitespace()
+        .any(|pair| pair.contains('=') && is_of(part, pair))
+}
+
+impl<'a> Subscriptions<'a> {
+    pub fn new(alloc: Global) -> Subscriptions<'a> {
+        Subscriptions {
+            car: None,
+            root: None,
+            interactions: Vec::new(alloc),
+        }
+    }
+
+    /// Nothing is subscribed any more.
+    pub fn clear(&mut self) {
+        self.car = None;
+        self.root = None;
+        self.interactions.clear();
+    }
+
+    /// A class with its attributes, or none of it any more.
+    pub fn set_object(&mut self, class: &str, attributes: Option<&'a str>) {
+        if is_car(class) {
+            self.car = attributes;
+        } else {
+            self.root = attributes;
+        }
+    }
+
+    pub fn add_interaction(&mut self, class: &'a str) -> Result<(), AllocError> {
+        self.interactions.push(class)?;
+        Ok(())
+    }
+
+    pub fn remove_interaction(&mut self, class: &str) {
+        let path = path_of(class);
+        self.interactions.retain(|other| path_of(other) != path);
+    }
+
+    /// Whether it receives the interactions of a class: it subscribes that class or one above it.
+    pub fn hears(&self, class: &str) -> bool {
+        let path = path_of(class);
+        self.interactions
+            .iter()
+            .any(|other| path.starts_with(path_of(other)))
+    }
+
+    /// The attributes that it subscribes of the class at which it is served with an object.
+    pub fn served(&self, is_car: bool) -> Option<&'a str> {
+        match self.car {
+            Some(attributes) if is_car => Some(attributes),
+            _ => self.root,
+        }
+    }
+
+    /// Whether a part of an update shows it something.
+    pub fn is_shown(&self, is_car: bool, part: Part, line: &str) -> bool {
+        let Some(attributes) = self.served(is_car) else {
+            return false;
+        };
+        line.split_whitespace().any(|pair| {
+            pair.contains('=') && is_of(part, pair) && has_word(attributes, name_in(pair))
+        })
+    }
+
+    /// Notes a line of declaration management.
+    pub fn note(&mut self, verb: &str, rest: &'a str) -> Result<(), AllocError> {
+        let (class, attributes) = cut(rest);
+        match verb {
+            "subscribeObject" => self.set_object(class, Some(attributes)),
+            "unsubscribeObject" => self.set_object(class, None),
+            "subscribeInteraction" => self.add_interaction(class)?,
+            "unsubscribeInteraction" => self.remove_interaction(class),
+            _ => {}
+        }
+        Ok(())
+    }
+}
+
+impl Object {
+    pub fn is_known_to(&self, federate: u32) -> bool {
+        self.known.iter().any(|other| *other == federate)
+    }
+}

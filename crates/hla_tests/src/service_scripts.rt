@@ -1,0 +1,351 @@
+//! Random scripts of all words, read beside the books of all services.
+
+use crate::random_scripts::{Numbers, transcript};
+use crate::service_books::{Tally, read_services};
+use std::alloc::{AllocError, Global};
+use std::ops::Range;
+use std::process::Abort;
+use std::test::Fail;
+
+/// How every script begins: A, B and C send hits to one another, and B sees A's car.
+const SETTING: [&str; 15] = [
+    "create",
+    "join A",
+    "join B",
+    "join C",
+    "A publishInteraction Hit",
+    "B publishInteraction Hit",
+    "C publishInteraction Hit",
+    "A subscribeInteraction Hit",
+    "B subscribeInteraction HEARD",
+    "C subscribeInteraction HEARD",
+    "A publishObject Car OWNED",
+    "B subscribeObject Car SHOWN",
+    "A register Car",
+    "A regulate 0 LOOKAHEAD",
+    "A tick",
+];
+
+/// How some go on: B is constrained.
+const CONSTRAINED: [&str; 5] = ["carry A B", "carry A B", "B constrain", "B tick", "B tick"];
+
+/// And others: A and B both regulate and are constrained.
+const BOTH: [&str; 9] = [
+    "B regulate 0 LOOKAHEAD",
+    "B tick",
+    "carry A B",
+    "carry B A",
+    "B tick",
+    "A constrain",
+    "A tick",
+    "B constrain",
+    "B tick",
+];
+
+/// What happens most: something is sent, taken back, asked for, announced, carried and told.
+const COMMON: &[&[&str]] = &[
+    &[
+        "A send Hit Force=7 @STAMP",
+        "A send Hit @STAMP",
+        "carry A B",
+    ],
+    &["A send Hit @STAMP", "FEDERATE send Hit @STAMP", "carry B A"],
+    &["A update 1 Car VALUES @STAMP", "carry A B", "carry A B"],
+    &[
+        "A send Hit @STAMP",
+        "A retract HANDLE",
+        "carry A B",
+        "carry A B",
+    ],
+    &[
+        "A retract HANDLE",
+        "A retract HANDLE",
+        "carry A B",
+        "B tick",
+    ],
+    &[
+        "B fqr TIME",
+        "B tick",
+        "B tick",
+        "A retract HANDLE",
+        "carry A B",
+        "B tick",
+    ],
+    &[
+        "A tar LATER",
+        "announce A",
+        "A tick",
+        "carry A B",
+        "carry A B",
+    ],
+    &[
+        "A tar LATER",
+        "A tick",
+        "announce A",
+        "carry A B",
+        "carry A B",
+        "B tick",
+    ],
+    &["A REQUEST TIME", "A tick", "announce A", "A tick"],
+    &["B ner LATER", "carry A B", "carry A B", "B tick", "B tick"],
+    &["B tara TIME", "carry A B", "carry A B", "B tick", "B tick"],
+    &[
+        "B REQUEST TIME",
+        "announce B",
+        "carry B A",
+        "carry B A",
+        "A tick",
+    ],
+    &[
+        "carry A B",
+        "carry A B",
+        "carry A B",
+        "B tick",
+        "B tick",
+        "B tick",
+    ],
+    &[
+        "announce A",
+        "announce B",
+        "carry A B",
+        "carry B A",
+        "A tick",
+        "B tick",
+    ],
+    &["carry WIRE", "carry WIRE", "carry WIRE", "FEDERATE tick"],
+    &[
+        "FEDERATE REQUEST TIME",
+        "announce FEDERATE",
+        "FEDERATE tick",
+    ],
+];
+
+/// What happens now and then: changes of roles, queries, and all other words.
+const RARE: &[&[&str]] = &[
+    &[
+        "announce A",
+        "A unregulate",
+        "A regulate LATER LOOKAHEAD",
+        "carry A B",
+        "carry A B",
+    ],
+    &[
+        "A unregulate",
+        "carry A B",
+        "A regulate LATER LOOKAHEAD",
+        "A tick",
+    ],
+    &[
+        "A regulate LATER LOOKAHEAD",
+        "A tick",
+        "A tick",
+        "carry A B",
+    ],
+    &["B lbts", "FEDERATE lbts", "FEDERATE time"],
+    &["B minNext", "FEDERATE minNext", "FEDERATE lookahead"],
+    &["FEDERATE unregulate"],
+    &["FEDERATE regulate TIME LOOKAHEAD", "FEDERATE tick"],
+    &["FEDERATE constrain", "FEDERATE tick", "FEDERATE tick"],
+    &["FEDERATE unconstrain"],
+    &["FEDERATE modifyLookahead LOOKAHEAD"],
+    &["FEDERATE asyncOn", "FEDERATE asyncOff"],
+    &["FEDERATE asyncOn", "FEDERATE tick"],
+    &["FEDERATE retract HANDLE"],
+    &[
+        "FEDERATE publishInteraction Memo",
+        "FEDERATE send Memo Text=a Extra=b",
+    ],
+    &[
+        "FEDERATE publishInteraction INTERACTION",
+        "FEDERATE send Note Text=a @STAMP",
+    ],
+    &["FEDERATE send Hit"],
+    &["FEDERATE update NUMBER Car VALUES @STAMP"],
+    &["FEDERATE update NUMBER CLASS VALUES"],
+    &["A delete 1 @STAMP", "FEDERATE delete NUMBER"],
+    &[
+        "FEDERATE publishObject CLASS OWNED",
+        "FEDERATE register CLASS OBJECT",
+    ],
+    &["FEDERATE register Car", "FEDERATE delete NUMBER @STAMP"],
+    &["FEDERATE objectHandle OBJECT", "FEDERATE objectName NUMBER"],
+    &["FEDERATE unpublishObject CLASS"],
+    &["FEDERATE subscribeObject Car SHOWN"],
+    &["FEDERATE subscribeObject ObjectRoot privilegeToDelete"],
+    &["FEDERATE unsubscribeObject CLASS"],
+    &["FEDERATE unpublishInteraction INTERACTION"],
+    &["FEDERATE subscribeInteraction INTERACTION"],
+    &["FEDERATE unsubscribeInteraction INTERACTION"],
+    &["C resign ACTION", "carry C B", "join C"],
+    &["FEDERATE resign ACTION", "join NAME"],
+    &["join D", "D lbts", "D subscribeInteraction Hit"],
+    &["C resign DELETE_OBJECTS", "destroy"],
+];
+
+/// What a word of a line stands for; nothing for a word that stands for itself.
+fn texts_of(word: &str) -> &'static [&'static str] {
+    match word {
+        "FEDERATE" => &["A", "A", "B", "B", "B", "C", "C", "C", "D"],
+        "NAME" => &["A", "B", "C", "D"],
+        "WIRE" => &[
+            "A B", "A C", "B A", "B C", "C A", "C B", "A D", "B D", "D A",
+        ],
+        "REQUEST" => &["tar", "tara", "ner", "ner", "nera", "fqr"],
+        "LOOKAHEAD" => &["0", "1", "1", "1", "2", "3"],
+        "CLASS" => &["Car", "ObjectRoot.Car", "ObjectRoot"],
+        "INTERACTION" => &["Hit", "Hit", "Note", "Memo", "InteractionRoot"],
+        "HEARD" => &["Hit", "Hit", "InteractionRoot"],
+        "OWNED" => &["Pos Paint", "privilegeToDelete Pos Paint"],
+        "SHOWN" => &["Pos Paint", "Pos", "Paint", "privilegeToDelete Pos"],
+        "VALUES" => &["Pos=1", "Pos=2 Paint=red", "Paint=b", "privilegeToDelete=t"],
+        "NUMBER" => &["1", "1", "2", "3"],
+        "OBJECT" => &["x", "y", "object-1", "object-2"],
+        "ACTION" => &["NO_ACTION", "DELETE_OBJECTS", "RELEASE_ATTRIBUTES"],
+        _ => &[],
+    }
+}
+
+/// A script in the making.
+#[derive(Drop)]
+struct Author {
+    alloc: Global,
+    numbers: Numbers,
+    script: String,
+    /// The times of its lines are not far above this.
+    now: u64,
+}
+
+impl Author {
+    /// Adds a line, with a text for each word that stands for some.
+    fn add_line(&mut self, line: &str) -> Result<(), AllocError> {
+        for word in line.split(' ') {
+            self.add_word(word)?;
+            self.script.push_str(" ")?;
+        }
+        self.script.push_str("\n")
+    }
+
+    fn add_word(&mut self, word: &str) -> Result<(), AllocError> {
+        let texts = texts_of(word);
+        match word {
+            "TIME" => self.add_ticks(0, 6),
+            "LATER" => self.add_ticks(3, 6),
+            "HANDLE" => {
+                self.script
+                    .push_str(self.numbers.pick(&["1.", "1.", "1.", "2."]))?;
+                let sent = self.now.saturating_add(self.now).saturating_add(3);
+                let serial = self.numbers.below(sent).max(1);
+                self.add_number(serial)
+            }
+            "@STAMP" => {
+                self.script.push_str("@")?;
+                self.add_ticks(1, 12)
+            }
+            _ if texts.is_empty() => self.script.push_str(word),
+            _ => self.script.push_str(self.numbers.pick(texts)),
+        }
+    }
+
+    /// Adds a time that is at least so far ahead of the present, and less than so much further.
+    fn add_ticks(&mut self, least: u64, more: u64) -> Result<(), AllocError> {
+        let ahead = self.numbers.below(more).saturating_add(least);
+        self.add_number(self.now.saturating_add(ahead))
+    }
+
+    fn add_number(&mut self, number: u64) -> Result<(), AllocError> {
+        let text = format!(in self.alloc; "{number}")?;
+        self.script.push_str(text.as_str())
+    }
+
+    fn add_lines(&mut self, lines: &[&str]) -> Result<(), AllocError> {
+        for line in lines {
+            self.add_line(line)?;
+        }
+        Ok(())
+    }
+
+    /// Adds one of some things that happen.
+    fn add_one(&mut self, scenes: &[&[&str]]) -> Result<(), AllocError> {
+        if scenes.is_empty() {
+            return Ok(());
+        }
+        let drawn = self.numbers.below(u64::MAX);
+        self.add_lines(scenes[(drawn % scenes.len() as u64) as usize])
+    }
+}
+
+/// The script of a seed: its setting, and forty things that happen, of which each fourth is a rare one.
+fn script_of(alloc: Global, seed: u64) -> Result<String, AllocError> {
+    let mut author = Author {
+        alloc,
+        numbers: Numbers::of(seed),
+        script: String::new(alloc),
+        now: 0,
+    };
+    author.add_lines(&SETTING)?;
+    match seed % 3 {
+        0 => author.add_lines(&CONSTRAINED)?,
+        1 => author.add_lines(&BOTH)?,
+        _ => {}
+    }
+    for place in 0..32u64 {
+        author.now = place / 2;
+        author.add_one(if place % 4 == 3 { RARE } else { COMMON })?;
+    }
+    Ok(author.script)
+}
+
+/// Plays a script, and answers how often its transcript tried the laws.
+fn check_script(rt: &impl Abort, alloc: Global, script: &str) -> Result<Tally, Fail> {
+    let played = transcript(alloc, script.as_bytes())?;
+    let tally = match str::from_utf8(played.as_slice()) {
+        Ok(played) => read_services(alloc, script, played)?,
+        Err(_) => None,
+    };
+    match tally {
+        Some(tally) => Ok(tally),
+        None => panic!(rt; "not by the books: {script}"),
+    }
+}
+
+/// Checks the scripts of some seeds, which must try each law often enough.
+fn check_scripts(rt: &impl Abort, alloc: Global, seeds: Range<u64>) -> Result<(), Fail> {
+    let mut all = Tally::new();
+    for seed in seeds {
+        let script = script_of(alloc, seed)?;
+        all.add(check_script(rt, alloc, script.as_str())?);
+    }
+    assert!(rt; all.picked >= 40, "only {} picked", all.picked);
+    assert!(rt; all.flushed >= 40, "only {} flushed", all.flushed);
+    assert!(rt; all.granted >= 100, "only {} granted", all.granted);
+    assert!(rt; all.vanished >= 15, "only {} vanished", all.vanished);
+    assert!(rt; all.asked_back >= 5, "only {} asked back", all.asked_back);
+    assert!(rt; all.ignored >= 8, "only {} ignored", all.ignored);
+    assert!(rt; all.refused >= 60, "only {} refused", all.refused);
+    Ok(())
+}
+
+#[test]
+fn keeps_the_books_of_the_first_scripts(rt: HostRuntime) -> Result<(), Fail> {
+    check_scripts(&rt, rt.alloc(), 3000..3120)
+}
+
+#[test]
+fn keeps_the_books_of_the_second_scripts(rt: HostRuntime) -> Result<(), Fail> {
+    check_scripts(&rt, rt.alloc(), 3120..3240)
+}
+
+#[test]
+fn keeps_the_books_of_the_third_scripts(rt: HostRuntime) -> Result<(), Fail> {
+    check_scripts(&rt, rt.alloc(), 3240..3360)
+}
+
+#[test]
+fn keeps_the_books_of_the_fourth_scripts(rt: HostRuntime) -> Result<(), Fail> {
+    check_scripts(&rt, rt.alloc(), 3360..3480)
+}
+
+#[test]
+fn keeps_the_books_of_the_fifth_scripts(rt: HostRuntime) -> Result<(), Fail> {
+    check_scripts(&rt, rt.alloc(), 3480..3600)
+}
