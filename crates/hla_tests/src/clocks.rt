@@ -65,10 +65,12 @@ impl Kind {
         matches!(self, Kind::TimeAdvance | Kind::NextEvent)
     }
 
+    /// Whether it is a next-event request.
     pub fn is_next(self) -> bool {
         matches!(self, Kind::NextEvent | Kind::NextEventAvailable)
     }
 
+    /// Whether it is a flush.
     pub fn is_flush(self) -> bool {
         self == Kind::FlushQueue
     }
@@ -101,10 +103,12 @@ impl Clock {
         }
     }
 
+    /// Whether the federate is constrained.
     pub fn is_constrained(self) -> bool {
         self.constrained == Role::Enabled
     }
 
+    /// Whether the federate regulates.
     pub fn is_regulating(self) -> bool {
         self.regulating == Role::Enabled
     }

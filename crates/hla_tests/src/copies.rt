@@ -106,6 +106,7 @@ impl Copy {
 }
 
 impl<'a> Copies<'a> {
+    /// No messages.
     pub fn new(alloc: Global) -> Copies<'a> {
         Copies {
             messages: Vec::new(alloc),
@@ -113,11 +114,13 @@ impl<'a> Copies<'a> {
         }
     }
 
+    /// Forgets all messages.
     pub fn clear(&mut self) {
         self.messages.clear();
         self.copies.clear();
     }
 
+    /// Writes a message down.
     pub fn note(&mut self, message: Message<'a>) -> Result<(), AllocError> {
         self.messages.push(message)?;
         Ok(())
@@ -136,6 +139,7 @@ impl<'a> Copies<'a> {
         Ok(())
     }
 
+    /// The message of a sender with a serial, if there is one.
     pub fn message(&self, sender: u32, serial: u32) -> Option<Message<'a>> {
         for message in self.messages.as_slice() {
             if message.sender == sender && message.serial == serial {
@@ -155,6 +159,7 @@ impl<'a> Copies<'a> {
         None
     }
 
+    /// What has become of a receiver's copy.
     pub fn set_fate(&mut self, sender: u32, serial: u32, receiver: u32, fate: Fate) {
         for copy in self.copies.iter_mut() {
             if copy.is_of(sender, serial) && copy.receiver == receiver {

@@ -60,6 +60,7 @@ pub struct Wires {
 }
 
 impl<'a> Member<'a> {
+    /// A federate that has just joined.
     pub fn new(alloc: Global, number: u32, name: &'a str) -> Member<'a> {
         Member {
             number,
@@ -126,16 +127,19 @@ impl<'a> Member<'a> {
 }
 
 impl Wires {
+    /// Wires with nothing on them.
     pub fn new(alloc: Global) -> Wires {
         Wires {
             posted: Vec::new(alloc),
         }
     }
 
+    /// Takes all off the wires.
     pub fn clear(&mut self) {
         self.posted.clear();
     }
 
+    /// Puts a letter on a wire, behind the others.
     pub fn put(&mut self, from: u32, to: u32, letter: Letter) -> Result<(), AllocError> {
         self.posted.push(Posted { from, to, letter })?;
         Ok(())

@@ -46,6 +46,7 @@ pub fn has_part(part: Part, line: &str) -> bool {
 }
 
 impl<'a> Subscriptions<'a> {
+    /// Nothing is subscribed.
     pub fn new(alloc: Global) -> Subscriptions<'a> {
         Subscriptions {
             car: None,
@@ -70,11 +71,13 @@ impl<'a> Subscriptions<'a> {
         }
     }
 
+    /// Subscribes an interaction class.
     pub fn add_interaction(&mut self, class: &'a str) -> Result<(), AllocError> {
         self.interactions.push(class)?;
         Ok(())
     }
 
+    /// Unsubscribes an interaction class.
     pub fn remove_interaction(&mut self, class: &str) {
         let path = path_of(class);
         self.interactions.retain(|other| path_of(other) != path);
@@ -121,6 +124,7 @@ impl<'a> Subscriptions<'a> {
 }
 
 impl Object {
+    /// Whether a federate knows the object.
     pub fn is_known_to(&self, federate: u32) -> bool {
         self.known.iter().any(|other| *other == federate)
     }

@@ -27,6 +27,7 @@ pub struct Tally {
 }
 
 impl Tally {
+    /// Nothing was counted yet.
     pub fn new() -> Tally {
         Tally {
             picked: 0,
@@ -39,6 +40,7 @@ impl Tally {
         }
     }
 
+    /// Adds the counts of another script.
     pub fn add(&mut self, other: Tally) {
         self.picked = self.picked.saturating_add(other.picked);
         self.flushed = self.flushed.saturating_add(other.flushed);
@@ -74,10 +76,12 @@ impl<'a> Books<'a> {
         }
     }
 
+    /// A federate by number, counted from 1, if it has joined.
     pub fn member(&self, federate: u32) -> Option<&Member<'a>> {
         self.members.get((federate as usize).checked_sub(1)?)
     }
 
+    /// A federate by number, to be changed.
     pub fn member_mut(&mut self, federate: u32) -> Option<&mut Member<'a>> {
         self.members.get_mut((federate as usize).checked_sub(1)?)
     }
@@ -90,12 +94,14 @@ impl<'a> Books<'a> {
         }
     }
 
+    /// The roles and time of a federate from now on.
     pub fn set_clock(&mut self, federate: u32, clock: Clock) {
         if let Some(member) = self.member_mut(federate) {
             member.clock = clock;
         }
     }
 
+    /// The bound of a federate, in ticks; of one that has not joined it is `FOREVER`.
     pub fn bound(&self, federate: u32) -> u64 {
         match self.member(federate) {
             Some(member) => member.bound(),
@@ -254,6 +260,7 @@ impl<'a> Books<'a> {
         }
     }
 
+    /// An object by number, counted from 1, if it was registered.
     pub fn object(&self, number: u32) -> Option<&Object> {
         self.objects.get((number as usize).checked_sub(1)?)
     }
