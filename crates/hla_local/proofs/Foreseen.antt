@@ -24,6 +24,7 @@ grants_first controls ro tso r q bound = by_flush (is_flush q.kind)
     by_reach : (b : Bool) → StandsFirst controls ro tso (cond b (PickGrant q (grant_time r q)) NoPick)
     by_reach true = tt
     by_reach false = tt
+
     by_flush : (b : Bool) → StandsFirst controls ro tso (cond b (PickGrant q (flush_time r q bound)) (cond (is_reached q.kind (grant_time r q) bound && is_reached q.kind (grant_time r q) (first_stamp tso)) (PickGrant q (grant_time r q)) NoPick))
     by_flush true = tt
     by_flush false = by_reach (is_reached q.kind (grant_time r q) bound && is_reached q.kind (grant_time r q) (first_stamp tso))
@@ -50,6 +51,7 @@ roles_first controls ro tso r bound = by_regulation (is_pending r.regulating)
     by_constraint : (b : Bool) → StandsFirst controls ro tso (cond b PickConstrains (advance_pick r r.advance tso bound))
     by_constraint true = tt
     by_constraint false = advances_first controls ro tso r r.advance bound
+
     by_regulation : (b : Bool) → StandsFirst controls ro tso (cond b PickRegulates (cond (is_pending r.constrained && leb r.time bound) PickConstrains (advance_pick r r.advance tso bound)))
     by_regulation true = tt
     by_regulation false = by_constraint (is_pending r.constrained && leb r.time bound)

@@ -17,9 +17,9 @@ ghost use Rattle.hla_members.specs.Changes.{changed_local, local_unconstrained, 
 ghost use Rattle.hla_members.specs.Members.{arrival_takes_memory};
 
 use crate::change::Change;
-use crate::note::Note;
 use crate::incoming::Incoming;
 use crate::messages::callback_of;
+use crate::note::Note;
 use hla_base::{Fault, FederateNo, List, Serial, Ticks};
 use hla_callbacks::Callback;
 use hla_local::Local;

@@ -22,8 +22,8 @@ ghost use Rattle.hla_members.specs.Noting.{with_noted, with_retracted, IsUnsentF
 
 use crate::change::Change;
 use crate::direction::Direction;
-use crate::note::Note;
 use crate::member::Member;
+use crate::note::Note;
 use crate::outbox::Outbox;
 use hla_base::{Fault, FederateNo, Serial, Ticks};
 use hla_callbacks::Callback;
