@@ -1,0 +1,160 @@
+//! What a federate gives the run-time infrastructure: its ambassador, which takes the callbacks.
+
+ghost use Rattle.std.specs.Prelude.{◌≡◌, List, Bool, true, [], ◌∷◌, ◌++◌, OnOk, IfErr};
+ghost use Rattle.hla_callbacks.specs.declared.callback.Callback.{Callback};
+ghost use Rattle.hla_callbacks.specs.declared.callback.Callback.TheVariants as callback;
+
+use crate::callback::Delivery;
+use hla_base::{ClassNo, EventHandle, Fault, HandleValuePair, List, ObjectNo, Ticks};
+
+/// That a federate ambassador failed in a callback. The callback counts as given (`FederateInternalError` of HLA 1.3).
+#[derive(Clone, Copy, Debug, PartialEq, Eq)]
+pub struct FederateFault;
+
+/// The federate ambassador of HLA 1.3: one function for each callback, with what it tells as in `Callback`. A tick of the
+/// federate calls `make_room` and then at most one of the others. Contracts see what it has heard, and whether it has room
+/// for one callback more. A callback counts as heard also where the ambassador fails in it. A function of it is called while
+/// the lock of the run-time infrastructure is held, so it must return soon and call no service itself.
+pub trait FederateAmbassador: Drop {
+    // The callbacks so far, in order.
+    ghost heard: { Self → List Callback };
+
+    // Whether there is room for one more.
+    ghost room: { Self → Bool };
+
+    /// Takes the room that the next callback needs; `OutOfMemory` where a growth was refused.
+    fn make_room(&mut self) -> Result<(), Fault>
+        ensures heard { heard self.new ≡ heard self.old }
+        ensures room { OnOk result (room self.new ≡ true) }
+        ensures err { IfErr result (λ e. e ≡ Fault.OutOfMemory) };
+
+    /// Discover Object Instance (HLA 1.3, object management): from now on the federate knows this object, at this class and
+    /// under this name.
+    fn discover_object_instance(
+        &mut self,
+        object: ObjectNo,
+        class: ClassNo,
+        name: List<u8>,
+    ) -> Result<(), FederateFault>
+        requires { room self.old ≡ true }
+        ensures { heard self.new ≡ heard self.old ++ callback.DiscoverObjectInstance object class name ∷ [] };
+
+    /// Reflect Attribute Values (HLA 1.3, object management): new values of attributes of an object that the federate knows.
+    fn reflect_attribute_values(
+        &mut self,
+        object: ObjectNo,
+        values: List<HandleValuePair>,
+        event: EventHandle,
+        delivery: Delivery,
+    ) -> Result<(), FederateFault>
+        requires { room self.old ≡ true }
+        ensures { heard self.new ≡ heard self.old
+            ++ callback.ReflectAttributeValues object values event delivery ∷ [] };
+
+    /// Receive Interaction (HLA 1.3, object management): an interaction, at the class at which the federate receives it.
+    fn receive_interaction(
+        &mut self,
+        class: ClassNo,
+        values: List<HandleValuePair>,
+        event: EventHandle,
+        delivery: Delivery,
+    ) -> Result<(), FederateFault>
+        requires { room self.old ≡ true }
+        ensures { heard self.new ≡ heard self.old
+            ++ callback.ReceiveInteraction class values event delivery ∷ [] };
+
+    /// Remove Object Instance (HLA 1.3, object management): an object that the federate knows was deleted.
+    fn remove_object_instance(
+        &mut self,
+        object: ObjectNo,
+        event: EventHandle,
+        delivery: Delivery,
+    ) -> Result<(), FederateFault>
+        requires { room self.old ≡ true }
+        ensures { heard self.new ≡ heard self.old ++ callback.RemoveObjectInstance object event delivery ∷ [] };
+
+    /// Time Regulation Enabled (HLA 1.3, time management): the federate regulates, with this time, in ticks, from now on.
+    fn time_regulation_enabled(&mut self, time: Ticks) -> Result<(), FederateFault>
+        requires { room self.old ≡ true }
+        ensures { heard self.new ≡ heard self.old ++ callback.TimeRegulationEnabled time ∷ [] };
+
+    /// Time Constrained Enabled (HLA 1.3, time management): the federate is constrained, with this time, in ticks.
+    fn time_constrained_enabled(&mut self, time: Ticks) -> Result<(), FederateFault>
+        requires { room self.old ≡ true }
+        ensures { heard self.new ≡ heard self.old ++ callback.TimeConstrainedEnabled time ∷ [] };
+
+    /// Time Advance Grant (HLA 1.3, time management): the federate's time, in ticks, from now on.
+    fn time_advance_grant(&mut self, time: Ticks) -> Result<(), FederateFault>
+        requires { room self.old ≡ true }
+        ensures { heard self.new ≡ heard self.old ++ callback.TimeAdvanceGrant time ∷ [] };
+
+    /// Request Retraction (HLA 1.3, time management): this message was given, and its sender has retracted it.
+    fn request_retraction(&mut self, event: EventHandle) -> Result<(), FederateFault>
+        requires { room self.old ≡ true }
+        ensures { heard self.new ≡ heard self.old ++ callback.RequestRetraction event ∷ [] };
+}
+
+/// A box may stand for the ambassador in it.
+impl FederateAmbassador for Box<dyn FederateAmbassador + Send> {
+    ghost heard = { λ b. (FederateAmbassador-box b).heard b.value };
+
+    ghost room = { λ b. (FederateAmbassador-box b).room b.value };
+
+    fn make_room(&mut self) -> Result<(), Fault> {
+        (**self).make_room()
+    }
+
+    fn discover_object_instance(
+        &mut self,
+        object: ObjectNo,
+        class: ClassNo,
+        name: List<u8>,
+    ) -> Result<(), FederateFault> {
+        (**self).discover_object_instance(object, class, name)
+    }
+
+    fn reflect_attribute_values(
+        &mut self,
+        object: ObjectNo,
+        values: List<HandleValuePair>,
+        event: EventHandle,
+        delivery: Delivery,
+    ) -> Result<(), FederateFault> {
+        (**self).reflect_attribute_values(object, values, event, delivery)
+    }
+
+    fn receive_interaction(
+        &mut self,
+        class: ClassNo,
+        values: List<HandleValuePair>,
+        event: EventHandle,
+        delivery: Delivery,
+    ) -> Result<(), FederateFault> {
+        (**self).receive_interaction(class, values, event, delivery)
+    }
+
+    fn remove_object_instance(
+        &mut self,
+        object: ObjectNo,
+        event: EventHandle,
+        delivery: Delivery,
+    ) -> Result<(), FederateFault> {
+        (**self).remove_object_instance(object, event, delivery)
+    }
+
+    fn time_regulation_enabled(&mut self, time: Ticks) -> Result<(), FederateFault> {
+        (**self).time_regulation_enabled(time)
+    }
+
+    fn time_constrained_enabled(&mut self, time: Ticks) -> Result<(), FederateFault> {
+        (**self).time_constrained_enabled(time)
+    }
+
+    fn time_advance_grant(&mut self, time: Ticks) -> Result<(), FederateFault> {
+        (**self).time_advance_grant(time)
+    }
+
+    fn request_retraction(&mut self, event: EventHandle) -> Result<(), FederateFault> {
+        (**self).request_retraction(event)
+    }
+}

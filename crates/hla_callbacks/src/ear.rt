@@ -1,0 +1,86 @@
+//! Giving callbacks to one federate ambassador.
+
+ghost use Rattle.std.specs.Prelude.{◌≡◌, true, [], ◌∷◌, ◌++◌, OnOk, IfErr};
+
+use crate::ambassador::{FederateAmbassador, FederateFault};
+use crate::callback::Callback;
+use hla_base::Fault;
+use std::marker::Model;
+
+/// Holds the ambassador of one federate, and gives it callbacks as values. Contracts see what it has heard, and whether it
+/// has room for one callback more.
+#[derive(Drop)]
+pub struct Ear<B: FederateAmbassador> {
+    ambassador: B,
+}
+
+impl<B: FederateAmbassador> Model for Ear<B> {
+    ghost use Rattle.hla_callbacks.specs.Hearing.{Hearing};
+
+    ghost Value = { Hearing };
+
+    ghost view = { λ e. record { heard = B.heard e.ambassador; room = B.room e.ambassador } };
+}
+
+impl<B: FederateAmbassador> Ear<B> {
+    /// An ear of this ambassador.
+    pub fn new(ambassador: B) -> Ear<B>
+        ensures heard { result.heard ≡ B.heard ambassador }
+        ensures room { result.room ≡ B.room ambassador }
+    {
+        Ear { ambassador }
+    }
+
+    /// The ambassador back.
+    pub fn into_inner(self) -> B
+        ensures heard { B.heard result ≡ self.heard }
+        ensures room { B.room result ≡ self.room }
+    {
+        self.ambassador
+    }
+
+    /// Takes the room that the next callback needs; `OutOfMemory` where a growth was refused. Nothing is heard.
+    pub fn make_room(&mut self) -> Result<(), Fault>
+        ensures heard { self.new.heard ≡ self.old.heard }
+        ensures room { OnOk result (self.new.room ≡ true) }
+        ensures err { IfErr result (λ e. e ≡ Fault.OutOfMemory) }
+    {
+        self.ambassador.make_room()
+    }
+
+    /// Gives the callback: calls the ambassador's function of its name, and answers what that answers.
+    pub fn give(&mut self, callback: Callback) -> Result<(), FederateFault>
+        requires { self.old.room ≡ true }
+        ensures { self.new.heard ≡ self.old.heard ++ callback ∷ [] }
+    {
+        let to = &mut self.ambassador;
+        match callback {
+            Callback::DiscoverObjectInstance {
+                object,
+                class,
+                name,
+            } => to.discover_object_instance(object, class, name),
+            Callback::ReflectAttributeValues {
+                object,
+                values,
+                event,
+                delivery,
+            } => to.reflect_attribute_values(object, values, event, delivery),
+            Callback::ReceiveInteraction {
+                class,
+                values,
+                event,
+                delivery,
+            } => to.receive_interaction(class, values, event, delivery),
+            Callback::RemoveObjectInstance {
+                object,
+                event,
+                delivery,
+            } => to.remove_object_instance(object, event, delivery),
+            Callback::TimeRegulationEnabled { time } => to.time_regulation_enabled(time),
+            Callback::TimeConstrainedEnabled { time } => to.time_constrained_enabled(time),
+            Callback::TimeAdvanceGrant { time } => to.time_advance_grant(time),
+            Callback::RequestRetraction { event } => to.request_retraction(event),
+        }
+    }
+}
