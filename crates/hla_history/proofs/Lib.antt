@@ -1,0 +1,2 @@
+pub mod NextLaws
+pub mod Ambassadors

@@ -1,0 +1,2 @@
+//! The value under the lock of the run-time infrastructure: all executions, their federates' ambassadors, and the history.
+#![tactic(auto)]
