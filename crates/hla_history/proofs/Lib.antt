@@ -1,2 +1,3 @@
 pub mod NextLaws
 pub mod Ambassadors
+pub mod Kept
