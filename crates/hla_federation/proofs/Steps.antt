@@ -1,3 +1,7 @@
+-- Values by rising handle
+pub mod Pairs
+-- The parts stay of one execution
+pub mod Wholes
 -- What is not refused is done
 pub mod Doing
 -- Publications, subscriptions and arrivals
@@ -38,3 +42,5 @@ pub mod Resigning
 pub mod Sound
 -- Lists of steps are runs of the machine
 pub mod Running
+-- How a step would end
+pub mod Foreseeing

@@ -1,4 +1,4 @@
--- What contracts see of the parts, and the tables that they stand for
-pub mod Tables
+-- What contracts see of a federation
+pub mod FederationValue
 -- How a step may end, and what it puts on wires
 pub mod Steps

@@ -6,10 +6,10 @@ ghost use Rattle.hla_federation.specs.Steps.Advancing.{request_service};
 ghost use Rattle.hla_federation.specs.Steps.Soundness.{MayCall};
 ghost use Rattle.hla_federation.specs.Steps.State.{IsWhole, Ends, EndsChosen, Answers};
 
-use crate::change::Change;
 use crate::parts::Parts;
 use hla_base::{AdvanceKind, Fault, FederateNo, Ticks};
 use hla_machine::Answer;
+use hla_members::Change;
 
 impl Parts {
     /// Time Advance Request, Next Event Request, their Available forms, or Flush Queue Request, to a time in ticks.

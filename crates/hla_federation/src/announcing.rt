@@ -4,17 +4,15 @@ ghost use Rattle.std.specs.Prelude.{◌≡◌, ◌<◌, [], OnOk, OnErr, IfErr};
 ghost use Rattle.hla_base.specs.declared.fault.Fault.TheVariants.{OutOfMemory};
 ghost use Rattle.hla_base.specs.Tables.{is_other};
 ghost use Rattle.hla_machine.specs.declared.step.Step.TheVariants as step;
-ghost use Rattle.hla_federation.specs.Tables.Members.{members_of, with_null_sent};
+ghost use Rattle.hla_members.specs.Members.{members_of, with_null_sent};
 ghost use Rattle.hla_federation.specs.Steps.Sending.{HasAdded, null_to, last_null_to, announcement};
 ghost use Rattle.hla_federation.specs.Steps.Soundness.{IsSound};
 ghost use Rattle.hla_federation.specs.Steps.State.{state_of, IsWhole, Ends};
 
-use crate::change::Change;
-use crate::direction::Direction;
-use crate::outbox::Outbox;
 use crate::parts::Parts;
 use hla_base::{FOREVER, Fault, FederateNo, Ticks};
 use hla_machine::Answer;
+use hla_members::{Change, Direction, Outbox};
 use hla_null_message::Message;
 
 impl Parts {
@@ -69,7 +67,7 @@ impl Parts {
 
     /// What a federate announces now: what it may promise, if it regulates or has asked to and that is more than it announced
     /// last.
-    fn announcement(&self, federate: FederateNo) -> Option<Ticks>
+    pub fn announcement(&self, federate: FederateNo) -> Option<Ticks>
         requires whole { IsWhole self.now }
         requires some { 0 < federate }
         requires within { federate < (state_of self.now).directory.next_federate }

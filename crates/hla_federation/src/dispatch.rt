@@ -123,7 +123,7 @@ impl Parts {
     }
 
     /// A query or a support service that a federate calls.
-    fn answer(&self, federate: FederateNo, service: &Service) -> Result<Answer, Fault>
+    pub fn answer(&self, federate: FederateNo, service: &Service) -> Result<Answer, Fault>
         requires may { MayCall self.now federate }
         requires question { IsQuestion service.now }
         ensures { Answers self.now (step.Call federate service.now) result }

@@ -1,5 +1,6 @@
 //! A federation execution.
 
+use crate::foreseeing::Foreseen;
 use crate::parts::Parts;
 use hla_base::Fault;
 use hla_fed_file::Catalogue;
@@ -16,7 +17,7 @@ pub struct Federation {
 }
 
 impl Model for Federation {
-    ghost use Rattle.hla_federation.specs.Tables.FederationValue.{FederationValue};
+    ghost use Rattle.hla_federation.specs.FederationValue.{FederationValue};
     ghost use Rattle.hla_federation.specs.Steps.Soundness.{IsSound};
 
     ghost Value = { FederationValue };
@@ -37,7 +38,7 @@ impl Federation {
     ghost use Rattle.hla_components.specs.Next.{next};
     ghost use Rattle.hla_components.specs.CentralOf.{central};
     ghost use Rattle.hla_federation.specs.Steps.State.{state_of};
-    ghost use Rattle.hla_federation.specs.Steps.Memory.{IsRefusedWith, takes_memory};
+    ghost use Rattle.hla_federation.specs.Steps.Memory.{IsRefusedWith, foresight_takes_memory, takes_memory};
     ghost use Rattle.hla_components.specs.Headline.{happening, happenings};
     ghost use Rattle.hla_federation.specs.Steps.Soundness.{IsSound, AreSteps, remembered_steps};
 
@@ -88,6 +89,18 @@ impl Federation {
         ensures memory { OnErr result (takes_memory (state_of self.now) step.now ≡ true) }
     {
         self.parts.choice(step)
+    }
+
+    /// How the next step would end and what it would choose, if it were this one. Nothing changes. `OutOfMemory` where a
+    /// growth was refused: it happens to no step but those that take memory themselves, and a tick that would give a message
+    /// or a discovery, of which the answer has a copy.
+    pub fn foresee(&self, step: &Step) -> Result<Foreseen, Fault>
+        ensures outcome { IfOk result (λ x. x.outcome ≡ (next (state_of self.now) step.now).outcome) }
+        ensures choice { IfOk result (λ x. x.choice ≡ (next (state_of self.now) step.now).choice) }
+        ensures err { IfErr result (λ e. e ≡ Fault.OutOfMemory) }
+        ensures memory { OnErr result (foresight_takes_memory (state_of self.now) step.now ≡ true) }
+    {
+        self.parts.foresee(step)
     }
 
     /// One step after another, with what each answers. The answers are those of the components' next-state function, and

@@ -1,13 +1,14 @@
-//! What heads the copies of a message, and what is noted of one that may be retracted.
+//! What heads the copies of a message.
 
 ghost use Rattle.std.specs.Prelude.{◌≡◌};
 ghost use Rattle.std.specs.Option.{option_and_then};
 ghost use Rattle.hla_fed_file.specs.declared.declared.Order.TheVariants.{Timestamp};
 ghost use Rattle.hla_machine.specs.Directory.{is_of_order};
-ghost use Rattle.hla_federation.specs.Steps.Sending.{event_under, note_under};
+ghost use Rattle.hla_federation.specs.Steps.Sending.{event_under, handle_under, note_under};
 
-use hla_base::{Content, Event, FederateNo, Serial, Ticks};
+use hla_base::{Content, Event, EventHandle, FederateNo, Serial, Ticks};
 use hla_fed_file::Order;
+use hla_members::Note;
 use hla_null_message::Message;
 use hla_retraction::Receivers;
 
@@ -27,14 +28,6 @@ pub struct Heading {
     pub stamp: Option<Ticks>,
 }
 
-/// A message that its sender may retract: an update or an interaction in time-stamp order.
-#[derive(Debug, Drop)]
-pub struct Note {
-    pub serial: Serial,
-    pub stamp: Ticks,
-    pub receivers: Receivers,
-}
-
 impl Heading {
     /// The message that says this.
     pub fn event(self, content: Content) -> Message
@@ -46,6 +39,16 @@ impl Heading {
             ordered: self.stamp.is_some(),
             stamp: self.stamp.unwrap_or(0),
             content,
+        })
+    }
+
+    /// The handle by which its sender may retract the message, if it goes in time-stamp order.
+    pub fn handle(self) -> Option<EventHandle>
+        ensures { result ≡ handle_under self }
+    {
+        self.stamp.map(|_stamp| EventHandle {
+            sender: self.sender,
+            serial: self.serial,
         })
     }
 

@@ -11,12 +11,11 @@ ghost use Rattle.hla_federation.specs.Steps.Soundness.{IsSound, MayCall};
 ghost use Rattle.hla_federation.specs.Steps.State.{state_of, IsWhole, Ends};
 
 use crate::heading::Heading;
-use crate::member::Member;
 use crate::naming::{default_name, name_copy};
-use crate::outbox::Outbox;
 use crate::parts::Parts;
 use hla_base::{Fault, FederateNo, ObjectNo, Serial};
 use hla_machine::{Answer, ResignAction};
+use hla_members::{Member, Outbox};
 
 impl Parts {
     /// Join Federation Execution.

@@ -3,22 +3,16 @@
 
 mod advancing;
 mod announcing;
-mod change;
 mod choosing;
 mod declaring;
 mod delivering;
-mod direction;
 mod dispatch;
 mod federation;
+mod foreseeing;
 mod heading;
-mod incoming;
 mod joining;
 mod lookups;
-mod member;
-mod members;
-mod messages;
 mod naming;
-mod outbox;
 mod pairs;
 mod parts;
 mod refusals;
@@ -28,3 +22,4 @@ mod retracting;
 mod sending;
 
 pub use federation::Federation;
+pub use foreseeing::Foreseen;

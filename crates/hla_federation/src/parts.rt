@@ -5,10 +5,10 @@ ghost use Rattle.hla_declaration.specs.Declarations as declared;
 ghost use Rattle.hla_object_registry.specs.Registered.{registry_of, new_registry};
 ghost use Rattle.hla_federation.specs.Steps.State.{nothing_declared};
 
-use crate::members::Members;
 use hla_base::List;
 use hla_declaration::Declarations;
 use hla_fed_file::Catalogue;
+use hla_members::Members;
 use hla_object_registry::Registry;
 use std::alloc::Global;
 use std::marker::Model;
@@ -27,7 +27,7 @@ pub struct Parts {
 }
 
 impl Model for Parts {
-    ghost use Rattle.hla_federation.specs.Tables.FederationValue.{FederationValue};
+    ghost use Rattle.hla_federation.specs.FederationValue.{FederationValue};
 
     ghost Value = { FederationValue };
 

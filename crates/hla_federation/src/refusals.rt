@@ -296,7 +296,7 @@ impl Parts {
     }
 
     /// Whether one of these values is of an attribute whose updates have this order.
-    fn has_order(&self, order: Order, values: &[HandleValuePair]) -> bool
+    pub fn has_order(&self, order: Order, values: &[HandleValuePair]) -> bool
         ensures { result ≡ list_any (λ (v : HandleValuePair). is_of_order order
             (attribute_order self.now.catalogue v.handle)) values.now }
     {

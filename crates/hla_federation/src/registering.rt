@@ -16,13 +16,12 @@ ghost use Rattle.hla_federation.specs.Steps.Sending.{HasAdded, messages_among};
 ghost use Rattle.hla_federation.specs.Steps.Soundness.{IsSound, MayCall};
 ghost use Rattle.hla_federation.specs.Steps.State.{state_of, IsWhole, Ends};
 
-use crate::direction::Direction;
 use crate::naming::{default_name, name_copy};
-use crate::outbox::Outbox;
 use crate::parts::Parts;
 use hla_base::{AttributeNo, ClassNo, Discovery, Fault, FederateNo, List, ObjectNo, Plain};
 use hla_declaration::Receiver;
 use hla_machine::Answer;
+use hla_members::{Direction, Outbox};
 use hla_null_message::Message;
 
 impl Parts {

@@ -8,10 +8,10 @@ ghost use Rattle.hla_components.specs.Next.{components_seen};
 ghost use Rattle.hla_federation.specs.Steps.Soundness.{MayCall};
 ghost use Rattle.hla_federation.specs.Steps.State.{state_of, IsWhole, Ends, EndsChosen};
 
-use crate::change::Change;
 use crate::parts::Parts;
 use hla_base::{FOREVER, Fault, FederateNo, Ticks};
 use hla_machine::Answer;
+use hla_members::Change;
 
 impl Parts {
     /// Why a federate may not ask to regulate at a time with a lookahead, in ticks, if it may not.

@@ -7,16 +7,15 @@ ghost use Rattle.hla_machine.specs.Sends.{is_told};
 ghost use Rattle.hla_machine.specs.declared.service.Service.TheVariants as service;
 ghost use Rattle.hla_machine.specs.declared.step.Step.TheVariants as step;
 ghost use Rattle.hla_components.specs.Next.{components_seen};
-ghost use Rattle.hla_federation.specs.Tables.Members.{members_of, with_retraction_sent};
+ghost use Rattle.hla_members.specs.Members.{members_of, with_retraction_sent};
 ghost use Rattle.hla_federation.specs.Steps.Sending.{HasAdded, retraction_to};
 ghost use Rattle.hla_federation.specs.Steps.Soundness.{MayCall};
 ghost use Rattle.hla_federation.specs.Steps.State.{state_of, IsWhole, Ends};
 
-use crate::direction::Direction;
-use crate::outbox::Outbox;
 use crate::parts::Parts;
 use hla_base::{EventHandle, Fault, FederateNo, Serial};
 use hla_machine::Answer;
+use hla_members::{Direction, Outbox};
 use hla_null_message::Message;
 
 impl Parts {

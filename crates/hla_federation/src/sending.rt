@@ -10,13 +10,12 @@ ghost use Rattle.hla_retraction.specs.Receivers.{receiver_set};
 ghost use Rattle.hla_machine.specs.Directory.{AnInteraction, AnUpdate, ADeletion, is_receiver, subscribed_values, values_of_order, part_sent};
 ghost use Rattle.hla_machine.specs.declared.service.Service.TheVariants as service;
 ghost use Rattle.hla_machine.specs.declared.step.Step.TheVariants as step;
-ghost use Rattle.hla_federation.specs.Tables.Noting.{handle_noted};
+ghost use Rattle.hla_members.specs.Noting.{handle_noted};
 ghost use Rattle.hla_federation.specs.Steps.Sending.{HasAdded, heading_of, message_to, part_to};
 ghost use Rattle.hla_federation.specs.Steps.Soundness.{MayCall};
 ghost use Rattle.hla_federation.specs.Steps.State.{state_of, IsWhole, Ends};
 
-use crate::heading::{Heading, Note, is_timestamp};
-use crate::outbox::Outbox;
+use crate::heading::{Heading, is_timestamp};
 use crate::pairs::by_handle;
 use crate::parts::Parts;
 use hla_base::{
@@ -25,6 +24,7 @@ use hla_base::{
 };
 use hla_fed_file::Order;
 use hla_machine::Answer;
+use hla_members::{Note, Outbox};
 use hla_retraction::Receivers;
 
 /// The handle by which its sender may retract a message, if there is one to retract.
@@ -104,7 +104,7 @@ impl Parts {
 
     /// What heads a message of a federate that has this order: the stamp counts where the order is time-stamp order and the
     /// federate regulates.
-    fn heading(
+    pub fn heading(
         &self,
         sender: FederateNo,
         serial: Serial,

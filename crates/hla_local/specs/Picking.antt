@@ -1,5 +1,5 @@
 -- What a tick picks up: the first that there is
-use Rattle.std.specs.Prelude.{ℕ, ◌+◌, min, cond, eqb, leb, not, ◌&&◌, ◌||◌, Bool, true, Option, Some, None, List, [], ◌∷◌, filter, ltb, ◌++◌}
+use Rattle.std.specs.Prelude.{ℕ, ◌+◌, min, cond, eqb, leb, not, ◌&&◌, ◌||◌, Bool, true, false, Option, Some, None, List, [], ◌∷◌, filter, ltb, ◌++◌}
 use Rattle.hla_base.specs.declared.content.Event.{Event}
 use Rattle.hla_base.specs.declared.row.AdvanceKind.{AdvanceKind}
 use Rattle.hla_base.specs.declared.row.AdvanceRequest.{AdvanceRequest}
@@ -14,6 +14,7 @@ use Rattle.hla_local.specs.declared.picked.NextPick.TheVariants as next
 use Rattle.hla_local.specs.declared.picked.Picked.{Picked}
 use Rattle.hla_local.specs.declared.picked.Picked.TheVariants as picked
 use Rattle.hla_order_queues.specs.declared.control.Control.{Control}
+use Rattle.hla_order_queues.specs.declared.control.Control.TheVariants.{ToDiscover}
 use Rattle.hla_order_queues.specs.Queues.{first_stamp}
 
 -- ---- what a tick picks up: the first that there is
@@ -82,6 +83,13 @@ picked_by r PickRegulates = picked.Regulation r.regulation_time
 picked_by r PickConstrains = picked.Constraint r.time
 picked_by r (PickTso q e rest) = picked.Ordered e
 picked_by r (PickGrant q t) = picked.Grant t
+
+-- does a copy of it take memory: that of a message or a discovery does
+abbrev pub copies_content : Picked → Bool
+copies_content (picked.Control (ToDiscover from d)) = true
+copies_content (picked.Received e) = true
+copies_content (picked.Ordered e) = true
+copies_content p = false
 
 -- what is picked up, without what it carries
 abbrev pub next_pick_by : Pick → NextPick

@@ -1,18 +1,34 @@
 //! What a federate would pick up at a tick, and what waits first.
 
-ghost use Rattle.std.specs.Prelude.{◌≡◌, ◌<◌, ◌≤◌, IfOk, IfErr, Some, slice_get, filter, option_copied};
+ghost use Rattle.std.specs.Prelude.{◌≡◌, ◌<◌, ◌≤◌, true, IfOk, IfErr, OnErr, Some, slice_get, filter, option_copied};
 ghost use Rattle.hla_base.specs.declared.fault.Fault.TheVariants.{OutOfMemory};
 ghost use Rattle.hla_base.specs.Limits.{max_time};
 ghost use Rattle.hla_base.specs.Tables.{forever};
 ghost use Rattle.hla_order_queues.specs.Queues.{handles_of};
-ghost use Rattle.hla_local.specs.Picking.{next_pick_by, local_pick, least_bound, role_pick, advance_pick, grant_pick, is_below};
+ghost use Rattle.hla_local.specs.declared.picked.Picked.TheVariants as picked;
+ghost use Rattle.hla_local.specs.Picking.{next_pick_by, local_pick, least_bound, role_pick, advance_pick, grant_pick, is_below, picked_by, copies_content};
 
 use crate::local::Local;
-use crate::picked::NextPick;
+use crate::picked::{NextPick, Picked};
 use crate::picking::{flush_time, grant_time, is_picked, is_reached};
-use hla_base::{AdvanceRequest, Event, EventHandle, Fault, Ticks};
+use hla_base::{AdvanceRequest, Event, EventHandle, Fault, Plain, Ticks};
 use hla_order_queues::Control;
 use std::alloc::Global;
+
+/// A copy of what may be given at any tick; `OutOfMemory` where that of a discovery was refused.
+fn control_copy(control: &Control) -> Result<Control, Fault>
+    ensures ok { IfOk result (λ c. c ≡ control.now) }
+    ensures err { IfErr result (λ e. e ≡ Fault.OutOfMemory) }
+    ensures memory { OnErr result (copies_content (picked.Control control.now) ≡ true) }
+{
+    match control {
+        Control::ToDiscover { from, discovery } => Ok(Control::ToDiscover {
+            from: *from,
+            discovery: discovery.copy()?,
+        }),
+        Control::ToRetract { event } => Ok(Control::ToRetract { event: *event }),
+    }
+}
 
 impl Local {
     /// What the federate would pick up now, as `pick` would, which says in which order. Nothing changes.
@@ -26,6 +42,33 @@ impl Local {
             return NextPick::Received;
         }
         self.next_role()
+    }
+
+    /// A copy of what the federate would pick up now, as `pick` would answer it. Nothing changes. `OutOfMemory` where a
+    /// message or a discovery would be picked up and its copy was refused.
+    pub fn next_picked(&self) -> Result<Picked, Fault>
+        ensures ok { IfOk result (λ p. p ≡ picked_by self.now.row (local_pick self.now)) }
+        ensures err { IfErr result (λ e. e ≡ Fault.OutOfMemory) }
+        ensures memory { OnErr result (copies_content (picked_by self.now.row (local_pick self.now)) ≡ true) }
+    {
+        match self.next_pick() {
+            NextPick::Nothing => Ok(Picked::Nothing),
+            NextPick::Control => match self.first_control() {
+                Some(control) => Ok(Picked::Control(control_copy(control)?)),
+                None => unreachable!(),
+            },
+            NextPick::Received => match self.first_received() {
+                Some(event) => Ok(Picked::Received(event.copy()?)),
+                None => unreachable!(),
+            },
+            NextPick::Regulation => Ok(Picked::Regulation(self.state().row().regulation_time)),
+            NextPick::Constraint => Ok(Picked::Constraint(self.state().time())),
+            NextPick::Ordered => match self.first_ordered() {
+                Some(event) => Ok(Picked::Ordered(event.copy()?)),
+                None => unreachable!(),
+            },
+            NextPick::Grant(time) => Ok(Picked::Grant(time)),
+        }
     }
 
     /// Where no control and no message in receive order would be picked up.

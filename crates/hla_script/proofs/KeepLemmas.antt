@@ -20,7 +20,7 @@ use Rattle.hla_machine.specs.declared.step.Record.{Record}
 use Rattle.hla_components.specs.CentralOf.{central}
 use Rattle.hla_components.specs.Components.{Components, new_components}
 use Rattle.hla_components.specs.Next.{Outcomes, next, components_seen}
-use Rattle.hla_federation.specs.Tables.FederationValue.{FederationValue}
+use Rattle.hla_federation.specs.FederationValue.{FederationValue}
 use Rattle.hla_federation.specs.Steps.Memory.{IsRefusedWith}
 use Rattle.hla_federation.specs.Steps.State.{state_of}
 use Rattle.hla_script.specs.declared.members.Member.{Member}

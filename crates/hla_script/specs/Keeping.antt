@@ -4,7 +4,7 @@ use Rattle.hla_base.specs.declared.fault.Fault.TheVariants as fault
 use Rattle.hla_components.specs.CentralOf.{central}
 use Rattle.hla_components.specs.Components.{Components}
 use Rattle.hla_components.specs.Next.{next}
-use Rattle.hla_federation.specs.Tables.FederationValue.{FederationValue}
+use Rattle.hla_federation.specs.FederationValue.{FederationValue}
 use Rattle.hla_federation.specs.Steps.State.{state_of}
 use Rattle.hla_machine.specs.Runs.{EndsAs, destroy_fault}
 use Rattle.hla_machine.specs.declared.step.Step.{Step}

@@ -29,19 +29,19 @@ use Rattle.hla_components.specs.Component.{promise, regulation_entry}
 use Rattle.hla_components.specs.Invariant.{Inv}
 use Rattle.hla_components.specs.Next.{Outcomes, next, answer_outcome, announce_outcome, with_null_announced, with_regulation_enabled, components_seen}
 use Rattle.hla_components.proofs.Refinement.Runs.{each_step}
-use Rattle.hla_federation.specs.declared.direction.Direction.TheVariants.{From}
-use Rattle.hla_federation.specs.Tables.Changes.{MayRegulate, AreLowered, peers_lowered, entry_by}
-use Rattle.hla_federation.specs.Tables.MemberValue.{MemberValue}
-use Rattle.hla_federation.specs.Tables.Members.{MemberTables, members_of, is_number, wires_posted_below, with_component, with_null_sent}
+use Rattle.hla_members.specs.declared.direction.Direction.TheVariants.{From}
+use Rattle.hla_members.specs.Changes.{MayRegulate, AreLowered, peers_lowered, entry_by}
+use Rattle.hla_members.specs.MemberValue.{MemberValue}
+use Rattle.hla_members.specs.Members.{MemberTables, members_of, is_number, wires_posted_below, with_component, with_null_sent}
 use Rattle.hla_federation.specs.Steps.Memory.{takes_memory}
 use Rattle.hla_federation.specs.Steps.Sending.{null_to, announcement}
-use Rattle.hla_federation.specs.Tables.FederationValue.{FederationValue}
+use Rattle.hla_federation.specs.FederationValue.{FederationValue}
 use Rattle.hla_federation.specs.Steps.State.{state_from, IsWhole, IsUnmet}
 use Rattle.hla_federation.proofs.Steps.Changing.{kept, announced_changed}
 use Rattle.hla_federation.proofs.Steps.Doing.{does_next}
 use Rattle.hla_federation.proofs.Steps.Resigning.{other_joined}
-use Rattle.hla_federation.proofs.Tables.MemberTables.{upd-self, upd-field}
-use Rattle.hla_federation.proofs.Tables.Wholes.{whole_same, unmet_with}
+use Rattle.hla_members.proofs.MemberTables.{upd-self, upd-field}
+use Rattle.hla_federation.proofs.Steps.Wholes.{whole_same, unmet_with}
 
 -- ---- what is posted is what is sent
 pub null_posted : (m : MemberTables) (d : Directory) (f k v : ℕ) (o : ℕ → List Message) → d.joined ≡ m.joined → ((h : ℕ) → o h ≡ null_to d f k v h) → ((h : ℕ) → m.joined h ≡ true → is_number m.next_federate h ≡ true)

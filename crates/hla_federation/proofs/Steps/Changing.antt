@@ -23,13 +23,13 @@ use Rattle.hla_machine.specs.Refusals.{Seen, refusal}
 use Rattle.hla_components.specs.Components.{Components}
 use Rattle.hla_components.specs.Locals.{choice_given}
 use Rattle.hla_components.specs.Next.{next, with_row, done_outcome, components_seen}
-use Rattle.hla_federation.specs.Tables.FederationValue.{FederationValue}
-use Rattle.hla_federation.specs.Tables.MemberValue.{MemberValue}
-use Rattle.hla_federation.specs.Tables.Members.{MemberTables, members_of, with_component}
+use Rattle.hla_federation.specs.FederationValue.{FederationValue}
+use Rattle.hla_members.specs.MemberValue.{MemberValue}
+use Rattle.hla_members.specs.Members.{MemberTables, members_of, with_component}
 use Rattle.hla_federation.specs.Steps.Advancing.{request_service}
 use Rattle.hla_federation.specs.Steps.State.{state_of, state_from, IsWhole, IsUnmet}
-use Rattle.hla_federation.proofs.Tables.MemberTables.{upd-self, upd-field}
-use Rattle.hla_federation.proofs.Tables.Wholes.{whole_same, unmet_with}
+use Rattle.hla_members.proofs.MemberTables.{upd-self, upd-field}
+use Rattle.hla_federation.proofs.Steps.Wholes.{whole_same, unmet_with}
 use Rattle.hla_federation.proofs.Steps.Doing.{does_next}
 
 -- ---- what only the row, the last announcement and the epoch of a component say

@@ -27,9 +27,9 @@ use Rattle.hla_components.proofs.Services.Locals.{ticked, may_come, bound_is}
 use Rattle.hla_machine.specs.declared.step.Step.TheVariants.{Tick}
 use Rattle.hla_federation.specs.Steps.Memory.{takes_memory, pick_takes_memory}
 use Rattle.hla_components.proofs.Services.Locals.{came as each_came}
-use Rattle.hla_federation.specs.Tables.Members.{MemberTables, with_member_admitted, with_component, carried_of, MayArrive, HasAccepted}
+use Rattle.hla_members.specs.Members.{MemberTables, with_member_admitted, with_component, carried_of, MayArrive, HasAccepted}
 use Rattle.hla_federation.specs.Steps.State.{state_from, AreWhole, IsUnmet}
-use Rattle.hla_federation.proofs.Tables.MemberTables.{upd-self, upd-field}
+use Rattle.hla_members.proofs.MemberTables.{upd-self, upd-field}
 use Rattle.hla_federation.proofs.Steps.Doing.{does_next}
 
 pub and-false : (b : Bool) → b && false ≡ false

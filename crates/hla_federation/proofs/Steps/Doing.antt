@@ -5,7 +5,7 @@ use Rattle.hla_machine.specs.declared.step.Step.{Step}
 use Rattle.hla_machine.specs.Refusals.{refusal}
 use Rattle.hla_components.specs.Components.{Components}
 use Rattle.hla_machine.specs.declared.step.Answer.{Answer}
-use Rattle.hla_federation.specs.Tables.FederationValue.{FederationValue}
+use Rattle.hla_federation.specs.FederationValue.{FederationValue}
 use Rattle.hla_federation.specs.Steps.State.{Ends, EndsChosen}
 use Rattle.hla_components.specs.Next.{Outcomes, next, components_seen, unless_refused}
 use Rattle.hla_components.specs.Next as components

@@ -16,11 +16,11 @@ use Rattle.hla_machine.specs.Directory.{Directory, Outgoing, AnUpdate, part_sent
 use Rattle.hla_machine.specs.Sends.{is_ordered, is_deletion, sent_event, sent_handle}
 use Rattle.hla_components.specs.Invariant.{Inv}
 use Rattle.hla_federation.specs.declared.heading.Heading.{Heading}
-use Rattle.hla_federation.specs.declared.heading.Note.{Note}
-use Rattle.hla_federation.specs.Tables.FederationValue.{FederationValue}
-use Rattle.hla_federation.specs.Tables.MemberValue.{item}
-use Rattle.hla_federation.specs.Tables.Members.{no_member, members_of}
-use Rattle.hla_federation.specs.Tables.Noting.{IsUnsentFrom, with_noted, handle_noted}
+use Rattle.hla_members.specs.declared.note.Note.{Note}
+use Rattle.hla_federation.specs.FederationValue.{FederationValue}
+use Rattle.hla_members.specs.MemberValue.{item}
+use Rattle.hla_members.specs.Members.{no_member, members_of}
+use Rattle.hla_members.specs.Noting.{IsUnsentFrom, with_noted, handle_noted}
 use Rattle.hla_federation.specs.Steps.Sending.{order_stamp, heading_of, note_under}
 use Rattle.hla_federation.specs.Steps.State.{state_of}
 use Rattle.hla_federation.proofs.Steps.Declaring.{upd2-self}

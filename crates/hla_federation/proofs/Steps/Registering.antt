@@ -22,10 +22,10 @@ use Rattle.hla_fed_file.specs.CatalogueValue.{CatalogueValue}
 use Rattle.hla_declaration.specs.declared.receiver.Receiver.{Receiver}
 use Rattle.hla_declaration.proofs.ReceiverLemmas.{receiver_at}
 use Rattle.hla_machine.specs.Directory.{Directory, Object, served_object, discovery_at, discovery_of, discoveries_of, with_object_discovered, with_object}
-use Rattle.hla_federation.specs.declared.direction.Direction.TheVariants.{From}
+use Rattle.hla_members.specs.declared.direction.Direction.TheVariants.{From}
 use Rattle.hla_federation.specs.Steps.Discovering.{with_known_among, discovery_to}
 use Rattle.hla_components.specs.Invariant.{DirectoryInv}
-use Rattle.hla_federation.specs.Tables.Members.{MemberTables, wires_posted_below, is_number}
+use Rattle.hla_members.specs.Members.{MemberTables, wires_posted_below, is_number}
 use Rattle.hla_federation.specs.Steps.State.{state_from, directory_from}
 use Rattle.hla_components.specs.Next.{put_discoveries, with_object_registered}
 use Rattle.hla_federation.specs.Steps.Sending.{messages_among}

@@ -24,15 +24,15 @@ use Rattle.hla_machine.specs.declared.service.ResignAction.{ResignAction}
 use Rattle.hla_machine.specs.declared.service.ResignAction.TheVariants.{ReleaseAttributes, DeleteObjects, DeleteObjectsAndReleaseAttributes, NoAction}
 use Rattle.hla_machine.specs.declared.step.Step.TheVariants.{Call}
 use Rattle.hla_machine.specs.Refusals.{Seen, refusal}
-use Rattle.hla_federation.specs.declared.direction.Direction.TheVariants.{From}
+use Rattle.hla_members.specs.declared.direction.Direction.TheVariants.{From}
 use Rattle.hla_components.specs.Components.{Components}
-use Rattle.hla_federation.specs.Tables.MemberValue.{item, MemberValue}
-use Rattle.hla_federation.specs.Tables.Members.{no_member, MemberTables, members_of, is_number, wires_posted_below, with_member_withdrawn}
+use Rattle.hla_members.specs.MemberValue.{item, MemberValue}
+use Rattle.hla_members.specs.Members.{no_member, MemberTables, members_of, is_number, wires_posted_below, with_member_withdrawn}
 use Rattle.hla_components.specs.Next.{put_behind, with_last_null, with_federate_gone, with_messages_sent, with_federate_resigned, components_seen}
-use Rattle.hla_federation.specs.Tables.Noting.{IsUnsentFrom}
+use Rattle.hla_members.specs.Noting.{IsUnsentFrom}
 use Rattle.hla_federation.specs.Steps.Sending.{HasAdded, heading_of, message_to, messages_to, last_null_to}
 use Rattle.hla_federation.specs.Steps.State.{state_from, directory_from}
-use Rattle.hla_federation.proofs.Tables.MemberTables.{upd-self, upd-field}
+use Rattle.hla_members.proofs.MemberTables.{upd-self, upd-field}
 use Rattle.hla_federation.proofs.Steps.SendingAll.{sent_wire, sends_all}
 use Rattle.hla_federation.proofs.Steps.Noting.{deletions_noted}
 use Rattle.hla_federation.proofs.Steps.Declaring.{and-false}

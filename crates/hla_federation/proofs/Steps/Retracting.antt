@@ -16,11 +16,11 @@ use Rattle.hla_machine.specs.declared.service.Service.TheVariants as service
 use Rattle.hla_machine.specs.declared.step.Step.TheVariants.{Call}
 use Rattle.hla_components.specs.Components.{Components}
 use Rattle.hla_components.specs.Next.{components_seen}
-use Rattle.hla_federation.specs.declared.direction.Direction.TheVariants.{From}
-use Rattle.hla_federation.specs.Tables.FederationValue.{FederationValue}
-use Rattle.hla_federation.specs.Tables.MemberValue.{MemberValue}
-use Rattle.hla_federation.specs.Tables.Members.{MemberTables, members_of, is_number, wires_posted_below, with_retraction_sent}
-use Rattle.hla_federation.specs.Tables.Noting.{with_retracted}
+use Rattle.hla_members.specs.declared.direction.Direction.TheVariants.{From}
+use Rattle.hla_federation.specs.FederationValue.{FederationValue}
+use Rattle.hla_members.specs.MemberValue.{MemberValue}
+use Rattle.hla_members.specs.Members.{MemberTables, members_of, is_number, wires_posted_below, with_retraction_sent}
+use Rattle.hla_members.specs.Noting.{with_retracted}
 use Rattle.hla_federation.specs.Steps.Sending.{retraction_to}
 use Rattle.hla_federation.specs.Steps.State.{AreWhole, IsWhole, state_of}
 use Rattle.hla_federation.proofs.Steps.Addressing.{joined_within}

@@ -14,14 +14,14 @@ use Rattle.hla_null_message.specs.declared.message.Message.{Message}
 use Rattle.hla_machine.specs.declared.step.Answer.TheVariants as answer
 use Rattle.hla_machine.specs.Directory.{Directory, Outgoing, default_name, without_object}
 use Rattle.hla_machine.specs.Sends.{sent_handle}
-use Rattle.hla_federation.specs.declared.heading.Note.{Note}
-use Rattle.hla_federation.specs.Tables.Noting.{with_noted, handle_noted}
+use Rattle.hla_members.specs.declared.note.Note.{Note}
+use Rattle.hla_members.specs.Noting.{with_noted, handle_noted}
 use Rattle.hla_base.specs.RowRefusals.{Test, first_fault}
-use Rattle.hla_federation.specs.declared.direction.Direction.TheVariants.{From}
+use Rattle.hla_members.specs.declared.direction.Direction.TheVariants.{From}
 use Rattle.hla_components.specs.Components.{Components}
-use Rattle.hla_federation.specs.Tables.FederationValue.{FederationValue}
-use Rattle.hla_federation.specs.Tables.MemberValue.{item, MemberValue}
-use Rattle.hla_federation.specs.Tables.Members.{MemberTables, members_of, wires_posted_below, is_number, AreQuiet}
+use Rattle.hla_federation.specs.FederationValue.{FederationValue}
+use Rattle.hla_members.specs.MemberValue.{item, MemberValue}
+use Rattle.hla_members.specs.Members.{MemberTables, members_of, wires_posted_below, is_number, AreQuiet}
 use Rattle.hla_components.specs.Next.{answer_outcome, send_outcome, with_messages_sent, with_directory}
 use Rattle.hla_federation.specs.Steps.Sending.{HasAdded, heading_of, message_to, messages_to}
 use Rattle.hla_federation.specs.Steps.State.{AreWhole, IsWhole, state_of, state_from}

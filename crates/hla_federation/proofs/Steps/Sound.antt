@@ -13,11 +13,11 @@ use Rattle.hla_machine.specs.declared.step.Outcome.TheVariants as outcome
 use Rattle.hla_machine.specs.Runs.{IsMachineStep}
 use Rattle.hla_components.specs.CentralOf.{central}
 use Rattle.hla_components.specs.Components.{Components, new_components}
-use Rattle.hla_federation.specs.Tables.FederationValue.{FederationValue}
+use Rattle.hla_federation.specs.FederationValue.{FederationValue}
 use Rattle.hla_components.specs.Headline.{IsLedTo, happening}
 use Rattle.hla_components.specs.Invariant.{Inv}
-use Rattle.hla_federation.specs.Tables.MemberValue.{item, MemberValue}
-use Rattle.hla_federation.specs.Tables.Members.{no_member, members_of}
+use Rattle.hla_members.specs.MemberValue.{item, MemberValue}
+use Rattle.hla_members.specs.Members.{no_member, members_of}
 use Rattle.hla_components.specs.Next.{next}
 use Rattle.hla_federation.specs.Steps.Memory.{IsRefusedWith}
 use Rattle.hla_federation.specs.Steps.Soundness.{IsSound}

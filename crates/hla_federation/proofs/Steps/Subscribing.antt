@@ -13,11 +13,11 @@ use Rattle.hla_declaration.specs.Declarations.{DeclarationsValue}
 use Rattle.hla_declaration.specs.Lists.{DeclarationLists}
 use Rattle.hla_machine.specs.Directory.{Directory, default_name, discoveries_of, with_discoveries_made, with_subscribed}
 use Rattle.hla_object_registry.specs.Registered.{Registered, RegistryValue, registry_of}
-use Rattle.hla_federation.specs.declared.direction.Direction.TheVariants.{To}
-use Rattle.hla_federation.specs.Tables.FederationValue.{FederationValue}
+use Rattle.hla_members.specs.declared.direction.Direction.TheVariants.{To}
+use Rattle.hla_federation.specs.FederationValue.{FederationValue}
 use Rattle.hla_components.specs.Invariant.{EachOf, DirectoryInv}
-use Rattle.hla_federation.specs.Tables.MemberValue.{MemberValue}
-use Rattle.hla_federation.specs.Tables.Members.{MemberTables, members_of, wires_posted_below, is_number}
+use Rattle.hla_members.specs.MemberValue.{MemberValue}
+use Rattle.hla_members.specs.Members.{MemberTables, members_of, wires_posted_below, is_number}
 use Rattle.hla_components.specs.Next.{with_class_subscribed}
 use Rattle.hla_federation.specs.Steps.State.{state_of, state_from, AreWhole, IsWhole}
 use Rattle.hla_base.proofs.Tables.{upd2_other}

@@ -19,10 +19,10 @@ use Rattle.hla_base.specs.Tables.{one_if}
 use Rattle.hla_retraction.specs.SentEvents.{SentEvent}
 use Rattle.hla_retraction.specs.Receivers.{receiver_set}
 use Rattle.hla_machine.specs.Directory.{Directory, Outgoing, AnUpdate, put_pair, put_pairs, by_handle, is_of_order, is_receiver, part_sent, values_of_order, update_sent}
-use Rattle.hla_federation.specs.declared.heading.Note.{Note}
-use Rattle.hla_federation.specs.Tables.Noting.{IsUnsentFrom, with_noted, handle_noted}
-use Rattle.hla_federation.specs.Tables.MemberValue.{item}
-use Rattle.hla_federation.specs.Tables.Members.{AreQuiet}
+use Rattle.hla_members.specs.declared.note.Note.{Note}
+use Rattle.hla_members.specs.Noting.{IsUnsentFrom, with_noted, handle_noted}
+use Rattle.hla_members.specs.MemberValue.{item}
+use Rattle.hla_members.specs.Members.{AreQuiet}
 use Rattle.hla_federation.specs.Steps.Sending.{HasAdded, heading_of, message_to, messages_to, note_under, part_to}
 use Rattle.hla_federation.proofs.Steps.SendingAll.{sent_events}
 use Rattle.hla_federation.proofs.Steps.Noting.{parts_noted, parts_handle}

@@ -1,10 +1,8 @@
 -- Which steps may be refused for want of memory; no other step ever is
-use Rattle.std.specs.Prelude.{◌≡◌, ◌⊎◌, ◌&&◌, ltb, Bool, true, false, None, Some, List, [], ◌∷◌}
+use Rattle.std.specs.Prelude.{◌≡◌, ◌⊎◌, ◌&&◌, ◌||◌, ltb, Bool, true, false, None, Some}
 use Rattle.hla_base.specs.declared.fault.Fault.{Fault}
 use Rattle.hla_base.specs.declared.fault.Fault.TheVariants.{OutOfMemory}
-use Rattle.hla_null_message.specs.declared.message.Message.{Message}
-use Rattle.hla_local.specs.Arriving.{message_takes_memory}
-use Rattle.hla_local.specs.Picking.{Pick, PickConstrains, pick}
+use Rattle.hla_local.specs.Picking.{Pick, PickConstrains, pick, picked_by, copies_content}
 use Rattle.hla_machine.specs.declared.service.Service.{Service}
 use Rattle.hla_machine.specs.declared.service.Service.TheVariants as service
 use Rattle.hla_machine.specs.declared.step.Step.{Step}
@@ -14,11 +12,7 @@ use Rattle.hla_base.specs.Rows.{is_regulator}
 use Rattle.hla_components.specs.Components.{Components}
 use Rattle.hla_components.specs.Component.{promise, local_bound}
 use Rattle.hla_components.specs.Next.{components_seen}
-
--- the first message on a wire, if there is one
-abbrev pub arrival_takes_memory : List Message → Bool
-arrival_takes_memory [] = false
-arrival_takes_memory (m ∷ ms) = message_takes_memory m
+use Rattle.hla_members.specs.Members.{arrival_takes_memory}
 
 -- only what moves as a federate becomes constrained takes memory
 abbrev pub pick_takes_memory : Pick → Bool
@@ -60,6 +54,11 @@ takes_memory s (Call f service) = service_takes_memory service
 takes_memory s (Carry from to) = arrival_takes_memory (s.wire from to)
 takes_memory s (Announce f) = is_regulator (s.row f) && ltb (s.last_announced f) (promise s f)
 takes_memory s (Tick f) = pick_takes_memory (pick (s.controls f) (s.row f) (s.ro f) (s.tso f) (local_bound s f))
+
+-- to foresee a step takes memory where the step does, and where a tick would give a message or a discovery, for its copy
+abbrev pub foresight_takes_memory : Components → Step → Bool
+foresight_takes_memory s (Tick f) = let p = pick (s.controls f) (s.row f) (s.ro f) (s.tso f) (local_bound s f) in pick_takes_memory p || copies_content (picked_by (s.row f) p)
+foresight_takes_memory s step = takes_memory s step
 
 -- refused as the definitions say; or for want of memory, where they say nothing and the step takes any
 abbrev pub IsRefusedWith : Components → Step → Fault → Type 0

@@ -3,6 +3,7 @@ use Rattle.std.specs.Prelude.{ℕ, ◌+◌, ◌≡◌, ◌&&◌, cond, eqb, ltb,
 use Rattle.std.specs.List.{list_any}
 use Rattle.hla_base.specs.declared.content.Content.{Content}
 use Rattle.hla_base.specs.declared.content.HandleValuePair.{HandleValuePair}
+use Rattle.hla_base.specs.declared.number.EventHandle.{EventHandle}
 use Rattle.hla_base.specs.declared.row.TimeRow.{TimeRow}
 use Rattle.hla_base.specs.Tables.{forever, is_other, when}
 use Rattle.hla_base.specs.Rows.{is_enabled, is_regulator}
@@ -17,8 +18,8 @@ use Rattle.hla_machine.specs.Directory.{Directory, Outgoing, Body, AnUpdate, con
 use Rattle.hla_machine.specs.Refusals.{is_bad_stamp}
 use Rattle.hla_machine.specs.Sends.{is_told}
 use Rattle.hla_federation.specs.declared.heading.Heading.{Heading}
-use Rattle.hla_federation.specs.declared.heading.Note.{Note}
-use Rattle.hla_federation.specs.Tables.MemberValue.{item}
+use Rattle.hla_members.specs.declared.note.Note.{Note}
+use Rattle.hla_members.specs.MemberValue.{item}
 
 -- the stamp with which a message goes in time-stamp order: its order says so, its sender regulates and gave one
 abbrev pub order_stamp : TimeRow → Order → Option ℕ → Option ℕ
@@ -58,6 +59,10 @@ TellsBadStamp r stamp is_stamped answer = (outs : List Outgoing) → list_any (�
 -- what is noted of a message that may be retracted, by its receivers: of one in receive order nothing is
 abbrev pub note_under : Heading → List Bool → Option Note
 note_under head receivers = option_map (λ (t : ℕ). record { serial = head.serial; stamp = t; receivers = receivers }) head.stamp
+
+-- the handle by which its sender may retract it: one in receive order has none
+abbrev pub handle_under : Heading → Option EventHandle
+handle_under head = option_map (λ (t : ℕ). record { sender = head.sender; serial = head.serial }) head.stamp
 
 -- an outbox that has had messages added, by receiver
 abbrev pub HasAdded : (ℕ → List Message) → List (List Message) → List (List Message) → Type 0

@@ -16,8 +16,8 @@ use Rattle.hla_machine.specs.Directory.{Directory, default_name}
 use Rattle.hla_components.specs.Components.{Components}
 use Rattle.hla_components.specs.Next.{next, answer_outcome}
 use Rattle.hla_federation.specs.Steps.Memory.{IsRefusedWith}
-use Rattle.hla_federation.specs.Tables.Members.{MemberTables, members_of}
-use Rattle.hla_federation.specs.Tables.FederationValue.{FederationValue}
+use Rattle.hla_members.specs.Members.{MemberTables, members_of}
+use Rattle.hla_federation.specs.FederationValue.{FederationValue}
 
 abbrev pub directory_from : CatalogueValue → DeclarationsValue → RegistryValue → MemberTables → Directory
 directory_from c d r m = record {

@@ -1,9 +1,9 @@
 use Rattle.std.proofs.Common.{subst, ap, arith}
-use Rattle.hla_federation.specs.Tables.FederationValue.{FederationValue}
+use Rattle.hla_federation.specs.FederationValue.{FederationValue}
 use Rattle.hla_components.specs.Invariant.{Inv}
 use Rattle.hla_components.specs.Headline.{IsLedTo}
 use Rattle.hla_federation.specs.Steps.State.{state_of}
-use Rattle.hla_federation.proofs.Tables.Rooms.{on_err}
+use Rattle.hla_members.proofs.Rooms.{on_err}
 use Rattle.hla_federation.proofs.Steps.Running.{steps_more, one_step, take_item, take_all, are_run, are_lawful, are_discovered_in_turn}
 use Rattle.hla_federation.proofs.federation.Federation.run.Goals as goal
 

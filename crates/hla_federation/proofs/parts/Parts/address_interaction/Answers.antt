@@ -12,8 +12,8 @@ use Rattle.hla_declaration.proofs.ReceiverLemmas.{interaction_receivers}
 use Rattle.hla_null_message.specs.declared.message.Message.{Message}
 use Rattle.hla_retraction.specs.Receivers as told
 use Rattle.hla_machine.specs.Directory.{AnInteraction}
-use Rattle.hla_federation.specs.Tables.FederationValue.{FederationValue}
-use Rattle.hla_federation.specs.Tables.MemberValue.{item}
+use Rattle.hla_federation.specs.FederationValue.{FederationValue}
+use Rattle.hla_members.specs.MemberValue.{item}
 use Rattle.hla_federation.specs.Steps.Sending.{event_under, said_messages, messages_among}
 use Rattle.hla_federation.specs.Steps.State.{state_of}
 use Rattle.hla_federation.proofs.Steps.Addressing.{interaction_at, among-more, added_more, interaction_added}

@@ -5,13 +5,13 @@ use Rattle.hla_machine.specs.declared.step.Carried.{Carried}
 use Rattle.hla_machine.specs.declared.step.Answer.TheVariants as answer
 use Rattle.hla_declaration.specs.Declarations as declared
 use Rattle.hla_object_registry.specs.Registered.{registry_of}
-use Rattle.hla_federation.specs.Tables.FederationValue.{FederationValue}
-use Rattle.hla_federation.specs.Tables.Members.{MemberTables, members_of, with_arrival}
+use Rattle.hla_federation.specs.FederationValue.{FederationValue}
+use Rattle.hla_members.specs.Members.{MemberTables, members_of, with_arrival}
 use Rattle.hla_components.specs.Next.{next, answer_outcome}
 use Rattle.hla_federation.specs.Steps.State.{state_of, state_from, IsUnmet}
 use Rattle.hla_federation.proofs.Steps.Doing.{does_next}
 use Rattle.hla_federation.proofs.Steps.Declaring.{came, may_arrive, unmet_arrived, carries_below}
-use Rattle.hla_federation.proofs.Tables.Wholes.{whole_same}
+use Rattle.hla_federation.proofs.Steps.Wholes.{whole_same}
 use Rattle.hla_federation.proofs.parts.Parts.carry.Goals as goal
 
 pub arrive-requires-clause-may_arrive : goal.arrive-requires-clause-may_arrive

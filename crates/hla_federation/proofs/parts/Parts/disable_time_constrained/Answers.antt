@@ -10,9 +10,9 @@ use Rattle.hla_machine.specs.declared.step.Answer.TheVariants as answer
 use Rattle.hla_machine.specs.declared.step.Outcome.TheVariants as outcome
 use Rattle.hla_machine.specs.declared.step.Step.TheVariants.{Call}
 use Rattle.hla_components.specs.Next.{Outcomes, next, components_seen}
-use Rattle.hla_federation.specs.Tables.FederationValue.{FederationValue}
-use Rattle.hla_federation.specs.Tables.Changes.{local_unconstrained}
-use Rattle.hla_federation.specs.Tables.Members.{members_of}
+use Rattle.hla_federation.specs.FederationValue.{FederationValue}
+use Rattle.hla_members.specs.Changes.{local_unconstrained}
+use Rattle.hla_members.specs.Members.{members_of}
 use Rattle.hla_federation.specs.Steps.State.{state_of}
 use Rattle.hla_federation.proofs.Steps.Changing.{component_whole, component_state, queues_changed}
 use Rattle.hla_federation.proofs.Steps.Doing.{does_next}

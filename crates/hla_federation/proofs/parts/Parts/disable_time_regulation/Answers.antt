@@ -12,10 +12,10 @@ use Rattle.hla_machine.specs.Refusals.{refusal}
 use Rattle.hla_machine.specs.declared.step.Answer.TheVariants as answer
 use Rattle.hla_components.specs.Components.{Components}
 use Rattle.hla_components.specs.Next.{next, answer_outcome, components_seen}
-use Rattle.hla_federation.specs.declared.change.Change.TheVariants as change
-use Rattle.hla_federation.specs.Tables.Changes.{changed_local}
-use Rattle.hla_federation.specs.Tables.FederationValue.{FederationValue}
-use Rattle.hla_federation.specs.Tables.Members.{MemberTables, members_of, with_component, with_null_sent}
+use Rattle.hla_members.specs.declared.change.Change.TheVariants as change
+use Rattle.hla_members.specs.Changes.{changed_local}
+use Rattle.hla_federation.specs.FederationValue.{FederationValue}
+use Rattle.hla_members.specs.Members.{MemberTables, members_of, with_component, with_null_sent}
 use Rattle.hla_federation.specs.Steps.State.{state_of, state_from, IsWhole}
 use Rattle.hla_federation.proofs.Steps.Doing.{does_next}
 use Rattle.hla_federation.proofs.parts.Parts.disable_time_regulation.Goals as goal

@@ -16,19 +16,19 @@ use Rattle.hla_local.specs.LocalValue.{LocalValue}
 use Rattle.hla_machine.specs.Refusals.{refusal}
 use Rattle.hla_machine.specs.declared.step.Answer.TheVariants as answer
 use Rattle.hla_components.specs.Next.{next, components_seen}
-use Rattle.hla_federation.specs.declared.change.Change.TheVariants as change
-use Rattle.hla_federation.specs.Tables.Changes.{changed_local}
-use Rattle.hla_federation.specs.Tables.FederationValue.{FederationValue}
-use Rattle.hla_federation.specs.Tables.Members.{MemberTables, members_of, with_component, with_null_sent}
+use Rattle.hla_members.specs.declared.change.Change.TheVariants as change
+use Rattle.hla_members.specs.Changes.{changed_local}
+use Rattle.hla_federation.specs.FederationValue.{FederationValue}
+use Rattle.hla_members.specs.Members.{MemberTables, members_of, with_component, with_null_sent}
 use Rattle.hla_federation.specs.Steps.State.{state_of, state_from, IsWhole}
 use Rattle.hla_federation.proofs.Steps.Doing.{does_next}
 use Rattle.hla_federation.proofs.parts.Parts.enable_time_regulation.Goals as goal
-use Rattle.hla_federation.specs.Tables.Changes.{AreLowered, entry_by}
+use Rattle.hla_members.specs.Changes.{AreLowered, entry_by}
 use Rattle.hla_federation.specs.Steps.State.{IsUnmet}
 use Rattle.hla_federation.proofs.Steps.Announcing.{entry_is, may_regulate, entered, enabled_state, lowered_unmet}
 use Rattle.hla_federation.proofs.Steps.Resigning.{joined_below}
 use Rattle.hla_federation.proofs.Steps.Sent.{none_applies}
-use Rattle.hla_federation.proofs.Tables.Wholes.{whole_same, unmet_with}
+use Rattle.hla_federation.proofs.Steps.Wholes.{whole_same, unmet_with}
 
 pub change-requires-clause-may : goal.change-requires-clause-may
 change-requires-clause-may c =

@@ -4,12 +4,12 @@ use Rattle.hla_machine.specs.declared.step.Step.TheVariants.{Call}
 use Rattle.hla_declaration.specs.Declarations as declared
 use Rattle.hla_declaration.specs.Declarations.{DeclarationsValue}
 use Rattle.hla_object_registry.specs.Registered.{registry_of}
-use Rattle.hla_federation.specs.Tables.Members.{members_of}
+use Rattle.hla_members.specs.Members.{members_of}
 use Rattle.hla_components.specs.Next.{handle_outcome}
 use Rattle.hla_federation.specs.Steps.State.{state_from}
 use Rattle.hla_federation.proofs.Steps.Doing.{does_next}
 use Rattle.hla_base.specs.Tables.{numbers_below}
-use Rattle.hla_federation.proofs.Tables.Finding.{any_found, none_found}
+use Rattle.hla_members.proofs.Finding.{any_found, none_found}
 use Rattle.hla_federation.proofs.parts.Parts.get_object_instance_handle.Goals as goal
 
 pub returns-in-Some : goal.returns-in-Some

@@ -5,16 +5,16 @@ use Rattle.hla_declaration.specs.Declarations as declared
 use Rattle.hla_declaration.specs.Declarations.{DeclarationsValue}
 use Rattle.hla_object_registry.specs.Registered.{registry_of}
 use Rattle.hla_local.specs.LocalValue.{LocalValue, new_local}
-use Rattle.hla_federation.specs.Tables.MemberValue.{item, MemberValue, RoomyMember}
-use Rattle.hla_federation.specs.Tables.Members.{MemberTables, members_of, with_member_admitted}
+use Rattle.hla_members.specs.MemberValue.{item, MemberValue, RoomyMember}
+use Rattle.hla_members.specs.Members.{MemberTables, members_of, with_member_admitted}
 use Rattle.hla_components.specs.Next.{answer_outcome}
 use Rattle.hla_federation.specs.Steps.State.{state_from}
 use Rattle.hla_federation.proofs.Steps.Doing.{does_next}
 use Rattle.hla_machine.specs.Directory.{default_name}
 use Rattle.hla_components.specs.Components.{Components}
 use Rattle.hla_federation.proofs.Steps.Declaring.{joined_state}
-use Rattle.hla_federation.proofs.Tables.MemberTables.{nobody_at, nobody_yet}
-use Rattle.hla_federation.proofs.Tables.Wholes.{whole_admitted, few_joined}
+use Rattle.hla_members.proofs.MemberTables.{nobody_at}
+use Rattle.hla_federation.proofs.Steps.Wholes.{whole_admitted, few_joined, nobody_yet}
 use Rattle.hla_federation.proofs.parts.Parts.join.Goals as goal
 
 pub returns-clause-whole : goal.returns-clause-whole

@@ -4,8 +4,8 @@ use Rattle.hla_declaration.specs.Declarations as declared
 use Rattle.hla_machine.specs.Directory.{Directory, discovery_of, with_subscribed}
 use Rattle.hla_object_registry.specs.Registered.{Registered, RegistryValue, registry_of}
 use Rattle.hla_object_registry.proofs.Unregistered.{no_object_above}
-use Rattle.hla_federation.specs.Tables.FederationValue.{FederationValue}
-use Rattle.hla_federation.specs.Tables.Members.{members_of}
+use Rattle.hla_federation.specs.FederationValue.{FederationValue}
+use Rattle.hla_members.specs.Members.{members_of}
 use Rattle.hla_federation.specs.Steps.State.{state_of, directory_from}
 use Rattle.hla_federation.proofs.Steps.FoundObjects.{known_below, known_first, known_more, known_same, known_all, still_found, is_found}
 use Rattle.hla_federation.proofs.parts.Parts.make_found_known.Goals as goal

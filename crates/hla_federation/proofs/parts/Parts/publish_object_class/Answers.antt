@@ -1,7 +1,7 @@
 use Rattle.std.proofs.Common.{sym, ap, ◌∙◌}
-use Rattle.hla_federation.specs.Tables.Members.{members_of}
+use Rattle.hla_members.specs.Members.{members_of}
 use Rattle.hla_federation.proofs.Steps.Doing.{does_next}
-use Rattle.hla_federation.proofs.Tables.Wholes.{whole_published}
+use Rattle.hla_federation.proofs.Steps.Wholes.{whole_published}
 use Rattle.hla_declaration.specs.Declarations as declared
 use Rattle.hla_declaration.specs.Declarations.{DeclarationsValue}
 use Rattle.hla_machine.specs.declared.service.Service.TheVariants as service

@@ -10,17 +10,17 @@ use Rattle.hla_machine.specs.declared.step.Answer.TheVariants as answer
 use Rattle.hla_machine.specs.Directory.{default_name, deletions_sent, objects_of}
 use Rattle.hla_machine.specs.Refusals.{refusal}
 use Rattle.hla_components.specs.Components.{Components}
-use Rattle.hla_federation.specs.Tables.FederationValue.{FederationValue}
-use Rattle.hla_federation.specs.Tables.MemberValue.{item}
-use Rattle.hla_federation.specs.Tables.Members.{MemberTables, members_of, with_member_withdrawn}
+use Rattle.hla_federation.specs.FederationValue.{FederationValue}
+use Rattle.hla_members.specs.MemberValue.{item}
+use Rattle.hla_members.specs.Members.{MemberTables, members_of, with_member_withdrawn}
 use Rattle.hla_components.specs.Next.{answer_outcome, components_seen, with_federate_gone, with_messages_sent}
-use Rattle.hla_federation.specs.Tables.Noting.{IsUnsentFrom}
+use Rattle.hla_members.specs.Noting.{IsUnsentFrom}
 use Rattle.hla_federation.specs.Steps.Sending.{HasAdded, messages_to, last_null_to}
 use Rattle.hla_federation.specs.Steps.State.{state_of, state_from, directory_from}
 use Rattle.hla_federation.proofs.Steps.Doing.{does_next}
 use Rattle.hla_federation.proofs.Steps.Noting.{unsent_from}
 use Rattle.hla_federation.proofs.Steps.Resigning.{resign_serials, resigned_state, resign_ways, joined_before, joined_below}
-use Rattle.hla_federation.proofs.Tables.Wholes.{whole_withdrawn}
+use Rattle.hla_federation.proofs.Steps.Wholes.{whole_withdrawn}
 use Rattle.hla_federation.proofs.parts.Parts.resign.Goals as goal
 
 pub returns-clause-whole : goal.returns-clause-whole

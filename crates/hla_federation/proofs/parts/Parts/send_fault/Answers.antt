@@ -3,8 +3,8 @@ use Rattle.hla_fed_file.specs.Lookup.{interaction_order, is_interaction_class}
 use Rattle.hla_fed_file.specs.declared.declared.Order.TheVariants.{Timestamp}
 use Rattle.hla_declaration.specs.Declarations as declared
 use Rattle.hla_machine.specs.Directory.{AnInteraction, by_handle, interaction_sent, is_of_order}
-use Rattle.hla_federation.specs.Tables.FederationValue.{FederationValue}
-use Rattle.hla_federation.specs.Tables.Members.{members_of}
+use Rattle.hla_federation.specs.FederationValue.{FederationValue}
+use Rattle.hla_members.specs.Members.{members_of}
 use Rattle.hla_federation.specs.Steps.State.{state_of}
 use Rattle.hla_federation.proofs.Steps.Stamps.{one_stamped, untimely_interaction, too_many_interactions, fine_interaction}
 use Rattle.hla_federation.proofs.Steps.Updates.{past_serials, within_serials}

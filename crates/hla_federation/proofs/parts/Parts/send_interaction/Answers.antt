@@ -12,13 +12,13 @@ use Rattle.hla_machine.specs.Refusals.{refusal, tests}
 use Rattle.hla_machine.specs.declared.service.Service.TheVariants as service
 use Rattle.hla_machine.specs.declared.step.Answer.TheVariants as answer
 use Rattle.hla_machine.specs.declared.step.Step.TheVariants.{Call}
-use Rattle.hla_federation.specs.declared.direction.Direction.TheVariants.{From}
+use Rattle.hla_members.specs.declared.direction.Direction.TheVariants.{From}
 use Rattle.hla_federation.specs.declared.heading.Heading.{Heading}
-use Rattle.hla_federation.specs.declared.heading.Note.{Note}
-use Rattle.hla_federation.specs.Tables.FederationValue.{FederationValue}
-use Rattle.hla_federation.specs.Tables.MemberValue.{item}
-use Rattle.hla_federation.specs.Tables.Members.{members_of, wires_posted_below}
-use Rattle.hla_federation.specs.Tables.Noting.{IsUnsentFrom, with_noted, handle_noted}
+use Rattle.hla_members.specs.declared.note.Note.{Note}
+use Rattle.hla_federation.specs.FederationValue.{FederationValue}
+use Rattle.hla_members.specs.MemberValue.{item}
+use Rattle.hla_members.specs.Members.{members_of, wires_posted_below}
+use Rattle.hla_members.specs.Noting.{IsUnsentFrom, with_noted, handle_noted}
 use Rattle.hla_components.specs.Next.{answer_outcome, components_seen}
 use Rattle.hla_federation.specs.Steps.Sending.{heading_of, message_to, note_under}
 use Rattle.hla_federation.specs.Steps.State.{IsWhole, state_of}

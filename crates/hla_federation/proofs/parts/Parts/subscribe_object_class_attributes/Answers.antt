@@ -10,10 +10,10 @@ use Rattle.hla_machine.specs.Directory.{with_discoveries_made, discoveries_of, w
 use Rattle.hla_machine.specs.Refusals.{refusal}
 use Rattle.hla_object_registry.specs.Registered.{registry_of}
 use Rattle.hla_federation.specs.contracts.parts.Parts.{the_view}
-use Rattle.hla_federation.specs.declared.direction.Direction.TheVariants.{To}
-use Rattle.hla_federation.specs.Tables.FederationValue.{FederationValue}
-use Rattle.hla_federation.specs.Tables.MemberValue.{item, MemberValue}
-use Rattle.hla_federation.specs.Tables.Members.{MemberTables, members_of, wires_posted_below}
+use Rattle.hla_members.specs.declared.direction.Direction.TheVariants.{To}
+use Rattle.hla_federation.specs.FederationValue.{FederationValue}
+use Rattle.hla_members.specs.MemberValue.{item, MemberValue}
+use Rattle.hla_members.specs.Members.{MemberTables, members_of, wires_posted_below}
 use Rattle.hla_components.specs.Next.{components_seen, answer_outcome}
 use Rattle.hla_federation.specs.Steps.State.{state_of, directory_from, IsWhole}
 use Rattle.hla_federation.proofs.Steps.Subscribing.{declarations_after, objects_after, members_after, subscribed_state, subscribed_whole}

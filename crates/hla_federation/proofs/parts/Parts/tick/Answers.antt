@@ -10,14 +10,14 @@ use Rattle.hla_lbts.specs.Peers.{peers_of}
 use Rattle.hla_components.specs.Next.{Outcomes, next, components_seen}
 use Rattle.hla_machine.specs.Refusals.{refusal}
 use Rattle.hla_machine.specs.declared.step.Outcome.TheVariants as outcome
-use Rattle.hla_federation.specs.Tables.FederationValue.{FederationValue}
-use Rattle.hla_federation.specs.Tables.Members.{MemberTables, members_of}
+use Rattle.hla_federation.specs.FederationValue.{FederationValue}
+use Rattle.hla_members.specs.Members.{MemberTables, members_of}
 use Rattle.hla_federation.specs.Steps.State.{state_of, state_from, IsUnmet, EndsChosen}
 use Rattle.hla_federation.proofs.Steps.Doing.{does_next}
-use Rattle.hla_federation.specs.Tables.MemberValue.{MemberValue}
+use Rattle.hla_members.specs.MemberValue.{MemberValue}
 use Rattle.hla_federation.specs.Steps.Memory.{takes_memory}
 use Rattle.hla_federation.proofs.Steps.Declaring.{picked, pick_memory, unmet_picked}
-use Rattle.hla_federation.proofs.Tables.Wholes.{whole_same}
+use Rattle.hla_federation.proofs.Steps.Wholes.{whole_same}
 use Rattle.hla_federation.proofs.Steps.Changing.{handed_on}
 use Rattle.hla_federation.proofs.parts.Parts.tick.Goals as goal
 

@@ -1,4 +1,4 @@
-use Rattle.hla_federation.proofs.Tables.Wholes.{whole_published}
+use Rattle.hla_federation.proofs.Steps.Wholes.{whole_published}
 use Rattle.hla_federation.proofs.parts.Parts.unpublish_object_class.Goals as goal
 
 pub returns-clause-whole : goal.returns-clause-whole

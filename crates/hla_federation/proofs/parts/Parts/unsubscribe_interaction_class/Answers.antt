@@ -1,4 +1,4 @@
-use Rattle.hla_federation.proofs.Tables.Wholes.{whole_subscribed_interaction}
+use Rattle.hla_federation.proofs.Steps.Wholes.{whole_subscribed_interaction}
 use Rattle.hla_federation.proofs.parts.Parts.unsubscribe_interaction_class.Goals as goal
 
 pub returns-clause-whole : goal.returns-clause-whole

@@ -6,8 +6,8 @@ use Rattle.hla_object_registry.specs.Queries.{is_known_in}
 use Rattle.hla_object_registry.specs.Registered.{registry_of}
 use Rattle.hla_machine.specs.Directory.{update_sent}
 use Rattle.hla_machine.specs.Refusals.{is_published}
-use Rattle.hla_federation.specs.Tables.FederationValue.{FederationValue}
-use Rattle.hla_federation.specs.Tables.Members.{members_of}
+use Rattle.hla_federation.specs.FederationValue.{FederationValue}
+use Rattle.hla_members.specs.Members.{members_of}
 use Rattle.hla_federation.specs.Steps.State.{state_of}
 use Rattle.hla_federation.proofs.Steps.Stamps.{any_stamped}
 use Rattle.hla_federation.proofs.Steps.Updates.{not_published, not_timely, too_many, no_fault, past_serials, within_serials}

@@ -1,0 +1,14 @@
+-- What is found is there
+pub mod Finding
+-- The wires to one member, after one of them changed
+pub mod Wires
+-- The room on wires, after one of them changed
+pub mod Rooms
+-- The tables of a list of members, after a change of the list
+pub mod MemberTables
+-- The greatest of what components say
+pub mod Entries
+-- What each federate learns of one that begins to regulate
+pub mod Lowering
+-- Messages put along the wires from one federate, or to one
+pub mod Posting

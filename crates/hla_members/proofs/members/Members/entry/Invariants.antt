@@ -1,0 +1,9 @@
+use Rattle.std.proofs.Common.{◌≡◌}
+use Rattle.hla_base.specs.Tables.{greatest}
+use Rattle.hla_members.specs.Changes.{entry_by}
+use Rattle.hla_members.specs.Members.{members_of}
+use Rattle.hla_members.proofs.members.Members.entry.Given as goal
+
+-- the greatest of those so far
+abbrev pub invariant-loop-peer : goal.invariant-loop-peer
+invariant-loop-peer l = l.entry ≡ greatest l.peer l.earliest (entry_by (members_of l.self.shown).local l.federate)

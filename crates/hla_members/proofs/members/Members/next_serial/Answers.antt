@@ -1,0 +1,7 @@
+use Rattle.std.proofs.Common.{ap, ◌∙◌}
+use Rattle.hla_members.specs.MemberValue.{MemberValue}
+use Rattle.hla_members.proofs.Rooms.{read_shown}
+use Rattle.hla_members.proofs.members.Members.next_serial.Goals as goal
+
+pub returns : goal.returns
+returns c = c.next_serial.ensures ∙ ap (λ (m : MemberValue). m.next_serial) (read_shown c.self.inside.members.items c.args.self.now c.self.view_is c.args.federate c.requires.some c.requires.within c.index.result.now c.index.ensures)

@@ -1,0 +1,10 @@
+-- The values of members and of the wires to them
+pub mod MemberValue
+-- Wires from one federate, or to one
+pub mod Wiring
+-- What is noted of messages that may be retracted
+pub mod Noting
+-- Members as tables, and what is done with their wires
+pub mod Members
+-- What services change of one component
+pub mod Changes

@@ -1,0 +1,13 @@
+//! What is noted of a message that may be retracted.
+
+use hla_base::{Serial, Ticks};
+use hla_retraction::Receivers;
+
+/// A message that its sender may retract: an update or an interaction in time-stamp order.
+#[derive(Debug, Drop)]
+pub struct Note {
+    pub serial: Serial,
+    /// In ticks.
+    pub stamp: Ticks,
+    pub receivers: Receivers,
+}
