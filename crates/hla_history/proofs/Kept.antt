@@ -23,7 +23,7 @@ use Rattle.hla_components.specs.Components.{Components}
 use Rattle.hla_components.specs.Next.{next}
 use Rattle.hla_components.specs.Executions.{Federations, no_federations, central_executions, with_created, with_destroyed, ending_unless, step_in, next_act, after_record, IsNext, AreNext}
 use Rattle.hla_history.specs.Heard.{given_outcome, given_record, heard_then, heard_after_act, heard_after, heard_by}
-use Rattle.hla_history.specs.Hosts.{Host, Hosts, no_hosts, new_host, HeardTable, set_host, host_after, after_step_of, hosts_after, federations_of, HasAmbassadors, HearsAll, IsKept}
+use Rattle.hla_history.specs.Hosts.{Host, Hosts, no_hosts, new_host, HeardTable, set_host, host_after, hosts_after_step, hosts_after, federations_of, HasAmbassadors, HearsAll, IsKept}
 use Rattle.hla_history.proofs.Ambassadors.{given_done, given_refused, Fits, hears_then, has_after}
 
 -- ---- the executions that stand for the components
@@ -36,12 +36,12 @@ there_cond false o p = refl
 
 set_there : (creates present : ℕ) (x : Hosts) (name : List ℕ) (o : Option Host)
     → record { creates = creates; present = present; execution = λ (other : List ℕ). cond (bytes_eq name other) (option_map (λ (h : Host). h.components) o) (option_map (λ (h : Host). h.components) (x.host other)) }
-    ≡ federations_of (record { creates = creates; present = present; host = set_host x name o })
+    ≡ federations_of (record { creates = creates; present = present; host = set_host x.host name o })
 set_there creates present x name o =
     λ i. record { creates = creates; present = present; execution = λ other. there_cond (bytes_eq name other) o (x.host other) i }
 
 step_leads : (x : Hosts) (name : List ℕ) (step : Step) (out : Outcome) (o : Option Host)
-    → (step_in (federations_of x) name (option_map (λ (h : Host). h.components) o) step).executions ≡ federations_of (after_step_of x name o step out)
+    → (step_in (federations_of x) name (option_map (λ (h : Host). h.components) o) step).executions ≡ federations_of (record { creates = x.creates; present = x.present; host = hosts_after_step x.host name o step out })
 step_leads x name step out None = refl
 step_leads x name step out (Some h) = set_there x.creates x.present x name (Some (host_after h step out))
 
@@ -125,7 +125,7 @@ step_hears rs by name step out chosen h hears f ks is =
 -- ---- each execution, after an act
 each_set : (P : List ℕ → Host → Type 0) (x : Hosts) (name : List ℕ) (o : Option Host) → ((h : Host) → o ≡ Some h → P name h)
     → ((other : List ℕ) (h : Host) → bytes_eq name other ≡ false → x.host other ≡ Some h → P other h)
-    → (other : List ℕ) (h : Host) → set_host x name o other ≡ Some h → P other h
+    → (other : List ℕ) (h : Host) → set_host x.host name o other ≡ Some h → P other h
 each_set P x name o here there other h = go (bytes_eq name other) refl
   where
     go : (b : Bool) → bytes_eq name other ≡ b → cond b o (x.host other) ≡ Some h → P other h
@@ -168,7 +168,7 @@ module _ (rs : List Record) (x : Hosts) (by : ℕ) (name : List ℕ) (chosen : C
       go true test = absurd (let same : name ≡ other = (bytes_eq-Decides name other).0 test in let clash : Option.None ≡ Some h = sym none ∙ ap x.host same ∙ is in cc)
       go false test = other_hears rs (step_record_of step out) other h test (hears other h is)
 
-  present_hears : (step : Step) (out : Outcome) (o : Option Host) → x.host name ≡ o → Hears (recorded (act.Step step) out) (after_step_of x name o step out).host
+  present_hears : (step : Step) (out : Outcome) (o : Option Host) → x.host name ≡ o → Hears (recorded (act.Step step) out) (hosts_after_step x.host name o step out)
   present_hears step out None is = absent_hears step out is
   present_hears step out (Some g) is = each_set (HearsAll (recorded (act.Step step) out)) x name (Some (host_after g step out))
       (λ h there. let new : host_after g step out ≡ h = cc in subst (λ (k : Host). HearsAll (recorded (act.Step step) out) name k) new (step_hears rs by name step out chosen g (hears name g is)))
@@ -194,7 +194,7 @@ module _ (x : Hosts) (name : List ℕ) (have : Have x.host) where
   destroy_have (outcome.Failed k) = have
 
   step_have : (step : Step) (out : Outcome) (o : Option Host) → x.host name ≡ o
-      → given_outcome out ≡ (step_in (federations_of x) name (option_map (λ (h : Host). h.components) o) step).outcome → Have (after_step_of x name o step out).host
+      → given_outcome out ≡ (step_in (federations_of x) name (option_map (λ (h : Host). h.components) o) step).outcome → Have (hosts_after_step x.host name o step out)
   step_have step out None is gives = have
   step_have step out (Some g) is gives = each_set (λ n. HasAmbassadors) x name (Some (host_after g step out))
       (λ h there. let new : host_after g step out ≡ h = cc in subst HasAmbassadors new (has_after g step out (have name g is) gives))

@@ -27,11 +27,14 @@ pub record Host : Type 0 where
   pub components : Components
   pub heard : HeardTable
 
--- all executions, by name
+-- executions by name
+abbrev pub HostTable : Type 0
+HostTable = List ℕ → Option Host
+
 pub record Hosts : Type 0 where
   pub creates : ℕ  -- how many were ever created
   pub present : ℕ  -- how many there are now
-  pub host : List ℕ → Option Host
+  pub host : HostTable
 
 -- the value under the lock
 pub record Held : Type 0 where
@@ -66,17 +69,17 @@ table_after t step out = t
 abbrev pub host_after : Host → Step → Outcome → Host
 host_after h step out = record { components = (next h.components step).state; heard = table_after h.heard step out }
 
-abbrev pub set_host : Hosts → List ℕ → Option Host → List ℕ → Option Host
-set_host x name h = λ other. cond (bytes_eq name other) h (x.host other)
+abbrev pub set_host : HostTable → List ℕ → Option Host → HostTable
+set_host t name h = λ other. cond (bytes_eq name other) h (t other)
 
-abbrev pub after_step_of : Hosts → List ℕ → Option Host → Step → Outcome → Hosts
-after_step_of x name None step out = x
-after_step_of x name (Some h) step out = record { creates = x.creates; present = x.present; host = set_host x name (Some (host_after h step out)) }
+abbrev pub hosts_after_step : HostTable → List ℕ → Option Host → Step → Outcome → HostTable
+hosts_after_step t name None step out = t
+hosts_after_step t name (Some h) step out = set_host t name (Some (host_after h step out))
 
 abbrev pub hosts_after : Hosts → List ℕ → Act → Outcome → Hosts
-hosts_after x name (act.Create (Some catalogue)) (outcome.Done a) = record { creates = x.creates + 1; present = x.present + 1; host = set_host x name (Some (new_host catalogue)) }
-hosts_after x name act.Destroy (outcome.Done a) = record { creates = x.creates; present = x.present - 1; host = set_host x name None }
-hosts_after x name (act.Step step) out = after_step_of x name (x.host name) step out
+hosts_after x name (act.Create (Some catalogue)) (outcome.Done a) = record { creates = x.creates + 1; present = x.present + 1; host = set_host x.host name (Some (new_host catalogue)) }
+hosts_after x name act.Destroy (outcome.Done a) = record { creates = x.creates; present = x.present - 1; host = set_host x.host name None }
+hosts_after x name (act.Step step) out = record { creates = x.creates; present = x.present; host = hosts_after_step x.host name (x.host name) step out }
 hosts_after x name a out = x
 
 abbrev pub with_record : Held → Record → Held
