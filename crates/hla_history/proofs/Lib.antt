@@ -1,3 +1,5 @@
 pub mod NextLaws
 pub mod Ambassadors
 pub mod Kept
+pub mod Ears
+pub mod Foreseen

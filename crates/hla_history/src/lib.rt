@@ -1,2 +1,8 @@
 //! The value under the lock of the run-time infrastructure: all executions, their federates' ambassadors, and the history.
 #![tactic(auto)]
+
+mod delivering;
+mod host;
+mod preparing;
+
+pub use preparing::Stepped;

@@ -1,0 +1,1 @@
+//! One execution under the lock, with the ambassadors of its federates.
