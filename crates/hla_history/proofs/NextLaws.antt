@@ -209,9 +209,23 @@ tick_joined s f k (Some e) is told = cc
 pub told_joined : (s : Components) (f : ℕ) (k : Callback) → callback_in (next s (Tick f)).outcome ≡ Some k → s.directory.joined f ≡ true
 told_joined s f k told = tick_joined s f k (refusal (components_seen s) (Tick f)) refl told
 
-unless_silent : (s : Components) (f : ℕ) (x : Service) (o : Option Fault) → callback_in (unless_refused o s (call_outcome s f x)).outcome ≡ None
-unless_silent s f x None = (call_silent s f x).0
-unless_silent s f x (Some e) = refl
+-- ---- no other step tells anything
+module _ (s : Components) where
+  untold_unless : (o : Option Fault) (x : Outcomes) → callback_in x.outcome ≡ None → callback_in (unless_refused o s x).outcome ≡ None
+  untold_unless None x is = is
+  untold_unless (Some e) x is = refl
+
+  pub untold_join : (name : List ℕ) → callback_in (next s (Join name)).outcome ≡ None
+  untold_join name = untold_unless (refusal (components_seen s) (Join name)) (step_outcome s (Join name)) refl
+
+  pub untold_call : (f : ℕ) (x : Service) → callback_in (next s (Call f x)).outcome ≡ None
+  untold_call f x = untold_unless (refusal (components_seen s) (Call f x)) (call_outcome s f x) (call_silent s f x).0
+
+  pub untold_carry : (g f : ℕ) → callback_in (next s (Carry g f)).outcome ≡ None
+  untold_carry g f = untold_unless (refusal (components_seen s) (Carry g f)) (carry_outcome s g f (s.wire g f)) (carry_silent s g f (s.wire g f)).0
+
+  pub untold_announce : (f : ℕ) → callback_in (next s (Announce f)).outcome ≡ None
+  untold_announce f = untold_unless (refusal (components_seen s) (Announce f)) (announce_outcome s f) (announce_silent s f (promise s f) (is_regulator (s.row f) && ltb (s.last_announced f) (promise s f))).0
 
 -- ---- joining and resigning
 -- the step is refused, and changes nothing

@@ -1,5 +1,5 @@
 -- One execution under the lock, as its code keeps it
-use Rattle.std.specs.Prelude.{◌≡◌, ℕ, Bool, true, List, [], ◌∷◌, ◌++◌, length, Option, None, Some, find, get_or, slice_get, slice_set, option_map}
+use Rattle.std.specs.Prelude.{◌≡◌, ℕ, Bool, true, List, [], ◌∷◌, ◌++◌, length, Option, None, Some, find, get_or, slice_get, slice_set, option_map, map}
 use Rattle.std.specs.Str.{bytes_eq}
 use Rattle.hla_base.specs.declared.fault.Fault.TheVariants as fault
 use Rattle.hla_callbacks.specs.declared.callback.Callback.{Callback}
@@ -17,28 +17,37 @@ use Rattle.hla_components.specs.Next.{next}
 use Rattle.hla_federation.specs.FederationValue.{FederationValue}
 use Rattle.hla_federation.specs.Steps.State.{state_of}
 use Rattle.hla_history.specs.Heard.{given_outcome}
-use Rattle.hla_history.specs.Hosts.{Host, HostTable, HeardTable, with_callback}
+use Rattle.hla_machine.specs.declared.step.Record.{Record}
+use Rattle.hla_history.specs.Hosts.{Host, Hosts, Held, HostTable, HeardTable, with_callback}
 
 -- the components and wires that a federation under the lock stands for
 unfoldable pub components_hosted : FederationValue → Components
 components_hosted f = state_of f
 
--- an execution with its name
-pub record HostedValue : Type 0 where
-  pub name : List ℕ
-  pub host : Host
-
--- which execution a name means
-abbrev pub table_of : List HostedValue → HostTable
-table_of hs = λ name. option_map (λ (h : HostedValue). h.host) (find (λ (h : HostedValue). bytes_eq name h.name) hs)
-
+-- what an ear has heard
 abbrev pub heard_in : Option Hearing → Option (List Callback)
 heard_in None = None
 heard_in (Some e) = Some e.heard
 
--- what is heard by the ears, which stand by number
-abbrev pub heard_of : List (Option Hearing) → HeardTable
-heard_of ears = λ f. heard_in (get_or ears f None)
+abbrev pub heard_of : List (Option Hearing) → List (Option (List Callback))
+heard_of ears = map heard_in ears
+
+-- what is heard by ears that stand by number
+abbrev pub heard_table : List (Option (List Callback)) → HeardTable
+heard_table heard = λ f. get_or heard f None
+
+-- an execution as contracts see it
+pub record HostedValue : Type 0 where
+  pub name : List ℕ
+  pub federation : FederationValue
+  pub heard : List (Option (List Callback))
+
+abbrev pub host_of : HostedValue → Host
+host_of h = record { components = components_hosted h.federation; heard = heard_table h.heard }
+
+-- which execution a name means
+abbrev pub table_of : List HostedValue → HostTable
+table_of hs = λ name. option_map host_of (find (λ (h : HostedValue). bytes_eq name h.name) hs)
 
 -- ---- a callback, and the ear that takes it
 -- the act is a tick of a federate whose ear has room
@@ -71,3 +80,23 @@ components_after c a = c
 abbrev pub IsStep : Act → Type 0
 IsStep (act.Step step) = Unit {0}
 IsStep a = ⊥
+
+-- ---- an act of one of several executions
+-- a step ends and chooses as the next-state function says; without an execution it is refused
+abbrev pub EndsIn : Option Host → Step → Outcome → Choice → Type 0
+EndsIn None step out chosen = (out ≡ outcome.Refused fault.FederationExecutionDoesNotExist) × (chosen ≡ choice.None)
+EndsIn (Some h) step out chosen = (given_outcome out ≡ (next h.components step).outcome) × (chosen ≡ (next h.components step).choice)
+
+-- the value under the lock as contracts see it
+pub record HeldValue : Type 0 where
+  pub history : List Record
+  pub limit : ℕ
+  pub creates : ℕ
+  pub present : ℕ
+  pub executions : List HostedValue
+
+abbrev pub hosts_of : ℕ → ℕ → List HostedValue → Hosts
+hosts_of creates present executions = record { creates = creates; present = present; host = table_of executions }
+
+abbrev pub held_of : HeldValue → Held
+held_of v = record { history = v.history; limit = v.limit; hosts = hosts_of v.creates v.present v.executions }

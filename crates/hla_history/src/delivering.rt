@@ -5,7 +5,7 @@ ghost use Rattle.hla_base.specs.Tables.{upd};
 ghost use Rattle.hla_callbacks.specs.Hearing.{Hearing};
 ghost use Rattle.hla_history.specs.Heard.{callback_in, failed_outcome, given_outcome};
 ghost use Rattle.hla_history.specs.Hosts.{with_callback, table_after};
-ghost use Rattle.hla_history.specs.Hosting.{heard_of, heard_then_of, IsReady, CanDeliver};
+ghost use Rattle.hla_history.specs.Hosting.{heard_of, heard_table, heard_then_of, IsReady, CanDeliver};
 
 use crate::preparing::{Prepared, Stepped};
 use hla_base::{Fault, FederateNo};
@@ -62,7 +62,8 @@ fn give_at<B: FederateAmbassador>(
     callback: Callback,
 ) -> Result<(), FederateFault>
     requires { (e : Hearing) × (slice_get ears.old.items federate ≡ Some (Some e)) × (e.room ≡ true) }
-    ensures heard { heard_of ears.new.items ≡ with_callback (heard_of ears.old.items) federate (Some callback) }
+    ensures heard { heard_table (heard_of ears.new.items)
+        ≡ with_callback (heard_table (heard_of ears.old.items)) federate (Some callback) }
     ensures len { vec_len ears.new ≡ vec_len ears.old }
 {
     match &mut ears[federate as usize] {
@@ -103,8 +104,8 @@ pub(crate) fn delivered<B: FederateAmbassador>(
     } }
     ensures given { given_outcome result.0.outcome ≡ given_outcome prepared.record.outcome }
     ensures callback { callback_in result.0.outcome ≡ prepared.callback }
-    ensures heard { heard_of ears.new.items
-        ≡ heard_then_of (heard_of ears.old.items) prepared.record.act prepared.callback }
+    ensures heard { heard_table (heard_of ears.new.items)
+        ≡ heard_then_of (heard_table (heard_of ears.old.items)) prepared.record.act prepared.callback }
     ensures len { vec_len ears.new ≡ vec_len ears.old }
 {
     let Prepared {
