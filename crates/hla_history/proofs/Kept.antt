@@ -23,7 +23,8 @@ use Rattle.hla_components.specs.Components.{Components}
 use Rattle.hla_components.specs.Next.{next}
 use Rattle.hla_components.specs.Executions.{Federations, no_federations, central_executions, with_created, with_destroyed, ending_unless, step_in, next_act, after_record, IsNext, AreNext}
 use Rattle.hla_history.specs.Heard.{given_outcome, given_record, heard_then, heard_after_act, heard_after, heard_by}
-use Rattle.hla_history.specs.Hosts.{Host, Hosts, no_hosts, new_host, HeardTable, set_host, host_after, hosts_after_step, hosts_after, federations_of, HasAmbassadors, HearsAll, IsKept}
+use Rattle.hla_history.specs.Hosting.{EndsIn}
+use Rattle.hla_history.specs.Hosts.{Host, HostTable, Hosts, Held, with_record, no_hosts, new_host, HeardTable, set_host, host_after, hosts_after_step, hosts_after, federations_of, HasAmbassadors, HearsAll, IsKept}
 use Rattle.hla_history.proofs.Ambassadors.{given_done, given_refused, Fits, hears_then, has_after}
 
 -- ---- the executions that stand for the components
@@ -223,3 +224,34 @@ kept_more rs x total total' r k is counts = record {
   hears = act_hears rs x r.actor r.execution r.choice k.hears r.act r.outcome;
   counted = let c = k.counted in omega (arith, length-append rs (r ∷ []));
 }
+
+-- ---- a step
+ends_next : (x : Hosts) (name : List ℕ) (step : Step) (out : Outcome) (chosen : Choice) (o : Option Host) → EndsIn o step out chosen
+    → (given_outcome out ≡ (step_in (federations_of x) name (option_map (λ (h : Host). h.components) o) step).outcome) × (chosen ≡ (step_in (federations_of x) name (option_map (λ (h : Host). h.components) o) step).choice)
+ends_next x name step out chosen None ends = (ap given_outcome ends.0, ends.1)
+ends_next x name step out chosen (Some h) ends = (ends.0, ends.1)
+
+pub kept_step : (rs rs' : List Record) (x : Hosts) (t' : HostTable) (total total' by : ℕ) (name : List ℕ) (step : Step) (r : Record) → IsKept rs x total
+    → r ≡ record { actor = by; execution = name; act = act.Step step; outcome = r.outcome; choice = r.choice }
+    → EndsIn (x.host name) step r.outcome r.choice
+    → t' ≡ hosts_after_step x.host name (x.host name) step r.outcome
+    → rs' ≡ rs ++ r ∷ []
+    → total' ≡ total + 1
+    → IsKept rs' (record { creates = x.creates; present = x.present; host = t' }) total'
+kept_step rs rs' x t' total total' by name step r k is ends table grows counts =
+    let here = ends_next x name step r.outcome r.choice (x.host name) ends in
+    let made : Record = record { actor = by; execution = name; act = act.Step step; outcome = r.outcome; choice = r.choice } in
+    let kept : IsKept (rs ++ made ∷ []) (hosts_after x name (act.Step step) r.outcome) total' = kept_more rs x total total' made k (record { outcome = here.0; choice = here.1 }) counts in
+    subst (λ (t : HostTable). IsKept rs' (record { creates = x.creates; present = x.present; host = t }) total') (sym table)
+    (subst (λ (qs : List Record). IsKept qs (hosts_after x name (act.Step step) r.outcome) total') (sym (grows ∙ ap (λ (q : Record). rs ++ q ∷ []) is)) kept)
+
+-- what contracts see of it
+pub held_step : (rs rs' : List Record) (limit creates present : ℕ) (t t' : HostTable) (by : ℕ) (name : List ℕ) (step : Step) (r : Record)
+    → r ≡ record { actor = by; execution = name; act = act.Step step; outcome = r.outcome; choice = r.choice }
+    → t' ≡ hosts_after_step t name (t name) step r.outcome
+    → rs' ≡ rs ++ r ∷ []
+    → record { history = rs'; limit = limit; hosts = record { creates = creates; present = present; host = t' } }
+    ≡ with_record (record { history = rs; limit = limit; hosts = record { creates = creates; present = present; host = t } }) r
+held_step rs rs' limit creates present t t' by name step r is table grows =
+    (λ i. record { history = grows i; limit = limit; hosts = record { creates = creates; present = present; host = table i } })
+    ∙ ap (λ (q : Record). record { history = rs ++ r ∷ []; limit = limit; hosts = hosts_after (record { creates = creates; present = present; host = t }) q.execution q.act q.outcome }) (sym is)

@@ -5,5 +5,7 @@ mod among;
 mod delivering;
 mod host;
 mod preparing;
+mod shared;
 
 pub use preparing::Stepped;
+pub use shared::Shared;
