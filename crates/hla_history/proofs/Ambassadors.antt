@@ -1,5 +1,5 @@
 -- What a record makes of what the ambassadors have heard.
-use Rattle.std.proofs.Common.{◌≡◌, ℕ, ◌+◌, eqb, Bool, true, false, cond, List, [], ◌∷◌, ◌++◌, Option, Some, None, is_some, option_map, refl, sym, ◌∙◌, ap, inl, inr, ◌⊎◌, ⊎_elim, arith}
+use Rattle.std.proofs.Common.{◌≡◌, ℕ, eqb, Bool, true, false, cond, List, [], ◌∷◌, ◌++◌, Option, Some, None, is_some, option_map, refl, sym, ◌∙◌, ap, ⊎_elim, arith}
 use Rattle.std.proofs.lemmas.Bool.Decides.{nat_tests}
 use Rattle.hla_base.specs.declared.fault.Fault.{Fault}
 use Rattle.hla_base.specs.Tables.{upd}
@@ -9,7 +9,6 @@ use Rattle.hla_machine.specs.declared.service.Service.TheVariants as service
 use Rattle.hla_machine.specs.declared.service.ResignAction.{ResignAction}
 use Rattle.hla_machine.specs.declared.step.Step.{Step}
 use Rattle.hla_machine.specs.declared.step.Step.TheVariants.{Join, Call, Carry, Announce, Tick}
-use Rattle.hla_machine.specs.declared.step.Answer.{Answer}
 use Rattle.hla_machine.specs.declared.step.Answer.TheVariants as answer
 use Rattle.hla_machine.specs.declared.step.Outcome.{Outcome}
 use Rattle.hla_machine.specs.declared.step.Outcome.TheVariants as outcome
@@ -18,7 +17,7 @@ use Rattle.hla_components.specs.Components.{Components}
 use Rattle.hla_components.specs.Next.{next}
 use Rattle.hla_history.specs.Heard.{callback_in, given_outcome, with_heard, heard_then}
 use Rattle.hla_history.specs.Hosts.{HeardTable, Host, IsPlain, with_callback, table_after, host_after, HasAmbassadors}
-use Rattle.hla_history.proofs.NextLaws.{Stays, plain_stays, join_cases, resign_cases, IsJoining, IsResigning, IsTurnedDown}
+use Rattle.hla_history.proofs.NextLaws.{plain_stays, join_cases, resign_cases, IsJoining, IsResigning, IsTurnedDown}
 
 -- ---- outcomes
 -- an outcome that is given is the record's, but for a tick's
@@ -269,16 +268,16 @@ down_has h step out has gives down f =
 pub join_has : (h : Host) (name : List ℕ) (out : Outcome) → HasAmbassadors h → given_outcome out ≡ (next h.components (Join name)).outcome → HasAmbassadors (host_after h (Join name) out)
 join_has h name out has gives = ⊎_elim
     (λ (j : IsJoining h.components name). λ f.
-        let is : out ≡ outcome.Done (answer.Federate h.components.directory.next_federate) = given_federate out h.components.directory.next_federate (gives ∙ j.outcome) in
-        ap (λ (o : Outcome). is_some (table_after h.heard (Join name) o f)) is ∙ joins_upd h.heard h.components.directory.joined h.components.directory.next_federate has f ∙ sym (ap (λ (d : Directory). d.joined f) j.directory))
+    let is : out ≡ outcome.Done (answer.Federate h.components.directory.next_federate) = given_federate out h.components.directory.next_federate (gives ∙ j.outcome) in
+    ap (λ (o : Outcome). is_some (table_after h.heard (Join name) o f)) is ∙ joins_upd h.heard h.components.directory.joined h.components.directory.next_federate has f ∙ sym (ap (λ (d : Directory). d.joined f) j.directory))
     (λ (down : IsTurnedDown h.components (Join name)). down_has h (Join name) out has gives down)
     (join_cases h.components name)
 
 pub resign_has : (h : Host) (g : ℕ) (way : ResignAction) (out : Outcome) → HasAmbassadors h → given_outcome out ≡ (next h.components (Call g (service.Resign way))).outcome → HasAmbassadors (host_after h (Call g (service.Resign way)) out)
 resign_has h g way out has gives = ⊎_elim
     (λ (j : IsResigning h.components g way). λ f.
-        let is : out ≡ outcome.Done answer.Done = given_done out (gives ∙ j.outcome) in
-        ap (λ (o : Outcome). is_some (table_after h.heard (Call g (service.Resign way)) o f)) is ∙ leaves_upd h.heard h.components.directory.joined g has f ∙ sym (ap (λ (joined : ℕ → Bool). joined f) j.joined))
+    let is : out ≡ outcome.Done answer.Done = given_done out (gives ∙ j.outcome) in
+    ap (λ (o : Outcome). is_some (table_after h.heard (Call g (service.Resign way)) o f)) is ∙ leaves_upd h.heard h.components.directory.joined g has f ∙ sym (ap (λ (joined : ℕ → Bool). joined f) j.joined))
     (λ (down : IsTurnedDown h.components (Call g (service.Resign way))). down_has h (Call g (service.Resign way)) out has gives down)
     (resign_cases h.components g way)
 

@@ -1,7 +1,6 @@
 -- How a step of an execution keeps its ears.
-use Rattle.std.proofs.Common.{◌≡◌, ℕ, zero, suc, eqb, cond, Bool, true, false, List, [], ◌∷◌, ◌++◌, Option, Some, None, is_some, get_or, refl, sym, ◌∙◌, ap, subst}
+use Rattle.std.proofs.Common.{◌≡◌, ℕ, zero, suc, true, false, List, [], ◌∷◌, Option, Some, None, is_some, refl, sym, ◌∙◌, ap, subst}
 use Rattle.std.specs.Prelude.{slice_get}
-use Rattle.hla_base.specs.declared.fault.Fault.{Fault}
 use Rattle.hla_callbacks.specs.declared.callback.Callback.{Callback}
 use Rattle.hla_callbacks.specs.Hearing.{Hearing}
 use Rattle.hla_machine.specs.declared.service.Service.{Service}
@@ -14,8 +13,8 @@ use Rattle.hla_machine.specs.declared.step.Outcome.{Outcome}
 use Rattle.hla_components.specs.Components.{Components}
 use Rattle.hla_components.specs.Next.{next}
 use Rattle.hla_history.specs.Heard.{callback_in, given_outcome}
-use Rattle.hla_history.specs.Hosts.{Host, HeardTable, IsPlain, with_callback, table_after, host_after, HasAmbassadors}
-use Rattle.hla_history.specs.Hosting.{HostedValue, host_of, components_hosted, components_after, heard_in, heard_of, heard_table, heard_then_of, IsReady, CanDeliver, HasReadyEar}
+use Rattle.hla_history.specs.Hosts.{HeardTable, IsPlain, with_callback, table_after, host_after, HasAmbassadors}
+use Rattle.hla_history.specs.Hosting.{HostedValue, host_of, components_hosted, components_after, heard_of, heard_table, heard_then_of, IsReady, CanDeliver}
 use Rattle.hla_history.proofs.NextLaws.{told_joined, untold_join, untold_call, untold_carry, untold_announce, plain_stays, next_real}
 
 -- who is heard at f has an ear there

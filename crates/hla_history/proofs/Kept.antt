@@ -1,11 +1,10 @@
 -- How a record keeps what the lock keeps.
-use Rattle.std.proofs.Common.{◌≡◌, ℕ, ◌+◌, ◌-◌, Bool, true, false, cond, List, [], ◌∷◌, ◌++◌, length, map, Option, Some, None, is_some, option_map, refl, sym, ◌∙◌, ap, subst, arith, length-append}
+use Rattle.std.proofs.Common.{◌≡◌, ℕ, ◌+◌, ◌-◌, Bool, true, false, cond, List, [], ◌∷◌, ◌++◌, map, Option, Some, None, option_map, refl, sym, ◌∙◌, ap, subst, arith, length-append}
 use Rattle.std.specs.Str.{bytes_eq}
 use Rattle.std.proofs.lemmas.List.{map-append}
 use Rattle.std.proofs.lemmas.List.Sums.{fold-append}
 use Rattle.std.proofs.lemmas.Slice.Eq.{bytes_eq-Decides}
 use Rattle.hla_base.specs.declared.fault.Fault.{Fault}
-use Rattle.hla_base.specs.declared.fault.Fault.TheVariants as fault
 use Rattle.hla_fed_file.specs.CatalogueValue.{CatalogueValue}
 use Rattle.hla_callbacks.specs.declared.callback.Callback.{Callback}
 use Rattle.hla_machine.specs.Runs.{create_fault, destroy_fault}
@@ -16,16 +15,14 @@ use Rattle.hla_machine.specs.declared.step.Answer.TheVariants as answer
 use Rattle.hla_machine.specs.declared.step.Outcome.{Outcome}
 use Rattle.hla_machine.specs.declared.step.Outcome.TheVariants as outcome
 use Rattle.hla_machine.specs.declared.step.Choice.{Choice}
-use Rattle.hla_machine.specs.declared.step.Choice.TheVariants as choice
 use Rattle.hla_machine.specs.declared.step.Record.{Record}
 use Rattle.hla_components.specs.CentralOf.{central}
 use Rattle.hla_components.specs.Components.{Components}
-use Rattle.hla_components.specs.Next.{next}
 use Rattle.hla_components.specs.Executions.{Federations, no_federations, central_executions, with_created, with_destroyed, ending_unless, step_in, next_act, after_record, IsNext, AreNext}
 use Rattle.hla_history.specs.Heard.{given_outcome, given_record, heard_then, heard_after_act, heard_after, heard_by}
 use Rattle.hla_history.specs.Hosting.{EndsIn}
-use Rattle.hla_history.specs.Hosts.{Host, HostTable, Hosts, Held, with_record, no_hosts, new_host, HeardTable, set_host, host_after, hosts_after_step, hosts_after, federations_of, HasAmbassadors, HearsAll, IsKept}
-use Rattle.hla_history.proofs.Ambassadors.{given_done, given_refused, Fits, hears_then, has_after}
+use Rattle.hla_history.specs.Hosts.{Host, HostTable, Hosts, with_record, no_hosts, new_host, set_host, host_after, hosts_after_step, hosts_after, federations_of, HasAmbassadors, HearsAll, IsLockKept}
+use Rattle.hla_history.proofs.Ambassadors.{given_done, given_refused, hears_then, has_after}
 
 -- ---- the executions that stand for the components
 components_there : Option Host → Option Components
@@ -207,7 +204,7 @@ module _ (x : Hosts) (name : List ℕ) (have : Have x.host) where
   act_have (act.Step step) out gives = step_have step out (x.host name) refl gives
 
 -- ---- what the lock keeps
-pub kept_start : (total : ℕ) → total ≡ 0 → IsKept [] no_hosts total
+pub kept_start : (total : ℕ) → total ≡ 0 → IsLockKept [] no_hosts total
 kept_start total none = record {
   replays = refl;
   ambassadors = λ name h is. cc;
@@ -216,8 +213,8 @@ kept_start total none = record {
 }
 
 -- one record more, with what it makes of the executions
-pub kept_more : (rs : List Record) (x : Hosts) (total total' : ℕ) (r : Record) → IsKept rs x total → IsNext (federations_of x) (given_record r) → total' ≡ total + 1
-    → IsKept (rs ++ r ∷ []) (hosts_after x r.execution r.act r.outcome) total'
+pub kept_more : (rs : List Record) (x : Hosts) (total total' : ℕ) (r : Record) → IsLockKept rs x total → IsNext (federations_of x) (given_record r) → total' ≡ total + 1
+    → IsLockKept (rs ++ r ∷ []) (hosts_after x r.execution r.act r.outcome) total'
 kept_more rs x total total' r k is counts = record {
   replays = replay_grows rs x r k.replays is;
   ambassadors = act_have x r.execution k.ambassadors r.act r.outcome is.outcome;
@@ -231,19 +228,19 @@ ends_next : (x : Hosts) (name : List ℕ) (step : Step) (out : Outcome) (chosen 
 ends_next x name step out chosen None ends = (ap given_outcome ends.0, ends.1)
 ends_next x name step out chosen (Some h) ends = (ends.0, ends.1)
 
-pub kept_step : (rs rs' : List Record) (x : Hosts) (t' : HostTable) (total total' by : ℕ) (name : List ℕ) (step : Step) (r : Record) → IsKept rs x total
+pub kept_step : (rs rs' : List Record) (x : Hosts) (t' : HostTable) (total total' by : ℕ) (name : List ℕ) (step : Step) (r : Record) → IsLockKept rs x total
     → r ≡ record { actor = by; execution = name; act = act.Step step; outcome = r.outcome; choice = r.choice }
     → EndsIn (x.host name) step r.outcome r.choice
     → t' ≡ hosts_after_step x.host name (x.host name) step r.outcome
     → rs' ≡ rs ++ r ∷ []
     → total' ≡ total + 1
-    → IsKept rs' (record { creates = x.creates; present = x.present; host = t' }) total'
+    → IsLockKept rs' (record { creates = x.creates; present = x.present; host = t' }) total'
 kept_step rs rs' x t' total total' by name step r k is ends table grows counts =
     let here = ends_next x name step r.outcome r.choice (x.host name) ends in
     let made : Record = record { actor = by; execution = name; act = act.Step step; outcome = r.outcome; choice = r.choice } in
-    let kept : IsKept (rs ++ made ∷ []) (hosts_after x name (act.Step step) r.outcome) total' = kept_more rs x total total' made k (record { outcome = here.0; choice = here.1 }) counts in
-    subst (λ (t : HostTable). IsKept rs' (record { creates = x.creates; present = x.present; host = t }) total') (sym table)
-    (subst (λ (qs : List Record). IsKept qs (hosts_after x name (act.Step step) r.outcome) total') (sym (grows ∙ ap (λ (q : Record). rs ++ q ∷ []) is)) kept)
+    let kept : IsLockKept (rs ++ made ∷ []) (hosts_after x name (act.Step step) r.outcome) total' = kept_more rs x total total' made k (record { outcome = here.0; choice = here.1 }) counts in
+    subst (λ (t : HostTable). IsLockKept rs' (record { creates = x.creates; present = x.present; host = t }) total') (sym table)
+    (subst (λ (qs : List Record). IsLockKept qs (hosts_after x name (act.Step step) r.outcome) total') (sym (grows ∙ ap (λ (q : Record). rs ++ q ∷ []) is)) kept)
 
 -- what contracts see of it
 pub held_step : (rs rs' : List Record) (limit creates present : ℕ) (t t' : HostTable) (by : ℕ) (name : List ℕ) (step : Step) (r : Record)

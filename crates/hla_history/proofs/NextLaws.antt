@@ -1,7 +1,6 @@
 -- What a step makes of who has joined, and when it tells something.
-use Rattle.std.proofs.Common.{◌≡◌, ℕ, ◌+◌, Bool, true, false, cond, List, [], ◌∷◌, Option, Some, None, refl, sym, ◌∙◌, ap, inl, inr, ◌⊎◌}
+use Rattle.std.proofs.Common.{◌≡◌, ℕ, Bool, true, false, cond, List, [], ◌∷◌, Option, Some, None, refl, ◌∙◌, ap, inl, inr, ◌⊎◌}
 use Rattle.hla_base.specs.declared.fault.Fault.{Fault}
-use Rattle.hla_base.specs.declared.content.Content.TheVariants as content
 use Rattle.hla_base.specs.Tables.{upd}
 use Rattle.hla_null_message.specs.declared.message.Message.{Message}
 use Rattle.hla_null_message.specs.declared.message.Message.TheVariants as message
@@ -21,7 +20,7 @@ use Rattle.hla_machine.specs.Directory.{Directory, with_member, deletions_sent, 
 use Rattle.hla_machine.specs.Refusals.{refusal}
 use Rattle.hla_machine.proofs.Tests.{caller_joined, clear_call, ticker_joined}
 use Rattle.hla_components.specs.Components.{Components}
-use Rattle.hla_components.specs.Next.{Outcomes, next, components_seen, answer_outcome, with_null_announced, step_outcome, call_outcome, carry_outcome, pick_outcome, tick_outcome, announce_outcome, unless_refused, with_federate_resigned}
+use Rattle.hla_components.specs.Next.{Outcomes, next, components_seen, answer_outcome, with_null_announced, step_outcome, call_outcome, carry_outcome, pick_outcome, announce_outcome, unless_refused, with_federate_resigned}
 use Rattle.hla_components.proofs.Services.Resigns.{sent_directory}
 use Rattle.hla_components.specs.Component.{local_bound, promise}
 use Rattle.hla_base.specs.Rows.{is_regulator}

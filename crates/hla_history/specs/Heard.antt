@@ -1,11 +1,9 @@
 -- What the records of a history say of each federate's ambassador
-use Rattle.std.specs.Prelude.{ℕ, cond, eqb, List, [], ◌∷◌, ◌++◌, Option, None, Some, fold, map}
+use Rattle.std.specs.Prelude.{ℕ, cond, eqb, List, [], ◌∷◌, ◌++◌, Option, None, Some, fold}
 use Rattle.std.specs.Str.{bytes_eq}
 use Rattle.hla_callbacks.specs.declared.callback.Callback.{Callback}
-use Rattle.hla_machine.specs.declared.service.Service.{Service}
-use Rattle.hla_machine.specs.declared.service.Service.TheVariants as service
 use Rattle.hla_machine.specs.declared.step.Step.{Step}
-use Rattle.hla_machine.specs.declared.step.Step.TheVariants.{Join, Call, Carry, Announce, Tick}
+use Rattle.hla_machine.specs.declared.step.Step.TheVariants.{Join, Tick}
 use Rattle.hla_machine.specs.declared.step.Act.{Act}
 use Rattle.hla_machine.specs.declared.step.Act.TheVariants as act
 use Rattle.hla_machine.specs.declared.step.Answer.TheVariants as answer

@@ -1,11 +1,11 @@
 -- One execution under the lock, as its code keeps it
-use Rattle.std.specs.Prelude.{◌≡◌, ℕ, Bool, true, List, [], ◌∷◌, ◌++◌, length, Option, None, Some, find, get_or, slice_get, slice_set, option_map, map}
+use Rattle.std.specs.Prelude.{◌≡◌, ℕ, true, List, Option, None, Some, find, get_or, slice_get, option_map, map}
 use Rattle.std.specs.Str.{bytes_eq}
 use Rattle.hla_base.specs.declared.fault.Fault.TheVariants as fault
 use Rattle.hla_callbacks.specs.declared.callback.Callback.{Callback}
 use Rattle.hla_callbacks.specs.Hearing.{Hearing}
 use Rattle.hla_machine.specs.declared.step.Step.{Step}
-use Rattle.hla_machine.specs.declared.step.Step.TheVariants.{Join, Call, Carry, Announce, Tick}
+use Rattle.hla_machine.specs.declared.step.Step.TheVariants.{Tick}
 use Rattle.hla_machine.specs.declared.step.Act.{Act}
 use Rattle.hla_machine.specs.declared.step.Act.TheVariants as act
 use Rattle.hla_machine.specs.declared.step.Outcome.{Outcome}
@@ -77,9 +77,9 @@ abbrev pub components_after : Components → Act → Components
 components_after c (act.Step step) = (next c step).state
 components_after c a = c
 
-abbrev pub IsStep : Act → Type 0
-IsStep (act.Step step) = Unit {0}
-IsStep a = ⊥
+abbrev pub IsStepAct : Act → Type 0
+IsStepAct (act.Step step) = Unit {0}
+IsStepAct a = ⊥
 
 -- ---- an act of one of several executions
 -- a step ends and chooses as the next-state function says; without an execution it is refused

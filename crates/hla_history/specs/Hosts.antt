@@ -6,7 +6,7 @@ use Rattle.hla_fed_file.specs.CatalogueValue.{CatalogueValue}
 use Rattle.hla_callbacks.specs.declared.callback.Callback.{Callback}
 use Rattle.hla_machine.specs.declared.service.Service.TheVariants as service
 use Rattle.hla_machine.specs.declared.step.Step.{Step}
-use Rattle.hla_machine.specs.declared.step.Step.TheVariants.{Join, Call, Carry, Announce, Tick}
+use Rattle.hla_machine.specs.declared.step.Step.TheVariants.{Join, Call, Tick}
 use Rattle.hla_machine.specs.declared.step.Act.{Act}
 use Rattle.hla_machine.specs.declared.step.Act.TheVariants as act
 use Rattle.hla_machine.specs.declared.step.Answer.TheVariants as answer
@@ -97,7 +97,7 @@ HasAmbassadors h = (f : ℕ) → is_some (h.heard f) ≡ h.components.directory.
 abbrev pub HearsAll : List Record → List ℕ → Host → Type 0
 HearsAll history name h = (f : ℕ) (ks : List Callback) → h.heard f ≡ Some ks → ks ≡ heard_by name f history
 
-pub record IsKept (history : List Record) (hosts : Hosts) (total : ℕ) : Type 0 where
+pub record IsLockKept (history : List Record) (hosts : Hosts) (total : ℕ) : Type 0 where
   -- the history replays: the outcome and the choice of each record are those of the next-state function, from no executions to
   -- these; where the ambassador failed the record holds the callback that the function gives
   pub replays : AreNext no_federations (map given_record history) (federations_of hosts)

@@ -17,10 +17,7 @@ use hla_callbacks::FederateAmbassador;
 use hla_machine::{Act, Choice, Outcome, Record, Step};
 
 /// Where an execution of this name is.
-fn place_of<B: FederateAmbassador>(
-    executions: &[Hosted<B>],
-    name: &ExecutionName,
-) -> Option<usize>
+fn place_of<B: FederateAmbassador>(executions: &[Hosted<B>], name: &ExecutionName) -> Option<usize>
     ensures { result ≡ position (λ (h : HostedValue). bytes_eq name.now h.name) executions.now }
 {
     executions.iter().position(|h| h.is_named(name))

@@ -3,7 +3,7 @@
 ghost use Rattle.std.specs.Prelude.{◌≡◌, IfOk, IfErr, MatchResult, OnErr, OnOk};
 ghost use Rattle.hla_components.specs.Next.{next};
 ghost use Rattle.hla_history.specs.Heard.{callback_in};
-ghost use Rattle.hla_history.specs.Hosting.{components_hosted, components_after, IsStep};
+ghost use Rattle.hla_history.specs.Hosting.{components_hosted, components_after, IsStepAct};
 ghost use Rattle.hla_machine.specs.declared.step.Act.TheVariants as act;
 
 use hla_base::{ExecutionName, Fault, Plain};
@@ -95,7 +95,7 @@ pub(crate) fn prepare(
 
 /// Does the step that was prepared. `OutOfMemory`, and nothing done, where a growth was refused.
 pub(crate) fn advance(federation: &mut Federation, prepared: Prepared) -> Result<Prepared, Fault>
-    requires { IsStep prepared.record.act }
+    requires { IsStepAct prepared.record.act }
     ensures state { OnOk result (components_hosted federation.new
         ≡ components_after (components_hosted federation.old) prepared.record.act) }
     ensures same { IfOk result (λ p. p ≡ prepared) }

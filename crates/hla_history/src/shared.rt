@@ -2,7 +2,7 @@
 
 ghost use Rattle.std.specs.Prelude.{◌≡◌, ◌≢◌, ◌+◌, ◌<◌, ◌⊎◌, ◌↔◌, ℕ, [], length, IfOk, IfErr, OnErr, MatchResult};
 ghost use Rattle.hla_machine.specs.declared.step.Act.TheVariants as act;
-ghost use Rattle.hla_history.specs.Hosts.{IsPlain, IsKept, with_record};
+ghost use Rattle.hla_history.specs.Hosts.{IsPlain, IsLockKept, with_record};
 ghost use Rattle.hla_history.specs.Hosting.{held_of, hosts_of};
 
 use crate::among::step_among;
@@ -32,7 +32,7 @@ pub struct Shared<L: Ledger, B: FederateAmbassador> {
 
 impl<L: Ledger, B: FederateAmbassador> Model for Shared<L, B> {
     ghost use Rattle.std.specs.Prelude.{◌≤◌, vec_len, vec_capacity};
-    ghost use Rattle.hla_history.specs.Hosts.{IsKept};
+    ghost use Rattle.hla_history.specs.Hosts.{IsLockKept};
     ghost use Rattle.hla_history.specs.Hosting.{HeldValue, hosts_of};
 
     ghost Value = { HeldValue };
@@ -45,7 +45,7 @@ impl<L: Ledger, B: FederateAmbassador> Model for Shared<L, B> {
       executions = s.executions.items;
     } };
 
-    ghost invariant = { λ s. IsKept s.history.items (hosts_of s.creates s.present s.executions.items) s.book.total
+    ghost invariant = { λ s. IsLockKept s.history.items (hosts_of s.creates s.present s.executions.items) s.book.total
         × (vec_len s.history ≤ s.limit) × (s.limit ≤ vec_capacity s.history) };
 }
 
@@ -78,7 +78,7 @@ impl<L: Ledger, B: FederateAmbassador> Shared<L, B> {
     /// What the value under the lock keeps, for a caller's own proofs: the history replays to the executions, and each joined
     /// federate's ambassador has heard just the callbacks of its ticks since it joined. It does nothing.
     pub fn kept(&self)
-        ensures { IsKept self.now.history (hosts_of self.now.creates self.now.present self.now.executions)
+        ensures { IsLockKept self.now.history (hosts_of self.now.creates self.now.present self.now.executions)
             (length self.now.history) }
     {
         let _history = &self.history;

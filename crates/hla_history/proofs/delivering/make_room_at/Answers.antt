@@ -1,4 +1,4 @@
-use Rattle.std.proofs.Common.{◌<◌, length, arith, rules}
+use Rattle.std.proofs.Common.{◌<◌, length, rules}
 use Rattle.hla_history.proofs.Ears.{same_heard, room_at, none_at}
 use Rattle.hla_history.proofs.delivering.make_room_at.Goals as goal
 

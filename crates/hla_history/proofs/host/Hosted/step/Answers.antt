@@ -1,10 +1,8 @@
-use Rattle.std.proofs.Common.{◌≡◌, sym, ◌∙◌, ap}
-use Rattle.hla_machine.specs.declared.step.Act.{Act}
-use Rattle.hla_machine.specs.declared.step.Act.TheVariants as act
+use Rattle.std.proofs.Common.{◌∙◌, ap}
 use Rattle.hla_machine.specs.declared.step.Record.{Record}
 use Rattle.hla_history.specs.Heard.{callback_in}
 use Rattle.hla_components.specs.Next.{next}
-use Rattle.hla_history.specs.Hosting.{HostedValue, components_hosted, components_after, heard_of, heard_table, heard_then_of}
+use Rattle.hla_history.specs.Hosting.{HostedValue, components_hosted, heard_of, heard_table, heard_then_of}
 use Rattle.hla_history.specs.declared.preparing.Prepared.{Prepared}
 use Rattle.hla_history.proofs.Hosting.{ambassadors_ready, delivers, len_fits, given_fits, host_steps}
 use Rattle.hla_history.proofs.host.Hosted.step.Goals as goal
