@@ -47,13 +47,13 @@ fn copied_callback(outcome: &Outcome) -> Result<Option<Callback>, Fault>
 }
 
 /// The caller's copies of a record.
-pub(crate) fn copied(record: &Record) -> Result<Stepped, Fault>
-    ensures own { IfOk result (λ s. s.own ≡ record.now) }
-    ensures answer { IfOk result (λ s. s.answer ≡ record.now.outcome) }
+pub(crate) fn copied(made: &Record) -> Result<Stepped, Fault>
+    ensures own { IfOk result (λ s. s.own ≡ made.now) }
+    ensures answer { IfOk result (λ s. s.answer ≡ made.now.outcome) }
     ensures err { IfErr result (λ e. e ≡ Fault.OutOfMemory) }
 {
-    let own = record.copy()?;
-    let answer = record.outcome.copy()?;
+    let own = made.copy()?;
+    let answer = made.outcome.copy()?;
     Ok(Stepped { own, answer })
 }
 
