@@ -1,0 +1,38 @@
+-- What the federation's contracts say of the components under the lock.
+use Rattle.std.proofs.Common.{◌≡◌, ℕ, List, sym, ◌∙◌, ap, inl, inr, Option, Some}
+use Rattle.hla_base.specs.declared.fault.Fault.{Fault}
+use Rattle.hla_base.specs.declared.fault.Fault.TheVariants as fault
+use Rattle.hla_machine.specs.declared.step.Step.{Step}
+use Rattle.hla_machine.specs.declared.step.Act.TheVariants as act
+use Rattle.hla_machine.specs.declared.step.Outcome.{Outcome}
+use Rattle.hla_machine.specs.declared.step.Choice.{Choice}
+use Rattle.hla_machine.specs.declared.step.Record.{Record}
+use Rattle.hla_machine.specs.Refusals.{refusal}
+use Rattle.hla_components.specs.Components.{Components}
+use Rattle.hla_components.specs.Next.{next, components_seen, step_outcome, unless_refused}
+use Rattle.hla_federation.specs.FederationValue.{FederationValue}
+use Rattle.hla_federation.specs.Steps.Memory.{IsRefusedWith}
+use Rattle.hla_federation.specs.Steps.State.{state_of}
+use Rattle.hla_history.specs.Hosting.{components_hosted}
+
+-- the record of a step that ends as foreseen
+abbrev pub step_record_in : Components → ℕ → List ℕ → Step → Record
+step_record_in s actor name step = record { actor = actor; execution = name; act = act.Step step; outcome = (next s step).outcome; choice = (next s step).choice }
+
+pub foreseen_record : (f : FederationValue) (actor : ℕ) (name : List ℕ) (step : Step) (out : Outcome) (chosen : Choice)
+    → out ≡ (next (state_of f) step).outcome → chosen ≡ (next (state_of f) step).choice
+    → record { actor = actor; execution = name; act = act.Step step; outcome = out; choice = chosen } ≡ step_record_in (components_hosted f) actor name step
+unfolding components_hosted
+foreseen_record f actor name step out chosen ends chooses = λ i. record { actor = actor; execution = name; act = act.Step step; outcome = ends i; choice = chooses i }
+
+pub does_step : (old new : FederationValue) (step : Step) → state_of new ≡ (next (state_of old) step).state → components_hosted new ≡ (next (components_hosted old) step).state
+unfolding components_hosted
+does_step old new step is = is
+
+pub refused_stays : (old new : FederationValue) (step : Step) (e : Fault) → new ≡ old → IsRefusedWith (state_of old) step e → (e ≡ fault.OutOfMemory → ⊥)
+    → components_hosted new ≡ (next (components_hosted old) step).state
+unfolding components_hosted
+refused_stays old new step e same h other =
+    let is : refusal (components_seen (state_of old)) step ≡ Some e = elim h [ inl r ↦ r | inr p ↦ absurd (other p.1) ] in
+    ap (λ (f : FederationValue). state_of f) same
+    ∙ sym (ap (λ (o : Option Fault). (unless_refused o (state_of old) (step_outcome (state_of old) step)).state) is)

@@ -1,0 +1,8 @@
+use Rattle.std.proofs.lemmas.Option.{slice_get_within}
+use Rattle.hla_history.proofs.Ears.{gives}
+use Rattle.hla_history.proofs.delivering.give_at.Goals as goal
+
+pub returns-clause-heard : goal.returns-clause-heard
+returns-clause-heard g c =
+    gives c.args.ears.now.items c.args.federate c.index_mut.result.now c.in-Some.ear c.give.new.self c.args.callback
+    (slice_get_within _ _ _ c.requires.1) c.in-Some.is c.index_mut.ensures.value c.give.ensures

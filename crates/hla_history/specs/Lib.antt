@@ -1,0 +1,3 @@
+pub mod Heard
+pub mod Hosts
+pub mod Hosting
