@@ -1,0 +1,114 @@
+#!/usr/bin/env python3
+"""Tells whether the prover refuses each wrong body of the files must-fail/*.edit, and by the contract of which function.
+
+An edit file holds one wrong body for each of several functions, because what an edit costs is the reading of the libraries; `rt ci`
+shows that each file is refused. This program applies a file, checks the crate once, and looks for an error in each function that the
+file changes. It works in the folder of the crate, over what earlier checks kept, and puts the sources back; edit nothing while it runs.
+
+    bench/wrong_bodies.py [--alone] [CRATE..]     --alone: one check for each wrong body
+"""
+import argparse
+import pathlib
+import re
+import signal
+import subprocess
+import sys
+
+CRATES = pathlib.Path(__file__).resolve().parent.parent / "crates"
+FUNCTION = re.compile(r"^\s*(?:pub(?:\([a-z]+\))?\s+)?(?:const\s+)?fn\s+(\w+)")
+BLOCK = re.compile(r"^(?:pub\s+)?(?:impl|trait)\b.*")
+ERROR = re.compile(r"(?:note: )?(?:\./)?((?:src|specs|proofs)/\S+?):(\d+):\d+:")
+
+
+def wrong_bodies(edit):
+    """The wrong bodies of an edit file: a name for each, and its (file, old, new) triples. A definition's edit is one, without a name."""
+    bodies, file, old = [("", [])], None, None
+    for line in edit.read_text().splitlines():
+        if line.startswith("# "):
+            bodies.append((line[2:], []))
+        elif line.startswith("file: "):
+            file = line[len("file: "):].strip()
+        elif line.startswith("old: "):
+            old = line[len("old: "):]
+        elif line.startswith("new:"):
+            bodies[-1][1].append((file, old, line[len("new:"):].removeprefix(" ")))
+    return [(name or edit.stem, pairs) for name, pairs in bodies if pairs]
+
+
+def function_at(lines, number):
+    """The function in which a line stands, with the head of the block around it."""
+    name, inside = None, False
+    for line in reversed(lines[:number + 1]):
+        found = FUNCTION.match(line)
+        if found and name is None:
+            name, inside = found[1], line[0].isspace()
+            if not inside:
+                return "", name
+        elif name and inside and BLOCK.match(line):
+            return line, name
+    return "", name
+
+
+def edited(folder, bodies):
+    """The files that these wrong bodies change, before and after, and the functions that each changes."""
+    before, after, changed = {}, {}, {}
+    for name, pairs in bodies:
+        for file, old, new in pairs:
+            if file not in before:
+                before[file] = after[file] = (folder / file).read_text()
+            if after[file].count(old) != 1:
+                sys.exit(f"{folder.name}: {name}: the text stands {after[file].count(old)} times in {file}: {old}")
+            at = after[file].count("\n", 0, after[file].index(old))
+            changed.setdefault(name, set()).add((file, *function_at(after[file].split("\n"), at)))
+            after[file] = after[file].replace(old, new)
+    return before, after, changed
+
+
+def refused(folder, bodies):
+    """Checks the crate with these wrong bodies: which functions the prover refuses, which each body changes, and whether any was refused."""
+    before, after, changed = edited(folder, bodies)
+    try:
+        for file, text in after.items():
+            (folder / file).write_text(text)
+        ran = subprocess.run(["rt", "check", "--jobs", "1"], cwd=folder, stdin=subprocess.DEVNULL, stdout=subprocess.PIPE,
+                             stderr=subprocess.STDOUT, text=True)
+    finally:
+        for file, text in before.items():
+            (folder / file).write_text(text)
+    found = {}
+    for line in ran.stdout.splitlines():
+        at = ERROR.match(line)
+        if at and at[1] in after:
+            found.setdefault((at[1], *function_at(after[at[1]].split("\n"), int(at[2]) - 1)), line)
+    return found, changed, ran.returncode == 1
+
+
+def tried(folder, edit, alone):
+    """Says of each wrong body of an edit file whether it is refused; gives how many are not."""
+    bodies = wrong_bodies(edit)
+    missing = 0
+    for some in [[it] for it in bodies] if alone else [bodies]:
+        found, changed, any_refused = refused(folder, some)
+        for name, functions in changed.items():
+            by = [found[it] for it in functions if it in found]
+            is_refused = bool(by) or len(some) == 1 and any_refused
+            missing += not is_refused
+            print(f"{folder.name}: {name}: {'refused' if is_refused else 'NOT REFUSED'}: {by[0][:120] if by else 'elsewhere'}", flush=True)
+    return missing
+
+
+def main():
+    words = argparse.ArgumentParser(description=__doc__, formatter_class=argparse.RawDescriptionHelpFormatter)
+    words.add_argument("--alone", action="store_true", help="one check for each wrong body")
+    words.add_argument("crates", nargs="*")
+    given = words.parse_args()
+    # (stopped, it puts the sources back)
+    signal.signal(signal.SIGTERM, lambda *_: sys.exit(1))
+    names = given.crates or sorted(it.parent.name for it in CRATES.glob("*/must-fail"))
+    missing = sum(tried(CRATES / name, edit, given.alone) for name in names for edit in sorted((CRATES / name / "must-fail").glob("*.edit")))
+    print(f"{missing} not refused")
+    return 1 if missing else 0
+
+
+if __name__ == "__main__":
+    sys.exit(main())
