@@ -17,7 +17,9 @@ import sys
 CRATES = pathlib.Path(__file__).resolve().parent.parent / "crates"
 FUNCTION = re.compile(r"^\s*(?:pub(?:\([a-z]+\))?\s+)?(?:const\s+)?fn\s+(\w+)")
 BLOCK = re.compile(r"^(?:pub\s+)?(?:impl|trait)\b.*")
-ERROR = re.compile(r"(?:note: )?(?:\./)?((?:src|specs|proofs)/\S+?):(\d+):\d+:")
+ERROR = re.compile(r"(?:note: )?(?:\./)?((?:src|specs)/\S+?):(\d+):\d+:")
+# An answer to a goal of a function stands in a folder of the function's name.
+ANSWER = re.compile(r"(?:\./)?proofs/\S+/(\w+)/\w+\.antt:\d+:\d+: error")
 
 
 def wrong_bodies(edit):
@@ -75,11 +77,15 @@ def refused(folder, bodies):
     finally:
         for file, text in before.items():
             (folder / file).write_text(text)
-    found = {}
+    found, answers = {}, {}
     for line in ran.stdout.splitlines():
-        at = ERROR.match(line)
+        at, answer = ERROR.match(line), ANSWER.match(line)
         if at and at[1] in after:
             found.setdefault((at[1], *function_at(after[at[1]].split("\n"), int(at[2]) - 1)), line)
+        elif answer:
+            answers.setdefault(answer[1], line)
+    for functions in changed.values():
+        found |= {it: answers[it[2]] for it in functions if it not in found and it[2] in answers}
     return found, changed, ran.returncode == 1
 
 
