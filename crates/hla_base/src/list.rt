@@ -34,6 +34,17 @@ impl<T> List<T> {
         }
     }
 
+    /// No items, and room for this many; `OutOfMemory` where that was refused.
+    pub fn with_room(alloc: Global, count: usize) -> Result<List<T>, Fault>
+        ensures ok { IfOk result (λ xs. xs ≡ []) }
+        ensures err { IfErr result (λ e. e ≡ Fault.OutOfMemory) }
+    {
+        match Vec::with_capacity(alloc, count) {
+            Ok(items) => Ok(List { items }),
+            Err(_) => Err(Fault::OutOfMemory),
+        }
+    }
+
     /// The items of a `Vec`; it takes no memory.
     pub fn from_vec(items: Vec<T>) -> List<T>
         ensures { result ≡ items.items }

@@ -13,22 +13,24 @@ use crate::limits::MAX_VALUE;
 use crate::plain::Plain;
 use std::alloc::{AllocError, Global};
 use std::marker::Model;
+use std::sync::ArcSlice;
 
-/// A value of an attribute or a parameter: at most 1,024 bytes.
+/// A value of an attribute or a parameter: at most 1,024 bytes. Clones share them.
 #[derive(Debug, Drop)]
 pub struct Value {
-    bytes: Vec<u8>,
+    bytes: ArcSlice<u8>,
 }
 
 impl Model for Value {
     ghost use Rattle.std.specs.Prelude.{List, ℕ, length, ◌≤◌};
+    ghost use Rattle.std.specs.Arc.{arc_slice_items};
     ghost use Rattle.hla_base.specs.Limits.{max_value};
 
     ghost Value = { List ℕ };
 
-    ghost view = { λ v. v.bytes.items };
+    ghost view = { λ v. arc_slice_items v.bytes };
 
-    ghost invariant = { λ v. length v.bytes.items ≤ max_value };
+    ghost invariant = { λ v. length (arc_slice_items v.bytes) ≤ max_value };
 }
 
 impl Value {
@@ -45,7 +47,7 @@ impl Value {
         if bytes.len() > Value::LIMIT {
             return Err(Fault::LimitReached);
         }
-        match Vec::from_slice(alloc, bytes) {
+        match ArcSlice::from_slice(alloc, bytes) {
             Ok(bytes) => Ok(Value { bytes }),
             Err(_) => Err(Fault::OutOfMemory),
         }

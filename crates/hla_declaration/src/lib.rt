@@ -11,6 +11,3 @@ mod receiving;
 
 pub use declarations::Declarations;
 pub use receiver::Receiver;
-
-#[cfg(test)]
-mod tests;

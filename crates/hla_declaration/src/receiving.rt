@@ -79,7 +79,7 @@ impl Declarations {
             (declarations_of self.now).federates sender) }
         ensures err { IfErr result (λ e. e ≡ Fault.OutOfMemory) }
     {
-        let mut receivers = List::new(alloc);
+        let mut receivers = List::with_room(alloc, self.federates())?;
         for place in 0..self.federates() {
             let federate = place as FederateNo + 1;
             let served = self.object_class_served(catalogue, federate, class);
@@ -104,7 +104,7 @@ impl Declarations {
             class) (declarations_of self.now).federates sender) }
         ensures err { IfErr result (λ e. e ≡ Fault.OutOfMemory) }
     {
-        let mut receivers = List::new(alloc);
+        let mut receivers = List::with_room(alloc, self.federates())?;
         for place in 0..self.federates() {
             let federate = place as FederateNo + 1;
             let served = self.interaction_class_served(catalogue, federate, class);

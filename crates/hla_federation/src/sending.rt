@@ -51,7 +51,7 @@ impl Parts {
             (λ (v : HandleValuePair). has_parameter self.now.catalogue class v.handle) values.now) }
         ensures err { IfErr result (λ e. e ≡ Fault.OutOfMemory) }
     {
-        let mut shown = List::new(self.alloc);
+        let mut shown = List::with_room(self.alloc, values.len())?;
         for value in values {
             if self.catalogue.has_parameter(class, value.handle) {
                 shown.push(value.copy()?)?;
@@ -71,7 +71,7 @@ impl Parts {
             class values.now) }
         ensures err { IfErr result (λ e. e ≡ Fault.OutOfMemory) }
     {
-        let mut shown = List::new(self.alloc);
+        let mut shown = List::with_room(self.alloc, values.len())?;
         for value in values {
             if self
                 .declarations
@@ -93,7 +93,7 @@ impl Parts {
             values.now) }
         ensures err { IfErr result (λ e. e ≡ Fault.OutOfMemory) }
     {
-        let mut part = List::new(self.alloc);
+        let mut part = List::with_room(self.alloc, values.len())?;
         for value in values {
             if self.catalogue.attribute_order(value.handle) == order {
                 part.push(value.copy()?)?;

@@ -3,8 +3,6 @@
 
 mod peers;
 mod row;
-#[cfg(test)]
-mod tests;
 
 pub use peers::Peers;
 pub use row::PeerRow;

@@ -2,7 +2,5 @@
 #![tactic(auto)]
 
 mod floor;
-#[cfg(test)]
-mod tests;
 
 pub use floor::Floor;

@@ -38,7 +38,9 @@ impl Outbox {
         ensures ok { IfOk result (λ o. AreQuiet o) }
         ensures err { IfErr result (λ e. e ≡ Fault.OutOfMemory) }
     {
-        let mut messages = Vec::new(alloc);
+        let Ok(mut messages) = Vec::with_capacity(alloc, MAX_JOINS) else {
+            return Err(Fault::OutOfMemory);
+        };
         for _made in 0..MAX_JOINS {
             if messages.push(List::new(alloc)).is_err() {
                 return Err(Fault::OutOfMemory);

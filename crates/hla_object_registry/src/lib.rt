@@ -7,6 +7,3 @@ mod federate_set;
 mod registry;
 
 pub use registry::Registry;
-
-#[cfg(test)]
-mod tests;

@@ -4,8 +4,6 @@
 mod control;
 mod key;
 mod receive;
-#[cfg(test)]
-mod tests;
 mod tso;
 
 pub use control::Control;

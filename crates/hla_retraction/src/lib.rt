@@ -3,8 +3,6 @@
 
 mod receivers;
 mod sent;
-#[cfg(test)]
-mod tests;
 
 pub use receivers::Receivers;
 pub use sent::{Sent, SentRow};

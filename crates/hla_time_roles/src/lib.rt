@@ -4,7 +4,5 @@
 mod changes;
 mod refusals;
 mod state;
-#[cfg(test)]
-mod tests;
 
 pub use state::TimeState;

@@ -9,7 +9,7 @@ use Rattle.hla_declaration.proofs.declarations.Declarations.receivers_of_object_
 pub loop-place-init : goal.loop-place-init
 loop-place-init c =
     let served : ℕ → Option ℕ = λ g. object_class_served c.args.catalogue.now (declarations_of c.args.self.now).subscribed g c.args.class in
-    c.new-receivers.ensures ∙ sym (receivers_none served c.args.sender (nobody_object c.args.catalogue.now c.args.self.now c.args.class))
+    c.in_ok-receivers.ensures.ok ∙ sym (receivers_none served c.args.sender (nobody_object c.args.catalogue.now c.args.self.now c.args.class))
 
 pub loop-place-preserved : goal.loop-place-preserved
 loop-place-preserved c =

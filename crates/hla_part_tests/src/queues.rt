@@ -1,7 +1,7 @@
 ghost use Rattle.std.specs.Prelude.{◌<◌};
 
-use crate::{RoQueue, TsoQueue};
 use hla_base::{Content, Event, FOREVER, FederateNo, Serial, Ticks};
+use hla_order_queues::{RoQueue, TsoQueue};
 use std::test::Fail;
 
 fn event(sender: FederateNo, serial: Serial, stamp: Ticks) -> Event {

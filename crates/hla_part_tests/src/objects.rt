@@ -1,7 +1,7 @@
 ghost use Rattle.std.specs.Prelude.{◌<◌, ◌≤◌};
 
-use crate::Registry;
 use hla_base::{FederateNo, List, ObjectNo};
+use hla_object_registry::Registry;
 use std::alloc::Global;
 use std::process::Abort;
 use std::test::Fail;

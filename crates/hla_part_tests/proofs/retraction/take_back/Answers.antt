@@ -4,7 +4,7 @@ use Rattle.std.proofs.lemmas.Bool.{and_parts}
 use Rattle.hla_base.specs.declared.row.Role.TheVariants.{Enabled}
 use Rattle.hla_base.specs.declared.row.TimeRow.{TimeRow}
 use Rattle.hla_base.specs.Rows.{new_row}
-use Rattle.hla_retraction.proofs.tests.take_back.Goals as goal
+use Rattle.hla_part_tests.proofs.retraction.take_back.Goals as goal
 
 pub retract-requires : goal.retract-requires
 retract-requires c =

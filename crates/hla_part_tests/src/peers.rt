@@ -1,5 +1,5 @@
-use crate::Peers;
 use hla_base::FOREVER;
+use hla_lbts::Peers;
 use std::test::Fail;
 
 #[test]

@@ -1,8 +1,8 @@
 ghost use Rattle.std.specs.Prelude.{◌≡◌, IfOk};
 ghost use Rattle.hla_declaration.specs.Declarations.{declarations_of};
 
-use crate::Declarations;
 use hla_base::{AttributeNo, List};
+use hla_declaration::Declarations;
 use hla_fed_file::read;
 use std::alloc::{AllocError, Global};
 use std::test::Fail;

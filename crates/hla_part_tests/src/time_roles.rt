@@ -1,5 +1,5 @@
-use crate::TimeState;
 use hla_base::{AdvanceKind, AdvanceRequest, Fault, MAX_TIME};
+use hla_time_roles::TimeState;
 use std::test::Fail;
 
 #[test]

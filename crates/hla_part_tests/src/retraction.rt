@@ -1,7 +1,7 @@
 ghost use Rattle.std.specs.Prelude.{◌<◌, ◌≤◌};
 
-use crate::{Receivers, Sent};
 use hla_base::{FederateNo, Serial, Ticks};
+use hla_retraction::{Receivers, Sent};
 use std::test::Fail;
 
 fn pair(first: FederateNo, second: FederateNo) -> Receivers

@@ -1,5 +1,5 @@
-use crate::Floor;
 use hla_base::{AdvanceKind, AdvanceRequest, MAX_TIME};
+use hla_lookahead::Floor;
 use std::test::Fail;
 
 #[test]

@@ -1,0 +1,32 @@
+//! What a benchmark counts.
+
+/// How much was done. What a benchmark doesn't count is 0.
+#[derive(Clone, Copy, Debug, Default)]
+pub struct Counts {
+    /// Steps of a federation.
+    pub steps: u64,
+    /// Messages that were sent.
+    pub sent: u64,
+    /// Messages that were given to their receivers.
+    pub received: u64,
+    /// Time advance grants.
+    pub grants: u64,
+    /// Events that were put into a queue.
+    pub queued: u64,
+    /// Bytes of FED text that were read.
+    pub bytes: u64,
+}
+
+impl Counts {
+    /// Each count, under its name.
+    pub fn all(&self) -> [(&'static str, u64); 6] {
+        [
+            ("steps", self.steps),
+            ("sent", self.sent),
+            ("received", self.received),
+            ("grants", self.grants),
+            ("queued", self.queued),
+            ("bytes", self.bytes),
+        ]
+    }
+}

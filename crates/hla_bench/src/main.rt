@@ -1,0 +1,151 @@
+//! Figures of the library's own calls, with no script in between. Counts are printed on standard output and are the same at each
+//! run; seconds and rates are printed on standard error.
+//!
+//!     hla_bench lockstep FEDERATES EVENTS ROUNDS
+//!     hla_bench phold FEDERATES POPULATION LOOKAHEAD DELIVERED
+//!     hla_bench queue EVENTS
+//!     hla_bench fed BYTES
+#![tactic(auto)]
+
+mod counts;
+mod holding;
+mod lockstep;
+mod meter;
+mod phold;
+mod random;
+mod reading;
+
+use crate::counts::Counts;
+use hla_base::Fault;
+use std::alloc::Global;
+use std::env::Args;
+use std::process::ExitCode;
+use std::rt::{Clock, Runtime};
+use std::time::{Duration, Instant};
+use std::{env, io};
+
+/// What is measured, with its numbers.
+#[derive(Clone, Copy, Debug)]
+enum Benchmark {
+    Lockstep {
+        federates: u32,
+        events: u32,
+        rounds: u64,
+    },
+    Phold {
+        federates: u32,
+        population: u32,
+        lookahead: u64,
+        delivered: u64,
+    },
+    Queue {
+        events: u32,
+    },
+    Fed {
+        bytes: usize,
+    },
+}
+
+const USAGE: &str =
+    "usage: hla_bench lockstep FEDERATES EVENTS ROUNDS | phold FEDERATES POPULATION LOOKAHEAD DELIVERED | \
+    queue EVENTS | fed BYTES";
+
+/// The next word as a number.
+fn number(words: &mut Args) -> Option<u64> {
+    words.next()?.parse::<u64>().ok()
+}
+
+/// The next word as a number of 32 bits.
+fn small(words: &mut Args) -> Option<u32> {
+    words.next()?.parse::<u32>().ok()
+}
+
+/// What the words of the command line ask for, if they ask for anything.
+fn benchmark(words: &mut Args) -> Option<Benchmark> {
+    let _program = words.next()?;
+    let asked = words.next()?;
+    let found = match asked.as_str() {
+        "lockstep" => Benchmark::Lockstep {
+            federates: small(words)?,
+            events: small(words)?,
+            rounds: number(words)?,
+        },
+        "phold" => Benchmark::Phold {
+            federates: small(words)?,
+            population: small(words)?,
+            lookahead: number(words)?,
+            delivered: number(words)?,
+        },
+        "queue" => Benchmark::Queue {
+            events: small(words)?,
+        },
+        "fed" => Benchmark::Fed {
+            bytes: number(words)? as usize,
+        },
+        _ => return None,
+    };
+    match words.next() {
+        None => Some(found),
+        Some(_) => None,
+    }
+}
+
+/// Runs a benchmark.
+fn counts_of(alloc: Global, asked: Benchmark) -> Result<Counts, Fault> {
+    match asked {
+        Benchmark::Lockstep {
+            federates,
+            events,
+            rounds,
+        } => lockstep::run(alloc, federates, events, rounds),
+        Benchmark::Phold {
+            federates,
+            population,
+            lookahead,
+            delivered,
+        } => phold::run(alloc, federates, population, lookahead, delivered),
+        Benchmark::Queue { events } => holding::run(alloc, events),
+        Benchmark::Fed { bytes } => reading::run(alloc, bytes),
+    }
+}
+
+/// Prints how long a benchmark took, and how often a second each of its counts grew.
+fn print_rates<R: Runtime>(rt: &R, counts: &Counts, took: Duration) -> io::Result<()> {
+    let micros = took.as_micros();
+    eprintln!(rt; "microseconds {micros}")?;
+    for (name, count) in &counts.all() {
+        let rate = u128::from(*count) * 1_000_000 / micros.max(1);
+        eprintln!(rt; "{name} per second {rate}")?;
+    }
+    Ok(())
+}
+
+/// Runs a benchmark, and prints its counts and times; the status.
+fn run<R: Runtime + AllocGlobal>(rt: &R) -> io::Result<u8> {
+    let mut words = env::args(rt)?;
+    let Some(asked) = benchmark(&mut words) else {
+        eprintln!(rt; "{USAGE}")?;
+        return Ok(2);
+    };
+    let start = Instant::now(rt)?;
+    let counts = match counts_of(rt.alloc(), asked) {
+        Ok(counts) => counts,
+        Err(fault) => {
+            eprintln!(rt; "{fault}")?;
+            return Ok(1);
+        }
+    };
+    let took = start.elapsed(rt)?;
+    for (name, count) in &counts.all() {
+        println!(rt; "{name} {count}")?;
+    }
+    print_rates(rt, &counts, took)?;
+    Ok(0)
+}
+
+fn main(rt: HostRuntime) -> ExitCode {
+    match run(&rt) {
+        Ok(status) => ExitCode::from(status),
+        Err(_) => ExitCode::from(1),
+    }
+}

@@ -1,0 +1,143 @@
+//! A federation whose steps are counted.
+
+use crate::counts::Counts;
+use hla_base::{ClassNo, Fault, FederateNo, HandleValuePair, List, Ticks, Value};
+use hla_callbacks::Callback;
+use hla_fed_file::Catalogue;
+use hla_federation::Federation;
+use hla_machine::{Answer, Carried, Service, Step};
+use std::alloc::Global;
+
+/// A federation execution, and what its steps have brought.
+#[derive(Drop)]
+pub struct Meter {
+    alloc: Global,
+    federation: Federation,
+    pub counts: Counts,
+}
+
+/// What ticks brought a federate until they brought a grant or nothing.
+#[derive(Clone, Copy, Debug)]
+pub struct Visit {
+    pub received: u64,
+    pub grant: Option<Ticks>,
+}
+
+impl Meter {
+    pub fn new(alloc: Global, catalogue: Catalogue) -> Meter {
+        Meter {
+            alloc,
+            federation: Federation::new(alloc, catalogue),
+            counts: Counts::default(),
+        }
+    }
+
+    fn step(&mut self, step: &Step) -> Result<Answer, Fault> {
+        let answer = self.federation.step(step)?;
+        self.counts.steps = self.counts.steps.wrapping_add(1);
+        Ok(answer)
+    }
+
+    /// A joined federate calls a service.
+    pub fn call(&mut self, federate: FederateNo, service: Service) -> Result<(), Fault> {
+        let _answer = self.step(&Step::Call { federate, service })?;
+        Ok(())
+    }
+
+    /// A federate joins, under the letter that has its number.
+    pub fn join(&mut self, federate: FederateNo) -> Result<(), Fault> {
+        let mut name = List::new(self.alloc);
+        name.push(b'@'.wrapping_add(federate as u8))?;
+        let _answer = self.step(&Step::Join { name })?;
+        Ok(())
+    }
+
+    /// A federate becomes time regulating and time constrained.
+    pub fn enable_time(&mut self, federate: FederateNo, lookahead: Ticks) -> Result<(), Fault> {
+        self.call(
+            federate,
+            Service::EnableTimeRegulation { time: 0, lookahead },
+        )?;
+        let _regulated = self.visit(federate)?;
+        self.call(federate, Service::EnableTimeConstrained)?;
+        let _constrained = self.visit(federate)?;
+        Ok(())
+    }
+
+    /// A federate sends an interaction with one parameter of eight bytes.
+    pub fn send(
+        &mut self,
+        federate: FederateNo,
+        class: ClassNo,
+        stamp: Ticks,
+    ) -> Result<(), Fault> {
+        let mut values = List::new(self.alloc);
+        values.push(HandleValuePair {
+            handle: class,
+            value: Value::new(self.alloc, b"8 bytes.")?,
+        })?;
+        self.call(
+            federate,
+            Service::SendInteraction {
+                class,
+                values,
+                stamp: Some(stamp),
+            },
+        )?;
+        self.counts.sent = self.counts.sent.wrapping_add(1);
+        Ok(())
+    }
+
+    /// A federate announces its promise.
+    pub fn announce(&mut self, federate: FederateNo) -> Result<(), Fault> {
+        let _answer = self.step(&Step::Announce { federate })?;
+        Ok(())
+    }
+
+    /// Carries a wire until it is empty.
+    fn carry(&mut self, from: FederateNo, to: FederateNo) -> Result<(), Fault> {
+        for _ in 0..u64::MAX {
+            match self.step(&Step::Carry { from, to })? {
+                Answer::Carried(Carried::Nothing) => return Ok(()),
+                _ => {}
+            }
+        }
+        Ok(())
+    }
+
+    /// Carries all wires from a federate to the others until they are empty.
+    pub fn carry_from(&mut self, from: FederateNo, federates: u32) -> Result<(), Fault> {
+        for to in 1..=federates {
+            if to != from {
+                self.carry(from, to)?;
+            }
+        }
+        Ok(())
+    }
+
+    /// Ticks a federate until it is granted a time, or picks up nothing.
+    pub fn visit(&mut self, federate: FederateNo) -> Result<Visit, Fault> {
+        let mut received = 0u64;
+        for _ in 0..u64::MAX {
+            match self.step(&Step::Tick { federate })? {
+                Answer::Ticked(Some(Callback::ReceiveInteraction { .. })) => {
+                    received = received.wrapping_add(1);
+                    self.counts.received = self.counts.received.wrapping_add(1);
+                }
+                Answer::Ticked(Some(Callback::TimeAdvanceGrant { time })) => {
+                    self.counts.grants = self.counts.grants.wrapping_add(1);
+                    return Ok(Visit {
+                        received,
+                        grant: Some(time),
+                    });
+                }
+                Answer::Ticked(Some(_)) => {}
+                _ => break,
+            }
+        }
+        Ok(Visit {
+            received,
+            grant: None,
+        })
+    }
+}
