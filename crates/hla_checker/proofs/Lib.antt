@@ -1,0 +1,2 @@
+-- What a bag has after a change
+pub mod BagLemmas
