@@ -1,2 +1,6 @@
 -- What waits for one federate, as a table by sender and serial
 pub mod Bags
+-- The central machine's state that accounts stand for
+pub mod Accounts
+-- The bounds of the central machine, as tests of accounts
+pub mod Bounds
