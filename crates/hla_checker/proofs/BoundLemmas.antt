@@ -1,24 +1,27 @@
 -- Tests of accounts decide the bounds of the central machine
-use Rattle.std.proofs.Common.{◌≡◌, ◌≢◌, ◌⊎◌, ℕ, ◌+◌, ◌-◌, ◌<◌, ◌≤◌, cond, eqb, leb, ltb, ◌&&◌, ◌||◌, not, Bool, true, false, List, [], ◌∷◌, Option, Some, None, option_map, refl, sym, ap, ◌∙◌, subst, inl, inr, ⊎_elim, arith}
+use Rattle.std.proofs.Common.{◌≡◌, ◌≢◌, ℕ, zero, suc, length, ◌+◌, ◌-◌, ◌<◌, ◌≤◌, cond, eqb, leb, ◌||◌, not, Bool, true, false, List, [], ◌∷◌, Option, Some, None, option_map, refl, sym, ap, ◌∙◌, subst, ⊎_elim, arith}
 use Rattle.std.specs.Bool.{Decides}
 use Rattle.std.specs.List.{list_all, All}
 use Rattle.std.specs.Option.{option_map_or}
-use Rattle.std.proofs.lemmas.Bool.Decides.{nat_tests, Decides-by_and, Decides-like, Decides-and, Decides-or, leb_tells}
+use Rattle.std.proofs.lemmas.Bool.Decides.{nat_tests, Decides-by_and, Decides-like, Decides-and, Decides-or, Decides-eqb}
+use Rattle.std.proofs.lemmas.Bool.{cases_lt}
+use Rattle.hla_base.specs.Limits.{forever}
+use Rattle.hla_checker.proofs.AccountLemmas.{account_at-past}
 use Rattle.std.proofs.lemmas.List.Elements.{All-nil, All-cons, All-head, All-tail}
 use Rattle.hla_base.specs.declared.row.AdvanceRequest.{AdvanceRequest}
 use Rattle.hla_base.specs.declared.row.TimeRow.{TimeRow}
 use Rattle.hla_base.specs.declared.content.Content.{Content}
-use Rattle.hla_base.specs.Rows.{next_request, width}
+use Rattle.hla_base.specs.Rows.{next_request, width, is_regulator}
 use Rattle.hla_callbacks.specs.declared.callback.Delivery.{Delivery}
 use Rattle.hla_callbacks.specs.declared.callback.Delivery.TheVariants.{Receive, Demoted, TimeStamp}
 use Rattle.hla_machine.specs.Directory.{Directory}
 use Rattle.hla_machine.specs.Central as machine
-use Rattle.hla_machine.specs.Central.{Copy, CopyOrder, Ro, Tso, BelowTso, BelowAllTso, BelowWake, BelowRequest, BelowOut}
+use Rattle.hla_machine.specs.Central.{Copy, CopyOrder, Ro, Tso, BelowTso, BelowAllTso, BelowWake, BelowRequest, BelowOut, BelowBound}
 use Rattle.hla_checker.specs.declared.account.Account.{Account}
 use Rattle.hla_checker.specs.declared.bag.Waiting.{Waiting}
 use Rattle.hla_checker.specs.Bags.{is_of, waiting_at, AreApart}
-use Rattle.hla_checker.specs.Accounts.{account_at, copy_of, copy_given, copy_at, central_with}
-use Rattle.hla_checker.specs.Bounds.{is_retracted, ordered_stamp, is_at_most_waiting, is_below_all_tso, is_below_wake, is_below_request, is_below_out}
+use Rattle.hla_checker.specs.Accounts.{AreKept, no_account, account_at, copy_of, copy_given, copy_at, central_with}
+use Rattle.hla_checker.specs.Bounds.{is_retracted, ordered_stamp, is_at_most_waiting, is_below_all_tso, is_below_wake, is_below_request, is_below_out, leaves_below}
 use Rattle.hla_checker.proofs.BagLemmas.{waiting_at-nil, waiting_at-cons, key_of}
 
 -- ---- what holds of each copy
@@ -115,3 +118,40 @@ module _ (d : Directory) (accounts : List Account) where
   below_out_decided f v apart =
       let r = (account_at accounts f).state in
       Decides-or (leb v r.floor) (is_below_request accounts f r (next_request r) v) (Decides-leb v r.floor) (below_request_decided f r (next_request r) v apart)
+
+  -- ---- the lower bound on time stamp
+  leaves_decided : (j e r o : Bool) (P Q : Type 0) → Decides e Q → Decides o P → Decides (not j || e || not r || o) (j ≡ true → ¬ Q → r ≡ true → P)
+  leaves_decided false e r o P Q same out = (λ t j n k. absurd (cc), λ h. refl)
+  leaves_decided true true r o P Q same out = (λ t j n k. absurd (n (same.0 refl)), λ h. refl)
+  leaves_decided true false false o P Q same out = (λ t j n k. absurd (cc), λ h. refl)
+  leaves_decided true false true o P Q same out = (λ t j n k. out.0 t, λ h. out.1 (h refl (λ q. absurd (let e = same.1 q in cc)) refl))
+
+  -- the test is of what another may send
+  pub leaves_below_decided : (f v g : ℕ) → AreApart (account_at accounts g).bag →
+      Decides (leaves_below accounts f v g) ((account_at accounts g).is_joined ≡ true → g ≢ f → is_regulator (account_at accounts g).state ≡ true → BelowOut (BelowAllTso (central_with d accounts) g) ((central_with d accounts).row g) v)
+  leaves_below_decided f v g apart = leaves_decided (account_at accounts g).is_joined (eqb g f) (is_regulator (account_at accounts g).state) (is_below_out accounts g v) _ _ (Decides-eqb g f) (below_out_decided g v apart)
+
+  -- where each number leaves v, v is at most the bound
+  pub bound_kept : AreKept accounts → (f v : ℕ) → ((g : ℕ) → 1 ≤ g → g < length accounts + 1 → leaves_below accounts f v g ≡ true) → v ≤ forever → BelowBound (central_with d accounts) f v
+  bound_kept kept f v each cap = (cap, λ g joined apart regulates. (leaves_below_decided f v g (kept.apart g)).0 (all g joined) joined apart regulates)
+    where
+      nobody : (a : Account) → a ≡ no_account → a.is_joined ≡ true → ⊥
+      nobody a is joined = let e = ap (λ (a : Account). a.is_joined) is in cc
+
+      some : (g : ℕ) → (account_at accounts g).is_joined ≡ true → 1 ≤ g
+      some zero joined = absurd (nobody no_account refl joined)
+      some (suc k) joined = omega arith
+
+      all : (g : ℕ) → (account_at accounts g).is_joined ≡ true → leaves_below accounts f v g ≡ true
+      all g joined = ⊎_elim
+          (λ (in' : g < length accounts + 1). each g (some g joined) in')
+          (λ (past : length accounts + 1 ≤ g). absurd (nobody (account_at accounts g) (account_at-past accounts g (omega arith)) joined))
+          (cases_lt g (length accounts + 1))
+
+  -- where one does not, it is not
+  pub bound_broken : AreKept accounts → (f v g : ℕ) → leaves_below accounts f v g ≡ false → BelowBound (central_with d accounts) f v → ⊥
+  bound_broken kept f v g broken bound = let e = (leaves_below_decided f v g (kept.apart g)).1 (bound.1 g) in absurd (let t : true ≡ false = sym e ∙ broken in cc)
+
+-- one number more is visited
+pub visited : (P : ℕ → Type 0) (n : ℕ) → ((g : ℕ) → 1 ≤ g → g < n → P g) → P n → (g : ℕ) → 1 ≤ g → g < n + 1 → P g
+visited P n before here g low high = ⊎_elim (λ (less : g < n). before g low less) (λ (past : n ≤ g). let same : n ≡ g = omega arith in subst P same here) (cases_lt g n)

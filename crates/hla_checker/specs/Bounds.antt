@@ -1,10 +1,10 @@
 -- The bounds of the central machine, as tests of accounts, each as 'is x at most it'
-use Rattle.std.specs.Prelude.{ℕ, ◌-◌, leb, ◌&&◌, ◌||◌, Bool, true, false, Option, Some, None, List}
+use Rattle.std.specs.Prelude.{ℕ, ◌-◌, eqb, leb, not, ◌&&◌, ◌||◌, Bool, true, false, Option, Some, None, List}
 use Rattle.std.specs.List.{list_all}
 use Rattle.std.specs.Option.{option_map_or}
 use Rattle.hla_base.specs.declared.row.AdvanceRequest.{AdvanceRequest}
 use Rattle.hla_base.specs.declared.row.TimeRow.{TimeRow}
-use Rattle.hla_base.specs.Rows.{next_request, width}
+use Rattle.hla_base.specs.Rows.{next_request, width, is_regulator}
 use Rattle.hla_callbacks.specs.declared.callback.Delivery.{Delivery}
 use Rattle.hla_callbacks.specs.declared.callback.Delivery.TheVariants.{Receive, Demoted, TimeStamp}
 use Rattle.hla_retraction.specs.SentRows.{sent_of}
@@ -47,3 +47,7 @@ is_below_request accounts f r (Some q) v = is_below_wake accounts f q r.first_pi
 -- what f may still send
 abbrev pub is_below_out : List Account → ℕ → ℕ → Bool
 is_below_out accounts f v = let r = (account_at accounts f).state in leb v r.floor || is_below_request accounts f r (next_request r) v
+
+-- another federate is not joined, or sends nothing, or nothing below v
+abbrev pub leaves_below : List Account → ℕ → ℕ → ℕ → Bool
+leaves_below accounts f v g = let a = account_at accounts g in not a.is_joined || eqb g f || not (is_regulator a.state) || is_below_out accounts g v

@@ -2,7 +2,10 @@
 #![tactic(auto)]
 
 mod account;
+mod accounts;
 mod bag;
+mod bounds;
 
 pub use account::{Account, Offer};
+pub use accounts::Accounts;
 pub use bag::{Bag, Waiting};
