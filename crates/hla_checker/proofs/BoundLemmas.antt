@@ -3,25 +3,26 @@ use Rattle.std.proofs.Common.{◌≡◌, ◌≢◌, ℕ, zero, suc, length, ◌+
 use Rattle.std.specs.Bool.{Decides}
 use Rattle.std.specs.List.{list_all, All}
 use Rattle.std.specs.Option.{option_map_or}
-use Rattle.std.proofs.lemmas.Bool.Decides.{nat_tests, Decides-by_and, Decides-like, Decides-and, Decides-or, Decides-eqb}
+use Rattle.std.proofs.lemmas.Bool.Decides.{nat_tests, Decides-by_and, Decides-like, Decides-and, Decides-or, Decides-eqb, Decides-below_and}
 use Rattle.std.proofs.lemmas.Bool.{cases_lt}
 use Rattle.hla_base.specs.Limits.{forever}
 use Rattle.hla_checker.proofs.AccountLemmas.{account_at-past}
 use Rattle.std.proofs.lemmas.List.Elements.{All-nil, All-cons, All-head, All-tail}
+use Rattle.hla_base.specs.declared.row.AdvanceKind.{AdvanceKind}
 use Rattle.hla_base.specs.declared.row.AdvanceRequest.{AdvanceRequest}
 use Rattle.hla_base.specs.declared.row.TimeRow.{TimeRow}
 use Rattle.hla_base.specs.declared.content.Content.{Content}
-use Rattle.hla_base.specs.Rows.{next_request, width, is_regulator}
+use Rattle.hla_base.specs.Rows.{next_request, width, is_regulator, reach}
 use Rattle.hla_callbacks.specs.declared.callback.Delivery.{Delivery}
 use Rattle.hla_callbacks.specs.declared.callback.Delivery.TheVariants.{Receive, Demoted, TimeStamp}
 use Rattle.hla_machine.specs.Directory.{Directory}
 use Rattle.hla_machine.specs.Central as machine
-use Rattle.hla_machine.specs.Central.{Copy, CopyOrder, Ro, Tso, BelowTso, BelowAllTso, BelowWake, BelowRequest, BelowOut, BelowBound}
+use Rattle.hla_machine.specs.Central.{Copy, CopyOrder, Ro, Tso, BelowTso, BelowAllTso, BelowWake, BelowRequest, BelowOut, BelowBound, Reached}
 use Rattle.hla_checker.specs.declared.account.Account.{Account}
 use Rattle.hla_checker.specs.declared.bag.Waiting.{Waiting}
 use Rattle.hla_checker.specs.Bags.{is_of, waiting_at, AreApart}
 use Rattle.hla_checker.specs.Accounts.{AreKept, no_account, account_at, copy_of, copy_given, copy_at, central_with}
-use Rattle.hla_checker.specs.Bounds.{is_retracted, ordered_stamp, is_at_most_waiting, is_below_all_tso, is_below_wake, is_below_request, is_below_out, leaves_below}
+use Rattle.hla_checker.specs.Bounds.{is_retracted, ordered_stamp, is_at_most_waiting, is_below_all_tso, is_below_wake, is_below_request, is_below_out, leaves_below, all_leave, is_below_bound, is_reached}
 use Rattle.hla_checker.proofs.BagLemmas.{waiting_at-nil, waiting_at-cons, key_of}
 
 -- ---- what holds of each copy
@@ -87,6 +88,27 @@ at_most_decided false x (Demoted stamp) content = (λ e live tso. absurd (not_ts
     not_tso e = cc
 at_most_decided false x (TimeStamp stamp) content = (λ e live tso. (Decides-leb x stamp).0 e, λ h. (Decides-leb x stamp).1 (h refl refl))
 
+module _ (accounts : List Account) where
+  -- ---- all numbers at once
+  pub all_leave_decided : (f v n : ℕ) → Decides (all_leave accounts f v n) ((g : ℕ) → g < n → leaves_below accounts f v g ≡ true)
+  unfolding all_leave
+  all_leave_decided f v n = Decides-below_and (leaves_below accounts f v) (λ g. leaves_below accounts f v g ≡ true) (all_leave accounts f v) (λ g. (λ e. e, λ e. e)) refl (λ _. refl) n
+
+  -- number 0 is nobody's
+  pub all_left : (f v n : ℕ) → ((g : ℕ) → 1 ≤ g → g < n → leaves_below accounts f v g ≡ true) → all_leave accounts f v n ≡ true
+  all_left f v n each = (all_leave_decided f v n).1 from
+    where
+      from : (g : ℕ) → g < n → leaves_below accounts f v g ≡ true
+      from zero less = refl
+      from (suc k) less = each (suc k) (omega arith) less
+
+  pub one_left : (f v n g : ℕ) → g < n → leaves_below accounts f v g ≡ false → all_leave accounts f v n ≡ false
+  one_left f v n g less broken = by (all_leave accounts f v n) (all_leave_decided f v n).0
+    where
+      by : (b : Bool) → (b ≡ true → (g : ℕ) → g < n → leaves_below accounts f v g ≡ true) → b ≡ false
+      by true h = absurd (let e : true ≡ false = sym (h refl g less) ∙ broken in cc)
+      by false h = refl
+
 module _ (d : Directory) (accounts : List Account) where
   -- the test is of the least stamp of f
   pub below_all_tso_decided : (f x : ℕ) → AreApart (account_at accounts f).bag → Decides (is_below_all_tso accounts f x) (BelowAllTso (central_with d accounts) f x)
@@ -151,6 +173,18 @@ module _ (d : Directory) (accounts : List Account) where
   -- where one does not, it is not
   pub bound_broken : AreKept accounts → (f v g : ℕ) → leaves_below accounts f v g ≡ false → BelowBound (central_with d accounts) f v → ⊥
   bound_broken kept f v g broken bound = let e = (leaves_below_decided f v g (kept.apart g)).1 (bound.1 g) in absurd (let t : true ≡ false = sym e ∙ broken in cc)
+
+  -- the test is of the bound
+  pub below_bound_decided : AreKept accounts → (f v : ℕ) → Decides (is_below_bound accounts f v) (BelowBound (central_with d accounts) f v)
+  below_bound_decided kept f v =
+      let n = length accounts + 1 in
+      Decides-like (is_below_bound accounts f v)
+      (λ h. bound_kept kept f v (λ g low high. h.0 g high) h.1)
+      (λ bound. (λ g less. (leaves_below_decided f v g (kept.apart g)).1 (bound.1 g), bound.0))
+      (Decides-and (all_leave accounts f v n) (leb v forever) (all_leave_decided accounts f v n) (Decides-leb v forever))
+
+  pub reached_decided : AreKept accounts → (f : ℕ) (kind : AdvanceKind) (t : ℕ) → Decides (is_reached accounts f kind t) (Reached (central_with d accounts) f kind t)
+  reached_decided kept f kind t = Decides-and (is_below_bound accounts f (reach kind t)) (is_below_all_tso accounts f (reach kind t)) (below_bound_decided kept f (reach kind t)) (below_all_tso_decided f (reach kind t) (kept.apart f))
 
 -- one number more is visited
 pub visited : (P : ℕ → Type 0) (n : ℕ) → ((g : ℕ) → 1 ≤ g → g < n → P g) → P n → (g : ℕ) → 1 ≤ g → g < n + 1 → P g

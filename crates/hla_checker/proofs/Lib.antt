@@ -4,3 +4,5 @@ pub mod BagLemmas
 pub mod AccountLemmas
 -- Tests of accounts decide the bounds of the central machine
 pub mod BoundLemmas
+-- Tests of accounts decide what a federate may be given at a tick
+pub mod TickLemmas

@@ -1,10 +1,12 @@
 -- The bounds of the central machine, as tests of accounts, each as 'is x at most it'
-use Rattle.std.specs.Prelude.{ℕ, ◌-◌, eqb, leb, not, ◌&&◌, ◌||◌, Bool, true, false, Option, Some, None, List}
+use Rattle.std.specs.Prelude.{ℕ, zero, suc, ◌+◌, ◌-◌, eqb, leb, not, length, ◌&&◌, ◌||◌, Bool, true, false, Option, Some, None, List}
 use Rattle.std.specs.List.{list_all}
 use Rattle.std.specs.Option.{option_map_or}
+use Rattle.hla_base.specs.Limits.{forever}
+use Rattle.hla_base.specs.declared.row.AdvanceKind.{AdvanceKind}
 use Rattle.hla_base.specs.declared.row.AdvanceRequest.{AdvanceRequest}
 use Rattle.hla_base.specs.declared.row.TimeRow.{TimeRow}
-use Rattle.hla_base.specs.Rows.{next_request, width, is_regulator}
+use Rattle.hla_base.specs.Rows.{next_request, width, is_regulator, reach}
 use Rattle.hla_callbacks.specs.declared.callback.Delivery.{Delivery}
 use Rattle.hla_callbacks.specs.declared.callback.Delivery.TheVariants.{Receive, Demoted, TimeStamp}
 use Rattle.hla_retraction.specs.SentRows.{sent_of}
@@ -51,3 +53,16 @@ is_below_out accounts f v = let r = (account_at accounts f).state in leb v r.flo
 -- another federate is not joined, or sends nothing, or nothing below v
 abbrev pub leaves_below : List Account → ℕ → ℕ → ℕ → Bool
 leaves_below accounts f v g = let a = account_at accounts g in not a.is_joined || eqb g f || not (is_regulator a.state) || is_below_out accounts g v
+
+-- so does each of the first n numbers
+unfoldable pub all_leave : List Account → ℕ → ℕ → ℕ → Bool
+all_leave accounts f v zero = true
+all_leave accounts f v (suc n) = leaves_below accounts f v n && all_leave accounts f v n
+
+-- the lower bound on time stamp (LBTS) of f
+abbrev pub is_below_bound : List Account → ℕ → ℕ → Bool
+is_below_bound accounts f v = all_leave accounts f v (length accounts + 1) && leb v forever
+
+-- nothing can come to f any more, and nothing waits for it, before the reach of t
+abbrev pub is_reached : List Account → ℕ → AdvanceKind → ℕ → Bool
+is_reached accounts f kind t = is_below_bound accounts f (reach kind t) && is_below_all_tso accounts f (reach kind t)

@@ -4,3 +4,5 @@ pub mod Bags
 pub mod Accounts
 -- The bounds of the central machine, as tests of accounts
 pub mod Bounds
+-- What a federate may be given at a tick, as tests of accounts
+pub mod Ticks

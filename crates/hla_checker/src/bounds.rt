@@ -1,14 +1,14 @@
 //! The bounds of the central machine, as tests of accounts (HLA 1.3, time management).
 
-ghost use Rattle.std.specs.Prelude.{◌≡◌, ◌↔◌, IsTrue};
-ghost use Rattle.hla_machine.specs.Central.{BelowAllTso, BelowBound};
-ghost use Rattle.hla_machine.specs.Directory.{Directory};
-ghost use Rattle.hla_checker.specs.Accounts.{account_at, central_with};
-ghost use Rattle.hla_checker.specs.Bounds.{is_at_most_waiting, is_below_all_tso, is_below_wake, is_below_request, is_below_out, ordered_stamp, leaves_below};
+ghost use Rattle.std.specs.Prelude.{◌≡◌, ◌≤◌};
+ghost use Rattle.hla_base.specs.Limits.{max_time};
+ghost use Rattle.hla_base.specs.Rows.{reach};
+ghost use Rattle.hla_checker.specs.Accounts.{account_at};
+ghost use Rattle.hla_checker.specs.Bounds.{is_at_most_waiting, is_below_all_tso, is_below_wake, is_below_request, is_below_out, ordered_stamp, leaves_below, is_below_bound, is_reached};
 
 use crate::accounts::Accounts;
 use crate::bag::Waiting;
-use hla_base::{AdvanceRequest, FOREVER, FederateNo, Ticks};
+use hla_base::{AdvanceKind, AdvanceRequest, FOREVER, FederateNo, Ticks};
 use hla_callbacks::Delivery;
 
 /// The stamp of what goes in time-stamp order, in ticks.
@@ -19,6 +19,14 @@ pub fn ordered_stamp(delivery: Delivery) -> Option<Ticks>
         Delivery::TimeStamp { stamp } => Some(stamp),
         Delivery::Receive | Delivery::Demoted { .. } => None,
     }
+}
+
+/// A time, in ticks, or for a strict request the next one after it.
+pub fn reach(kind: AdvanceKind, time: Ticks) -> Ticks
+    requires { time ≤ max_time }
+    ensures { result ≡ reach kind time }
+{
+    if kind.is_strict() { time + 1 } else { time }
 }
 
 impl Accounts {
@@ -93,7 +101,7 @@ impl Accounts {
     /// Whether a time, in ticks, is at most the lower bound on time stamp of a federate: `FOREVER`, and what each other
     /// joined federate that regulates or has asked to may still send.
     pub fn is_below_bound(&self, federate: FederateNo, time: Ticks) -> bool
-        ensures { (d : Directory) → IsTrue result ↔ BelowBound (central_with d self.now) federate time }
+        ensures { result ≡ is_below_bound self.now federate time }
     {
         for other in 1..self.next_federate() {
             if !self.leaves_below(federate, other, time) {
@@ -101,6 +109,16 @@ impl Accounts {
             }
         }
         time <= FOREVER
+    }
+
+    /// Whether nothing can come to a federate any more, and nothing waits for it, before a time, in ticks, or for a strict
+    /// request at it.
+    pub fn is_reached(&self, federate: FederateNo, kind: AdvanceKind, time: Ticks) -> bool
+        requires { time ≤ max_time }
+        ensures { result ≡ is_reached self.now federate kind time }
+    {
+        let reach = reach(kind, time);
+        self.is_below_bound(federate, reach) && self.is_below_all_tso(federate, reach)
     }
 
     /// Whether another federate is not joined, or sends nothing, or nothing below a time, in ticks.

@@ -1,0 +1,154 @@
+-- Tests of accounts decide what a federate may be given at a tick
+use Rattle.std.proofs.Common.{◌≡◌, ◌≢◌, ◌⊎◌, ℕ, ◌<◌, ◌≤◌, eqb, leb, ltb, ◌&&◌, ◌||◌, not, Bool, true, false, List, Option, Some, None, IfSome, refl, sym, ◌∙◌, subst, inl, inr, ⊎_elim}
+use mathlib.Core.Bool.{false≢true, true≢false}
+use Rattle.std.specs.Bool.{Decides}
+use Rattle.std.specs.List.{list_all}
+use Rattle.std.specs.Option.{option_map_or}
+use Rattle.std.proofs.lemmas.Bool.Decides.{Decides-like, Decides-and, Decides-or, Decides-eqb, Decides-ltb}
+use Rattle.hla_base.specs.declared.number.EventHandle.{EventHandle}
+use Rattle.hla_base.specs.declared.content.Content.{Content}
+use Rattle.hla_base.specs.declared.row.AdvanceRequest.{AdvanceRequest}
+use Rattle.hla_base.specs.declared.row.TimeRow.{TimeRow}
+use Rattle.hla_base.specs.Rows.{is_strict, is_next, is_flush, is_constrained, is_advancing, grant_time, reach}
+use Rattle.hla_callbacks.specs.declared.callback.Delivery.{Delivery}
+use Rattle.hla_callbacks.specs.declared.callback.Delivery.TheVariants.{Receive, Demoted, TimeStamp}
+use Rattle.hla_machine.specs.Directory.{Directory}
+use Rattle.hla_machine.specs.Central as machine
+use Rattle.hla_machine.specs.Central.{Copy, Ro, Tso, KeyLe, BelowBound, BelowAllTso}
+use Rattle.hla_machine.specs.Callbacks.{MayReceive, IsFirstRo, IsAtFirstPick, IsLeastKey, MayPick, MayPickIn, WhileAdvancing, MayGrantFlush, MayGrantAs, MayGrant}
+use Rattle.hla_checker.specs.declared.account.Account.{Account}
+use Rattle.hla_checker.specs.Accounts.{account_at, copy_given, copy_at, central_with, AreKept}
+use Rattle.hla_checker.specs.Bounds.{is_retracted, ordered_stamp, is_below_all_tso, is_below_bound, is_reached}
+use Rattle.hla_checker.specs.Ticks.{is_flush_granted, is_granted_as, may_grant, may_receive, is_sent_in_receive_order, is_not_earlier, is_first_ro, is_at_first_pick, is_key_le, is_not_before, is_least_key, may_pick, may_pick_as, may_pick_now}
+use Rattle.hla_checker.proofs.BoundLemmas.{each_decided, Decides-leb, below_all_tso_decided, below_bound_decided, reached_decided}
+
+-- ---- tests of optional values
+pub if_some_decided : {X : Type 0} (test : X → Bool) (P : X → Type 0) → ((x : X) → Decides (test x) (P x)) → (o : Option X) → Decides (option_map_or test o true) (IfSome o P)
+if_some_decided test P each None = (λ e. tt, λ h. refl)
+if_some_decided test P each (Some x) = each x
+
+pub if_true_decided : (b t : Bool) (P : Type 0) → Decides t P → Decides (not b || t) (b ≡ true → P)
+if_true_decided true t P h = (λ e b. h.0 e, λ f. h.1 (f refl))
+if_true_decided false t P h = (λ e b. absurd (false≢true b), λ f. refl)
+
+pub while_decided : (r : TimeRow) (P : AdvanceRequest → Type 0) (test : AdvanceRequest → Bool) → ((q : AdvanceRequest) → Decides (test q) (P q)) → Decides (option_map_or test r.advance false) (WhileAdvancing r P)
+while_decided r P test each = by r.advance refl
+  where
+    by : (o : Option AdvanceRequest) → r.advance ≡ o → Decides (option_map_or test o false) (WhileAdvancing r P)
+    by None is = (λ e. absurd (false≢true e), λ w. absurd (let e : None ≡ Some w.0 = sym is ∙ w.1 in cc))
+    by (Some q) is = (λ e. (q, is, (each q).0 e), λ w. (each q).1 (let same : w.0 ≡ q = (let e : Some w.0 ≡ Some q = sym w.1 ∙ is in cc) in subst P same w.2))
+
+-- ---- messages in receive order
+pub may_receive_decided : (r : TimeRow) → Decides (may_receive r) (MayReceive r)
+may_receive_decided r = by (is_constrained r) (is_advancing r) r.asynchronous
+  where
+    by : (c a s : Bool) → Decides (not c || a || s) ((c ≡ false) ⊎ ((a ≡ true) ⊎ (s ≡ true)))
+    by false a s = (λ e. inl refl, λ h. refl)
+    by true true s = (λ e. inr (inl refl), λ h. refl)
+    by true false true = (λ e. inr (inr refl), λ h. refl)
+    by true false false = (λ e. absurd (false≢true e), ⊎_elim (λ e. absurd (true≢false e)) (⊎_elim (λ e. e) (λ e. e)))
+
+not_earlier_decided : (g m h n : ℕ) (dl : Delivery) (x : Content) → Decides (not (is_sent_in_receive_order dl && eqb h g && ltb n m)) (h ≡ g → n < m → (copy_given dl x).order ≢ Ro)
+not_earlier_decided g m h n (Demoted stamp) x = (λ e same less ro. absurd (apart ro), λ f. refl)
+  where
+    apart : machine.Demoted ≡ Ro → ⊥
+    apart e = cc
+not_earlier_decided g m h n (TimeStamp stamp) x = (λ e same less ro. absurd (apart ro), λ f. refl)
+  where
+    apart : Tso ≡ Ro → ⊥
+    apart e = cc
+not_earlier_decided g m h n Receive x = by (eqb h g && ltb n m) (Decides-and (eqb h g) (ltb n m) (Decides-eqb h g) (Decides-ltb n m))
+  where
+    by : (b : Bool) → Decides b ((h ≡ g) × (n < m)) → Decides (not b) (h ≡ g → n < m → Ro ≢ Ro)
+    by true k = (λ e same less. absurd (false≢true e), λ f. absurd (let p = k.0 refl in f p.0 p.1 refl))
+    by false k = (λ e same less. absurd (false≢true (k.1 (same, less))), λ f. refl)
+
+-- ---- keys
+key_le_decided : (g m h n : ℕ) → Decides (is_key_le g m h n) (KeyLe g m h n)
+key_le_decided g m h n = Decides-or (ltb g h) (eqb g h && leb m n) (Decides-ltb g h) (Decides-and (eqb g h) (leb m n) (Decides-eqb g h) (Decides-leb m n))
+
+not_before_decided : (retracted : Bool) (g m s h n : ℕ) (dl : Delivery) (x : Content) →
+    Decides (retracted || option_map_or (λ y. not (eqb y s)) (ordered_stamp dl) true || is_key_le g m h n) (retracted ≡ false → (copy_given dl x).order ≡ Tso → (copy_given dl x).stamp ≡ s → KeyLe g m h n)
+not_before_decided true g m s h n dl x = (λ e live. absurd (true≢false live), λ f. refl)
+not_before_decided false g m s h n Receive x = (λ e live tso. absurd (apart tso), λ f. refl)
+  where
+    apart : Ro ≡ Tso → ⊥
+    apart e = cc
+not_before_decided false g m s h n (Demoted stamp) x = (λ e live tso. absurd (apart tso), λ f. refl)
+  where
+    apart : machine.Demoted ≡ Tso → ⊥
+    apart e = cc
+not_before_decided false g m s h n (TimeStamp stamp) x = by (eqb stamp s) (is_key_le g m h n) (Decides-eqb stamp s) (key_le_decided g m h n)
+  where
+    by : (a b : Bool) → Decides a (stamp ≡ s) → Decides b (KeyLe g m h n) → Decides (not a || b) (false ≡ false → Tso ≡ Tso → stamp ≡ s → KeyLe g m h n)
+    by true b at key = (λ e live tso same. key.0 e, λ f. key.1 (f refl refl (at.0 refl)))
+    by false b at key = (λ e live tso same. absurd (false≢true (at.1 same)), λ f. refl)
+
+module _ (d : Directory) (accounts : List Account) (kept : AreKept accounts) where
+  -- ---- grants
+  flush_granted_decided : (f : ℕ) (q : AdvanceRequest) (t : ℕ) → Decides (is_flush_granted accounts f q t) (MayGrantFlush (central_with d accounts) f q t)
+  flush_granted_decided f q t =
+      let r = (account_at accounts f).state in
+      Decides-like (is_flush_granted accounts f q t) (λ p. (p.0.0.0.0, p.0.0.0.1, p.0.0.1, p.0.1, p.1)) (λ p. ((((p.0, p.1), p.2), p.3), p.4))
+      (Decides-and _ (is_below_all_tso accounts f t)
+      (Decides-and _ (is_below_bound accounts f t)
+      (Decides-and _ (option_map_or (leb t) r.flushed true)
+      (Decides-and (leb r.time t) (leb t q.asked) (Decides-leb r.time t) (Decides-leb t q.asked))
+      (if_some_decided (leb t) (λ s. t ≤ s) (Decides-leb t) r.flushed))
+      (below_bound_decided d accounts kept f t))
+      (below_all_tso_decided d accounts f t (kept.apart f)))
+
+  granted_as_decided : (con flush : Bool) (f : ℕ) (q : AdvanceRequest) (t : ℕ) → Decides (is_granted_as con flush accounts f q t) (MayGrantAs con flush (central_with d accounts) f q t)
+  granted_as_decided false flush f q t = Decides-eqb t q.asked
+  granted_as_decided true true f q t = flush_granted_decided f q t
+  granted_as_decided true false f q t = Decides-and (eqb t (grant_time (account_at accounts f).state q)) (is_reached accounts f q.kind t) (Decides-eqb t (grant_time (account_at accounts f).state q)) (reached_decided d accounts kept f q.kind t)
+
+  -- the test is of the grant
+  pub may_grant_decided : (f t : ℕ) → Decides (may_grant accounts f t) (WhileAdvancing ((central_with d accounts).row f) (MayGrant (central_with d accounts) f t))
+  may_grant_decided f t =
+      let r = (account_at accounts f).state in
+      while_decided r (MayGrant (central_with d accounts) f t) (λ q. is_granted_as (is_constrained r) (is_flush q.kind) accounts f q t) (λ q. granted_as_decided (is_constrained r) (is_flush q.kind) f q t)
+
+  -- ---- messages
+  pub first_ro_decided : (f : ℕ) (e : EventHandle) → Decides (is_first_ro accounts f e.sender e.serial) (IsFirstRo (central_with d accounts) f e)
+  first_ro_decided f e = Decides-like (is_first_ro accounts f e.sender e.serial)
+      (λ each n k less is. each e.sender n k is refl less)
+      (λ first h n k is same less. first n k less (subst (λ g. copy_at (account_at accounts f).bag g n ≡ Some k) same is))
+      (each_decided (λ h n k. h ≡ e.sender → n < e.serial → k.order ≢ Ro) (is_not_earlier e.sender e.serial) (λ w. not_earlier_decided e.sender e.serial w.event.sender w.event.serial w.delivery w.content) (account_at accounts f).bag (kept.apart f))
+
+  at_first_pick_decided : (r : TimeRow) (q : AdvanceRequest) (s : ℕ) → Decides (is_at_first_pick r q s) (IsAtFirstPick r q s)
+  at_first_pick_decided r q s = if_true_decided (is_next q.kind) (option_map_or (eqb s) r.first_pick true) _ (if_some_decided (eqb s) (λ p. s ≡ p) (Decides-eqb s) r.first_pick)
+
+  least_key_decided : (f : ℕ) (q : AdvanceRequest) (e : EventHandle) (s : ℕ) → Decides (is_least_key accounts f q e.sender e.serial s) (IsLeastKey (central_with d accounts) f q e s)
+  least_key_decided f q e s = if_true_decided (is_strict q.kind) (list_all (is_not_before accounts e.sender e.serial s) (account_at accounts f).bag) _
+      (each_decided (λ h n k. is_retracted accounts h n ≡ false → k.order ≡ Tso → k.stamp ≡ s → KeyLe e.sender e.serial h n) (is_not_before accounts e.sender e.serial s)
+      (λ w. not_before_decided (is_retracted accounts w.event.sender w.event.serial) e.sender e.serial s w.event.sender w.event.serial w.delivery w.content) (account_at accounts f).bag (kept.apart f))
+
+  not_retracted_decided : (b : Bool) → Decides (not b) (b ≡ false)
+  not_retracted_decided true = (λ e. absurd (false≢true e), λ e. absurd (true≢false e))
+  not_retracted_decided false = (λ e. refl, λ e. refl)
+
+  may_pick_decided : (f : ℕ) (q : AdvanceRequest) (e : EventHandle) (s : ℕ) → Decides (may_pick accounts f q e.sender e.serial s) (MayPick (central_with d accounts) f q e s)
+  may_pick_decided f q e s =
+      let r = (account_at accounts f).state in
+      Decides-like (may_pick accounts f q e.sender e.serial s)
+      (λ p. record { unretracted = p.0.0.0.0.0; asked = p.0.0.0.0.1; bound = p.0.0.0.1; first = p.0.0.1; at_first_pick = p.0.1; least_key = p.1 })
+      (λ p. (((((p.unretracted, p.asked), p.bound), p.first), p.at_first_pick), p.least_key))
+      (Decides-and _ (is_least_key accounts f q e.sender e.serial s)
+      (Decides-and _ (is_at_first_pick r q s)
+      (Decides-and _ (is_below_all_tso accounts f s)
+      (Decides-and _ (is_below_bound accounts f (reach q.kind s))
+      (Decides-and (not (is_retracted accounts e.sender e.serial)) (leb s q.asked) (not_retracted_decided (is_retracted accounts e.sender e.serial)) (Decides-leb s q.asked))
+      (below_bound_decided d accounts kept f (reach q.kind s)))
+      (below_all_tso_decided d accounts f s (kept.apart f)))
+      (at_first_pick_decided r q s))
+      (least_key_decided f q e s))
+
+  may_pick_as_decided : (flush : Bool) (f : ℕ) (q : AdvanceRequest) (e : EventHandle) (s : ℕ) →
+      Decides (may_pick_as flush accounts f q e.sender e.serial s) ((flush ≡ true → (account_at accounts f).state.time ≤ s) × (flush ≡ false → MayPick (central_with d accounts) f q e s))
+  may_pick_as_decided true f q e s = (λ t. (λ _. (Decides-leb (account_at accounts f).state.time s).0 t, λ b. absurd (true≢false b)), λ p. (Decides-leb (account_at accounts f).state.time s).1 (p.0 refl))
+  may_pick_as_decided false f q e s = (λ t. (λ b. absurd (false≢true b), λ _. (may_pick_decided f q e s).0 t), λ p. (may_pick_decided f q e s).1 (p.1 refl))
+
+  -- the test is of a pick in time-stamp order
+  pub may_pick_now_decided : (f : ℕ) (e : EventHandle) (s : ℕ) → Decides (may_pick_now accounts f e.sender e.serial s) (WhileAdvancing ((central_with d accounts).row f) (λ q. MayPickIn (central_with d accounts) f q e s))
+  may_pick_now_decided f e s = while_decided (account_at accounts f).state (λ q. MayPickIn (central_with d accounts) f q e s) (λ q. may_pick_as (is_flush q.kind) accounts f q e.sender e.serial s) (λ q. may_pick_as_decided (is_flush q.kind) f q e s)
