@@ -1,25 +1,33 @@
 -- Tests of accounts decide what a federate may be given at a tick
-use Rattle.std.proofs.Common.{◌≡◌, ◌≢◌, ◌⊎◌, ℕ, ◌<◌, ◌≤◌, eqb, leb, ltb, ◌&&◌, ◌||◌, not, Bool, true, false, List, Option, Some, None, IfSome, refl, sym, ◌∙◌, subst, inl, inr, ⊎_elim}
+use Rattle.std.proofs.Common.{◌≡◌, ◌≢◌, ◌⊎◌, ℕ, ◌<◌, ◌≤◌, eqb, leb, ltb, ◌&&◌, ◌||◌, not, Bool, true, false, List, [], ◌∷◌, Option, Some, None, option_map, IfSome, refl, sym, ◌∙◌, subst, inl, inr, ⊎_elim, arith}
 use mathlib.Core.Bool.{false≢true, true≢false}
 use Rattle.std.specs.Bool.{Decides}
-use Rattle.std.specs.List.{list_all}
+use Rattle.std.specs.List.{list_all, All, cons_option}
+use Rattle.std.proofs.lemmas.List.Elements.{All-nil, All-cons, All-head, All-tail}
 use Rattle.std.specs.Option.{option_map_or}
-use Rattle.std.proofs.lemmas.Bool.Decides.{Decides-like, Decides-and, Decides-or, Decides-eqb, Decides-ltb}
+use Rattle.std.proofs.lemmas.Bool.Decides.{nat_tests, Decides-like, Decides-and, Decides-or, Decides-not, Decides-by_and, Decides-eqb, Decides-ltb}
 use Rattle.hla_base.specs.declared.number.EventHandle.{EventHandle}
 use Rattle.hla_base.specs.declared.content.Content.{Content}
+use Rattle.hla_base.specs.declared.content.Content.TheVariants as content
+use Rattle.hla_base.specs.declared.content.Discovery.{Discovery}
+use Rattle.hla_base.specs.Tables.{when}
 use Rattle.hla_base.specs.declared.row.AdvanceRequest.{AdvanceRequest}
 use Rattle.hla_base.specs.declared.row.TimeRow.{TimeRow}
-use Rattle.hla_base.specs.Rows.{is_strict, is_next, is_flush, is_constrained, is_advancing, grant_time, reach}
+use Rattle.hla_base.specs.Rows.{is_strict, is_next, is_flush, is_constrained, is_advancing, is_pending, grant_time, reach}
 use Rattle.hla_callbacks.specs.declared.callback.Delivery.{Delivery}
 use Rattle.hla_callbacks.specs.declared.callback.Delivery.TheVariants.{Receive, Demoted, TimeStamp}
 use Rattle.hla_machine.specs.Directory.{Directory}
 use Rattle.hla_machine.specs.Central as machine
 use Rattle.hla_machine.specs.Central.{Copy, Ro, Tso, KeyLe, BelowBound, BelowAllTso}
-use Rattle.hla_machine.specs.Callbacks.{MayReceive, IsFirstRo, IsAtFirstPick, IsLeastKey, MayPick, MayPickIn, WhileAdvancing, MayGrantFlush, MayGrantAs, MayGrant}
+use Rattle.hla_machine.specs.declared.step.Choice.TheVariants as choice
+use Rattle.hla_machine.specs.Callbacks.{IsDiscovered, IsCopy, MayDeliver, MayConstrain, AreBelow, is_among, MayReceive, IsFirstRo, IsAtFirstPick, IsLeastKey, MayPick, MayPickIn, WhileAdvancing, MayGrantFlush, MayGrantAs, MayGrant}
 use Rattle.hla_checker.specs.declared.account.Account.{Account}
-use Rattle.hla_checker.specs.Accounts.{account_at, copy_given, copy_at, central_with, AreKept}
+use Rattle.hla_checker.specs.declared.account.Offer.{Offer}
+use Rattle.hla_checker.specs.declared.bag.Waiting.{Waiting}
+use Rattle.hla_checker.specs.Bags.{waiting_at, is_listed}
+use Rattle.hla_checker.specs.Accounts.{account_at, offers_from, copy_of, copy_given, copy_at, central_with, AreKept}
 use Rattle.hla_checker.specs.Bounds.{is_retracted, ordered_stamp, is_below_all_tso, is_below_bound, is_reached}
-use Rattle.hla_checker.specs.Ticks.{is_flush_granted, is_granted_as, may_grant, may_receive, is_sent_in_receive_order, is_not_earlier, is_first_ro, is_at_first_pick, is_key_le, is_not_before, is_least_key, may_pick, may_pick_as, may_pick_now}
+use Rattle.hla_checker.specs.Ticks.{is_flush_granted, is_granted_as, may_grant, may_receive, is_sent_in_receive_order, is_not_earlier, is_first_ro, is_at_first_pick, is_key_le, is_not_before, is_least_key, may_pick, may_pick_as, may_pick_now, has_no_offer, is_discovered, may_deliver, is_moved_below, is_among_if_below, are_below, may_constrain}
 use Rattle.hla_checker.proofs.BoundLemmas.{each_decided, Decides-leb, below_all_tso_decided, below_bound_decided, reached_decided}
 
 -- ---- tests of optional values
@@ -83,6 +91,72 @@ not_before_decided false g m s h n (TimeStamp stamp) x = by (eqb stamp s) (is_ke
     by : (a b : Bool) → Decides a (stamp ≡ s) → Decides b (KeyLe g m h n) → Decides (not a || b) (false ≡ false → Tso ≡ Tso → stamp ≡ s → KeyLe g m h n)
     by true b at key = (λ e live tso same. key.0 e, λ f. key.1 (f refl refl (at.0 refl)))
     by false b at key = (λ e live tso same. absurd (false≢true (at.1 same)), λ f. refl)
+
+-- ---- discoveries
+offers_to : (object : ℕ) (offers : List Offer) → All (λ (o : Offer). o.discovery.object ≢ object) offers → (g : ℕ) → All (λ (x : Discovery). x.object ≢ object) (offers_from g offers)
+offers_to object [] all g = All-nil _
+offers_to object (o ∷ os) all g = by (eqb o.from g) (offers_to object os (All-tail (λ (o : Offer). o.discovery.object ≢ object) o os all) g)
+  where
+    by : (b : Bool) → All (λ (x : Discovery). x.object ≢ object) (offers_from g os) → All (λ (x : Discovery). x.object ≢ object) (cons_option (when b (Some o.discovery)) (offers_from g os))
+    by true rest = All-cons (λ (x : Discovery). x.object ≢ object) o.discovery (offers_from g os) (All-head (λ (o : Offer). o.discovery.object ≢ object) o os all) rest
+    by false rest = rest
+
+offers_back : (object : ℕ) (offers : List Offer) → ((g : ℕ) → All (λ (x : Discovery). x.object ≢ object) (offers_from g offers)) → All (λ (o : Offer). o.discovery.object ≢ object) offers
+offers_back object [] all = All-nil _
+offers_back object (o ∷ os) all = All-cons (λ (o : Offer). o.discovery.object ≢ object) o os head (offers_back object os (λ g. by g (eqb o.from g) (all g)))
+  where
+    by : (g : ℕ) (b : Bool) → All (λ (x : Discovery). x.object ≢ object) (cons_option (when b (Some o.discovery)) (offers_from g os)) → All (λ (x : Discovery). x.object ≢ object) (offers_from g os)
+    by g true h = All-tail (λ (x : Discovery). x.object ≢ object) o.discovery (offers_from g os) h
+    by g false h = h
+
+    head : o.discovery.object ≢ object
+    head =
+        let own : eqb o.from o.from ≡ true = grind (arith, nat_tests) in
+        let mine : All (λ (x : Discovery). x.object ≢ object) (cons_option (when true (Some o.discovery)) (offers_from o.from os)) = subst (λ b. All (λ (x : Discovery). x.object ≢ object) (cons_option (when b (Some o.discovery)) (offers_from o.from os))) own (all o.from) in
+        All-head (λ (x : Discovery). x.object ≢ object) o.discovery (offers_from o.from os) mine
+
+no_offer_decided : (object : ℕ) (offers : List Offer) → Decides (has_no_offer offers object) ((g : ℕ) → All (λ (x : Discovery). x.object ≢ object) (offers_from g offers))
+no_offer_decided object offers = Decides-like (has_no_offer offers object) (offers_to object offers) (offers_back object offers)
+    (Decides-by_and (λ (o : Offer). not (eqb o.discovery.object object)) (λ (o : Offer). o.discovery.object ≢ object) (list_all (λ (o : Offer). not (eqb o.discovery.object object))) (λ o. Decides-not (eqb o.discovery.object object) (Decides-eqb o.discovery.object object)) refl (λ _ _. refl) offers)
+
+pub discovered_decided : (d : Directory) (accounts : List Account) (f : ℕ) (x : Content) → Decides (is_discovered accounts f x) (IsDiscovered (central_with d accounts) f x)
+discovered_decided d accounts f (content.Interaction class values) = (λ e. tt, λ h. refl)
+discovered_decided d accounts f (content.Reflection object values) = no_offer_decided object (account_at accounts f).offers
+discovered_decided d accounts f (content.Removal object) = no_offer_decided object (account_at accounts f).offers
+
+-- ---- events that move to receive order
+-- a message that is there is a copy in time-stamp order, and its stamp is below the time
+moved_below_decided : (t : ℕ) (o : Option Waiting) → Decides (is_moved_below t o) ((k : Copy) × (option_map copy_of o ≡ Some k) × (k.order ≡ Tso) × (k.stamp < t))
+moved_below_decided t None = (λ e. absurd (false≢true e), λ h. absurd (let e = h.1 in cc))
+moved_below_decided t (Some w) = by w.delivery w.content
+  where
+    by : (dl : Delivery) (x : Content) → Decides (option_map_or (λ s. ltb s t) (ordered_stamp dl) false) ((k : Copy) × (Some (copy_given dl x) ≡ Some k) × (k.order ≡ Tso) × (k.stamp < t))
+    by Receive x = (λ e. absurd (false≢true e), λ h. absurd (apart (let e = h.1 in cc)))
+      where
+        apart : Ro ≡ Tso → ⊥
+        apart e = cc
+    by (Demoted stamp) x = (λ e. absurd (false≢true e), λ h. absurd (apart (let e = h.1 in cc)))
+      where
+        apart : machine.Demoted ≡ Tso → ⊥
+        apart e = cc
+    by (TimeStamp stamp) x = (λ e. (copy_given (TimeStamp stamp) x, refl, refl, (Decides-ltb stamp t).0 e), λ h. (Decides-ltb stamp t).1 (let same : copy_given (TimeStamp stamp) x ≡ h.0 = (let e = h.1 in cc) in subst (λ (k : Copy). k.stamp < t) (sym same) h.3))
+
+among_decided : (retracted : Bool) (t : ℕ) (listed : Bool) (dl : Delivery) (x : Content) →
+    Decides (retracted || option_map_or (λ s. not (ltb s t)) (ordered_stamp dl) true || listed) (retracted ≡ false → (copy_given dl x).order ≡ Tso → (copy_given dl x).stamp < t → listed ≡ true)
+among_decided true t listed dl x = (λ e live. absurd (true≢false live), λ f. refl)
+among_decided false t listed Receive x = (λ e live tso. absurd (apart tso), λ f. refl)
+  where
+    apart : Ro ≡ Tso → ⊥
+    apart e = cc
+among_decided false t listed (Demoted stamp) x = (λ e live tso. absurd (apart tso), λ f. refl)
+  where
+    apart : machine.Demoted ≡ Tso → ⊥
+    apart e = cc
+among_decided false t listed (TimeStamp stamp) x = by (ltb stamp t) listed (Decides-ltb stamp t)
+  where
+    by : (a b : Bool) → Decides a (stamp < t) → Decides (not a || b) (false ≡ false → Tso ≡ Tso → stamp < t → b ≡ true)
+    by true b at = (λ e live tso less. e, λ f. f refl refl (at.0 refl))
+    by false b at = (λ e live tso less. absurd (false≢true (at.1 less)), λ f. refl)
 
 module _ (d : Directory) (accounts : List Account) (kept : AreKept accounts) where
   -- ---- grants
@@ -152,3 +226,43 @@ module _ (d : Directory) (accounts : List Account) (kept : AreKept accounts) whe
   -- the test is of a pick in time-stamp order
   pub may_pick_now_decided : (f : ℕ) (e : EventHandle) (s : ℕ) → Decides (may_pick_now accounts f e.sender e.serial s) (WhileAdvancing ((central_with d accounts).row f) (λ q. MayPickIn (central_with d accounts) f q e s))
   may_pick_now_decided f e s = while_decided (account_at accounts f).state (λ q. MayPickIn (central_with d accounts) f q e s) (λ q. may_pick_as (is_flush q.kind) accounts f q e.sender e.serial s) (λ q. may_pick_as_decided (is_flush q.kind) f q e s)
+
+  -- the test is of a message that waits or does not
+  pub may_deliver_decided : (f : ℕ) (e : EventHandle) (x : Content) (dl : Delivery) (waits : Bool) → Decides waits (IsCopy (central_with d accounts) f e (copy_given dl x)) →
+      Decides (may_deliver accounts f e.sender e.serial x dl waits) (MayDeliver (central_with d accounts) f x e dl)
+  may_deliver_decided f e x Receive waits h =
+      let r = (account_at accounts f).state in
+      Decides-like (may_deliver accounts f e.sender e.serial x Receive waits) (λ p. (p.0.0.0, p.0.0.1, p.0.1, p.1)) (λ p. (((p.0, p.1), p.2), p.3))
+      (Decides-and _ (is_first_ro accounts f e.sender e.serial)
+      (Decides-and _ waits (Decides-and (may_receive r) (is_discovered accounts f x) (may_receive_decided r) (discovered_decided d accounts f x)) h)
+      (first_ro_decided f e))
+  may_deliver_decided f e x (Demoted stamp) waits h =
+      let r = (account_at accounts f).state in
+      Decides-like (may_deliver accounts f e.sender e.serial x (Demoted stamp) waits) (λ p. (p.0.0, p.0.1, p.1)) (λ p. ((p.0, p.1), p.2))
+      (Decides-and _ waits (Decides-and (may_receive r) (is_discovered accounts f x) (may_receive_decided r) (discovered_decided d accounts f x)) h)
+  may_deliver_decided f e x (TimeStamp stamp) waits h =
+      let r = (account_at accounts f).state in
+      Decides-like (may_deliver accounts f e.sender e.serial x (TimeStamp stamp) waits) (λ p. (p.0.0.0, p.0.0.1, p.0.1, p.1)) (λ p. (((p.0, p.1), p.2), p.3))
+      (Decides-and _ (may_pick_now accounts f e.sender e.serial stamp)
+      (Decides-and _ waits (Decides-and (is_constrained r) (is_discovered accounts f x) (λ t. t, λ t. t) (discovered_decided d accounts f x)) h)
+      (may_pick_now_decided f e stamp))
+
+  -- ---- becoming constrained
+  pub may_constrain_decided : (f t : ℕ) (events : List EventHandle) → Decides (may_constrain accounts f t events) (MayConstrain (central_with d accounts) f t (choice.Moved events))
+  may_constrain_decided f t events =
+      let r = (account_at accounts f).state in
+      Decides-like (may_constrain accounts f t events) (λ p. (p.0.0.0.0, p.0.0.0.1, p.0.0.1, p.0.1, p.1)) (λ p. ((((p.0, p.1), p.2), p.3), p.4))
+      (Decides-and _ (are_below accounts f t events)
+      (Decides-and _ (is_below_bound accounts f t)
+      (Decides-and _ (not (is_pending r.regulating))
+      (Decides-and (eqb t r.time) (is_pending r.constrained) (Decides-eqb t r.time) (λ e. e, λ e. e))
+      (not_retracted_decided (is_pending r.regulating)))
+      (below_bound_decided d accounts kept f t))
+      (are_below_decided f t events))
+    where
+      are_below_decided : (f t : ℕ) (events : List EventHandle) → Decides (are_below accounts f t events) (AreBelow (central_with d accounts) f t events)
+      are_below_decided f t events = Decides-and (list_all (λ (e : EventHandle). is_moved_below t (waiting_at (account_at accounts f).bag e.sender e.serial)) events) (list_all (is_among_if_below accounts t events) (account_at accounts f).bag)
+          (Decides-by_and (λ (e : EventHandle). is_moved_below t (waiting_at (account_at accounts f).bag e.sender e.serial)) _ (list_all (λ (e : EventHandle). is_moved_below t (waiting_at (account_at accounts f).bag e.sender e.serial)))
+          (λ e. moved_below_decided t (waiting_at (account_at accounts f).bag e.sender e.serial)) refl (λ _ _. refl) events)
+          (each_decided (λ g m k. is_retracted accounts g m ≡ false → k.order ≡ Tso → k.stamp < t → is_among events g m ≡ true) (is_among_if_below accounts t events)
+          (λ w. among_decided (is_retracted accounts w.event.sender w.event.serial) t (is_listed events w.event.sender w.event.serial) w.delivery w.content) (account_at accounts f).bag (kept.apart f))

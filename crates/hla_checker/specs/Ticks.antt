@@ -1,14 +1,19 @@
 -- What a federate may be given at a tick, as tests of accounts (HLA 1.3, time management)
-use Rattle.std.specs.Prelude.{ℕ, eqb, leb, ltb, not, ◌&&◌, ◌||◌, Bool, true, false, List}
+use Rattle.std.specs.Prelude.{ℕ, eqb, leb, ltb, not, ◌&&◌, ◌||◌, Bool, true, false, Option, List}
 use Rattle.std.specs.List.{list_all}
 use Rattle.std.specs.Option.{option_map_or}
 use Rattle.hla_base.specs.declared.row.AdvanceRequest.{AdvanceRequest}
 use Rattle.hla_base.specs.declared.row.TimeRow.{TimeRow}
-use Rattle.hla_base.specs.Rows.{is_strict, is_next, is_flush, is_constrained, is_advancing, grant_time, reach}
+use Rattle.hla_base.specs.Rows.{is_strict, is_next, is_flush, is_constrained, is_advancing, is_pending, grant_time, reach}
+use Rattle.hla_base.specs.declared.number.EventHandle.{EventHandle}
+use Rattle.hla_base.specs.declared.content.Content.{Content}
+use Rattle.hla_base.specs.declared.content.Content.TheVariants as content
 use Rattle.hla_callbacks.specs.declared.callback.Delivery.{Delivery}
 use Rattle.hla_callbacks.specs.declared.callback.Delivery.TheVariants.{Receive, Demoted, TimeStamp}
 use Rattle.hla_checker.specs.declared.account.Account.{Account}
+use Rattle.hla_checker.specs.declared.account.Offer.{Offer}
 use Rattle.hla_checker.specs.declared.bag.Waiting.{Waiting}
+use Rattle.hla_checker.specs.Bags.{waiting_at, is_listed}
 use Rattle.hla_checker.specs.Accounts.{account_at}
 use Rattle.hla_checker.specs.Bounds.{is_retracted, ordered_stamp, is_below_all_tso, is_below_bound, is_reached}
 
@@ -57,8 +62,12 @@ abbrev pub is_not_before : List Account → ℕ → ℕ → ℕ → Waiting → 
 is_not_before accounts g m s w =
     is_retracted accounts w.event.sender w.event.serial || option_map_or (λ x. not (eqb x s)) (ordered_stamp w.delivery) true || is_key_le g m w.event.sender w.event.serial
 
+abbrev pub is_first_key : List Account → ℕ → ℕ → ℕ → ℕ → Bool
+is_first_key accounts f g m s = list_all (is_not_before accounts g m s) (account_at accounts f).bag
+
+-- of equal stamps a strict request takes the least key
 abbrev pub is_least_key : List Account → ℕ → AdvanceRequest → ℕ → ℕ → ℕ → Bool
-is_least_key accounts f q g m s = not (is_strict q.kind) || list_all (is_not_before accounts g m s) (account_at accounts f).bag
+is_least_key accounts f q g m s = not (is_strict q.kind) || is_first_key accounts f g m s
 
 -- what an advance picks up in time-stamp order
 abbrev pub may_pick : List Account → ℕ → AdvanceRequest → ℕ → ℕ → ℕ → Bool
@@ -74,3 +83,37 @@ may_pick_as false accounts f q g m s = may_pick accounts f q g m s
 -- f may pick up g's message with serial m and stamp s in time-stamp order, if it waits so
 abbrev pub may_pick_now : List Account → ℕ → ℕ → ℕ → ℕ → Bool
 may_pick_now accounts f g m s = option_map_or (λ q. may_pick_as (is_flush q.kind) accounts f q g m s) (account_at accounts f).state.advance false
+
+-- no discovery of the object waits
+abbrev pub has_no_offer : List Offer → ℕ → Bool
+has_no_offer offers object = list_all (λ (o : Offer). not (eqb o.discovery.object object)) offers
+
+-- the discovery of what a message speaks of was given before
+abbrev pub is_discovered : List Account → ℕ → Content → Bool
+is_discovered accounts f (content.Interaction class values) = true
+is_discovered accounts f (content.Reflection object values) = has_no_offer (account_at accounts f).offers object
+is_discovered accounts f (content.Removal object) = has_no_offer (account_at accounts f).offers object
+
+-- f may be given g's message with serial m and this content; waits says whether it waits to be given so
+abbrev pub may_deliver : List Account → ℕ → ℕ → ℕ → Content → Delivery → Bool → Bool
+may_deliver accounts f g m x Receive waits = may_receive (account_at accounts f).state && is_discovered accounts f x && waits && is_first_ro accounts f g m
+may_deliver accounts f g m x (Demoted stamp) waits = may_receive (account_at accounts f).state && is_discovered accounts f x && waits
+may_deliver accounts f g m x (TimeStamp stamp) waits = is_constrained (account_at accounts f).state && is_discovered accounts f x && waits && may_pick_now accounts f g m stamp
+
+-- ---- becoming constrained
+-- the event waits in time-stamp order, with a stamp below the time
+abbrev pub is_moved_below : ℕ → Option Waiting → Bool
+is_moved_below t o = option_map_or (λ (w : Waiting). option_map_or (λ s. ltb s t) (ordered_stamp w.delivery) false) o false
+
+-- a message is among the events if it waits in time-stamp order, is not retracted, and has a stamp below the time
+abbrev pub is_among_if_below : List Account → ℕ → List EventHandle → Waiting → Bool
+is_among_if_below accounts t events w =
+    is_retracted accounts w.event.sender w.event.serial || option_map_or (λ s. not (ltb s t)) (ordered_stamp w.delivery) true || is_listed events w.event.sender w.event.serial
+
+abbrev pub are_below : List Account → ℕ → ℕ → List EventHandle → Bool
+are_below accounts f t events =
+    list_all (λ (e : EventHandle). is_moved_below t (waiting_at (account_at accounts f).bag e.sender e.serial)) events && list_all (is_among_if_below accounts t events) (account_at accounts f).bag
+
+abbrev pub may_constrain : List Account → ℕ → ℕ → List EventHandle → Bool
+may_constrain accounts f t events = let r = (account_at accounts f).state in
+    eqb t r.time && is_pending r.constrained && not (is_pending r.regulating) && is_below_bound accounts f t && are_below accounts f t events

@@ -1,12 +1,15 @@
 //! The federates of an execution.
 
 ghost use Rattle.std.specs.Prelude.{◌≡◌, ◌≤◌, ◌<◌, ◌+◌, [], length, MatchOption, IsTrue};
+ghost use Rattle.std.specs.Option.{option_copied};
 ghost use Rattle.hla_base.specs.Limits.{max_joins};
 ghost use Rattle.hla_retraction.specs.SentRows.{sent_of};
 ghost use Rattle.hla_checker.specs.Accounts.{account_at, no_account, AreKept};
+ghost use Rattle.hla_checker.specs.Bags.{waiting_at};
 ghost use Rattle.hla_checker.specs.Bounds.{is_retracted};
 
 use crate::account::Account;
+use crate::bag::Waiting;
 use hla_base::{EventHandle, FederateNo};
 use std::alloc::Global;
 use std::marker::Model;
@@ -15,7 +18,7 @@ use std::marker::Model;
 /// the tables of the central machine.
 #[derive(Debug, Drop)]
 pub struct Accounts {
-    accounts: Vec<Account>,
+    pub(crate) accounts: Vec<Account>,
 }
 
 impl Model for Accounts {
@@ -58,6 +61,18 @@ impl Accounts {
             None
         } else {
             self.accounts.get(federate as usize - 1)
+        }
+    }
+
+    /// The message that an event handle names, if it waits for a federate. It looks at each message that stands before it.
+    #[tactic(auto, unfolding(crate::specs::Bags::waiting_at))]
+    pub fn find(&self, federate: FederateNo, event: EventHandle) -> Option<&Waiting>
+        ensures { option_copied result ≡ waiting_at (account_at self.now federate).bag event.sender
+            event.serial }
+    {
+        match self.get(federate) {
+            Some(account) => account.bag.find(event),
+            None => None,
         }
     }
 

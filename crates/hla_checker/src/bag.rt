@@ -1,12 +1,13 @@
 //! What waits for one federate.
 
-ghost use Rattle.std.specs.Prelude.{◌≡◌, None, Some, OnOk, OnErr, IfErr};
+ghost use Rattle.std.specs.Prelude.{◌≡◌, ◌↔◌, IsTrue, None, Some, OnOk, OnErr, IfErr};
 ghost use Rattle.std.specs.Option.{option_copied};
 ghost use Rattle.hla_base.specs.declared.fault.Fault.TheVariants.{OutOfMemory};
 ghost use Rattle.hla_base.specs.Tables.{upd2};
+ghost use Rattle.hla_checker.specs.Accounts.{copy_at, copy_given};
 ghost use Rattle.hla_checker.specs.Bags.{is_of, is_listed, waiting_at, demoted_delivery, with_listed_demoted, AreApart};
 
-use hla_base::{Content, EventHandle, Fault};
+use hla_base::{Content, EventHandle, Fault, Plain};
 use hla_callbacks::Delivery;
 use std::alloc::Global;
 use std::marker::Model;
@@ -77,6 +78,19 @@ impl Bag {
         self.waiting.iter().find(|waiting| {
             waiting.event.sender == event.sender && waiting.event.serial == event.serial
         })
+    }
+
+    /// Whether a message with this content waits, to be given so.
+    pub fn holds(&self, event: EventHandle, delivery: Delivery, content: &Content) -> bool
+        ensures { IsTrue result ↔ (copy_at self.now event.sender event.serial ≡ Some (copy_given delivery
+            content.now)) }
+    {
+        match self.find(event) {
+            Some(waiting) => {
+                waiting.delivery.is_same(&delivery) && waiting.content.is_same(content)
+            }
+            None => false,
+        }
     }
 
     /// Puts a message behind the others. `OutOfMemory`, and all as it was, where a growth was refused. Over many calls the

@@ -5,6 +5,8 @@ mod account;
 mod accounts;
 mod bag;
 mod bounds;
+mod deliveries;
+mod ticks;
 
 pub use account::{Account, Offer};
 pub use accounts::Accounts;
