@@ -6,3 +6,5 @@ pub mod AccountLemmas
 pub mod BoundLemmas
 -- Tests of accounts decide what a federate may be given at a tick
 pub mod TickLemmas
+-- Tests of accounts decide what services and wires may answer
+pub mod CallLemmas

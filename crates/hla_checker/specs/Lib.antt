@@ -6,3 +6,5 @@ pub mod Accounts
 pub mod Bounds
 -- What a federate may be given at a tick, as tests of accounts
 pub mod Ticks
+-- What services and wires may answer, as tests of accounts
+pub mod Calls

@@ -1,0 +1,123 @@
+-- Tests of accounts decide what services and wires may answer
+use Rattle.std.proofs.Common.{◌≡◌, ℕ, ◌≤◌, eqb, leb, ◌&&◌, ◌||◌, not, Bool, true, false, List, [], ◌∷◌, Option, Some, None, option_map, refl, sym, ap, ◌∙◌}
+use mathlib.Core.Bool.{false≢true, true≢false}
+use Rattle.std.specs.Bool.{Decides}
+use Rattle.std.specs.List.{list_all}
+use Rattle.std.specs.Option.{option_map_or}
+use Rattle.std.proofs.lemmas.Bool.Decides.{Decides-like, Decides-and, Decides-by_and, Decides-eqb}
+use Rattle.hla_base.specs.declared.number.EventHandle.{EventHandle}
+use Rattle.hla_base.specs.declared.content.Content.{Content}
+use Rattle.hla_base.specs.Rows.{is_constrained, is_regulator}
+use Rattle.hla_callbacks.specs.declared.callback.Delivery.{Delivery}
+use Rattle.hla_callbacks.specs.declared.callback.Delivery.TheVariants.{Receive, Demoted, TimeStamp}
+use Rattle.hla_machine.specs.Directory.{Directory}
+use Rattle.hla_machine.specs.declared.step.Choice.TheVariants as choice
+use Rattle.hla_machine.specs.Central as machine
+use Rattle.hla_machine.specs.Central.{Copy, Ro, Tso}
+use Rattle.hla_machine.specs.Machine.{MayBound, BelowAllDemoted, MayBeNext, MayCease, AreDistinct, MayAnnounce, is_removal, IsCarriedCopy}
+use Rattle.hla_checker.specs.declared.account.Account.{Account}
+use Rattle.hla_checker.specs.declared.bag.Waiting.{Waiting}
+use Rattle.hla_checker.specs.Bags.{waiting_at, is_listed}
+use Rattle.hla_checker.specs.Accounts.{AreKept, account_at, copy_of, copy_given, central_with}
+use Rattle.hla_checker.specs.Bounds.{is_retracted, ordered_stamp, demoted_stamp, is_below_all_tso, is_below_bound, is_below_out}
+use Rattle.hla_checker.specs.Calls.{may_bound, is_at_most_demoted, is_below_all_demoted, may_be_next, waits_in_order, may_cease, are_distinct, is_carried, may_announce}
+use Rattle.hla_checker.proofs.BoundLemmas.{each_decided, Decides-leb, below_all_tso_decided, below_bound_decided, below_out_decided}
+use Rattle.hla_checker.proofs.TickLemmas.{if_true_decided}
+
+unless_true_decided : (b t : Bool) (P : Type 0) → Decides t P → Decides (b || t) (b ≡ false → P)
+unless_true_decided true t P h = (λ e b. absurd (true≢false b), λ f. refl)
+unless_true_decided false t P h = (λ e b. h.0 e, λ f. h.1 (f refl))
+
+at_most_demoted_decided : (retracted : Bool) (v : ℕ) (dl : Delivery) (x : Content) →
+    Decides (retracted || option_map_or (leb v) (demoted_stamp dl) true) (retracted ≡ false → (copy_given dl x).order ≡ machine.Demoted → v ≤ (copy_given dl x).stamp)
+at_most_demoted_decided true v dl x = (λ e live. absurd (true≢false live), λ f. refl)
+at_most_demoted_decided false v Receive x = (λ e live is. absurd (apart is), λ f. refl)
+  where
+    apart : Ro ≡ machine.Demoted → ⊥
+    apart e = cc
+at_most_demoted_decided false v (Demoted stamp) x = (λ e live is. (Decides-leb v stamp).0 e, λ f. (Decides-leb v stamp).1 (f refl refl))
+at_most_demoted_decided false v (TimeStamp stamp) x = (λ e live is. absurd (apart is), λ f. refl)
+  where
+    apart : Tso ≡ machine.Demoted → ⊥
+    apart e = cc
+
+-- what was found is a copy in time-stamp order
+in_order_decided : (o : Option Waiting) → Decides (waits_in_order o) ((k : Copy) × (option_map copy_of o ≡ Some k) × (k.order ≡ Tso) × Unit {0})
+in_order_decided None = (λ e. absurd (false≢true e), λ h. absurd (let e = h.1 in cc))
+in_order_decided (Some w) = by w.delivery w.content
+  where
+    by : (dl : Delivery) (x : Content) → Decides (option_map_or (λ s. true) (ordered_stamp dl) false) ((k : Copy) × (Some (copy_given dl x) ≡ Some k) × (k.order ≡ Tso) × Unit {0})
+    by Receive x = (λ e. absurd (false≢true e), λ h. absurd (let is = h.1 in let tso = h.2 in apart (let same : copy_given Receive x ≡ h.0 = cc in ap (λ (k : Copy). k.order) same ∙ tso)))
+      where
+        apart : Ro ≡ Tso → ⊥
+        apart e = cc
+    by (Demoted stamp) x = (λ e. absurd (false≢true e), λ h. absurd (let is = h.1 in let tso = h.2 in apart (let same : copy_given (Demoted stamp) x ≡ h.0 = cc in ap (λ (k : Copy). k.order) same ∙ tso)))
+      where
+        apart : machine.Demoted ≡ Tso → ⊥
+        apart e = cc
+    by (TimeStamp stamp) x = (λ e. (copy_given (TimeStamp stamp) x, refl, refl, tt), λ h. refl)
+
+pub distinct_decided : (events : List EventHandle) → Decides (are_distinct events) (AreDistinct events)
+distinct_decided [] = (λ e. tt, λ h. refl)
+distinct_decided (e ∷ es) = Decides-and (not (is_listed es e.sender e.serial)) (are_distinct es) (by (is_listed es e.sender e.serial)) (distinct_decided es)
+  where
+    by : (b : Bool) → Decides (not b) (b ≡ false)
+    by true = (λ e. absurd (false≢true e), λ e. absurd (true≢false e))
+    by false = (λ e. refl, λ e. refl)
+
+-- what was found is a copy of a removal, or else of another message
+pub carried_decided : (removal : Bool) (o : Option Waiting) → Decides (is_carried removal o) ((k : Copy) × (option_map copy_of o ≡ Some k) × (is_removal k.content ≡ removal))
+carried_decided true None = (λ e. absurd (false≢true e), λ h. absurd (let e = h.1 in cc))
+carried_decided false None = (λ e. absurd (false≢true e), λ h. absurd (let e = h.1 in cc))
+carried_decided true (Some w) = (λ e. (copy_of w, refl, content_same w.delivery w.content ∙ e), λ h. sym (content_same w.delivery w.content) ∙ (let is = h.1 in let same : copy_of w ≡ h.0 = cc in ap (λ (k : Copy). is_removal k.content) same ∙ h.2))
+  where
+    content_same : (dl : Delivery) (x : Content) → is_removal (copy_given dl x).content ≡ is_removal x
+    content_same Receive x = refl
+    content_same (Demoted stamp) x = refl
+    content_same (TimeStamp stamp) x = refl
+carried_decided false (Some w) = (λ e. (copy_of w, refl, content_same w.delivery w.content ∙ not_true (is_removal w.content) e), λ h. not_false (is_removal w.content) (sym (content_same w.delivery w.content) ∙ (let is = h.1 in let same : copy_of w ≡ h.0 = cc in ap (λ (k : Copy). is_removal k.content) same ∙ h.2)))
+  where
+    content_same : (dl : Delivery) (x : Content) → is_removal (copy_given dl x).content ≡ is_removal x
+    content_same Receive x = refl
+    content_same (Demoted stamp) x = refl
+    content_same (TimeStamp stamp) x = refl
+
+    not_true : (b : Bool) → not b ≡ true → b ≡ false
+    not_true true e = absurd (false≢true e)
+    not_true false e = refl
+
+    not_false : (b : Bool) → b ≡ false → not b ≡ true
+    not_false true e = absurd (true≢false e)
+    not_false false e = refl
+
+module _ (d : Directory) (accounts : List Account) (kept : AreKept accounts) where
+  pub may_bound_decided : (f v : ℕ) → Decides (may_bound accounts f v) (MayBound (central_with d accounts) f v)
+  may_bound_decided f v =
+      let r = (account_at accounts f).state in
+      Decides-and (is_below_bound accounts f v) (not (is_constrained r) || leb r.bar v) (below_bound_decided d accounts kept f v) (if_true_decided (is_constrained r) (leb r.bar v) (r.bar ≤ v) (Decides-leb r.bar v))
+
+  below_all_demoted_decided : (f v : ℕ) → Decides (is_below_all_demoted accounts f v) (BelowAllDemoted (central_with d accounts) f v)
+  below_all_demoted_decided f v = Decides-like (is_below_all_demoted accounts f v) (λ each g m k is live demoted. each g m k is live demoted) (λ below g m k is live demoted. below g m k is live demoted)
+      (each_decided (λ g m k. is_retracted accounts g m ≡ false → k.order ≡ machine.Demoted → v ≤ k.stamp) (is_at_most_demoted accounts v)
+      (λ w. at_most_demoted_decided (is_retracted accounts w.event.sender w.event.serial) v w.delivery w.content) (account_at accounts f).bag (kept.apart f))
+
+  pub may_be_next_decided : (f v : ℕ) → Decides (may_be_next accounts f v) (MayBeNext (central_with d accounts) f v)
+  may_be_next_decided f v =
+      let r = (account_at accounts f).state in
+      Decides-like (may_be_next accounts f v) (λ p. (p.0.0.0, p.0.0.1, p.0.1, p.1)) (λ p. (((p.0, p.1), p.2), p.3))
+      (Decides-and _ (not (is_constrained r) || leb r.time v)
+      (Decides-and _ (is_constrained r || is_below_all_demoted accounts f v)
+      (Decides-and (is_below_bound accounts f v) (is_below_all_tso accounts f v) (below_bound_decided d accounts kept f v) (below_all_tso_decided d accounts f v (kept.apart f)))
+      (unless_true_decided (is_constrained r) (is_below_all_demoted accounts f v) (BelowAllDemoted (central_with d accounts) f v) (below_all_demoted_decided f v)))
+      (if_true_decided (is_constrained r) (leb r.time v) (r.time ≤ v) (Decides-leb r.time v)))
+
+  pub may_cease_decided : (f : ℕ) (events : List EventHandle) → Decides (may_cease accounts f events) (MayCease (central_with d accounts) f (choice.Moved events))
+  may_cease_decided f events = Decides-by_and (λ (e : EventHandle). waits_in_order (waiting_at (account_at accounts f).bag e.sender e.serial)) _ (list_all (λ (e : EventHandle). waits_in_order (waiting_at (account_at accounts f).bag e.sender e.serial)))
+      (λ e. in_order_decided (waiting_at (account_at accounts f).bag e.sender e.serial)) refl (λ _ _. refl) events
+
+  pub may_announce_decided : (f v : ℕ) → Decides (may_announce accounts f v) (MayAnnounce (central_with d accounts) f (Some v))
+  may_announce_decided f v = Decides-and (is_regulator (account_at accounts f).state) (is_below_out accounts f v) (λ e. e, λ e. e) (below_out_decided d accounts f v (kept.apart f))
+
+  -- a copy from g
+  pub carried_copy_decided : (g f : ℕ) (e : EventHandle) (removal : Bool) → Decides (eqb e.sender g && is_carried removal (waiting_at (account_at accounts f).bag e.sender e.serial)) (IsCarriedCopy (central_with d accounts) g f e removal)
+  carried_copy_decided g f e removal = Decides-and (eqb e.sender g) (is_carried removal (waiting_at (account_at accounts f).bag e.sender e.serial)) (Decides-eqb e.sender g) (carried_decided removal (waiting_at (account_at accounts f).bag e.sender e.serial))
