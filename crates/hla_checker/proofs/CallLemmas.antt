@@ -1,26 +1,31 @@
 -- Tests of accounts decide what services and wires may answer
-use Rattle.std.proofs.Common.{◌≡◌, ℕ, ◌≤◌, eqb, leb, ◌&&◌, ◌||◌, not, Bool, true, false, List, [], ◌∷◌, Option, Some, None, option_map, refl, sym, ap, ◌∙◌}
+use Rattle.std.proofs.Common.{◌≡◌, ◌⊎◌, ℕ, zero, suc, ◌+◌, ◌<◌, ◌≤◌, eqb, leb, ◌&&◌, ◌||◌, not, Bool, true, false, List, [], ◌∷◌, length, get_or, Option, Some, None, option_map, refl, sym, ap, ◌∙◌, subst, inl, inr, ⊎_elim, arith}
 use mathlib.Core.Bool.{false≢true, true≢false}
 use Rattle.std.specs.Bool.{Decides}
-use Rattle.std.specs.List.{list_all}
+use Rattle.std.specs.List.{list_all, Any, cons_option}
 use Rattle.std.specs.Option.{option_map_or}
-use Rattle.std.proofs.lemmas.Bool.Decides.{Decides-like, Decides-and, Decides-by_and, Decides-eqb}
+use Rattle.std.proofs.lemmas.Bool.Decides.{nat_tests, Decides-like, Decides-and, Decides-by_and, Decides-eqb}
 use Rattle.hla_base.specs.declared.number.EventHandle.{EventHandle}
 use Rattle.hla_base.specs.declared.content.Content.{Content}
+use Rattle.hla_base.specs.declared.content.Discovery.{Discovery}
+use Rattle.hla_base.specs.Tables.{when, one_if}
+use Rattle.hla_machine.specs.declared.step.Carried.{Carried}
+use Rattle.hla_machine.specs.declared.step.Carried.TheVariants as carried
+use Rattle.hla_checker.specs.declared.account.Offer.{Offer}
 use Rattle.hla_base.specs.Rows.{is_constrained, is_regulator}
 use Rattle.hla_callbacks.specs.declared.callback.Delivery.{Delivery}
 use Rattle.hla_callbacks.specs.declared.callback.Delivery.TheVariants.{Receive, Demoted, TimeStamp}
 use Rattle.hla_machine.specs.Directory.{Directory}
 use Rattle.hla_machine.specs.declared.step.Choice.TheVariants as choice
 use Rattle.hla_machine.specs.Central as machine
-use Rattle.hla_machine.specs.Central.{Copy, Ro, Tso}
-use Rattle.hla_machine.specs.Machine.{MayBound, BelowAllDemoted, MayBeNext, MayCease, AreDistinct, MayAnnounce, is_removal, IsCarriedCopy}
+use Rattle.hla_machine.specs.Central.{Copy, Ro, Tso, is_key}
+use Rattle.hla_machine.specs.Machine.{MayBound, BelowAllDemoted, MayBeNext, MayCease, AreDistinct, MayAnnounce, MayCarry, is_removal, IsCarriedCopy}
 use Rattle.hla_checker.specs.declared.account.Account.{Account}
 use Rattle.hla_checker.specs.declared.bag.Waiting.{Waiting}
 use Rattle.hla_checker.specs.Bags.{waiting_at, is_listed}
-use Rattle.hla_checker.specs.Accounts.{AreKept, account_at, copy_of, copy_given, central_with}
+use Rattle.hla_checker.specs.Accounts.{AreKept, account_at, offers_from, times_listed, copy_of, copy_given, central_with}
 use Rattle.hla_checker.specs.Bounds.{is_retracted, ordered_stamp, demoted_stamp, is_below_all_tso, is_below_bound, is_below_out}
-use Rattle.hla_checker.specs.Calls.{may_bound, is_at_most_demoted, is_below_all_demoted, may_be_next, waits_in_order, may_cease, are_distinct, is_carried, may_announce}
+use Rattle.hla_checker.specs.Calls.{may_bound, is_at_most_demoted, is_below_all_demoted, may_be_next, waits_in_order, may_cease, are_distinct, is_carried, is_offered, may_carry, may_announce}
 use Rattle.hla_checker.proofs.BoundLemmas.{each_decided, Decides-leb, below_all_tso_decided, below_bound_decided, below_out_decided}
 use Rattle.hla_checker.proofs.TickLemmas.{if_true_decided}
 
@@ -90,6 +95,45 @@ carried_decided false (Some w) = (λ e. (copy_of w, refl, content_same w.deliver
     not_false true e = absurd (true≢false e)
     not_false false e = refl
 
+-- ---- lists of events and of discoveries
+pub listed_decided : (events : List EventHandle) (g m : ℕ) → Decides (is_listed events g m) (1 ≤ times_listed events g m)
+unfolding times_listed
+listed_decided [] g m = (λ e. absurd (false≢true e), λ l. absurd (omega arith))
+listed_decided (e ∷ es) g m = by (eqb g e.sender && eqb m e.serial) (is_key e.sender e.serial g m) (grind (arith, nat_tests)) (listed_decided es g m)
+  where
+    by : (a b : Bool) → b ≡ a → Decides (is_listed es g m) (1 ≤ times_listed es g m) → Decides (a || is_listed es g m) (1 ≤ one_if b + times_listed es g m)
+    by true true same rest = (λ e. omega arith, λ l. refl)
+    by true false same rest = absurd (false≢true same)
+    by false true same rest = absurd (true≢false same)
+    by false false same rest = (λ e. let l = rest.0 e in omega arith, λ l. rest.1 (omega arith))
+
+any_nil : {X : Type 0} (P : X → Type 0) → Any P [] → ⊥
+any_nil P h = omega (arith, h.2)
+
+any_cons : {X : Type 0} (P : X → Type 0) (x : X) (xs : List X) → P x ⊎ Any P xs → Any P (x ∷ xs)
+any_cons P x xs (inl p) = (0, x, omega arith, refl, p)
+any_cons P x xs (inr h) = (suc h.0, h.1, (let l = h.2 in omega arith), h.3, h.4)
+
+any_uncons : {X : Type 0} (P : X → Type 0) (x : X) (xs : List X) → Any P (x ∷ xs) → P x ⊎ Any P xs
+any_uncons P x xs h = by h.0 h.2 h.3
+  where
+    by : (k : ℕ) → k < length (x ∷ xs) → get_or (x ∷ xs) k h.1 ≡ h.1 → P x ⊎ Any P xs
+    by zero l e = inl (subst P (sym e) h.4)
+    by (suc k) l e = inr (k, h.1, omega arith, e, h.4)
+
+offered_decided : (g object : ℕ) (offers : List Offer) → Decides (is_offered offers g object) (Any (λ (x : Discovery). x.object ≡ object) (offers_from g offers))
+offered_decided g object [] = (λ e. absurd (false≢true e), λ h. absurd (any_nil _ h))
+offered_decided g object (o ∷ os) = by (eqb o.from g) (eqb o.discovery.object object) (Decides-eqb o.discovery.object object) (offered_decided g object os)
+  where
+    by : (a b : Bool) → Decides b (o.discovery.object ≡ object) → Decides (is_offered os g object) (Any (λ (x : Discovery). x.object ≡ object) (offers_from g os)) →
+        Decides ((a && b) || is_offered os g object) (Any (λ (x : Discovery). x.object ≡ object) (cons_option (when a (Some o.discovery)) (offers_from g os)))
+    by false b is rest = rest
+    by true true is rest = (λ e. any_cons (λ (x : Discovery). x.object ≡ object) o.discovery (offers_from g os) (inl (is.0 refl)), λ h. refl)
+    by true false is rest = (
+      λ e. any_cons (λ (x : Discovery). x.object ≡ object) o.discovery (offers_from g os) (inr (rest.0 e)),
+      λ h. ⊎_elim (λ p. absurd (false≢true (is.1 p))) (λ q. rest.1 q) (any_uncons (λ (x : Discovery). x.object ≡ object) o.discovery (offers_from g os) h),
+    )
+
 module _ (d : Directory) (accounts : List Account) (kept : AreKept accounts) where
   pub may_bound_decided : (f v : ℕ) → Decides (may_bound accounts f v) (MayBound (central_with d accounts) f v)
   may_bound_decided f v =
@@ -121,3 +165,12 @@ module _ (d : Directory) (accounts : List Account) (kept : AreKept accounts) whe
   -- a copy from g
   pub carried_copy_decided : (g f : ℕ) (e : EventHandle) (removal : Bool) → Decides (eqb e.sender g && is_carried removal (waiting_at (account_at accounts f).bag e.sender e.serial)) (IsCarriedCopy (central_with d accounts) g f e removal)
   carried_copy_decided g f e removal = Decides-and (eqb e.sender g) (is_carried removal (waiting_at (account_at accounts f).bag e.sender e.serial)) (Decides-eqb e.sender g) (carried_decided removal (waiting_at (account_at accounts f).bag e.sender e.serial))
+
+  -- the test is of what was taken from a wire
+  pub may_carry_decided : (g f : ℕ) (x : Carried) → Decides (may_carry accounts g f x) (MayCarry (central_with d accounts) g f x)
+  may_carry_decided g f carried.Nothing = (λ e. tt, λ h. refl)
+  may_carry_decided g f (carried.Null bound) = (λ e. tt, λ h. refl)
+  may_carry_decided g f (carried.Event e) = carried_copy_decided g f e false
+  may_carry_decided g f (carried.Removal e) = carried_copy_decided g f e true
+  may_carry_decided g f (carried.Retraction e) = Decides-and (eqb e.sender g) (is_listed (account_at accounts f).owed g e.serial) (Decides-eqb e.sender g) (listed_decided (account_at accounts f).owed g e.serial)
+  may_carry_decided g f (carried.Discovery object) = offered_decided g object (account_at accounts f).offers

@@ -4,6 +4,8 @@ use Rattle.std.specs.List.{list_all, list_any}
 use Rattle.std.specs.Option.{option_map_or}
 use Rattle.hla_base.specs.declared.number.EventHandle.{EventHandle}
 use Rattle.hla_base.specs.Rows.{is_constrained, is_regulator}
+use Rattle.hla_machine.specs.declared.step.Carried.{Carried}
+use Rattle.hla_machine.specs.declared.step.Carried.TheVariants as carried
 use Rattle.hla_machine.specs.Machine.{is_removal}
 use Rattle.hla_checker.specs.declared.account.Account.{Account}
 use Rattle.hla_checker.specs.declared.account.Offer.{Offer}
@@ -55,3 +57,12 @@ is_offered offers g object = list_any (λ (o : Offer). eqb o.from g && eqb o.dis
 -- ---- promises
 abbrev pub may_announce : List Account → ℕ → ℕ → Bool
 may_announce accounts f v = is_regulator (account_at accounts f).state && is_below_out accounts f v
+
+-- what was taken from the wire from g to f
+abbrev pub may_carry : List Account → ℕ → ℕ → Carried → Bool
+may_carry accounts g f carried.Nothing = true
+may_carry accounts g f (carried.Null bound) = true
+may_carry accounts g f (carried.Event e) = eqb e.sender g && is_carried false (waiting_at (account_at accounts f).bag e.sender e.serial)
+may_carry accounts g f (carried.Removal e) = eqb e.sender g && is_carried true (waiting_at (account_at accounts f).bag e.sender e.serial)
+may_carry accounts g f (carried.Retraction e) = eqb e.sender g && is_listed (account_at accounts f).owed g e.serial
+may_carry accounts g f (carried.Discovery object) = is_offered (account_at accounts f).offers g object

@@ -5,6 +5,7 @@ mod account;
 mod accounts;
 mod bag;
 mod bounds;
+mod calls;
 mod deliveries;
 mod ticks;
 
