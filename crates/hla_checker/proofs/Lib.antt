@@ -8,3 +8,5 @@ pub mod BoundLemmas
 pub mod TickLemmas
 -- Tests of accounts decide what services and wires may answer
 pub mod CallLemmas
+-- The state that accounts stand for, after one account changed
+pub mod ChangeLemmas
