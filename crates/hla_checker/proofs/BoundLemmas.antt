@@ -117,7 +117,7 @@ module _ (d : Directory) (accounts : List Account) where
       (λ below g m k is live. below g m k is live)
       (each_decided (AtMostCopy (is_retracted accounts) x) (is_at_most_waiting accounts x) (λ w. at_most_decided (is_retracted accounts w.event.sender w.event.serial) x w.delivery w.content) (account_at accounts f).bag apart)
 
-  below_wake_decided : (f : ℕ) (q : AdvanceRequest) (pick : Option ℕ) (x : ℕ) → AreApart (account_at accounts f).bag → Decides (is_below_wake accounts f q pick x) (BelowWake (BelowAllTso (central_with d accounts) f) q pick x)
+  pub below_wake_decided : (f : ℕ) (q : AdvanceRequest) (pick : Option ℕ) (x : ℕ) → AreApart (account_at accounts f).bag → Decides (is_below_wake accounts f q pick x) (BelowWake (BelowAllTso (central_with d accounts) f) q pick x)
   below_wake_decided f q None x apart = Decides-and (leb x q.asked) (is_below_all_tso accounts f x) (Decides-leb x q.asked) (below_all_tso_decided f x apart)
   below_wake_decided f q (Some p) x apart = Decides-leb x p
 

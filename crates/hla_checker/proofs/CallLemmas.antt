@@ -1,32 +1,35 @@
 -- Tests of accounts decide what services and wires may answer
-use Rattle.std.proofs.Common.{◌≡◌, ◌⊎◌, ℕ, zero, suc, ◌+◌, ◌<◌, ◌≤◌, eqb, leb, ◌&&◌, ◌||◌, not, Bool, true, false, List, [], ◌∷◌, length, get_or, Option, Some, None, option_map, refl, sym, ap, ◌∙◌, subst, inl, inr, ⊎_elim, arith}
+use Rattle.std.proofs.Common.{◌≡◌, ◌≢◌, ◌⊎◌, ℕ, zero, suc, ◌+◌, ◌<◌, ◌≤◌, eqb, leb, ◌&&◌, ◌||◌, not, Bool, true, false, List, [], ◌∷◌, length, get_or, Option, Some, None, option_map, refl, sym, ap, ◌∙◌, subst, inl, inr, ⊎_elim, arith}
+use Rattle.std.proofs.lemmas.Bool.{cases_lt}
 use mathlib.Core.Bool.{false≢true, true≢false}
 use Rattle.std.specs.Bool.{Decides}
 use Rattle.std.specs.List.{list_all, Any, cons_option}
 use Rattle.std.specs.Option.{option_map_or}
-use Rattle.std.proofs.lemmas.Bool.Decides.{nat_tests, Decides-like, Decides-and, Decides-by_and, Decides-eqb}
+use Rattle.std.proofs.lemmas.Bool.Decides.{nat_tests, Decides-like, Decides-and, Decides-or, Decides-not, Decides-by_and, Decides-below_or, Decides-eqb}
 use Rattle.hla_base.specs.declared.number.EventHandle.{EventHandle}
 use Rattle.hla_base.specs.declared.content.Content.{Content}
 use Rattle.hla_base.specs.declared.content.Discovery.{Discovery}
-use Rattle.hla_base.specs.Tables.{when, one_if}
+use Rattle.hla_base.specs.Tables.{when, one_if, greatest}
 use Rattle.hla_machine.specs.declared.step.Carried.{Carried}
 use Rattle.hla_machine.specs.declared.step.Carried.TheVariants as carried
 use Rattle.hla_checker.specs.declared.account.Offer.{Offer}
-use Rattle.hla_base.specs.Rows.{is_constrained, is_regulator}
+use Rattle.hla_base.specs.Rows.{is_constrained, is_regulator, is_enabled, next_request, bar_of}
+use Rattle.hla_base.specs.declared.row.AdvanceRequest.{AdvanceRequest}
 use Rattle.hla_callbacks.specs.declared.callback.Delivery.{Delivery}
 use Rattle.hla_callbacks.specs.declared.callback.Delivery.TheVariants.{Receive, Demoted, TimeStamp}
 use Rattle.hla_machine.specs.Directory.{Directory}
 use Rattle.hla_machine.specs.declared.step.Choice.TheVariants as choice
 use Rattle.hla_machine.specs.Central as machine
-use Rattle.hla_machine.specs.Central.{Copy, Ro, Tso, is_key}
-use Rattle.hla_machine.specs.Machine.{MayBound, BelowAllDemoted, MayBeNext, MayCease, AreDistinct, MayAnnounce, MayCarry, is_removal, IsCarriedCopy}
+use Rattle.hla_machine.specs.Central.{Copy, Ro, Tso, is_key, low_entry, BelowWake, BelowAllTso}
+use Rattle.hla_machine.specs.Machine.{MayEnter, MayBound, BelowAllDemoted, MayBeNext, MayCease, AreDistinct, MayAnnounce, MayCarry, is_removal, IsCarriedCopy}
 use Rattle.hla_checker.specs.declared.account.Account.{Account}
 use Rattle.hla_checker.specs.declared.bag.Waiting.{Waiting}
 use Rattle.hla_checker.specs.Bags.{waiting_at, is_listed}
-use Rattle.hla_checker.specs.Accounts.{AreKept, account_at, offers_from, times_listed, copy_of, copy_given, central_with}
-use Rattle.hla_checker.specs.Bounds.{is_retracted, ordered_stamp, demoted_stamp, is_below_all_tso, is_below_bound, is_below_out}
-use Rattle.hla_checker.specs.Calls.{may_bound, is_at_most_demoted, is_below_all_demoted, may_be_next, waits_in_order, may_cease, are_distinct, is_carried, is_offered, may_carry, may_announce}
-use Rattle.hla_checker.proofs.BoundLemmas.{each_decided, Decides-leb, below_all_tso_decided, below_bound_decided, below_out_decided}
+use Rattle.hla_checker.specs.Accounts.{no_account, AreKept, account_at, offers_from, times_listed, copy_of, copy_given, central_with}
+use Rattle.hla_checker.specs.Bounds.{is_below_wake, is_retracted, ordered_stamp, demoted_stamp, is_below_all_tso, is_below_bound, is_below_out}
+use Rattle.hla_checker.specs.Calls.{is_below_wake_of, is_below_some_wake, may_enter, may_bound, is_at_most_demoted, is_below_all_demoted, may_be_next, waits_in_order, may_cease, are_distinct, is_carried, is_offered, may_carry, may_announce}
+use Rattle.hla_checker.proofs.AccountLemmas.{account_at-past}
+use Rattle.hla_checker.proofs.BoundLemmas.{below_wake_decided, each_decided, Decides-leb, below_all_tso_decided, below_bound_decided, below_out_decided}
 use Rattle.hla_checker.proofs.TickLemmas.{if_true_decided}
 
 unless_true_decided : (b t : Bool) (P : Type 0) → Decides t P → Decides (b || t) (b ≡ false → P)
@@ -174,3 +177,54 @@ module _ (d : Directory) (accounts : List Account) (kept : AreKept accounts) whe
   may_carry_decided g f (carried.Removal e) = carried_copy_decided g f e true
   may_carry_decided g f (carried.Retraction e) = Decides-and (eqb e.sender g) (is_listed (account_at accounts f).owed g e.serial) (Decides-eqb e.sender g) (listed_decided (account_at accounts f).owed g e.serial)
   may_carry_decided g f (carried.Discovery object) = offered_decided g object (account_at accounts f).offers
+
+  -- ---- the entry of a newcomer among the regulators
+  abbrev IsWakeOf : ℕ → ℕ → ℕ → Type 0
+  IsWakeOf f e g = (q : AdvanceRequest) × ((account_at accounts g).is_joined ≡ true) × (g ≢ f) × (is_enabled (account_at accounts g).state.regulating ≡ true) × (next_request (account_at accounts g).state ≡ Some q)
+      × BelowWake (BelowAllTso (central_with d accounts) g) q (account_at accounts g).state.first_pick e
+
+  wake_of_decided : (f e g : ℕ) → Decides (is_below_wake_of accounts f e g) (IsWakeOf f e g)
+  wake_of_decided f e g =
+      let a = account_at accounts g in
+      Decides-like (is_below_wake_of accounts f e g)
+      (λ p. (p.1.0, p.0.0.0, p.0.0.1, p.0.1, p.1.1, p.1.2))
+      (λ w. (((w.1, w.2), w.3), (w.0, w.4, w.5)))
+      (Decides-and _ (option_map_or (λ q. is_below_wake accounts g q a.state.first_pick e) (next_request a.state) false)
+      (Decides-and _ (is_enabled a.state.regulating)
+      (Decides-and a.is_joined (not (eqb g f)) (λ t. t, λ t. t) (Decides-not (eqb g f) (Decides-eqb g f)))
+      (λ t. t, λ t. t))
+      (waiting_for (next_request a.state) refl))
+    where
+      waiting_for : (o : Option AdvanceRequest) → next_request (account_at accounts g).state ≡ o → Decides (option_map_or (λ q. is_below_wake accounts g q (account_at accounts g).state.first_pick e) o false)
+          ((q : AdvanceRequest) × (next_request (account_at accounts g).state ≡ Some q) × BelowWake (BelowAllTso (central_with d accounts) g) q (account_at accounts g).state.first_pick e)
+      waiting_for None is = (λ t. absurd (false≢true t), λ h. absurd (let t : None ≡ Some h.0 = sym is ∙ h.1 in cc))
+      waiting_for (Some q) is = (
+        λ t. (q, is, (below_wake_decided d accounts g q (account_at accounts g).state.first_pick e (kept.apart g)).0 t),
+        λ h. let same : h.0 ≡ q = (let t : Some h.0 ≡ Some q = sym h.1 ∙ is in cc) in (below_wake_decided d accounts g q (account_at accounts g).state.first_pick e (kept.apart g)).1 (subst (λ q. BelowWake (BelowAllTso (central_with d accounts) g) q (account_at accounts g).state.first_pick e) same h.2),
+      )
+
+  some_wake_decided : (f e n : ℕ) → Decides (is_below_some_wake accounts f e n) ((g : ℕ) × (g < n) × IsWakeOf f e g)
+  unfolding is_below_some_wake
+  some_wake_decided f e n = Decides-below_or (is_below_wake_of accounts f e) (IsWakeOf f e) (is_below_some_wake accounts f e) (wake_of_decided f e) refl (λ _. refl) n
+
+  -- the test is of the entry
+  pub may_enter_decided : (f earliest e : ℕ) → Decides (may_enter accounts f earliest e) (MayEnter (central_with d accounts) f earliest (choice.Entry e))
+  unfolding low_entry
+  may_enter_decided f earliest e =
+      let n = length accounts + 1 in
+      let low = greatest n earliest (λ g. bar_of (account_at accounts g).state) in
+      Decides-and (leb low e) (leb e low || is_below_some_wake accounts f e n) (Decides-leb low e)
+      (Decides-or (leb e low) (is_below_some_wake accounts f e n) (Decides-leb e low)
+      (Decides-like (is_below_some_wake accounts f e n)
+      (λ w. (w.0, w.2.0, w.2.1, w.2.2, w.2.3, w.2.4, w.2.5))
+      (λ w. (w.0, present w.0 w.2, (w.1, w.2, w.3, w.4, w.5, w.6)))
+      (some_wake_decided f e n)))
+    where
+      nobody : (a : Account) → a ≡ no_account → a.is_joined ≡ true → ⊥
+      nobody a is joined = let t = ap (λ (a : Account). a.is_joined) is in cc
+
+      present : (g : ℕ) → (account_at accounts g).is_joined ≡ true → g < length accounts + 1
+      present g joined = ⊎_elim
+          (λ (in' : g < length accounts + 1). in')
+          (λ (past : length accounts + 1 ≤ g). absurd (nobody (account_at accounts g) (account_at-past accounts g (omega arith)) joined))
+          (cases_lt g (length accounts + 1))

@@ -1,9 +1,10 @@
 -- What services and wires may answer, as tests of accounts (HLA 1.3, time management)
-use Rattle.std.specs.Prelude.{ℕ, eqb, leb, not, ◌&&◌, ◌||◌, Bool, true, false, Option, List, [], ◌∷◌}
+use Rattle.std.specs.Prelude.{ℕ, zero, suc, ◌+◌, length, eqb, leb, not, ◌&&◌, ◌||◌, Bool, true, false, Option, List, [], ◌∷◌}
 use Rattle.std.specs.List.{list_all, list_any}
 use Rattle.std.specs.Option.{option_map_or}
 use Rattle.hla_base.specs.declared.number.EventHandle.{EventHandle}
-use Rattle.hla_base.specs.Rows.{is_constrained, is_regulator}
+use Rattle.hla_base.specs.Rows.{is_constrained, is_regulator, is_enabled, next_request, bar_of}
+use Rattle.hla_base.specs.Tables.{greatest}
 use Rattle.hla_machine.specs.declared.step.Carried.{Carried}
 use Rattle.hla_machine.specs.declared.step.Carried.TheVariants as carried
 use Rattle.hla_machine.specs.Machine.{is_removal}
@@ -12,7 +13,7 @@ use Rattle.hla_checker.specs.declared.account.Offer.{Offer}
 use Rattle.hla_checker.specs.declared.bag.Waiting.{Waiting}
 use Rattle.hla_checker.specs.Bags.{waiting_at, is_listed}
 use Rattle.hla_checker.specs.Accounts.{account_at}
-use Rattle.hla_checker.specs.Bounds.{is_retracted, ordered_stamp, demoted_stamp, is_below_all_tso, is_below_bound, is_below_out}
+use Rattle.hla_checker.specs.Bounds.{is_retracted, ordered_stamp, demoted_stamp, is_below_all_tso, is_below_wake, is_below_bound, is_below_out}
 
 -- ---- queries
 -- Query LBTS: at most the bound, and for a constrained federate at least its bar
@@ -66,3 +67,19 @@ may_carry accounts g f (carried.Event e) = eqb e.sender g && is_carried false (w
 may_carry accounts g f (carried.Removal e) = eqb e.sender g && is_carried true (waiting_at (account_at accounts f).bag e.sender e.serial)
 may_carry accounts g f (carried.Retraction e) = eqb e.sender g && is_listed (account_at accounts f).owed g e.serial
 may_carry accounts g f (carried.Discovery object) = is_offered (account_at accounts f).offers g object
+
+-- ---- the entry of a newcomer among the regulators
+-- e is at most the wake of g, another regulating constrained federate in a next-event request
+abbrev pub is_below_wake_of : List Account → ℕ → ℕ → ℕ → Bool
+is_below_wake_of accounts f e g = let a = account_at accounts g in
+    a.is_joined && not (eqb g f) && is_enabled a.state.regulating && option_map_or (λ q. is_below_wake accounts g q a.state.first_pick e) (next_request a.state) false
+
+-- it is so of one of the first n numbers
+unfoldable pub is_below_some_wake : List Account → ℕ → ℕ → ℕ → Bool
+is_below_some_wake accounts f e zero = false
+is_below_some_wake accounts f e (suc n) = is_below_wake_of accounts f e n || is_below_some_wake accounts f e n
+
+-- at least its own time and lookahead and every bar, and above them at most some other's wake
+abbrev pub may_enter : List Account → ℕ → ℕ → ℕ → Bool
+may_enter accounts f earliest e = let low = greatest (length accounts + 1) earliest (λ g. bar_of (account_at accounts g).state) in
+    leb low e && (leb e low || is_below_some_wake accounts f e (length accounts + 1))

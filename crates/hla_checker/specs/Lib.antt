@@ -8,3 +8,5 @@ pub mod Bounds
 pub mod Ticks
 -- What services and wires may answer, as tests of accounts
 pub mod Calls
+-- What services and callbacks do to the row of a federate
+pub mod RowChanges

@@ -99,6 +99,7 @@ impl Bag {
         requires { waiting_at self.old waiting.event.sender waiting.event.serial ≡ None }
         ensures ok { OnOk result (waiting_at self.new ≡ upd2 (waiting_at self.old) waiting.event.sender
             waiting.event.serial (Some waiting)) }
+        ensures apart { AreApart self.new }
         ensures err { IfErr result (λ e. e ≡ Fault.OutOfMemory) }
         ensures unchanged { OnErr result (self.new ≡ self.old) }
     {
@@ -110,7 +111,8 @@ impl Bag {
 
     /// The message that an event handle names waits no longer. It looks at each message.
     pub fn remove(&mut self, event: EventHandle)
-        ensures { waiting_at self.new ≡ upd2 (waiting_at self.old) event.sender event.serial None }
+        ensures table { waiting_at self.new ≡ upd2 (waiting_at self.old) event.sender event.serial None }
+        ensures apart { AreApart self.new }
     {
         self.waiting.retain(|waiting| {
             !(waiting.event.sender == event.sender && waiting.event.serial == event.serial)
@@ -120,7 +122,8 @@ impl Bag {
     /// These messages, as far as they were sent in time-stamp order, are to be given in receive order. It looks for each
     /// message at each of these.
     pub fn demote(&mut self, events: &[EventHandle])
-        ensures { waiting_at self.new ≡ with_listed_demoted events.now (waiting_at self.old) }
+        ensures table { waiting_at self.new ≡ with_listed_demoted events.now (waiting_at self.old) }
+        ensures apart { AreApart self.new }
     {
         for place in 0..self.waiting.len() {
             if is_listed(events, self.waiting[place].event) {
@@ -131,7 +134,8 @@ impl Bag {
 
     /// Nothing waits any more.
     pub fn clear(&mut self)
-        ensures { waiting_at self.new ≡ (λ _ _. None) }
+        ensures table { waiting_at self.new ≡ (λ _ _. None) }
+        ensures apart { AreApart self.new }
     {
         self.waiting.clear();
     }

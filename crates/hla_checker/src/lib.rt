@@ -6,9 +6,12 @@ mod accounts;
 mod bag;
 mod bounds;
 mod calls;
+mod changes;
 mod deliveries;
+mod row_change;
 mod ticks;
 
 pub use account::{Account, Offer};
 pub use accounts::Accounts;
 pub use bag::{Bag, Waiting};
+pub use row_change::RowChange;

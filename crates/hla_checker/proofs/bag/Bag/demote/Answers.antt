@@ -38,5 +38,8 @@ loop-place-preserved c =
           (ap (λ (i : Inside). i.waiting.items) w.self-inside-is ∙ set_read items place x (demoted_if c.args.events.now x) inside c.index.ensures (demoted_unlisted c.args.events.now x (sym c.is_listed.ensures ∙ w.if-is_listed.false)))
     ]
 
-pub returns : goal.returns
-returns c = rw (done c, ← c.self.view_is) (waiting_at-demote c.args.events.now c.self.inside.waiting.items)
+pub returns-clause-table : goal.returns-clause-table
+returns-clause-table c = rw (done c, ← c.self.view_is) (waiting_at-demote c.args.events.now c.self.inside.waiting.items)
+
+pub returns-clause-apart : goal.returns-clause-apart
+returns-clause-apart c = invariant_of-self c

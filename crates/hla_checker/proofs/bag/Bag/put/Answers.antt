@@ -14,3 +14,6 @@ returns-clause-ok c = elim c.match-push.branch [
   | in-Ok w ↦ rw (w.result-is, w.in-Ok.ensures.items, ← c.self.view_is) (waiting_at-push c.self.inside.waiting.items c.args.waiting (rw c.self.view_is c.requires))
   | in-Err w ↦ rw w.result-is tt
 ]
+
+pub returns-clause-apart : goal.returns-clause-apart
+returns-clause-apart c = invariant_of-self c

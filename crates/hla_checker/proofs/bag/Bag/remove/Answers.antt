@@ -11,5 +11,8 @@ kept c = filter_same _ _ _ (λ x b f' k. search rules) _ _ c.retain.ensures.filt
 pub invariant_of-self : goal.invariant_of-self
 invariant_of-self c = rw (kept c) (apart-remove c.self.inside.waiting.items c.args.event.sender c.args.event.serial c.self.invariant)
 
-pub returns : goal.returns
-returns c = rw (kept c, ← c.self.view_is) (waiting_at-remove c.self.inside.waiting.items c.args.event.sender c.args.event.serial)
+pub returns-clause-table : goal.returns-clause-table
+returns-clause-table c = rw (kept c, ← c.self.view_is) (waiting_at-remove c.self.inside.waiting.items c.args.event.sender c.args.event.serial)
+
+pub returns-clause-apart : goal.returns-clause-apart
+returns-clause-apart c = invariant_of-self c
