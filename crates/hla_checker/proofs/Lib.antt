@@ -10,3 +10,5 @@ pub mod TickLemmas
 pub mod CallLemmas
 -- The state that accounts stand for, after one account changed
 pub mod ChangeLemmas
+-- The greatest bar and the wakes, step by step
+pub mod EntryLemmas

@@ -57,7 +57,7 @@ impl Accounts {
 
     /// Whether a time, in ticks, is at most the wake of a federate in a next-event request: its first pick, or else the
     /// lesser of the asked time and the least stamp of what waits for it.
-    fn is_below_wake(
+    pub(crate) fn is_below_wake(
         &self,
         federate: FederateNo,
         request: AdvanceRequest,

@@ -8,6 +8,7 @@ mod bounds;
 mod calls;
 mod changes;
 mod deliveries;
+mod entries;
 mod row_change;
 mod ticks;
 
