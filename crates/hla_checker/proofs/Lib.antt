@@ -12,3 +12,5 @@ pub mod CallLemmas
 pub mod ChangeLemmas
 -- The greatest bar and the wakes, step by step
 pub mod EntryLemmas
+-- How often an event is in a list, after a change
+pub mod HandleLemmas

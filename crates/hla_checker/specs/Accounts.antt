@@ -1,5 +1,5 @@
 -- The central machine's state that accounts stand for
-use Rattle.std.specs.Prelude.{ℕ, zero, suc, ◌+◌, ◌≡◌, ◌≤◌, eqb, false, Option, Some, None, option_map, List, [], ◌∷◌, length, slice_index_or}
+use Rattle.std.specs.Prelude.{ℕ, zero, suc, ◌+◌, ◌≡◌, ◌≤◌, eqb, ◌&&◌, Bool, false, Option, Some, None, option_map, List, [], ◌∷◌, length, slice_index_or}
 use Rattle.std.specs.List.{filter_map}
 use Rattle.hla_base.specs.Limits.{max_joins}
 use Rattle.hla_base.specs.declared.number.EventHandle.{EventHandle}
@@ -43,6 +43,10 @@ account_at accounts (suc k) = slice_index_or accounts k no_account
 -- the discoveries of one federate's objects
 abbrev pub offers_from : ℕ → List Offer → List Discovery
 offers_from g offers = filter_map (λ (o : Offer). when (eqb o.from g) (Some o.discovery)) offers
+
+-- is it the event of this sender with this serial
+abbrev pub is_handle_of : ℕ → ℕ → EventHandle → Bool
+is_handle_of g m e = eqb e.sender g && eqb e.serial m
 
 -- how often an event is in a list
 unfoldable pub times_listed : List EventHandle → ℕ → ℕ → ℕ

@@ -1,7 +1,8 @@
 //! What is kept of one federate.
 
 use crate::bag::Bag;
-use hla_base::{Discovery, EventHandle, FederateNo, List, Serial};
+use crate::handles::Handles;
+use hla_base::{Discovery, FederateNo, List, Serial};
 use hla_retraction::Sent;
 use hla_time_roles::TimeState;
 
@@ -28,7 +29,7 @@ pub struct Account {
     /// The discoveries that it has not picked up, the oldest first.
     pub offers: List<Offer>,
     /// The events whose retraction is under way to it.
-    pub owed: List<EventHandle>,
+    pub owed: Handles,
     /// The events that it is to be asked to take back.
-    pub due: List<EventHandle>,
+    pub due: Handles,
 }

@@ -9,7 +9,7 @@ ghost use Rattle.hla_checker.specs.Calls.{may_bound, is_at_most_demoted, is_belo
 
 use crate::account::Offer;
 use crate::accounts::Accounts;
-use crate::bag::{Waiting, is_listed};
+use crate::bag::Waiting;
 use crate::bounds::ordered_stamp;
 use hla_base::{Content, EventHandle, FederateNo, ObjectNo, Ticks};
 use hla_callbacks::Delivery;
@@ -143,13 +143,10 @@ impl Accounts {
             Carried::Retraction { event } => match self.get(to) {
                 Some(account) => {
                     event.sender == from
-                        && is_listed(
-                            account.owed.as_slice(),
-                            EventHandle {
-                                sender: from,
-                                serial: event.serial,
-                            },
-                        )
+                        && account.owed.has(EventHandle {
+                            sender: from,
+                            serial: event.serial,
+                        })
                 }
                 None => false,
             },

@@ -9,10 +9,12 @@ mod calls;
 mod changes;
 mod deliveries;
 mod entries;
+mod handles;
 mod row_change;
 mod ticks;
 
 pub use account::{Account, Offer};
 pub use accounts::Accounts;
 pub use bag::{Bag, Waiting};
+pub use handles::Handles;
 pub use row_change::RowChange;
