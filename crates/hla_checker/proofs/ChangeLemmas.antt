@@ -1,5 +1,6 @@
 -- The state that accounts stand for, after one account changed
-use Rattle.std.proofs.Common.{◌≡◌, ◌≢◌, ℕ, zero, suc, ◌+◌, ◌-◌, ◌<◌, ◌≤◌, cond, eqb, ◌&&◌, Bool, true, false, List, length, get_or, set, Option, Some, None, option_map, refl, sym, ap, ◌∙◌, subst, ⊎_elim, arith, length-set, get_or-set_same, get_or-set_other}
+use mathlib.Core.Bool.{true≢false, false≢true}
+use Rattle.std.proofs.Common.{◌≡◌, ◌≢◌, ℕ, zero, suc, ◌+◌, ◌-◌, ◌<◌, ◌≤◌, cond, eqb, ◌&&◌, ◌||◌, not, Bool, true, false, List, [], ◌∷◌, length, get_or, set, Option, Some, None, option_map, refl, sym, ap, ◌∙◌, subst, ⊎_elim, arith, length-set, get_or-set_same, get_or-set_other}
 use Rattle.std.proofs.lemmas.Bool.{cases_Bool, cases_eq}
 use Rattle.std.proofs.lemmas.Bool.Decides.{nat_tests}
 use Rattle.std.proofs.lemmas.List.{get_or_default}
@@ -13,7 +14,9 @@ use Rattle.hla_callbacks.specs.declared.callback.Delivery.TheVariants.{Receive, 
 use Rattle.hla_base.proofs.Tables.{upd_each}
 use Rattle.hla_retraction.specs.SentRows.{sent_of}
 use Rattle.hla_machine.specs.Directory.{Directory}
-use Rattle.hla_machine.specs.Central.{Copy, at_key, is_key, demoted_copy}
+use Rattle.hla_machine.specs.Central.{Central, Copy, at_key, is_key, demoted_copy}
+use Rattle.hla_base.specs.Rows.{is_disabled}
+use Rattle.hla_machine.specs.Machine.{after_arrival}
 use Rattle.hla_machine.specs.Callbacks.{with_central_row, with_demoted}
 use Rattle.hla_machine.proofs.Bags.{bag_ext}
 use Rattle.hla_checker.specs.declared.account.Account.{Account}
@@ -217,3 +220,32 @@ none_demoted t events h n none = by (is_listed events h n)
     by : (b : Bool) → cond b (option_map demoted_waiting (t h n)) (t h n) ≡ None
     by true = ap (option_map demoted_waiting) none
     by false = none
+
+-- one message is demoted
+pub one_demoted : (bag : ℕ → ℕ → ℕ → Option Copy) (f : ℕ) (e : EventHandle) → with_demoted bag f (e ∷ []) ≡ at_key bag e.sender e.serial f (option_map demoted_copy (bag e.sender e.serial f))
+unfolding with_demoted at_key
+one_demoted bag f e = bag_ext _ _ at
+  where
+    at : (h n k : ℕ) → cond (eqb f k && ((eqb h e.sender && eqb n e.serial) || false)) (option_map demoted_copy (bag h n k)) (bag h n k) ≡ cond (is_key e.sender e.serial h n && eqb f k) (option_map demoted_copy (bag e.sender e.serial f)) (bag h n k)
+    at h n k = by (eqb f k) (eqb h e.sender) (eqb n e.serial) (eqb e.sender h) (eqb e.serial n) (grind (arith, nat_tests)) (grind (arith, nat_tests)) (λ y. grind (arith, nat_tests)) (λ y. grind (arith, nat_tests)) (λ y. grind (arith, nat_tests))
+      where
+        by : (a b c x y : Bool) → x ≡ b → y ≡ c → (a ≡ true → f ≡ k) → (x ≡ true → e.sender ≡ h) → (y ≡ true → e.serial ≡ n) →
+            cond (a && ((b && c) || false)) (option_map demoted_copy (bag h n k)) (bag h n k) ≡ cond ((x && y) && a) (option_map demoted_copy (bag e.sender e.serial f)) (bag h n k)
+        by true true true true true u v i j l = λ t. option_map demoted_copy (bag (sym (j refl) t) (sym (l refl) t) (sym (i refl) t))
+        by false b c true true u v i j l = refl
+        by false b c true false u v i j l = refl
+        by false b c false y u v i j l = refl
+        by true false c false y u v i j l = refl
+        by true true false true false u v i j l = refl
+        by true false c true y u v i j l = absurd (true≢false u)
+        by true true c false y u v i j l = absurd (false≢true u)
+        by true true true true false u v i j l = absurd (false≢true v)
+        by true true false true true u v i j l = absurd (true≢false v)
+
+-- what arrives where order is not kept is demoted
+pub arrived : (c : Central) (f : ℕ) (e : EventHandle) → not (is_disabled (c.row f).constrained) ≡ false → record c { bag = with_demoted c.bag f (e ∷ []) } ≡ after_arrival c e.sender f e.serial
+arrived c f e loose = ap (λ (b : ℕ → ℕ → ℕ → Option Copy). record c { bag = b }) (one_demoted c.bag f e ∙ by (is_disabled (c.row f).constrained) loose)
+  where
+    by : (b : Bool) → not b ≡ false → at_key c.bag e.sender e.serial f (option_map demoted_copy (c.bag e.sender e.serial f)) ≡ cond b (at_key c.bag e.sender e.serial f (option_map demoted_copy (c.bag e.sender e.serial f))) c.bag
+    by true l = refl
+    by false l = absurd (true≢false l)

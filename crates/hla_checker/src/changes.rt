@@ -1,8 +1,10 @@
 //! What changes of one account do to the state that accounts stand for.
 
-ghost use Rattle.std.specs.Prelude.{◌≡◌, ◌<◌, ◌≤◌, None, length};
+ghost use Rattle.std.specs.Prelude.{◌≡◌, ◌<◌, ◌≤◌, None, length, not};
 ghost use Rattle.hla_machine.specs.Directory.{Directory};
+ghost use Rattle.hla_base.specs.Rows.{is_disabled};
 ghost use Rattle.hla_machine.specs.Central.{at_key};
+ghost use Rattle.hla_machine.specs.Machine.{after_arrival};
 ghost use Rattle.hla_machine.specs.Callbacks.{with_central_row, with_demoted};
 ghost use Rattle.hla_checker.specs.Accounts.{account_at, central_with};
 ghost use Rattle.hla_checker.specs.RowChanges.{changed_row, MayChangeRow};
@@ -43,5 +45,27 @@ impl Accounts {
         } }
     {
         self.accounts[federate as usize - 1].bag.demote(events);
+    }
+
+    /// Whether what arrives for a federate in time-stamp order is kept in that order.
+    fn is_order_kept(&self, federate: FederateNo) -> bool
+        ensures { result ≡ not (is_disabled (account_at self.now federate).state.constrained) }
+    {
+        match self.get(federate) {
+            Some(account) => account.state.is_order_kept(),
+            None => false,
+        }
+    }
+
+    /// A message arrives for a federate. While the federate is not constrained it is to be given in receive order.
+    pub fn arrive(&mut self, federate: FederateNo, event: EventHandle)
+        requires some { 0 < federate }
+        requires within { federate ≤ length self.old }
+        ensures { (d : Directory) → central_with d self.new ≡ after_arrival (central_with d self.old)
+            event.sender federate event.serial }
+    {
+        if !self.is_order_kept(federate) {
+            self.demote(federate, &[event]);
+        }
     }
 }
