@@ -22,7 +22,7 @@ use Rattle.hla_checker.specs.declared.account.Account.{Account}
 use Rattle.hla_checker.specs.declared.bag.Waiting.{Waiting}
 use Rattle.hla_checker.specs.Bags.{is_of, waiting_at, AreApart}
 use Rattle.hla_checker.specs.Accounts.{AreKept, no_account, account_at, copy_of, copy_given, copy_at, central_with}
-use Rattle.hla_checker.specs.Bounds.{is_retracted, ordered_stamp, is_at_most_waiting, is_below_all_tso, is_below_wake, is_below_request, is_below_out, leaves_below, all_leave, is_below_bound, is_reached}
+use Rattle.hla_checker.specs.Bounds.{is_retracted, ordered_stamp, is_at_most_waiting, is_below_all_tso, is_below_wake, is_below_request, is_below_out, leaves_below, all_leave, is_below_bound, has_reached}
 use Rattle.hla_checker.proofs.BagLemmas.{waiting_at-nil, waiting_at-cons, key_of}
 
 -- ---- what holds of each copy
@@ -183,7 +183,7 @@ module _ (d : Directory) (accounts : List Account) where
       (λ bound. (λ g less. (leaves_below_decided f v g (kept.apart g)).1 (bound.1 g), bound.0))
       (Decides-and (all_leave accounts f v n) (leb v forever) (all_leave_decided accounts f v n) (Decides-leb v forever))
 
-  pub reached_decided : AreKept accounts → (f : ℕ) (kind : AdvanceKind) (t : ℕ) → Decides (is_reached accounts f kind t) (Reached (central_with d accounts) f kind t)
+  pub reached_decided : AreKept accounts → (f : ℕ) (kind : AdvanceKind) (t : ℕ) → Decides (has_reached accounts f kind t) (Reached (central_with d accounts) f kind t)
   reached_decided kept f kind t = Decides-and (is_below_bound accounts f (reach kind t)) (is_below_all_tso accounts f (reach kind t)) (below_bound_decided kept f (reach kind t)) (below_all_tso_decided f (reach kind t) (kept.apart f))
 
 -- one number more is visited

@@ -1,5 +1,6 @@
 -- Tests of accounts decide what services and wires may answer
-use Rattle.std.proofs.Common.{◌≡◌, ◌≢◌, ◌⊎◌, ℕ, zero, suc, ◌+◌, ◌<◌, ◌≤◌, eqb, leb, ◌&&◌, ◌||◌, not, Bool, true, false, List, [], ◌∷◌, length, get_or, Option, Some, None, option_map, refl, sym, ap, ◌∙◌, subst, inl, inr, ⊎_elim, arith}
+use Rattle.std.proofs.lemmas.List.{drop_more, take_rest}
+use Rattle.std.proofs.Common.{◌-◌, take, drop, ◌≡◌, ◌≢◌, ◌⊎◌, ℕ, zero, suc, ◌+◌, ◌<◌, ◌≤◌, eqb, leb, ◌&&◌, ◌||◌, not, Bool, true, false, List, [], ◌∷◌, length, get_or, Option, Some, None, option_map, refl, sym, ap, ◌∙◌, subst, inl, inr, ⊎_elim, arith}
 use Rattle.std.proofs.lemmas.Bool.{cases_lt}
 use mathlib.Core.Bool.{false≢true, true≢false}
 use Rattle.std.specs.Bool.{Decides}
@@ -228,3 +229,15 @@ module _ (d : Directory) (accounts : List Account) (kept : AreKept accounts) whe
           (λ (in' : g < length accounts + 1). in')
           (λ (past : length accounts + 1 ≤ g). absurd (nobody (account_at accounts g) (account_at-past accounts g (omega arith)) joined))
           (cases_lt g (length accounts + 1))
+
+-- ---- distinct events, one after another
+distinct_at : (events : List EventHandle) (i : ℕ) (d : EventHandle) → i < length events → are_distinct (drop i events) ≡ (not (is_listed (take (length events - (i + 1)) (drop (i + 1) events)) (get_or events i d).sender (get_or events i d).serial) && are_distinct (drop (i + 1) events))
+distinct_at events i d within = ap are_distinct (drop_more events i d within) ∙ ap (λ rest. not (is_listed rest (get_or events i d).sender (get_or events i d).serial) && are_distinct (drop (i + 1) events)) (sym (take_rest events (i + 1)))
+
+-- where this one is not among those that follow, the rest decides
+pub distinct_rest : (events : List EventHandle) (i : ℕ) (d : EventHandle) → i < length events → is_listed (take (length events - (i + 1)) (drop (i + 1) events)) (get_or events i d).sender (get_or events i d).serial ≡ false → are_distinct (drop i events) ≡ are_distinct (drop (i + 1) events)
+distinct_rest events i d within alone = distinct_at events i d within ∙ ap (λ b. not b && are_distinct (drop (i + 1) events)) alone
+
+-- where it is, they are not distinct
+pub distinct_broken : (events : List EventHandle) (i : ℕ) (d : EventHandle) → i < length events → is_listed (take (length events - (i + 1)) (drop (i + 1) events)) (get_or events i d).sender (get_or events i d).serial ≡ true → are_distinct (drop i events) ≡ false
+distinct_broken events i d within twice = distinct_at events i d within ∙ ap (λ b. not b && are_distinct (drop (i + 1) events)) twice

@@ -26,7 +26,7 @@ use Rattle.hla_checker.specs.declared.account.Offer.{Offer}
 use Rattle.hla_checker.specs.declared.bag.Waiting.{Waiting}
 use Rattle.hla_checker.specs.Bags.{waiting_at, is_listed}
 use Rattle.hla_checker.specs.Accounts.{account_at, offers_from, copy_of, copy_given, copy_at, central_with, AreKept}
-use Rattle.hla_checker.specs.Bounds.{is_retracted, ordered_stamp, is_below_all_tso, is_below_bound, is_reached}
+use Rattle.hla_checker.specs.Bounds.{is_retracted, ordered_stamp, is_below_all_tso, is_below_bound, has_reached}
 use Rattle.hla_checker.specs.Ticks.{is_flush_granted, is_granted_as, may_grant, may_receive, is_sent_in_receive_order, is_not_earlier, is_first_ro, is_at_first_pick, is_key_le, is_not_before, is_least_key, may_pick, may_pick_as, may_pick_now, has_no_offer, is_discovered, may_deliver, is_moved_below, is_among_if_below, are_below, may_constrain}
 use Rattle.hla_checker.proofs.BoundLemmas.{each_decided, Decides-leb, below_all_tso_decided, below_bound_decided, reached_decided}
 
@@ -175,7 +175,7 @@ module _ (d : Directory) (accounts : List Account) (kept : AreKept accounts) whe
   granted_as_decided : (con flush : Bool) (f : ℕ) (q : AdvanceRequest) (t : ℕ) → Decides (is_granted_as con flush accounts f q t) (MayGrantAs con flush (central_with d accounts) f q t)
   granted_as_decided false flush f q t = Decides-eqb t q.asked
   granted_as_decided true true f q t = flush_granted_decided f q t
-  granted_as_decided true false f q t = Decides-and (eqb t (grant_time (account_at accounts f).state q)) (is_reached accounts f q.kind t) (Decides-eqb t (grant_time (account_at accounts f).state q)) (reached_decided d accounts kept f q.kind t)
+  granted_as_decided true false f q t = Decides-and (eqb t (grant_time (account_at accounts f).state q)) (has_reached accounts f q.kind t) (Decides-eqb t (grant_time (account_at accounts f).state q)) (reached_decided d accounts kept f q.kind t)
 
   -- the test is of the grant
   pub may_grant_decided : (f t : ℕ) → Decides (may_grant accounts f t) (WhileAdvancing ((central_with d accounts).row f) (MayGrant (central_with d accounts) f t))

@@ -64,5 +64,5 @@ abbrev pub is_below_bound : List Account → ℕ → ℕ → Bool
 is_below_bound accounts f v = all_leave accounts f v (length accounts + 1) && leb v forever
 
 -- nothing can come to f any more, and nothing waits for it, before the reach of t
-abbrev pub is_reached : List Account → ℕ → AdvanceKind → ℕ → Bool
-is_reached accounts f kind t = is_below_bound accounts f (reach kind t) && is_below_all_tso accounts f (reach kind t)
+abbrev pub has_reached : List Account → ℕ → AdvanceKind → ℕ → Bool
+has_reached accounts f kind t = is_below_bound accounts f (reach kind t) && is_below_all_tso accounts f (reach kind t)

@@ -15,7 +15,7 @@ use Rattle.hla_checker.specs.declared.account.Offer.{Offer}
 use Rattle.hla_checker.specs.declared.bag.Waiting.{Waiting}
 use Rattle.hla_checker.specs.Bags.{waiting_at, is_listed}
 use Rattle.hla_checker.specs.Accounts.{account_at}
-use Rattle.hla_checker.specs.Bounds.{is_retracted, ordered_stamp, is_below_all_tso, is_below_bound, is_reached}
+use Rattle.hla_checker.specs.Bounds.{is_retracted, ordered_stamp, is_below_all_tso, is_below_bound, has_reached}
 
 -- ---- grants
 -- a flush is granted a time that nothing picked up or waiting is below
@@ -27,7 +27,7 @@ is_flush_granted accounts f q t = let r = (account_at accounts f).state in
 abbrev pub is_granted_as : Bool → Bool → List Account → ℕ → AdvanceRequest → ℕ → Bool
 is_granted_as false flush accounts f q t = eqb t q.asked
 is_granted_as true true accounts f q t = is_flush_granted accounts f q t
-is_granted_as true false accounts f q t = eqb t (grant_time (account_at accounts f).state q) && is_reached accounts f q.kind t
+is_granted_as true false accounts f q t = eqb t (grant_time (account_at accounts f).state q) && has_reached accounts f q.kind t
 
 -- f may be granted t
 abbrev pub may_grant : List Account → ℕ → ℕ → Bool

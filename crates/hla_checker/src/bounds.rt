@@ -4,7 +4,7 @@ ghost use Rattle.std.specs.Prelude.{◌≡◌, ◌≤◌};
 ghost use Rattle.hla_base.specs.Limits.{max_time};
 ghost use Rattle.hla_base.specs.Rows.{reach};
 ghost use Rattle.hla_checker.specs.Accounts.{account_at};
-ghost use Rattle.hla_checker.specs.Bounds.{is_at_most_waiting, is_below_all_tso, is_below_wake, is_below_request, is_below_out, ordered_stamp, leaves_below, is_below_bound, is_reached};
+ghost use Rattle.hla_checker.specs.Bounds.{is_at_most_waiting, is_below_all_tso, is_below_wake, is_below_request, is_below_out, ordered_stamp, leaves_below, is_below_bound, has_reached};
 
 use crate::accounts::Accounts;
 use crate::bag::Waiting;
@@ -113,9 +113,9 @@ impl Accounts {
 
     /// Whether nothing can come to a federate any more, and nothing waits for it, before a time, in ticks, or for a strict
     /// request at it.
-    pub fn is_reached(&self, federate: FederateNo, kind: AdvanceKind, time: Ticks) -> bool
+    pub fn has_reached(&self, federate: FederateNo, kind: AdvanceKind, time: Ticks) -> bool
         requires { time ≤ max_time }
-        ensures { result ≡ is_reached self.now federate kind time }
+        ensures { result ≡ has_reached self.now federate kind time }
     {
         let reach = reach(kind, time);
         self.is_below_bound(federate, reach) && self.is_below_all_tso(federate, reach)

@@ -5,11 +5,11 @@ ghost use Rattle.hla_machine.specs.Machine.{is_removal};
 ghost use Rattle.hla_checker.specs.Accounts.{account_at};
 ghost use Rattle.hla_checker.specs.Bags.{waiting_at};
 ghost use Rattle.hla_checker.specs.Bounds.{demoted_stamp};
-ghost use Rattle.hla_checker.specs.Calls.{may_bound, is_at_most_demoted, is_below_all_demoted, may_be_next, waits_in_order, may_cease, is_carried, is_offered, may_carry, may_announce};
+ghost use Rattle.hla_checker.specs.Calls.{may_bound, is_at_most_demoted, is_below_all_demoted, may_be_next, waits_in_order, may_cease, are_distinct, is_carried, is_offered, may_carry, may_announce};
 
 use crate::account::Offer;
 use crate::accounts::Accounts;
-use crate::bag::Waiting;
+use crate::bag::{Waiting, is_listed};
 use crate::bounds::ordered_stamp;
 use hla_base::{Content, EventHandle, FederateNo, ObjectNo, Ticks};
 use hla_callbacks::Delivery;
@@ -37,6 +37,18 @@ fn is_offered(offers: &[Offer], from: FederateNo, object: ObjectNo) -> bool
     ensures { result ≡ is_offered offers.now from object }
 {
     offers.iter().any(|offer| offer.from == from && offer.discovery.object == object)
+}
+
+/// Whether no event is there twice. It compares each with each that follows.
+pub fn are_distinct(events: &[EventHandle]) -> bool
+    ensures { result ≡ are_distinct events.now }
+{
+    for place in 0..events.len() {
+        if is_listed(&events[place + 1..], events[place]) {
+            return false;
+        }
+    }
+    true
 }
 
 impl Accounts {

@@ -124,7 +124,7 @@ impl Accounts {
         if request.kind.is_flush() {
             return self.is_flush_granted(federate, row, request, time);
         }
-        time == grant_time(row, request) && self.is_reached(federate, request.kind, time)
+        time == grant_time(row, request) && self.has_reached(federate, request.kind, time)
     }
 
     /// Whether a federate may be granted a time, in ticks (Time Advance Grant). It looks at all that waits for the federate,
