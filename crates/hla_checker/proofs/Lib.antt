@@ -14,3 +14,5 @@ pub mod ChangeLemmas
 pub mod EntryLemmas
 -- How often an event is in a list, after a change
 pub mod HandleLemmas
+-- The next discovery of one federate's objects
+pub mod OfferLemmas

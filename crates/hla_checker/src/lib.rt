@@ -10,6 +10,7 @@ mod changes;
 mod deliveries;
 mod entries;
 mod handles;
+mod offers;
 mod row_change;
 mod ticks;
 
