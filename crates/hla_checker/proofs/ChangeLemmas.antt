@@ -1,6 +1,6 @@
 -- The state that accounts stand for, after one account changed
 use mathlib.Core.Bool.{true≢false, false≢true}
-use Rattle.std.proofs.Common.{◌≡◌, ◌≢◌, ℕ, zero, suc, ◌+◌, ◌-◌, ◌<◌, ◌≤◌, cond, eqb, ◌&&◌, ◌||◌, not, Bool, true, false, List, [], ◌∷◌, length, get_or, set, Option, Some, None, option_map, refl, sym, ap, ◌∙◌, subst, ⊎_elim, arith, length-set, get_or-set_same, get_or-set_other}
+use Rattle.std.proofs.Common.{eqb-true, ◌≡◌, ◌≢◌, ℕ, zero, suc, ◌+◌, ◌-◌, ◌<◌, ◌≤◌, cond, eqb, ◌&&◌, ◌||◌, not, Bool, true, false, List, [], ◌∷◌, length, get_or, set, Option, Some, None, option_map, refl, sym, ap, ◌∙◌, subst, ⊎_elim, arith, length-set, get_or-set_same, get_or-set_other}
 use Rattle.std.proofs.lemmas.Bool.{cases_Bool, cases_eq}
 use Rattle.std.proofs.lemmas.Bool.Decides.{nat_tests}
 use Rattle.std.proofs.lemmas.List.{get_or_default}
@@ -14,11 +14,11 @@ use Rattle.hla_callbacks.specs.declared.callback.Delivery.TheVariants.{Receive, 
 use Rattle.hla_base.proofs.Tables.{upd_each}
 use Rattle.hla_retraction.specs.SentRows.{sent_of}
 use Rattle.hla_machine.specs.Directory.{Directory}
-use Rattle.hla_machine.specs.Central.{Central, Copy, at_key, is_key, demoted_copy}
+use Rattle.hla_machine.specs.Central.{Central, Copy, at_key, at3, is_key, demoted_copy}
 use Rattle.hla_base.specs.Rows.{is_disabled}
 use Rattle.hla_machine.specs.Machine.{after_arrival}
 use Rattle.hla_machine.specs.Callbacks.{with_central_row, with_demoted}
-use Rattle.hla_machine.proofs.Bags.{bag_ext}
+use Rattle.hla_machine.proofs.Bags.{bag_ext, key_parts}
 use Rattle.hla_checker.specs.declared.account.Account.{Account}
 use Rattle.hla_checker.specs.declared.bag.Waiting.{Waiting}
 use Rattle.hla_checker.specs.Bags.{waiting_at, AreApart, is_listed, demoted_delivery, demoted_waiting, with_listed_demoted}
@@ -204,6 +204,51 @@ module _ (d : Directory) (accounts : List Account) (f : ℕ) (some : 0 < f) (wit
           (λ (y : eqb f k ≡ true). let e : f ≡ k = grind (arith, nat_tests) in rw (y, here h n) (ap (λ j. cond (is_listed events h n) (option_map demoted_copy (copy_at (account_at accounts j).bag h n)) (copy_at (account_at accounts j).bag h n)) e))
           (λ (n' : eqb f k ≡ false). rw n' refl)
           (cases_Bool (eqb f k))
+
+module _ (d : Directory) (accounts : List Account) (f : ℕ) (some : 0 < f) (within : f ≤ length accounts) where
+  -- only what is due changes
+  due_changed : (es : List EventHandle) → central_with d (set accounts (f - 1) (record (account_at accounts f) { due = es })) ≡ record (central_with d accounts) { due = λ g m. upd ((central_with d accounts).due g m) f (times_listed es g m) }
+  due_changed es =
+      let a : Account = record (account_at accounts f) { due = es } in
+      λ i. record {
+        directory = record d {
+          next_federate = length-set accounts (f - 1) a i + 1;
+          joined = field_same accounts f some within a (λ x. x.is_joined) refl i;
+          name = field_same accounts f some within a (λ x. x.name) refl i;
+        };
+        row = field_same accounts f some within a (λ x. x.state) refl i;
+        serial = field_same accounts f some within a (λ x. x.next_serial) refl i;
+        bag = λ g m. field_same accounts f some within a (λ x. copy_at x.bag g m) refl i;
+        discoveries = λ g. field_same accounts f some within a (λ x. offers_from g x.offers) refl i;
+        sent = field_same accounts f some within a (λ x. sent_of x.sent) refl i;
+        owed = λ g m. field_same accounts f some within a (λ x. times_listed x.owed g m) refl i;
+        due = λ g m. field accounts f some within a (λ x. times_listed x.due g m) i;
+      }
+
+  -- one request less
+  pub due_set : (x : Account) (es : List EventHandle) (g m : ℕ) → x ≡ account_at accounts f → ((h n : ℕ) → times_listed es h n ≡ cond (is_key g m h n) (times_listed x.due h n - 1) (times_listed x.due h n)) →
+      central_with d (set accounts (f - 1) (record x { due = es })) ≡ record (central_with d accounts) { due = at3 (central_with d accounts).due g m f ((central_with d accounts).due g m f - 1) }
+  unfolding upd at3
+  due_set x es g m is less =
+      ap (λ (a : Account). central_with d (set accounts (f - 1) (record a { due = es }))) is
+      ∙ due_changed es
+      ∙ ap (λ (t : ℕ → ℕ → ℕ → ℕ). record (central_with d accounts) { due = t }) (fun_ext (λ h. fun_ext (λ n. fun_ext (λ k. at h n k))))
+    where
+      here : (h n : ℕ) → times_listed es h n ≡ cond (is_key g m h n) (times_listed (account_at accounts f).due h n - 1) (times_listed (account_at accounts f).due h n)
+      here h n = less h n ∙ ap (λ (a : Account). cond (is_key g m h n) (times_listed a.due h n - 1) (times_listed a.due h n)) is
+
+      at : (h n k : ℕ) → cond (eqb f k) (times_listed es h n) (times_listed (account_at accounts k).due h n) ≡ cond (is_key g m h n && eqb f k) (times_listed (account_at accounts f).due g m - 1) (times_listed (account_at accounts k).due h n)
+      at h n k = by (eqb f k) (is_key g m h n) refl refl
+        where
+          by : (b c : Bool) → eqb f k ≡ b → is_key g m h n ≡ c → cond b (times_listed es h n) (times_listed (account_at accounts k).due h n) ≡ cond (c && b) (times_listed (account_at accounts f).due g m - 1) (times_listed (account_at accounts k).due h n)
+          by false true y z = refl
+          by false false y z = refl
+          by true true y z = let p = key_parts g m h n z in here h n ∙ rw z (λ i. times_listed (account_at accounts f).due (sym p.0 i) (sym p.1 i) - 1)
+          by true false y z = let e : f ≡ k = eqb-true f k y in here h n ∙ rw z (ap (λ j. times_listed (account_at accounts j).due h n) e)
+
+pub due_kept : (accounts : List Account) (f : ℕ) → 0 < f → f ≤ length accounts → AreKept accounts → (x : Account) (es : List EventHandle) → x ≡ account_at accounts f → AreKept (set accounts (f - 1) (record x { due = es }))
+due_kept accounts f some within kept x es is = subst (λ (a : Account). AreKept (set accounts (f - 1) (record a { due = es }))) (sym is)
+    (kept_changed accounts f some within kept (record (account_at accounts f) { due = es }) refl refl (kept.apart f) (λ g m none. none))
 
 -- what was not there is not there where one less is
 pub none_stays : (t : ℕ → ℕ → Option Waiting) (g m h n : ℕ) → t h n ≡ None → upd2 t g m None h n ≡ None

@@ -1,9 +1,9 @@
 //! What changes of one account do to the state that accounts stand for.
 
-ghost use Rattle.std.specs.Prelude.{◌≡◌, ◌<◌, ◌≤◌, None, length, not};
+ghost use Rattle.std.specs.Prelude.{◌≡◌, ◌<◌, ◌≤◌, ◌-◌, None, length, not};
 ghost use Rattle.hla_machine.specs.Directory.{Directory};
 ghost use Rattle.hla_base.specs.Rows.{is_disabled};
-ghost use Rattle.hla_machine.specs.Central.{at_key};
+ghost use Rattle.hla_machine.specs.Central.{at_key, at3};
 ghost use Rattle.hla_machine.specs.Machine.{after_arrival};
 ghost use Rattle.hla_machine.specs.Callbacks.{with_central_row, with_demoted};
 ghost use Rattle.hla_checker.specs.Accounts.{account_at, central_with};
@@ -67,5 +67,16 @@ impl Accounts {
         if !self.is_order_kept(federate) {
             self.demote(federate, &[event]);
         }
+    }
+
+    /// A federate has been asked to take an event back. It looks at all requests that are due to it.
+    pub fn take_due(&mut self, federate: FederateNo, event: EventHandle)
+        requires some { 0 < federate }
+        requires within { federate ≤ length self.old }
+        ensures { (d : Directory) → let c = central_with d self.old in central_with d self.new ≡ record c {
+          due = at3 c.due event.sender event.serial federate (c.due event.sender event.serial federate - 1);
+        } }
+    {
+        self.accounts[federate as usize - 1].due.remove(event);
     }
 }
