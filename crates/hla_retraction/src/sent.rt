@@ -106,6 +106,17 @@ impl Sent {
         }
     }
 
+    /// Whether the message with this serial was retracted; none was where the table has no such message. The time grows
+    /// with the logarithm of the messages.
+    pub fn is_retracted(&self, serial: Serial) -> bool
+        ensures { result ≡ (sent_of self.now serial).retracted }
+    {
+        match self.row(serial) {
+            Some(row) => row.retracted,
+            None => false,
+        }
+    }
+
     /// The message with this serial is retracted from now on (HLA 1.3, Retract); the others are as before. It takes no
     /// memory, and time that grows with the logarithm of the messages.
     pub fn retract(&mut self, serial: Serial)

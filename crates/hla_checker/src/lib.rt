@@ -1,0 +1,21 @@
+//! An independent checker of recorded runs: it knows the central machine alone, and no components, wires or epochs.
+#![tactic(auto)]
+
+mod account;
+mod accounts;
+mod bag;
+mod bounds;
+mod calls;
+mod changes;
+mod deliveries;
+mod entries;
+mod handles;
+mod offers;
+mod row_change;
+mod ticks;
+
+pub use account::{Account, Offer};
+pub use accounts::Accounts;
+pub use bag::{Bag, Waiting};
+pub use handles::Handles;
+pub use row_change::RowChange;
