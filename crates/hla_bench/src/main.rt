@@ -61,7 +61,7 @@ fn small(words: &mut Args) -> Option<u32> {
 }
 
 /// What the words of the command line ask for, if they ask for anything.
-fn benchmark(words: &mut Args) -> Option<Benchmark> {
+fn asked_for(words: &mut Args) -> Option<Benchmark> {
     let _program = words.next()?;
     let asked = words.next()?;
     let found = match asked.as_str() {
@@ -109,13 +109,15 @@ fn counts_of(alloc: Global, asked: Benchmark) -> Result<Counts, Fault> {
     }
 }
 
-/// Prints how long a benchmark took, and how often a second each of its counts grew.
+/// Prints how long a benchmark took, and by how much each of its counts grew in a second.
 fn print_rates<R: Runtime>(rt: &R, counts: &Counts, took: Duration) -> io::Result<()> {
     let micros = took.as_micros();
     eprintln!(rt; "microseconds {micros}")?;
     for (name, count) in &counts.all() {
-        let rate = u128::from(*count) * 1_000_000 / micros.max(1);
-        eprintln!(rt; "{name} per second {rate}")?;
+        if *count > 0 {
+            let rate = u128::from(*count) * 1_000_000 / micros.max(1);
+            eprintln!(rt; "{name} per second {rate}")?;
+        }
     }
     Ok(())
 }
@@ -123,7 +125,7 @@ fn print_rates<R: Runtime>(rt: &R, counts: &Counts, took: Duration) -> io::Resul
 /// Runs a benchmark, and prints its counts and times; the status.
 fn run<R: Runtime + AllocGlobal>(rt: &R) -> io::Result<u8> {
     let mut words = env::args(rt)?;
-    let Some(asked) = benchmark(&mut words) else {
+    let Some(asked) = asked_for(&mut words) else {
         eprintln!(rt; "{USAGE}")?;
         return Ok(2);
     };
@@ -137,7 +139,9 @@ fn run<R: Runtime + AllocGlobal>(rt: &R) -> io::Result<u8> {
     };
     let took = start.elapsed(rt)?;
     for (name, count) in &counts.all() {
-        println!(rt; "{name} {count}")?;
+        if *count > 0 {
+            println!(rt; "{name} {count}")?;
+        }
     }
     print_rates(rt, &counts, took)?;
     Ok(0)

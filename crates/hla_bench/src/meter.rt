@@ -16,6 +16,24 @@ pub struct Meter {
     pub counts: Counts,
 }
 
+/// What a step brought, as far as it is counted.
+#[derive(Clone, Copy, Debug)]
+enum Brought {
+    Nothing,
+    Message,
+    Grant(Ticks),
+    Other,
+}
+
+fn brought_by(answer: &Answer) -> Brought {
+    match answer {
+        Answer::Ticked(Some(Callback::ReceiveInteraction { .. })) => Brought::Message,
+        Answer::Ticked(Some(Callback::TimeAdvanceGrant { time })) => Brought::Grant(*time),
+        Answer::Ticked(None) | Answer::Carried(Carried::Nothing) => Brought::Nothing,
+        _ => Brought::Other,
+    }
+}
+
 /// What ticks brought a federate until they brought a grant or nothing.
 #[derive(Clone, Copy, Debug)]
 pub struct Visit {
@@ -32,23 +50,25 @@ impl Meter {
         }
     }
 
-    fn step(&mut self, step: &Step) -> Result<Answer, Fault> {
-        let answer = self.federation.step(step)?;
+    fn step(&mut self, step: &Step) -> Result<Brought, Fault> {
         self.counts.steps = self.counts.steps.wrapping_add(1);
-        Ok(answer)
+        match self.federation.step(step) {
+            Ok(answer) => Ok(brought_by(&answer)),
+            Err(fault) => Err(fault),
+        }
     }
 
     /// A joined federate calls a service.
     pub fn call(&mut self, federate: FederateNo, service: Service) -> Result<(), Fault> {
-        let _answer = self.step(&Step::Call { federate, service })?;
+        let _brought = self.step(&Step::Call { federate, service })?;
         Ok(())
     }
 
     /// A federate joins, under the letter that has its number.
     pub fn join(&mut self, federate: FederateNo) -> Result<(), Fault> {
         let mut name = List::new(self.alloc);
-        name.push(b'@'.wrapping_add(federate as u8))?;
-        let _answer = self.step(&Step::Join { name })?;
+        name.push(b'@'.wrapping_add(federate.to_le_bytes()[0]))?;
+        let _brought = self.step(&Step::Join { name })?;
         Ok(())
     }
 
@@ -90,16 +110,15 @@ impl Meter {
 
     /// A federate announces its promise.
     pub fn announce(&mut self, federate: FederateNo) -> Result<(), Fault> {
-        let _answer = self.step(&Step::Announce { federate })?;
+        let _brought = self.step(&Step::Announce { federate })?;
         Ok(())
     }
 
     /// Carries a wire until it is empty.
     fn carry(&mut self, from: FederateNo, to: FederateNo) -> Result<(), Fault> {
         for _ in 0..u64::MAX {
-            match self.step(&Step::Carry { from, to })? {
-                Answer::Carried(Carried::Nothing) => return Ok(()),
-                _ => {}
+            if matches!(self.step(&Step::Carry { from, to })?, Brought::Nothing) {
+                return Ok(());
             }
         }
         Ok(())
@@ -120,24 +139,19 @@ impl Meter {
         let mut received = 0u64;
         for _ in 0..u64::MAX {
             match self.step(&Step::Tick { federate })? {
-                Answer::Ticked(Some(Callback::ReceiveInteraction { .. })) => {
-                    received = received.wrapping_add(1);
-                    self.counts.received = self.counts.received.wrapping_add(1);
-                }
-                Answer::Ticked(Some(Callback::TimeAdvanceGrant { time })) => {
-                    self.counts.grants = self.counts.grants.wrapping_add(1);
-                    return Ok(Visit {
-                        received,
-                        grant: Some(time),
-                    });
-                }
-                Answer::Ticked(Some(_)) => {}
-                _ => break,
+                Brought::Message => received = received.wrapping_add(1),
+                Brought::Grant(time) => return Ok(self.visited(received, Some(time))),
+                Brought::Nothing => break,
+                Brought::Other => {}
             }
         }
-        Ok(Visit {
-            received,
-            grant: None,
-        })
+        Ok(self.visited(received, None))
+    }
+
+    /// Counts what a visit brought.
+    fn visited(&mut self, received: u64, grant: Option<Ticks>) -> Visit {
+        self.counts.received = self.counts.received.wrapping_add(received);
+        self.counts.grants = self.counts.grants.wrapping_add(u64::from(grant.is_some()));
+        Visit { received, grant }
     }
 }
