@@ -6,6 +6,7 @@ use Rattle.hla_callbacks.specs.declared.callback.Callback.{Callback}
 use Rattle.hla_fed_file.specs.CatalogueValue.{CatalogueValue}
 use Rattle.hla_fed_file.specs.Reading.{reading_of}
 use Rattle.hla_machine.specs.Runs.{create_fault, destroy_fault}
+use Rattle.hla_machine.specs.declared.step.Answer.TheVariants as answer
 use Rattle.hla_machine.specs.declared.step.Outcome.{Outcome}
 use Rattle.hla_machine.specs.declared.step.Outcome.TheVariants as outcome
 use Rattle.hla_components.specs.CentralOf.{central}
@@ -29,6 +30,13 @@ abbrev pub is_accepted : Outcome → Bool
 is_accepted (outcome.Done a) = true
 is_accepted (outcome.Refused e) = false
 is_accepted (outcome.Failed k) = false
+
+-- a joining answers the number of the federate, or is refused
+abbrev pub AnswersJoin : Outcome → Type 0
+AnswersJoin (outcome.Done (answer.Federate n)) = Unit {0}
+AnswersJoin (outcome.Done a) = ⊥
+AnswersJoin (outcome.Refused e) = Unit {0}
+AnswersJoin (outcome.Failed k) = ⊥
 
 -- what the ambassador of a federate has heard, if it has one
 abbrev pub heard_from : Option Host → ℕ → Option (List Callback)

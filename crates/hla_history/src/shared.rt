@@ -6,7 +6,7 @@ ghost use Rattle.hla_machine.specs.declared.step.Act.TheVariants as act;
 ghost use Rattle.hla_machine.specs.declared.step.Choice.TheVariants as choice;
 ghost use Rattle.hla_machine.specs.declared.step.Step.TheVariants as step;
 ghost use Rattle.hla_history.specs.Closing.{records_by, Replays};
-ghost use Rattle.hla_history.specs.Creating.{catalogue_from, is_accepted, heard_from};
+ghost use Rattle.hla_history.specs.Creating.{catalogue_from, is_accepted, heard_from, AnswersJoin};
 ghost use Rattle.hla_history.specs.Hosts.{IsPlain, IsLockKept, with_record};
 ghost use Rattle.hla_history.specs.Hosting.{held_of, hosts_of};
 
@@ -227,6 +227,7 @@ impl<L: Ledger, B: FederateAmbassador> Shared<L, B> {
           choice = p.0.own.choice;
         }) }
         ensures recorded { IfOk result (λ p. held_of self.new ≡ with_record (held_of self.old) p.0.own) }
+        ensures number { IfOk result (λ p. AnswersJoin p.0.answer) }
         ensures back { IfOk result (λ p. p.1 ≡ (if is_accepted p.0.answer then None else Some inner)) }
         ensures full { result ≡ Err (Fault.HistoryFull, inner) ↔ (length self.old.history ≡ self.old.limit) }
         ensures refused { IfErr result (λ e. (e.0 ≡ Fault.HistoryFull) ⊎ (e.0 ≡ Fault.OutOfMemory)) }
