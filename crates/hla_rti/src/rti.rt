@@ -2,12 +2,16 @@
 
 ghost use Rattle.std.specs.Prelude.{◌≡◌, ◌+◌, ◌⊎◌, [], IfOk, IfErr, MatchResult};
 ghost use Rattle.hla_machine.specs.declared.step.Act.TheVariants as act;
+ghost use Rattle.hla_machine.specs.declared.step.Answer.TheVariants as answer;
+ghost use Rattle.hla_machine.specs.declared.step.Outcome.TheVariants as outcome;
+ghost use Rattle.hla_machine.specs.declared.step.Step.TheVariants as step;
 ghost use Rattle.hla_history.specs.Creating.{catalogue_from};
-ghost use Rattle.hla_rti.specs.Callers.{Caller, new_caller, IsAnswered};
+ghost use Rattle.hla_rti.specs.Callers.{Caller, new_caller, HasActed, IsAnswered};
 
 use crate::courier::Courier;
+use crate::federate::Federate;
 use crate::seat::Seat;
-use hla_base::{ExecutionName, Fault};
+use hla_base::{ExecutionName, Fault, List};
 use hla_callbacks::FederateAmbassador;
 use hla_history::Shared;
 use hla_machine::Answer;
@@ -125,5 +129,58 @@ impl<L: Ledger, B: FederateAmbassador> Rti<L, B> {
             share,
         };
         Ok(Courier { seat, shared })
+    }
+
+    /// Join Federation Execution (HLA 1.3, federation management): a federate of this name joins the execution, with an
+    /// ambassador that has heard nothing. `FederationExecutionDoesNotExist`; `FederateAlreadyExecutionMember` where a joined
+    /// federate has the name; `LimitReached` where the name has not 1 to 64 bytes, the execution has had 16 joins, or
+    /// `MAX_CALLERS` callers were handed out, which is no step. `HistoryFull` and `OutOfMemory` without a record. A fault has
+    /// changed nothing, and the ambassador comes back with it.
+    pub fn join(
+        &mut self,
+        rt: &impl Wait,
+        name: List<u8>,
+        execution: ExecutionName,
+        ambassador: B,
+    ) -> Result<Federate<L, B>, (Fault, B)>
+        requires { B.heard ambassador ≡ [] }
+        ensures joined { IfOk result (λ f. HasActed self.old.own execution (act.Step (step.Join name))
+            (outcome.Done (answer.Federate f.federate)) self.new.own) }
+        ensures federate { IfOk result (λ f. f ≡ record {
+          execution = execution;
+          federate = f.federate;
+          caller = new_caller self.new.handed;
+        }) }
+        ensures handed { MatchResult result (λ _. self.new.handed ≡ self.old.handed + 1)
+            (λ _. self.new.handed ≡ self.old.handed) }
+        ensures returned { IfErr result (λ e. e.1 ≡ ambassador) }
+    {
+        if self.handed >= MAX_CALLERS {
+            return Err((Fault::LimitReached, ambassador));
+        }
+        let Ok(shared) = Arc::try_clone(&self.shared) else {
+            return Err((Fault::OutOfMemory, ambassador));
+        };
+        match self
+            .seat
+            .join(rt, &self.shared, execution, name, ambassador)
+        {
+            Ok(federate) => {
+                let share = self.rest.split_off(1, 0);
+                self.handed += 1;
+                let seat = Seat {
+                    number: self.handed,
+                    transcript: Vec::new(self.alloc),
+                    share,
+                };
+                Ok(Federate {
+                    seat,
+                    shared,
+                    execution,
+                    federate,
+                })
+            }
+            Err(refused) => Err(refused),
+        }
     }
 }
