@@ -1,4 +1,4 @@
-use Rattle.std.proofs.Common.{arith, length, vec_len}
+use Rattle.std.proofs.Common.{arith}
 use Rattle.hla_rti.proofs.Counting.{here_length}
 use Rattle.hla_rti.proofs.closing.settle.Goals as goal
 
