@@ -53,3 +53,9 @@ room_at xs f e e' lt room is = let at : slice_get (set xs f (Some e')) f ≡ Som
 pub none_at : (xs : List (Option Hearing)) (f : ℕ) (v : Option Hearing) (e : Hearing) → f < length xs → v ≡ None
     → slice_get (set xs f v) f ≡ Some (Some e) → e.room ≡ true
 none_at xs f v e lt none is = let at : slice_get (set xs f v) f ≡ Some v = at_set xs f v lt in cc
+
+-- an ear taken out, or not
+pub cleared : (xs : List (Option Hearing)) (f : ℕ) (v : Option Hearing) (b : Bool) → v ≡ None → b ≡ true → heard_of (set xs f v) ≡ cond b (set (heard_of xs) f None) (heard_of xs)
+cleared xs f v b is out =
+    ap (λ (o : Option Hearing). heard_of (set xs f o)) is ∙ map-set heard_in xs f None
+    ∙ sym (ap (λ (t : Bool). cond t (set (heard_of xs) f None) (heard_of xs)) out)

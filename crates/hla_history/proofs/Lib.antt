@@ -5,3 +5,5 @@ pub mod Ears
 pub mod Foreseen
 pub mod Hosting
 pub mod Places
+pub mod Seats
+pub mod Creations

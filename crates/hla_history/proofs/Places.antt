@@ -1,13 +1,15 @@
 -- The place of an execution, and what its name means.
-use Rattle.std.proofs.Common.{◌≡◌, ℕ, suc, ◌<◌, ◌≤◌, ◌+◌, Bool, not, true, false, cond, List, [], ◌∷◌, length, Option, Some, None, option_map, set, get_or, refl, sym, ◌∙◌, ap, arith, subst}
-use Rattle.std.specs.Prelude.{find, slice_get, nat_lt}
+use Rattle.std.proofs.Common.{◌≡◌, ℕ, suc, ◌<◌, ◌≤◌, ◌+◌, Bool, not, true, false, cond, List, [], ◌∷◌, length, Option, Some, None, option_map, is_some, set, get_or, refl, sym, ◌∙◌, ap, arith, subst, ⊎_elim}
+use Rattle.std.specs.Prelude.{find, slice_get, nat_lt, IfSome}
 use Rattle.std.proofs.lemmas.Bool.Decides.{nat_tests}
 use Rattle.std.proofs.lemmas.Option.{get_or_from_slice_get}
 use Rattle.std.specs.List.{position, position_or_len}
 use Rattle.std.specs.Str.{bytes_eq}
 use Rattle.std.proofs.lemmas.Slice.Eq.{bytes_eq-Decides}
 use Rattle.hla_base.specs.declared.fault.Fault.TheVariants as fault
+use Rattle.hla_callbacks.specs.declared.callback.Callback.{Callback}
 use Rattle.hla_machine.specs.declared.step.Step.{Step}
+use Rattle.hla_machine.specs.declared.step.Step.TheVariants.{Join}
 use Rattle.hla_machine.specs.declared.step.Act.{Act}
 use Rattle.hla_machine.specs.declared.step.Outcome.{Outcome}
 use Rattle.hla_machine.specs.declared.step.Outcome.TheVariants as outcome
@@ -15,12 +17,15 @@ use Rattle.hla_machine.specs.declared.step.Choice.{Choice}
 use Rattle.hla_machine.specs.declared.step.Choice.TheVariants as choice
 use Rattle.hla_machine.specs.declared.step.Record.{Record}
 use Rattle.hla_components.specs.Next.{next}
+use Rattle.hla_history.specs.Creating.{heard_from, AnswersJoin}
 use Rattle.hla_history.specs.Heard.{given_outcome}
 use Rattle.hla_history.specs.Hosts.{Host, HostTable, set_host, host_after, hosts_after_step}
 use Rattle.hla_history.specs.Hosting.{HostedValue, host_of, table_of, EndsIn}
+use Rattle.hla_history.proofs.Ambassadors.{given_federate, given_refused}
+use Rattle.hla_history.proofs.NextLaws.{next_real, join_cases, IsJoining, IsTurnedDown}
 
 -- two names are equal the same way round
-apart_back : (a b : List ℕ) (t : Bool) → bytes_eq b a ≡ t → bytes_eq a b ≡ false → t ≡ false
+pub apart_back : (a b : List ℕ) (t : Bool) → bytes_eq b a ≡ t → bytes_eq a b ≡ false → t ≡ false
 apart_back a b true is apart = absurd (let same : b ≡ a = (bytes_eq-Decides b a).0 is in let there : bytes_eq a b ≡ true = (bytes_eq-Decides a b).1 (sym same) in let clash : true ≡ false = sym there ∙ apart in cc)
 apart_back a b false is apart = refl
 
@@ -102,6 +107,14 @@ pub no_place : (hs : List HostedValue) (name : List ℕ) → position (λ (h : H
 no_place hs name is =
     ap (λ (o : Option HostedValue). option_map host_of o) (find_none name hs (unplaced hs name (nat_lt (position_or_len (λ (h : HostedValue). bytes_eq name h.name) hs) (length hs)) refl is))
 
+-- a place is an execution
+pub place_there : (hs : List HostedValue) (name : List ℕ) (o : Option ℕ) → position (λ (h : HostedValue). bytes_eq name h.name) hs ≡ o → is_some o ≡ is_some (table_of hs name)
+place_there hs name None is = sym (ap is_some (no_place hs name is))
+place_there hs name (Some k) is =
+    let lt = (placed hs k _ _ (nat_lt (position_or_len (λ (h : HostedValue). bytes_eq name h.name) hs) (length hs)) refl is).1 in
+    let there = find_there name hs lt in
+    sym (ap (λ (o : Option HostedValue). is_some (option_map host_of o)) there.2)
+
 module _ (hs : List HostedValue) (name : List ℕ) (k : ℕ) (v : HostedValue) (is : position (λ (h : HostedValue). bytes_eq name h.name) hs ≡ Some k) (at : v ≡ get_or hs k v) where
   place_is : (k ≡ position_or_len (λ (h : HostedValue). bytes_eq name h.name) hs) × (position_or_len (λ (h : HostedValue). bytes_eq name h.name) hs < length hs)
   place_is = placed hs k _ _ (nat_lt (position_or_len (λ (h : HostedValue). bytes_eq name h.name) hs) (length hs)) refl is
@@ -139,3 +152,31 @@ hosts_there t t' name h h' step out set there after =
 
 pub hosts_nowhere : (t : HostTable) (name : List ℕ) (step : Step) (out : Outcome) → t name ≡ None → t ≡ hosts_after_step t name (t name) step out
 hosts_nowhere t name step out is = ap (λ (o : Option Host). hosts_after_step t name o step out) (sym is)
+
+-- ---- a joining and a resigning, whose outcome is the one foreseen
+pub record_foreseen : (r : Record) (actor : ℕ) (n name : List ℕ) (a : Act) (out : Outcome) (chosen : Choice) → r ≡ record { actor = actor; execution = n; act = a; outcome = out; choice = chosen } → n ≡ name
+    → r ≡ record { actor = actor; execution = name; act = a; outcome = r.outcome; choice = r.choice }
+record_foreseen r actor n name a out chosen is same =
+    let ended : out ≡ r.outcome = sym (ap (λ (x : Record). x.outcome) is) in
+    let chose : chosen ≡ r.choice = sym (ap (λ (x : Record). x.choice) is) in
+    is ∙ (λ i. record { actor = actor; execution = same i; act = a; outcome = ended i; choice = chose i })
+
+pub ends_foreseen : (o : Option Host) (h : Host) (step : Step) (out : Outcome) (chosen : Choice) → o ≡ Some h → out ≡ (next h.components step).outcome → chosen ≡ (next h.components step).choice
+    → EndsIn o step out chosen
+ends_foreseen o h step out chosen is made chose = ends_there o h step out chosen is (ap given_outcome made ∙ next_real h.components step) chose
+
+pub heard_there : {B : Type 0} (o : Option Host) (h : Host) (f : ℕ) (heard : B → List Callback) (back : Option B) → o ≡ Some h → IfSome back (λ b. heard_from (Some h) f ≡ Some (heard b))
+    → IfSome back (λ b. heard_from o f ≡ Some (heard b))
+heard_there o h f heard None is there = there
+heard_there o h f heard (Some b) is there = ap (λ (x : Option Host). heard_from x f) is ∙ there
+
+-- how a joining ends
+join_answers : (h : Host) (name : List ℕ) (out : Outcome) → given_outcome out ≡ (next h.components (Join name)).outcome → AnswersJoin out
+join_answers h name out gives = ⊎_elim
+    (λ (j : IsJoining h.components name). subst AnswersJoin (sym (given_federate out h.components.directory.next_federate (gives ∙ j.outcome))) tt)
+    (λ (down : IsTurnedDown h.components (Join name)). subst AnswersJoin (sym (given_refused out down.fault (gives ∙ down.outcome))) tt)
+    (join_cases h.components name)
+
+pub joined_answers : (o : Option Host) (name : List ℕ) (out answered : Outcome) (chosen : Choice) → EndsIn o (Join name) out chosen → answered ≡ out → AnswersJoin answered
+joined_answers None name out answered chosen ends is = subst AnswersJoin (sym (is ∙ ends.0)) tt
+joined_answers (Some h) name out answered chosen ends is = subst AnswersJoin (sym is) (join_answers h name out ends.0)

@@ -1,3 +1,5 @@
 pub mod Heard
 pub mod Hosts
 pub mod Hosting
+pub mod Creating
+pub mod Closing

@@ -11,20 +11,23 @@ ghost use Rattle.hla_history.specs.Hosts.{Host, IsPlain, HasAmbassadors, hosts_a
 ghost use Rattle.hla_history.specs.Hosting.{HostedValue, table_of, EndsIn};
 
 use crate::host::Hosted;
-use crate::preparing::{Stepped, copied};
+use crate::preparing::{Stepped, recorded};
 use hla_base::{ExecutionName, Fault};
 use hla_callbacks::FederateAmbassador;
-use hla_machine::{Act, Choice, Outcome, Record, Step};
+use hla_machine::{Act, Outcome, Record, Step};
 
 /// Where an execution of this name is.
-fn place_of<B: FederateAmbassador>(executions: &[Hosted<B>], name: &ExecutionName) -> Option<usize>
+pub(crate) fn place_of<B: FederateAmbassador>(
+    executions: &[Hosted<B>],
+    name: &ExecutionName,
+) -> Option<usize>
     ensures { result ≡ position (λ (h : HostedValue). bytes_eq name.now h.name) executions.now }
 {
     executions.iter().position(|h| h.is_named(name))
 }
 
 /// The record of a step of an execution that does not exist, and its copies.
-fn refused_step(
+pub(crate) fn refused_step(
     actor: u32,
     execution: ExecutionName,
     step: Step,
@@ -40,15 +43,8 @@ fn refused_step(
     ensures answer { IfOk result (λ p. p.1.answer ≡ p.0.outcome) }
     ensures err { IfErr result (λ e. e ≡ Fault.OutOfMemory) }
 {
-    let record = Record {
-        actor,
-        execution,
-        act: Act::Step(step),
-        outcome: Outcome::Refused(Fault::FederationExecutionDoesNotExist),
-        choice: Choice::None,
-    };
-    let stepped = copied(&record)?;
-    Ok((record, stepped))
+    let outcome = Outcome::Refused(Fault::FederationExecutionDoesNotExist);
+    recorded(actor, execution, Act::Step(step), outcome)
 }
 
 /// Does a step that is no joining and no resigning, of the execution of this name.

@@ -1,19 +1,27 @@
 //! One execution under the lock, with the ambassadors of its federates.
 
-ghost use Rattle.std.specs.Prelude.{◌≡◌, IfOk, IfErr, OnErr, vec_len};
+ghost use Rattle.std.specs.Prelude.{◌≡◌, [], Some, None, is_some, IfOk, IfErr, IfSome, OnErr, if◌then◌else◌, vec_len};
 ghost use Rattle.std.specs.Str.{bytes_eq};
+ghost use Rattle.hla_components.specs.CentralOf.{central};
 ghost use Rattle.hla_components.specs.Next.{next};
+ghost use Rattle.hla_machine.specs.Runs.{is_joined_by_any};
+ghost use Rattle.hla_machine.specs.declared.service.Service.TheVariants as service;
 ghost use Rattle.hla_machine.specs.declared.step.Act.TheVariants as act;
+ghost use Rattle.hla_machine.specs.declared.step.Step.TheVariants as step;
+ghost use Rattle.hla_history.specs.Creating.{is_accepted, heard_from};
 ghost use Rattle.hla_history.specs.Heard.{given_outcome};
 ghost use Rattle.hla_history.specs.Hosting.{components_hosted, host_of};
-ghost use Rattle.hla_history.specs.Hosts.{IsPlain, HasAmbassadors, host_after};
+ghost use Rattle.hla_history.specs.Hosts.{IsPlain, HasAmbassadors, host_after, new_host};
 
 use crate::delivering::{delivered, ready};
-use crate::preparing::{Stepped, advance, prepare};
-use hla_base::{ExecutionName, Fault};
+use crate::preparing::{Stepped, advance, prepare, taken};
+use crate::seating::{seated, unseated};
+use hla_base::{ExecutionName, Fault, FederateNo, List, MAX_JOINS};
 use hla_callbacks::{Ear, FederateAmbassador};
+use hla_fed_file::Catalogue;
 use hla_federation::Federation;
-use hla_machine::{Record, Step};
+use hla_machine::{Record, ResignAction, Service, Step};
+use std::alloc::Global;
 use std::marker::Model;
 
 /// An execution by name, with an ear for each joined federate. Contracts see its components, and what each ear has heard.
@@ -37,6 +45,34 @@ impl<B: FederateAmbassador> Model for Hosted<B> {
 }
 
 impl<B: FederateAmbassador> Hosted<B> {
+    /// An execution that nobody has joined; `OutOfMemory` where a growth was refused.
+    pub(crate) fn new(
+        alloc: Global,
+        name: ExecutionName,
+        catalogue: Catalogue,
+    ) -> Result<Hosted<B>, Fault>
+        ensures name { IfOk result (λ h. h.name ≡ name) }
+        ensures host { IfOk result (λ h. host_of h ≡ new_host catalogue) }
+        ensures err { IfErr result (λ e. e ≡ Fault.OutOfMemory) }
+    {
+        let Ok(mut ears) = Vec::with_capacity(alloc, MAX_JOINS + 1) else {
+            return Err(Fault::OutOfMemory);
+        };
+        ears.push_reserved(None);
+        Ok(Hosted {
+            name,
+            federation: Federation::new(alloc, catalogue),
+            ears,
+        })
+    }
+
+    /// Whether any federate is joined.
+    pub(crate) fn is_joined_by_any(&self) -> bool
+        ensures { result ≡ is_joined_by_any (central (components_hosted self.now.federation)) }
+    {
+        self.federation.is_joined_by_any()
+    }
+
     /// Whether this is the execution of that name.
     pub(crate) fn is_named(&self, name: &ExecutionName) -> bool
         ensures { result ≡ bytes_eq name.now self.now.name }
@@ -68,5 +104,80 @@ impl<B: FederateAmbassador> Hosted<B> {
         let prepared = prepare(&self.federation, actor, self.name, step)?;
         let prepared = advance(&mut self.federation, prepared)?;
         Ok(delivered(&mut self.ears, prepared))
+    }
+
+    /// Joins a federate with this ambassador, which comes back where the federate is refused. `OutOfMemory`, with the
+    /// ambassador and nothing done, where a growth was refused.
+    pub(crate) fn join(
+        &mut self,
+        actor: u32,
+        name: List<u8>,
+        inner: B,
+    ) -> Result<(Record, Stepped, Option<B>), (Fault, B)>
+        requires { B.heard inner ≡ [] }
+        ensures record { IfOk result (λ p. p.0 ≡ record {
+          actor = actor;
+          execution = self.old.name;
+          act = act.Step (step.Join name);
+          outcome = (next (components_hosted self.old.federation) (step.Join name)).outcome;
+          choice = (next (components_hosted self.old.federation) (step.Join name)).choice;
+        }) }
+        ensures own { IfOk result (λ p. p.1.own ≡ p.0) }
+        ensures answer { IfOk result (λ p. p.1.answer ≡ p.0.outcome) }
+        ensures back { IfOk result (λ p. p.2 ≡ (if is_accepted p.1.answer then None else Some inner)) }
+        ensures name { self.new.name ≡ self.old.name }
+        ensures host { IfOk result (λ p. host_of self.new ≡ host_after (host_of self.old) (step.Join name) p.0.outcome) }
+        ensures err { IfErr result (λ e. e.0 ≡ Fault.OutOfMemory) }
+        ensures returned { IfErr result (λ e. e.1 ≡ inner) }
+        ensures unchanged { OnErr result (self.new ≡ self.old) }
+    {
+        if self.ears.reserve(1).is_err() {
+            return Err((Fault::OutOfMemory, inner));
+        }
+        match taken(&mut self.federation, actor, self.name, Step::Join { name }) {
+            Ok(made) => {
+                let (record, stepped) = made;
+                let back = seated(&mut self.ears, &stepped.answer, inner);
+                Ok((record, stepped, back))
+            }
+            Err(fault) => Err((fault, inner)),
+        }
+    }
+
+    /// Resigns a federate, and hands out its ambassador where that was done. `OutOfMemory`, and nothing done, where a growth
+    /// was refused.
+    pub(crate) fn resign(
+        &mut self,
+        actor: u32,
+        federate: FederateNo,
+        action: ResignAction,
+    ) -> Result<(Record, Stepped, Option<B>), Fault>
+        requires { HasAmbassadors (host_of self.old) }
+        ensures record { IfOk result (λ p. p.0 ≡ record {
+          actor = actor;
+          execution = self.old.name;
+          act = act.Step (step.Call federate (service.Resign action));
+          outcome = (next (components_hosted self.old.federation) (step.Call federate (service.Resign action))).outcome;
+          choice = (next (components_hosted self.old.federation) (step.Call federate (service.Resign action))).choice;
+        }) }
+        ensures own { IfOk result (λ p. p.1.own ≡ p.0) }
+        ensures answer { IfOk result (λ p. p.1.answer ≡ p.0.outcome) }
+        ensures back { IfOk result (λ p. is_some p.2 ≡ is_accepted p.1.answer) }
+        ensures heard { IfOk result (λ p. IfSome p.2 (λ b. heard_from (Some (host_of self.old)) federate ≡ Some (B.heard b))) }
+        ensures name { self.new.name ≡ self.old.name }
+        ensures host { IfOk result (λ p. host_of self.new
+            ≡ host_after (host_of self.old) (step.Call federate (service.Resign action)) p.0.outcome) }
+        ensures err { IfErr result (λ e. e ≡ Fault.OutOfMemory) }
+        ensures unchanged { OnErr result (self.new ≡ self.old) }
+    {
+        let service = Service::Resign { action };
+        let (record, stepped) = taken(
+            &mut self.federation,
+            actor,
+            self.name,
+            Step::Call { federate, service },
+        )?;
+        let back = unseated(&mut self.ears, federate, &stepped.answer);
+        Ok((record, stepped, back))
     }
 }

@@ -2,9 +2,14 @@
 #![tactic(auto)]
 
 mod among;
+mod comparing;
+mod counts;
+mod creating;
 mod delivering;
 mod host;
+mod joining;
 mod preparing;
+mod seating;
 mod shared;
 
 pub use preparing::Stepped;

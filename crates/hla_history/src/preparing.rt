@@ -5,6 +5,7 @@ ghost use Rattle.hla_components.specs.Next.{next};
 ghost use Rattle.hla_history.specs.Heard.{callback_in};
 ghost use Rattle.hla_history.specs.Hosting.{components_hosted, components_after, IsStepAct};
 ghost use Rattle.hla_machine.specs.declared.step.Act.TheVariants as act;
+ghost use Rattle.hla_machine.specs.declared.step.Choice.TheVariants as choice;
 
 use hla_base::{ExecutionName, Fault, Plain};
 use hla_callbacks::Callback;
@@ -57,6 +58,35 @@ pub(crate) fn copied(made: &Record) -> Result<Stepped, Fault>
     Ok(Stepped { own, answer })
 }
 
+/// The record of an act that leaves nothing open, and the caller's copies.
+pub(crate) fn recorded(
+    actor: u32,
+    execution: ExecutionName,
+    act: Act,
+    outcome: Outcome,
+) -> Result<(Record, Stepped), Fault>
+    ensures record { IfOk result (λ p. p.0 ≡ record {
+      actor = actor;
+      execution = execution;
+      act = act;
+      outcome = outcome;
+      choice = choice.None;
+    }) }
+    ensures own { IfOk result (λ p. p.1.own ≡ p.0) }
+    ensures answer { IfOk result (λ p. p.1.answer ≡ p.0.outcome) }
+    ensures err { IfErr result (λ e. e ≡ Fault.OutOfMemory) }
+{
+    let record = Record {
+        actor,
+        execution,
+        act,
+        outcome,
+        choice: Choice::None,
+    };
+    let stepped = copied(&record)?;
+    Ok((record, stepped))
+}
+
 /// Foresees a step, and makes its record, the caller's copies, and one of the callback.
 pub(crate) fn prepare(
     federation: &Federation,
@@ -107,6 +137,37 @@ pub(crate) fn advance(federation: &mut Federation, prepared: Prepared) -> Result
     };
     done(federation, step)?;
     Ok(prepared)
+}
+
+/// Does a step that gives no callback: its record, and the caller's copies. `OutOfMemory`, and nothing done, where a growth
+/// was refused.
+pub(crate) fn taken(
+    federation: &mut Federation,
+    actor: u32,
+    execution: ExecutionName,
+    step: Step,
+) -> Result<(Record, Stepped), Fault>
+    ensures record { IfOk result (λ p. p.0 ≡ record {
+      actor = actor;
+      execution = execution;
+      act = act.Step step;
+      outcome = (next (components_hosted federation.old) step).outcome;
+      choice = (next (components_hosted federation.old) step).choice;
+    }) }
+    ensures own { IfOk result (λ p. p.1.own ≡ p.0) }
+    ensures answer { IfOk result (λ p. p.1.answer ≡ p.0.outcome) }
+    ensures state { OnOk result (components_hosted federation.new
+        ≡ (next (components_hosted federation.old) step).state) }
+    ensures err { IfErr result (λ e. e ≡ Fault.OutOfMemory) }
+    ensures unchanged { OnErr result (federation.new ≡ federation.old) }
+{
+    let prepared = prepare(federation, actor, execution, step)?;
+    let Prepared {
+        record,
+        stepped,
+        ..
+    } = advance(federation, prepared)?;
+    Ok((record, stepped))
 }
 
 /// Does a step whose answer is known.

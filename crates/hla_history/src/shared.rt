@@ -1,18 +1,28 @@
 //! The value under the lock of the run-time infrastructure.
 
-ghost use Rattle.std.specs.Prelude.{◌≡◌, ◌≢◌, ◌+◌, ◌<◌, ◌⊎◌, ◌↔◌, ℕ, [], length, IfOk, IfErr, OnErr, MatchResult};
+ghost use Rattle.std.specs.Prelude.{◌≡◌, ◌≢◌, ◌+◌, ◌<◌, ◌⊎◌, ◌↔◌, ℕ, [], length, None, Some, is_some, IsTrue, IfOk, IfErr, IfSome, OnErr, MatchResult, if◌then◌else◌};
+ghost use Rattle.hla_machine.specs.declared.service.Service.TheVariants as service;
 ghost use Rattle.hla_machine.specs.declared.step.Act.TheVariants as act;
+ghost use Rattle.hla_machine.specs.declared.step.Choice.TheVariants as choice;
+ghost use Rattle.hla_machine.specs.declared.step.Step.TheVariants as step;
+ghost use Rattle.hla_history.specs.Closing.{records_by, Replays};
+ghost use Rattle.hla_history.specs.Creating.{catalogue_from, is_accepted, heard_from, AnswersJoin};
 ghost use Rattle.hla_history.specs.Hosts.{IsPlain, IsLockKept, with_record};
 ghost use Rattle.hla_history.specs.Hosting.{held_of, hosts_of};
 
 use crate::among::step_among;
+use crate::comparing::is_transcript;
+use crate::counts::Counts;
+use crate::creating::{catalogue_read, create_among, destroy_among};
 use crate::host::Hosted;
+use crate::joining::{join_among, resign_among};
 use crate::preparing::Stepped;
-use hla_base::{ExecutionName, Fault};
+use hla_base::{ExecutionName, Fault, FederateNo, List};
 use hla_callbacks::FederateAmbassador;
-use hla_machine::{Record, Step};
+use hla_machine::{Record, ResignAction, Step};
 use std::alloc::Global;
 use std::marker::Model;
+use std::mem;
 use std::sync::ledger::{Book, Ledger, Share};
 
 /// All executions by name, the ambassadors of their joined federates, and the history of the acts that led there; to be
@@ -22,10 +32,7 @@ use std::sync::ledger::{Book, Ledger, Share};
 pub struct Shared<L: Ledger, B: FederateAmbassador> {
     history: Vec<Record>,
     limit: usize,
-    /// How many executions were ever created.
-    creates: u32,
-    /// How many executions there are.
-    present: u32,
+    counts: Counts,
     executions: Vec<Hosted<B>>,
     book: Book<L>,
 }
@@ -40,12 +47,12 @@ impl<L: Ledger, B: FederateAmbassador> Model for Shared<L, B> {
     ghost view = { λ s. record {
       history = s.history.items;
       limit = s.limit;
-      creates = s.creates;
-      present = s.present;
+      creates = s.counts.creates;
+      present = s.counts.present;
       executions = s.executions.items;
     } };
 
-    ghost invariant = { λ s. IsLockKept s.history.items (hosts_of s.creates s.present s.executions.items) s.book.total
+    ghost invariant = { λ s. IsLockKept s.history.items (hosts_of s.counts.creates s.counts.present s.executions.items) s.book.total
         × (vec_len s.history ≤ s.limit) × (s.limit ≤ vec_capacity s.history) };
 }
 
@@ -68,8 +75,10 @@ impl<L: Ledger, B: FederateAmbassador> Shared<L, B> {
         Ok(Shared {
             history,
             limit,
-            creates: 0,
-            present: 0,
+            counts: Counts {
+                creates: 0,
+                present: 0,
+            },
             executions: Vec::new(alloc),
             book,
         })
@@ -118,5 +127,206 @@ impl<L: Ledger, B: FederateAmbassador> Shared<L, B> {
         self.history.push_reserved(record);
         self.book.add(mine, 1);
         Ok(stepped)
+    }
+
+    /// Create Federation Execution (HLA 1.3, federation management), with the text of its FED file, and records it.
+    /// `HistoryFull` where the history holds its limit, and `OutOfMemory` where a growth was refused; then nothing has
+    /// changed. Any other fault is the act's answer, and is recorded.
+    pub fn create(
+        &mut self,
+        actor: u32,
+        name: ExecutionName,
+        fed: &[u8],
+        mine: &mut Share<L>,
+    ) -> Result<Stepped, Fault>
+        requires { 0 < mine.old.parts }
+        ensures asked { IfOk result (λ s. s.own ≡ record {
+          actor = actor;
+          execution = name;
+          act = act.Create (catalogue_from fed.now);
+          outcome = s.answer;
+          choice = choice.None;
+        }) }
+        ensures recorded { IfOk result (λ s. held_of self.new ≡ with_record (held_of self.old) s.own) }
+        ensures full { result ≡ Err Fault.HistoryFull ↔ (length self.old.history ≡ self.old.limit) }
+        ensures refused { IfErr result (λ e. (e ≡ Fault.HistoryFull) ⊎ (e ≡ Fault.OutOfMemory)) }
+        ensures unchanged { OnErr result (self.new ≡ self.old) }
+        ensures share { MatchResult result (λ _. mine.new.amount ≡ mine.old.amount + 1)
+            (λ _. mine.new.amount ≡ mine.old.amount) }
+        ensures parts { mine.new.parts ≡ mine.old.parts }
+    {
+        if self.history.len() >= self.limit {
+            return Err(Fault::HistoryFull);
+        }
+        let catalogue = catalogue_read(*self.history.allocator(), fed)?;
+        let (record, stepped) = create_among(
+            &mut self.executions,
+            &mut self.counts,
+            actor,
+            name,
+            catalogue,
+        )?;
+        self.history.push_reserved(record);
+        self.book.add(mine, 1);
+        Ok(stepped)
+    }
+
+    /// Destroy Federation Execution (HLA 1.3, federation management), and records it. `HistoryFull` where the history holds
+    /// its limit, and `OutOfMemory` where a growth was refused; then nothing has changed. Any other fault is the act's
+    /// answer, and is recorded.
+    pub fn destroy(
+        &mut self,
+        actor: u32,
+        name: ExecutionName,
+        mine: &mut Share<L>,
+    ) -> Result<Stepped, Fault>
+        requires { 0 < mine.old.parts }
+        ensures asked { IfOk result (λ s. s.own ≡ record {
+          actor = actor;
+          execution = name;
+          act = act.Destroy;
+          outcome = s.answer;
+          choice = choice.None;
+        }) }
+        ensures recorded { IfOk result (λ s. held_of self.new ≡ with_record (held_of self.old) s.own) }
+        ensures full { result ≡ Err Fault.HistoryFull ↔ (length self.old.history ≡ self.old.limit) }
+        ensures refused { IfErr result (λ e. (e ≡ Fault.HistoryFull) ⊎ (e ≡ Fault.OutOfMemory)) }
+        ensures unchanged { OnErr result (self.new ≡ self.old) }
+        ensures share { MatchResult result (λ _. mine.new.amount ≡ mine.old.amount + 1)
+            (λ _. mine.new.amount ≡ mine.old.amount) }
+        ensures parts { mine.new.parts ≡ mine.old.parts }
+    {
+        if self.history.len() >= self.limit {
+            return Err(Fault::HistoryFull);
+        }
+        let (record, stepped) = destroy_among(&mut self.executions, &mut self.counts, actor, name)?;
+        self.history.push_reserved(record);
+        self.book.add(mine, 1);
+        Ok(stepped)
+    }
+
+    /// Join Federation Execution (HLA 1.3, federation management), with an ambassador that has heard nothing, and records it.
+    /// The ambassador comes back beside the answer where the federate is refused. `HistoryFull` where the history holds its
+    /// limit, and `OutOfMemory` where a growth was refused; then nothing has changed, and the ambassador comes back. Any
+    /// other fault is the step's answer, and is recorded.
+    pub fn join(
+        &mut self,
+        actor: u32,
+        execution: ExecutionName,
+        name: List<u8>,
+        inner: B,
+        mine: &mut Share<L>,
+    ) -> Result<(Stepped, Option<B>), (Fault, B)>
+        requires part { 0 < mine.old.parts }
+        requires fresh { B.heard inner ≡ [] }
+        ensures asked { IfOk result (λ p. p.0.own ≡ record {
+          actor = actor;
+          execution = execution;
+          act = act.Step (step.Join name);
+          outcome = p.0.answer;
+          choice = p.0.own.choice;
+        }) }
+        ensures recorded { IfOk result (λ p. held_of self.new ≡ with_record (held_of self.old) p.0.own) }
+        ensures number { IfOk result (λ p. AnswersJoin p.0.answer) }
+        ensures back { IfOk result (λ p. p.1 ≡ (if is_accepted p.0.answer then None else Some inner)) }
+        ensures full { result ≡ Err (Fault.HistoryFull, inner) ↔ (length self.old.history ≡ self.old.limit) }
+        ensures refused { IfErr result (λ e. (e.0 ≡ Fault.HistoryFull) ⊎ (e.0 ≡ Fault.OutOfMemory)) }
+        ensures returned { IfErr result (λ e. e.1 ≡ inner) }
+        ensures unchanged { OnErr result (self.new ≡ self.old) }
+        ensures share { MatchResult result (λ _. mine.new.amount ≡ mine.old.amount + 1)
+            (λ _. mine.new.amount ≡ mine.old.amount) }
+        ensures parts { mine.new.parts ≡ mine.old.parts }
+    {
+        if self.history.len() >= self.limit {
+            return Err((Fault::HistoryFull, inner));
+        }
+        match join_among(&mut self.executions, actor, execution, name, inner) {
+            Ok(joined) => {
+                let (record, stepped, back) = joined;
+                self.history.push_reserved(record);
+                self.book.add(mine, 1);
+                Ok((stepped, back))
+            }
+            Err(refused) => Err(refused),
+        }
+    }
+
+    /// Resign Federation Execution (HLA 1.3, federation management), and records it. Where the federate resigned, its
+    /// ambassador comes out beside the answer. `HistoryFull` where the history holds its limit, and `OutOfMemory` where a
+    /// growth was refused; then nothing has changed. Any other fault is the step's answer, and is recorded.
+    pub fn resign(
+        &mut self,
+        actor: u32,
+        execution: ExecutionName,
+        federate: FederateNo,
+        action: ResignAction,
+        mine: &mut Share<L>,
+    ) -> Result<(Stepped, Option<B>), Fault>
+        requires { 0 < mine.old.parts }
+        ensures asked { IfOk result (λ p. p.0.own ≡ record {
+          actor = actor;
+          execution = execution;
+          act = act.Step (step.Call federate (service.Resign action));
+          outcome = p.0.answer;
+          choice = p.0.own.choice;
+        }) }
+        ensures back { IfOk result (λ p. is_some p.1 ≡ is_accepted p.0.answer) }
+        ensures heard { IfOk result (λ p. IfSome p.1 (λ b.
+            heard_from ((held_of self.old).hosts.host execution) federate ≡ Some (B.heard b))) }
+        ensures recorded { IfOk result (λ p. held_of self.new ≡ with_record (held_of self.old) p.0.own) }
+        ensures full { result ≡ Err Fault.HistoryFull ↔ (length self.old.history ≡ self.old.limit) }
+        ensures refused { IfErr result (λ e. (e ≡ Fault.HistoryFull) ⊎ (e ≡ Fault.OutOfMemory)) }
+        ensures unchanged { OnErr result (self.new ≡ self.old) }
+        ensures share { MatchResult result (λ _. mine.new.amount ≡ mine.old.amount + 1)
+            (λ _. mine.new.amount ≡ mine.old.amount) }
+        ensures parts { mine.new.parts ≡ mine.old.parts }
+    {
+        if self.history.len() >= self.limit {
+            return Err(Fault::HistoryFull);
+        }
+        let (record, stepped, back) = resign_among(
+            &mut self.executions,
+            actor,
+            execution,
+            federate,
+            action,
+        )?;
+        self.history.push_reserved(record);
+        self.book.add(mine, 1);
+        Ok((stepped, back))
+    }
+
+    /// Whether a transcript is just the actor's records in the history, in order.
+    pub fn agrees(&self, actor: u32, transcript: &[Record]) -> bool
+        ensures { IsTrue result ↔ (transcript.now ≡ records_by actor self.now.history) }
+    {
+        is_transcript(self.history.as_slice(), actor, transcript)
+    }
+
+    /// Takes the records out, where all shares have come together. No execution stays, and an empty history without room.
+    pub fn take_records(&mut self, all: &mut Share<L>) -> Vec<Record>
+        requires { all.old.parts ≡ L.parts }
+        ensures records { result.items ≡ self.old.history }
+        ensures replays { Replays result.items }
+        ensures amount { all.old.amount ≡ length result.items }
+        ensures after { self.new ≡ record {
+          history = [];
+          limit = 0;
+          creates = 0;
+          present = 0;
+          executions = [];
+        } }
+    {
+        self.book.audit(all);
+        let alloc = *self.history.allocator();
+        let records = mem::replace(&mut self.history, Vec::new(alloc));
+        self.book.sub(all, records.len() as u64);
+        self.executions = Vec::new(alloc);
+        self.counts = Counts {
+            creates: 0,
+            present: 0,
+        };
+        self.limit = 0;
+        records
     }
 }

@@ -6,7 +6,7 @@ use Rattle.hla_history.proofs.shared.Shared.step.Goals as goal
 pub invariant_of-self-2 : goal.invariant_of-self-2
 invariant_of-self-2 g c = (
   kept_step c.self.inside.history.items c.push_reserved.new.self.items
-      (hosts_of c.self.inside.creates c.self.inside.present c.self.inside.executions.items) (table_of c.step_among.new.executions.items)
+      (hosts_of c.self.inside.counts.creates c.self.inside.counts.present c.self.inside.executions.items) (table_of c.step_among.new.executions.items)
       c.self.inside.book.total c.add.new.self.total c.args.actor c.args.execution c.args.step c.in_ok-record.record
       c.self.invariant.0 c.in_ok-record.ensures.record c.in_ok-record.ensures.ends c.in_ok-record.ensures.hosts c.push_reserved.ensures.items c.add.ensures.total,
   omega (arith, c.push_reserved.ensures.len, c.len.ensures, c.if-len-self.false, c.self.invariant.1),

@@ -1,0 +1,121 @@
+-- How a joining and a resigning change the ears.
+use Rattle.std.proofs.Common.{◌≡◌, ◌≢◌, ℕ, zero, suc, ◌<◌, ◌+◌, eqb, cond, Bool, true, false, List, [], ◌∷◌, ◌++◌, length, Option, Some, None, is_some, set, get_or, refl, sym, ◌∙◌, ap, ⊎_elim, arith}
+use Rattle.std.specs.Prelude.{slice_get}
+use Rattle.std.proofs.lemmas.Bool.Decides.{nat_tests}
+use Rattle.std.proofs.Math.ListN.{length-map}
+use Rattle.std.proofs.Math.Seq.{get_or-append_seam}
+use Rattle.hla_base.specs.Tables.{upd}
+use Rattle.hla_callbacks.specs.declared.callback.Callback.{Callback}
+use Rattle.hla_callbacks.specs.Hearing.{Hearing}
+use Rattle.hla_machine.specs.declared.service.Service.TheVariants as service
+use Rattle.hla_machine.specs.declared.service.ResignAction.{ResignAction}
+use Rattle.hla_machine.specs.declared.step.Step.TheVariants.{Join, Call}
+use Rattle.hla_machine.specs.declared.step.Answer.TheVariants as answer
+use Rattle.hla_machine.specs.declared.step.Outcome.{Outcome}
+use Rattle.hla_machine.specs.declared.step.Outcome.TheVariants as outcome
+use Rattle.hla_machine.specs.Directory.{Directory}
+use Rattle.hla_components.specs.Components.{Components}
+use Rattle.hla_components.specs.Next.{next}
+use Rattle.hla_history.specs.Creating.{is_accepted}
+use Rattle.hla_history.specs.Hosts.{table_after, host_after}
+use Rattle.hla_history.specs.Hosting.{heard_of, heard_table}
+use Rattle.hla_history.proofs.Ears.{table_set}
+use Rattle.hla_history.proofs.Hosting.{ear_at}
+use Rattle.hla_history.proofs.NextLaws.{join_cases, resign_cases, IsJoining, IsResigning, IsTurnedDown}
+
+-- ---- one more ear
+append_off : (hs : List (Option (List Callback))) (x : Option (List Callback)) (g : ℕ) → length hs ≢ g → get_or (hs ++ x ∷ []) g None ≡ get_or hs g None
+append_off [] x zero apart = absurd (apart refl)
+append_off [] x (suc g) apart = refl
+append_off (h ∷ hs) x zero apart = refl
+append_off (h ∷ hs) x (suc g) apart = append_off hs x g (λ e. apart (ap (λ n. suc n) e))
+
+append_point : (hs : List (Option (List Callback))) (ks : List Callback) (g : ℕ) (b : Bool) → eqb (length hs) g ≡ b → get_or (hs ++ Some ks ∷ []) g None ≡ cond b (Some ks) (get_or hs g None)
+append_point hs ks g true test =
+    let same : length hs ≡ g = grind (arith, nat_tests) in
+    ap (λ n. get_or (hs ++ Some ks ∷ []) n None) (sym same) ∙ get_or-append_seam hs (Some ks) [] None
+append_point hs ks g false test =
+    append_off hs (Some ks) g (λ e. (let p : eqb (length hs) g ≡ true = grind (arith, nat_tests) in cc))
+
+-- the table with an ear more
+pub table_grown : (hs : List (Option (List Callback))) (ks : List Callback) → heard_table (hs ++ Some ks ∷ []) ≡ upd (heard_table hs) (length hs) (Some ks)
+unfolding upd
+table_grown hs ks = λ i g. append_point hs ks g (eqb (length hs) g) refl i
+
+some_within : (hs : List (Option (List Callback))) (f : ℕ) → is_some (get_or hs f None) ≡ true → f < length hs
+some_within [] f is = absurd (let no : false ≡ true = is in cc)
+some_within (h ∷ hs) zero is = omega arith
+some_within (h ∷ hs) (suc f) is = omega (arith, some_within hs f is)
+
+map_length : (ears : List (Option Hearing)) → length (heard_of ears) ≡ length ears
+map_length ears = simp length-map
+
+pub heard_length : (ears : List (Option Hearing)) (n : ℕ) → length ears ≡ n → length (heard_of ears) ≡ n
+heard_length ears n is = map_length ears ∙ is
+
+-- ---- a joining
+module _ (s s' : Components) (name : List ℕ) (out : Outcome) (made : out ≡ (next s (Join name)).outcome) (state : s' ≡ (next s (Join name)).state) where
+  table_joins : (hs hs' : List (Option (List Callback))) → length hs ≡ s.directory.next_federate → hs' ≡ cond (is_accepted out) (hs ++ Some [] ∷ []) hs
+      → heard_table hs' ≡ table_after (heard_table hs) (Join name) out
+  table_joins hs hs' len after = ⊎_elim
+      (λ (j : IsJoining s name).
+      let is : out ≡ outcome.Done (answer.Federate s.directory.next_federate) = made ∙ j.outcome in
+      ap heard_table (after ∙ ap (λ (o : Outcome). cond (is_accepted o) (hs ++ Some [] ∷ []) hs) is) ∙ table_grown hs []
+      ∙ ap (λ n. upd (heard_table hs) n (Some [])) len ∙ sym (ap (λ (o : Outcome). table_after (heard_table hs) (Join name) o) is))
+      (λ (down : IsTurnedDown s (Join name)).
+      let is : out ≡ outcome.Refused down.fault = made ∙ down.outcome in
+      ap heard_table (after ∙ ap (λ (o : Outcome). cond (is_accepted o) (hs ++ Some [] ∷ []) hs) is)
+      ∙ sym (ap (λ (o : Outcome). table_after (heard_table hs) (Join name) o) is))
+      (join_cases s name)
+
+  pub host_joins : (hs hs' : List (Option (List Callback))) → length hs ≡ s.directory.next_federate → hs' ≡ cond (is_accepted out) (hs ++ Some [] ∷ []) hs
+      → record { components = s'; heard = heard_table hs' } ≡ host_after (record { components = s; heard = heard_table hs }) (Join name) out
+  host_joins hs hs' len after = let heard = table_joins hs hs' len after in λ i. record { components = state i; heard = heard i }
+
+  pub len_joins : (l l' : ℕ) → l ≡ s.directory.next_federate → l' ≡ cond (is_accepted out) (l + 1) l → l' ≡ s'.directory.next_federate
+  len_joins l l' len after = ⊎_elim
+      (λ (j : IsJoining s name).
+      let is : out ≡ outcome.Done (answer.Federate s.directory.next_federate) = made ∙ j.outcome in
+      after ∙ ap (λ (o : Outcome). cond (is_accepted o) (l + 1) l) is ∙ ap (λ n. n + 1) len
+      ∙ sym (ap (λ (d : Directory). d.next_federate) j.directory) ∙ sym (ap (λ (c : Components). c.directory.next_federate) state))
+      (λ (down : IsTurnedDown s (Join name)).
+      let is : out ≡ outcome.Refused down.fault = made ∙ down.outcome in
+      after ∙ ap (λ (o : Outcome). cond (is_accepted o) (l + 1) l) is ∙ len
+      ∙ sym (ap (λ (c : Components). c.directory.next_federate) down.state) ∙ sym (ap (λ (c : Components). c.directory.next_federate) state))
+      (join_cases s name)
+
+-- ---- a resigning
+module _ (s s' : Components) (f : ℕ) (way : ResignAction) (out : Outcome) (made : out ≡ (next s (Call f (service.Resign way))).outcome) (state : s' ≡ (next s (Call f (service.Resign way))).state) where
+  -- who resigned had an ear
+  pub ear_resigns : (ears : List (Option Hearing)) → ((g : ℕ) → is_some (heard_table (heard_of ears) g) ≡ s.directory.joined g) → is_accepted out ≡ true
+      → (e : Hearing) × (slice_get ears f ≡ Some (Some e))
+  ear_resigns ears has accepted = ⊎_elim
+      (λ (j : IsResigning s f way). ear_at ears f (has f ∙ j.member))
+      (λ (down : IsTurnedDown s (Call f (service.Resign way))).
+      let is : out ≡ outcome.Refused down.fault = made ∙ down.outcome in
+      let clash : false ≡ true = sym (ap is_accepted is) ∙ accepted in absurd (cc))
+      (resign_cases s f way)
+
+  table_resigns : (hs hs' : List (Option (List Callback))) → ((g : ℕ) → is_some (heard_table hs g) ≡ s.directory.joined g) → hs' ≡ cond (is_accepted out) (set hs f None) hs
+      → heard_table hs' ≡ table_after (heard_table hs) (Call f (service.Resign way)) out
+  table_resigns hs hs' has after = ⊎_elim
+      (λ (j : IsResigning s f way).
+      let is : out ≡ outcome.Done answer.Done = made ∙ j.outcome in
+      ap heard_table (after ∙ ap (λ (o : Outcome). cond (is_accepted o) (set hs f None) hs) is) ∙ table_set hs f None (some_within hs f (has f ∙ j.member))
+      ∙ sym (ap (λ (o : Outcome). table_after (heard_table hs) (Call f (service.Resign way)) o) is))
+      (λ (down : IsTurnedDown s (Call f (service.Resign way))).
+      let is : out ≡ outcome.Refused down.fault = made ∙ down.outcome in
+      ap heard_table (after ∙ ap (λ (o : Outcome). cond (is_accepted o) (set hs f None) hs) is)
+      ∙ sym (ap (λ (o : Outcome). table_after (heard_table hs) (Call f (service.Resign way)) o) is))
+      (resign_cases s f way)
+
+  pub host_resigns : (hs hs' : List (Option (List Callback))) → ((g : ℕ) → is_some (heard_table hs g) ≡ s.directory.joined g) → hs' ≡ cond (is_accepted out) (set hs f None) hs
+      → record { components = s'; heard = heard_table hs' } ≡ host_after (record { components = s; heard = heard_table hs }) (Call f (service.Resign way)) out
+  host_resigns hs hs' has after = let heard = table_resigns hs hs' has after in λ i. record { components = state i; heard = heard i }
+
+  pub len_resigns : (l l' : ℕ) → l ≡ s.directory.next_federate → l' ≡ l → l' ≡ s'.directory.next_federate
+  len_resigns l l' len same = ⊎_elim
+      (λ (j : IsResigning s f way). same ∙ len ∙ sym j.next ∙ sym (ap (λ (c : Components). c.directory.next_federate) state))
+      (λ (down : IsTurnedDown s (Call f (service.Resign way))).
+      same ∙ len ∙ sym (ap (λ (c : Components). c.directory.next_federate) down.state) ∙ sym (ap (λ (c : Components). c.directory.next_federate) state))
+      (resign_cases s f way)

@@ -1,0 +1,20 @@
+use Rattle.std.proofs.Common.{arith}
+use Rattle.hla_machine.specs.declared.step.Step.TheVariants.{Join}
+use Rattle.hla_history.specs.Hosting.{hosts_of, table_of}
+use Rattle.hla_history.proofs.Places.{joined_answers}
+use Rattle.hla_history.proofs.Kept.{kept_step}
+use Rattle.hla_history.proofs.shared.Shared.join.Goals as goal
+
+pub invariant_of-self : goal.invariant_of-self
+invariant_of-self g c = (
+  kept_step c.self.inside.history.items c.push_reserved.new.self.items
+      (hosts_of c.self.inside.counts.creates c.self.inside.counts.present c.self.inside.executions.items) (table_of c.join_among.new.executions.items)
+      c.self.inside.book.total c.add.new.self.total c.args.actor c.args.execution (Join c.args.name) c.in-Ok.joined.0
+      c.self.invariant.0 c.in-Ok.ensures.record c.in-Ok.ensures.ends c.in-Ok.ensures.hosts c.push_reserved.ensures.items c.add.ensures.total,
+  omega (arith, c.push_reserved.ensures.len, c.len.ensures, c.if-len-self.false, c.self.invariant.1),
+  omega (arith, c.push_reserved.ensures.capacity, c.self.invariant.2),
+)
+
+pub returns-in-Ok-clause-number : goal.returns-in-Ok-clause-number
+returns-in-Ok-clause-number g c =
+    joined_answers (table_of c.self.inside.executions.items c.args.execution) c.args.name c.in-Ok.joined.0.outcome c.in-Ok.joined.1.answer c.in-Ok.joined.0.choice c.in-Ok.ensures.ends c.in-Ok.ensures.answer

@@ -1,0 +1,180 @@
+//! Creating and destroying executions under the lock.
+
+ghost use Rattle.std.specs.Prelude.{◌≡◌, ◌∷◌, [], ◌||◌, not, ltb, is_some, filter, IfOk, IfErr, OnErr};
+ghost use Rattle.std.specs.Str.{bytes_eq};
+ghost use Rattle.hla_base.specs.Limits.{max_executions, max_creates};
+ghost use Rattle.hla_base.specs.RowRefusals.{first_fault, test_for};
+ghost use Rattle.hla_base.specs.declared.fault.Fault.TheVariants as fault;
+ghost use Rattle.hla_machine.specs.Runs.{EndsAs};
+ghost use Rattle.hla_machine.specs.declared.step.Act.TheVariants as act;
+ghost use Rattle.hla_machine.specs.declared.step.Choice.TheVariants as choice;
+ghost use Rattle.hla_history.specs.Creating.{catalogue_from, creation_fault, destruction_fault};
+ghost use Rattle.hla_history.specs.Hosts.{hosts_after};
+ghost use Rattle.hla_history.specs.Hosting.{HostedValue, hosts_of, table_of};
+
+use crate::among::place_of;
+use crate::counts::Counts;
+use crate::host::Hosted;
+use crate::preparing::{Stepped, recorded};
+use hla_base::{ExecutionName, Fault, MAX_CREATES, MAX_EXECUTIONS, Plain};
+use hla_callbacks::FederateAmbassador;
+use hla_fed_file::{Catalogue, FedFaultKind, read};
+use hla_machine::{Act, Answer, Outcome, Record};
+use std::alloc::Global;
+
+/// What a FED file says; nothing where it is refused.
+pub(crate) fn catalogue_read(alloc: Global, fed: &[u8]) -> Result<Option<Catalogue>, Fault>
+    ensures ok { IfOk result (λ c. c ≡ catalogue_from fed.now) }
+    ensures err { IfErr result (λ e. e ≡ Fault.OutOfMemory) }
+{
+    match read(alloc, fed) {
+        Ok(catalogue) => Ok(Some(catalogue)),
+        Err(fault) => match fault.kind {
+            FedFaultKind::OutOfMemory => Err(Fault::OutOfMemory),
+            _ => Ok(None),
+        },
+    }
+}
+
+/// Why an execution is not created, in the order of the tests.
+fn creation_refusal(is_there: bool, is_read: bool, counts: Counts) -> Option<Fault>
+    ensures { result ≡ first_fault
+        (test_for fault.FederationExecutionAlreadyExists is_there
+        ∷ test_for fault.ErrorReadingFED (not is_read)
+        ∷ test_for fault.LimitReached (not (ltb counts.present max_executions) || not (ltb counts.creates max_creates))
+        ∷ []) }
+{
+    if is_there {
+        Some(Fault::FederationExecutionAlreadyExists)
+    } else if !is_read {
+        Some(Fault::ErrorReadingFED)
+    } else if counts.present as usize >= MAX_EXECUTIONS || counts.creates >= MAX_CREATES {
+        Some(Fault::LimitReached)
+    } else {
+        None
+    }
+}
+
+/// Creates an execution that nobody has joined, for what its FED file was read as.
+pub(crate) fn create_among<B: FederateAmbassador>(
+    executions: &mut Vec<Hosted<B>>,
+    counts: &mut Counts,
+    actor: u32,
+    name: ExecutionName,
+    catalogue: Option<Catalogue>,
+) -> Result<(Record, Stepped), Fault>
+    ensures record { IfOk result (λ p. p.0 ≡ record {
+      actor = actor;
+      execution = name;
+      act = act.Create catalogue;
+      outcome = p.0.outcome;
+      choice = choice.None;
+    }) }
+    ensures ends { IfOk result (λ p. EndsAs
+        (creation_fault (hosts_of counts.old.creates counts.old.present executions.old.items) name catalogue)
+        p.0.outcome) }
+    ensures own { IfOk result (λ p. p.1.own ≡ p.0) }
+    ensures answer { IfOk result (λ p. p.1.answer ≡ p.0.outcome) }
+    ensures hosts { IfOk result (λ p. hosts_of counts.new.creates counts.new.present executions.new.items
+        ≡ hosts_after (hosts_of counts.old.creates counts.old.present executions.old.items)
+        name (act.Create catalogue) p.0.outcome) }
+    ensures err { IfErr result (λ e. e ≡ Fault.OutOfMemory) }
+    ensures unchanged { OnErr result (executions.new.items ≡ executions.old.items) }
+    ensures counts { OnErr result (counts.new ≡ counts.old) }
+{
+    let is_there = place_of(executions.as_slice(), &name).is_some();
+    match creation_refusal(is_there, catalogue.is_some(), *counts) {
+        Some(fault) => {
+            let refused = recorded(
+                actor,
+                name,
+                Act::Create { catalogue },
+                Outcome::Refused(fault),
+            )?;
+            Ok(refused)
+        }
+        None => {
+            let Some(declared) = &catalogue else {
+                unreachable!()
+            };
+            let alloc = *executions.allocator();
+            let hosted = Hosted::new(alloc, name, declared.copy()?)?;
+            let made = recorded(
+                actor,
+                name,
+                Act::Create { catalogue },
+                Outcome::Done(Answer::Done),
+            )?;
+            if executions.reserve(1).is_err() {
+                return Err(Fault::OutOfMemory);
+            }
+            executions.push_reserved(hosted);
+            counts.creates += 1;
+            counts.present += 1;
+            Ok(made)
+        }
+    }
+}
+
+/// Why an execution is not destroyed.
+fn destruction_refusal<B: FederateAmbassador>(
+    executions: &[Hosted<B>],
+    name: &ExecutionName,
+) -> Option<Fault>
+    ensures { result ≡ destruction_fault (table_of executions.now name.now) }
+{
+    match place_of(executions, name) {
+        None => Some(Fault::FederationExecutionDoesNotExist),
+        Some(place) => {
+            if executions[place].is_joined_by_any() {
+                Some(Fault::FederatesCurrentlyJoined)
+            } else {
+                None
+            }
+        }
+    }
+}
+
+/// Takes an execution out.
+fn remove_named<B: FederateAmbassador>(executions: &mut Vec<Hosted<B>>, name: &ExecutionName)
+    ensures { executions.new.items ≡ filter (λ (h : HostedValue). not (bytes_eq name.now h.name)) executions.old.items }
+{
+    executions.retain(|h| !h.is_named(name));
+}
+
+/// Destroys an execution that no federate is joined to.
+pub(crate) fn destroy_among<B: FederateAmbassador>(
+    executions: &mut Vec<Hosted<B>>,
+    counts: &mut Counts,
+    actor: u32,
+    name: ExecutionName,
+) -> Result<(Record, Stepped), Fault>
+    ensures record { IfOk result (λ p. p.0 ≡ record {
+      actor = actor;
+      execution = name;
+      act = act.Destroy;
+      outcome = p.0.outcome;
+      choice = choice.None;
+    }) }
+    ensures ends { IfOk result (λ p. EndsAs (destruction_fault (table_of executions.old.items name)) p.0.outcome) }
+    ensures own { IfOk result (λ p. p.1.own ≡ p.0) }
+    ensures answer { IfOk result (λ p. p.1.answer ≡ p.0.outcome) }
+    ensures hosts { IfOk result (λ p. hosts_of counts.new.creates counts.new.present executions.new.items
+        ≡ hosts_after (hosts_of counts.old.creates counts.old.present executions.old.items) name act.Destroy p.0.outcome) }
+    ensures err { IfErr result (λ e. e ≡ Fault.OutOfMemory) }
+    ensures unchanged { OnErr result (executions.new.items ≡ executions.old.items) }
+    ensures counts { OnErr result (counts.new ≡ counts.old) }
+{
+    match destruction_refusal(executions.as_slice(), &name) {
+        Some(fault) => {
+            let refused = recorded(actor, name, Act::Destroy, Outcome::Refused(fault))?;
+            Ok(refused)
+        }
+        None => {
+            let made = recorded(actor, name, Act::Destroy, Outcome::Done(Answer::Done))?;
+            remove_named(executions, &name);
+            counts.present = counts.present.saturating_sub(1);
+            Ok(made)
+        }
+    }
+}

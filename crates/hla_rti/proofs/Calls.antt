@@ -1,0 +1,43 @@
+-- What a call makes of its caller.
+use Rattle.std.proofs.Common.{◌≡◌, ℕ, ◌+◌, List, [], ◌∷◌, ◌++◌, sym, ◌∙◌, ap, inl, ◌⊎◌, subst}
+use Rattle.std.specs.Prelude.{Result, Ok, Err, IfOk, IfErr}
+use Rattle.hla_base.specs.declared.fault.Fault.{Fault}
+use Rattle.hla_machine.specs.declared.step.Act.{Act}
+use Rattle.hla_machine.specs.declared.step.Answer.{Answer}
+use Rattle.hla_machine.specs.declared.step.Answer.TheVariants as answer
+use Rattle.hla_machine.specs.declared.step.Outcome.{Outcome}
+use Rattle.hla_machine.specs.declared.step.Outcome.TheVariants as outcome
+use Rattle.hla_machine.specs.declared.step.Choice.{Choice}
+use Rattle.hla_machine.specs.declared.step.Record.{Record}
+use Rattle.hla_rti.specs.Callers.{Caller, HasActed, HasNotActed, answer_given, IsAnswered}
+
+pub has_acted : (old new : Caller) (name : List ℕ) (a : Act) (own : Record) (out : Outcome) (chosen : Choice)
+    → own ≡ record { actor = old.number; execution = name; act = a; outcome = out; choice = chosen }
+    → new.number ≡ old.number → new.transcript ≡ old.transcript ++ own ∷ [] → new.share ≡ old.share + 1 → HasActed old name a out new
+has_acted old new name a own out chosen is number grows counts =
+    let written = grows ∙ ap (λ (r : Record). old.transcript ++ r ∷ []) is in
+    (chosen, λ i. record { number = number i; transcript = written i; share = counts i })
+
+-- with what was handed out, taken apart
+pub is_answered : (old new : Caller) (name : List ℕ) (a : Act) (own own' : Record) (out out' : Outcome) (chosen : Choice) (result : Result Answer Fault)
+    → own ≡ record { actor = old.number; execution = name; act = a; outcome = out; choice = chosen } → own ≡ own' → out ≡ out' → result ≡ answer_given out'
+    → new.number ≡ old.number → new.transcript ≡ old.transcript ++ own' ∷ [] → new.share ≡ old.share + 1 → IsAnswered old name a result new
+is_answered old new name a own own' out out' chosen result is same ends answers number grows counts =
+    inl (out, answers ∙ ap answer_given (sym ends), has_acted old new name a own out chosen is number (grows ∙ ap (λ (r : Record). old.transcript ++ r ∷ []) (sym same)) counts)
+
+-- ---- a joining
+pub joined_acted : {E : Type 0} (old new : Caller) (name : List ℕ) (a : Act) (own : Record) (out : Outcome) (chosen : Choice) (result : Result ℕ E)
+    → own ≡ record { actor = old.number; execution = name; act = a; outcome = out; choice = chosen }
+    → new.number ≡ old.number → new.transcript ≡ old.transcript ++ own ∷ [] → new.share ≡ old.share + 1
+    → IfOk result (λ n. out ≡ outcome.Done (answer.Federate n)) → IfOk result (λ n. HasActed old name a (outcome.Done (answer.Federate n)) new)
+joined_acted old new name a own out chosen (Ok n) is number grows counts ends =
+    subst (λ (o : Outcome). HasActed old name a o new) ends (has_acted old new name a own out chosen is number grows counts)
+joined_acted old new name a own out chosen (Err e) is number grows counts ends = tt
+
+pub unjoined_acted : {X : Type 0} (old new : Caller) (name : List ℕ) (a : Act) (own : Record) (out : Outcome) (chosen : Choice) (result : Result ℕ (Fault × X))
+    → own ≡ record { actor = old.number; execution = name; act = a; outcome = out; choice = chosen }
+    → new.number ≡ old.number → new.transcript ≡ old.transcript ++ own ∷ [] → new.share ≡ old.share + 1
+    → IfErr result (λ e. out ≡ outcome.Refused e.0) → IfErr result (λ e. HasActed old name a (outcome.Refused e.0) new ⊎ HasNotActed old e.0 new)
+unjoined_acted old new name a own out chosen (Ok n) is number grows counts ends = tt
+unjoined_acted old new name a own out chosen (Err e) is number grows counts ends =
+    inl (subst (λ (o : Outcome). HasActed old name a o new) ends (has_acted old new name a own out chosen is number grows counts))

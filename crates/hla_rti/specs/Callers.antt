@@ -1,0 +1,66 @@
+-- What is seen of the callers of one run-time infrastructure
+use Rattle.std.specs.Prelude.{◌≡◌, ℕ, ◌+◌, ◌⊎◌, List, [], ◌∷◌, ◌++◌, Result, Ok, Err}
+use Rattle.hla_base.specs.declared.fault.Fault.{Fault}
+use Rattle.hla_base.specs.declared.fault.Fault.TheVariants as fault
+use Rattle.hla_machine.specs.declared.service.Service.{Service}
+use Rattle.hla_machine.specs.declared.step.Step.TheVariants.{Call}
+use Rattle.hla_machine.specs.declared.step.Act.{Act}
+use Rattle.hla_machine.specs.declared.step.Act.TheVariants as act
+use Rattle.hla_machine.specs.declared.step.Answer.{Answer}
+use Rattle.hla_machine.specs.declared.step.Outcome.{Outcome}
+use Rattle.hla_machine.specs.declared.step.Outcome.TheVariants as outcome
+use Rattle.hla_machine.specs.declared.step.Choice.{Choice}
+use Rattle.hla_machine.specs.declared.step.Record.{Record}
+
+-- a caller's number, the records of its own acts in order, and its share of the ledger
+pub record Caller : Type 0 where
+  pub number : ℕ
+  pub transcript : List Record
+  pub share : ℕ
+
+-- a caller that has done nothing yet
+abbrev pub new_caller : ℕ → Caller
+new_caller number = record { number = number; transcript = []; share = 0 }
+
+-- a caller with one more record of its own
+abbrev pub with_own : Caller → Record → Caller
+with_own c r = record { number = c.number; transcript = c.transcript ++ r ∷ []; share = c.share + 1 }
+
+-- the caller's act ended so: its transcript has grown by the record, and its share by one
+abbrev pub HasActed : Caller → List ℕ → Act → Outcome → Caller → Type 0
+HasActed old name a out new =
+    (chosen : Choice) × (new ≡ with_own old (record { actor = old.number; execution = name; act = a; outcome = out; choice = chosen }))
+
+-- no act was recorded, as the history is full or memory ran out, and the caller is as before
+abbrev pub HasNotActed : Caller → Fault → Caller → Type 0
+HasNotActed old e new = ((e ≡ fault.HistoryFull) ⊎ (e ≡ fault.OutOfMemory)) × (new ≡ old)
+
+-- what an outcome answers the caller
+abbrev pub answer_given : Outcome → Result Answer Fault
+answer_given (outcome.Done a) = Ok a
+answer_given (outcome.Refused e) = Err e
+answer_given (outcome.Failed k) = Err fault.FederateInternalError
+
+-- a caller's act answers what its record says; or nothing was recorded, and it answers why
+abbrev pub IsAnswered : Caller → List ℕ → Act → Result Answer Fault → Caller → Type 0
+IsAnswered old name a result new =
+    ((out : Outcome) × (result ≡ answer_given out) × HasActed old name a out new)
+    ⊎ ((e : Fault) × (result ≡ Err e) × HasNotActed old e new)
+
+-- a federate of an execution, as a caller
+pub record Member : Type 0 where
+  pub execution : List ℕ
+  pub federate : ℕ
+  pub caller : Caller
+
+-- a federate's call of a service
+unfoldable pub IsServed : Member → Service → Result Answer Fault → Member → Type 0
+IsServed old service result new =
+    (new.execution ≡ old.execution)
+    × (new.federate ≡ old.federate)
+    × IsAnswered old.caller old.execution (act.Step (Call old.federate service)) result new.caller
+
+-- what is seen of the infrastructure: how many callers it has handed out, and itself as a caller
+pub record Office : Type 0 where
+  pub handed : ℕ
+  pub own : Caller

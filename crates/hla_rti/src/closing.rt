@@ -1,0 +1,208 @@
+//! Closing: all callers come back, and the records go out.
+
+ghost use Rattle.std.specs.Prelude.{◌≡◌, ◌≢◌, ◌+◌, ◌≤◌, ◌↔◌, ◌==◌, vec_len, IsTrue, IfOk, IfErr, OnOk, OnErr, IfSome, IfNone};
+ghost use Rattle.std.specs.List.{list_any};
+ghost use Rattle.hla_history.specs.Closing.{Replays};
+ghost use Rattle.hla_rti.specs.Callers.{Caller};
+ghost use Rattle.hla_rti.specs.Close.{AllHere, AllAgree, DiffersFirst};
+
+use crate::rti::Rti;
+use crate::seat::{Left, Seat};
+use hla_callbacks::FederateAmbassador;
+use hla_history::Shared;
+use hla_machine::Record;
+use std::marker::Model;
+use std::sync::Wait;
+use std::sync::ledger::{Ledger, Share};
+
+/// The records of a whole history, in order. They replay: from no executions the outcome and the choice of each are those
+/// of the definitions' next-state function. Contracts see the records.
+#[derive(Drop)]
+pub struct Closed {
+    records: Vec<Record>,
+}
+
+impl Model for Closed {
+    ghost use Rattle.std.specs.Prelude.{List};
+    ghost use Rattle.hla_machine.specs.declared.step.Record.{Record};
+    ghost use Rattle.hla_history.specs.Closing.{Replays};
+
+    ghost Value = { List Record };
+
+    ghost view = { λ c. c.records.items };
+
+    ghost invariant = { λ c. Replays c.records.items };
+}
+
+impl Closed {
+    /// The records.
+    pub fn records(&self) -> &[Record]
+        ensures records { result.now ≡ self.now }
+        ensures replays { Replays self.now }
+    {
+        self.records.as_slice()
+    }
+}
+
+/// Why the infrastructure is not closed.
+#[derive(Clone, Copy, Debug, PartialEq, Eq)]
+pub enum CloseFault {
+    /// A caller that was handed out is not in the list.
+    Missing,
+    /// The transcript of the caller at this place of the list is not its records of the history; at the list's length that
+    /// of the infrastructure itself.
+    Transcript(usize),
+}
+
+/// What `close` gives back where it does not close.
+#[derive(Drop)]
+pub struct NotClosed<L: Ledger, B: FederateAmbassador> {
+    pub rti: Rti<L, B>,
+    pub lefts: Vec<Left<L, B>>,
+    pub fault: CloseFault,
+}
+
+/// Whether the caller of this number is in the list.
+fn holds<L: Ledger, B: FederateAmbassador>(lefts: &[Left<L, B>], number: u32) -> bool
+    ensures { result ≡ list_any (λ (c : Caller). c.number == number) lefts.now }
+{
+    lefts.iter().any(|l| l.is_of(number))
+}
+
+/// Whether each caller that was handed out is in the list.
+fn all_here<L: Ledger, B: FederateAmbassador>(handed: u32, lefts: &[Left<L, B>]) -> bool
+    requires { handed ≤ 2048 }
+    ensures { IsTrue result ↔ AllHere handed lefts.now }
+{
+    for n in 0..handed {
+        if !holds(lefts, n + 1) {
+            return false;
+        }
+    }
+    true
+}
+
+/// The place of the first transcript that differs from the history, if one does.
+fn first_differing<L: Ledger, B: FederateAmbassador>(
+    shared: &Shared<L, B>,
+    lefts: &[Left<L, B>],
+    own: &Seat<L>,
+) -> Option<usize>
+    ensures none { IfNone result (AllAgree shared.now.history lefts.now own.now) }
+    ensures some { IfSome result (λ k. DiffersFirst shared.now.history lefts.now own.now k) }
+{
+    for (k, left) in lefts.iter().enumerate() {
+        if !left.agrees_with(shared) {
+            return Some(k);
+        }
+    }
+    if !own.agrees_with(shared) {
+        return Some(lefts.len());
+    }
+    None
+}
+
+/// The shares of all, put together.
+fn merged<L: Ledger, B: FederateAmbassador>(mut all: Share<L>, lefts: Vec<Left<L, B>>) -> Share<L>
+    ensures parts { result.parts ≡ all.parts + vec_len lefts }
+    ensures bound { all.parts ≤ L.parts → result.parts ≤ L.parts }
+{
+    for left in lefts {
+        all.merge(left.into_share());
+    }
+    all
+}
+
+/// What settling gives back where a transcript differs.
+#[derive(Drop)]
+pub struct Unsettled<L: Ledger, B: FederateAmbassador> {
+    pub place: usize,
+    pub seat: Seat<L>,
+    pub rest: Share<L>,
+    pub lefts: Vec<Left<L, B>>,
+}
+
+/// Lent what is under the lock: compares all transcripts with the history, and takes the records out where they agree.
+pub fn settle<L: Ledger, B: FederateAmbassador>(
+    shared: &mut Shared<L, B>,
+    seat: Seat<L>,
+    rest: Share<L>,
+    lefts: Vec<Left<L, B>>,
+    handed: u32,
+) -> Result<Closed, Unsettled<L, B>>
+    requires parts { L.parts ≡ 2049 }
+    requires rest { rest.parts + handed ≡ 2048 }
+    requires here { AllHere handed lefts.items }
+    ensures records { IfOk result (λ c. c ≡ shared.old.history) }
+    ensures agree { OnOk result (AllAgree shared.old.history lefts.items seat) }
+    ensures differs { IfErr result (λ u. DiffersFirst shared.old.history lefts.items seat u.place) }
+    ensures back { IfErr result (λ u. (u.seat ≡ seat) × (u.rest ≡ rest) × (u.lefts ≡ lefts)) }
+    ensures same { OnErr result (shared.new ≡ shared.old) }
+{
+    if let Some(place) = first_differing(shared, lefts.as_slice(), &seat) {
+        return Err(Unsettled {
+            place,
+            seat,
+            rest,
+            lefts,
+        });
+    }
+    let mut share = seat.into_share();
+    share.merge(rest);
+    let mut all = merged(share, lefts);
+    let records = shared.take_records(&mut all);
+    Ok(Closed { records })
+}
+
+impl<L: Ledger, B: FederateAmbassador> Rti<L, B> {
+    /// Takes all callers back, and answers the records of the whole history, where each transcript is just the records of its
+    /// caller, in order. Else `Missing` where a caller that was handed out is not in the list, and then `Transcript` with the
+    /// place of the first that differs; then the infrastructure and the list come back, and nothing has changed.
+    pub fn close(self, rt: &impl Wait, lefts: Vec<Left<L, B>>) -> Result<Closed, NotClosed<L, B>>
+        requires { L.parts ≡ 2049 }
+        ensures agree { IfOk result (λ c. AllAgree c lefts.items self.own) }
+        ensures here { OnOk result (AllHere self.handed lefts.items) }
+        ensures missing { IfErr result (λ n. n.fault ≡ CloseFault.Missing → AllHere self.handed lefts.items → ⊥) }
+        ensures present { IfErr result (λ n. n.fault ≢ CloseFault.Missing → AllHere self.handed lefts.items) }
+        ensures back { IfErr result (λ n. (n.rti ≡ self) × (n.lefts ≡ lefts)) }
+    {
+        if !all_here(self.handed, lefts.as_slice()) {
+            return Err(NotClosed {
+                rti: self,
+                lefts,
+                fault: CloseFault::Missing,
+            });
+        }
+        let Rti {
+            seat,
+            rest,
+            handed,
+            couriers,
+            shared,
+            alloc,
+        } = self;
+        let settled = settle(&mut *shared.lock(rt), seat, rest, lefts, handed);
+        match settled {
+            Ok(closed) => Ok(closed),
+            Err(
+                Unsettled {
+                    place,
+                    seat,
+                    rest,
+                    lefts,
+                },
+            ) => Err(NotClosed {
+                rti: Rti {
+                    seat,
+                    rest,
+                    handed,
+                    couriers,
+                    shared,
+                    alloc,
+                },
+                lefts,
+                fault: CloseFault::Transcript(place),
+            }),
+        }
+    }
+}

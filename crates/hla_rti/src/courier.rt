@@ -1,0 +1,76 @@
+//! A courier.
+
+ghost use Rattle.std.specs.Prelude.{◌≡◌};
+ghost use Rattle.hla_machine.specs.declared.step.Act.TheVariants as act;
+ghost use Rattle.hla_machine.specs.declared.step.Step.TheVariants as step;
+ghost use Rattle.hla_rti.specs.Callers.{IsAnswered};
+
+use crate::seat::{Left, Seat};
+use hla_base::{ExecutionName, Fault, FederateNo};
+use hla_callbacks::FederateAmbassador;
+use hla_history::Shared;
+use hla_machine::{Answer, Step};
+use std::alloc::Global;
+use std::marker::Model;
+use std::sync::ledger::Ledger;
+use std::sync::{Arc, Mutex, Wait};
+
+/// A caller that moves what is on the wires between federates (this profile). It may be moved to a thread of its own.
+/// Contracts see the caller with its transcript.
+#[derive(Drop)]
+pub struct Courier<L: Ledger, B: FederateAmbassador> {
+    pub(crate) seat: Seat<L>,
+    pub(crate) shared: Arc<Mutex<Shared<L, B>>, Global>,
+}
+
+impl<L: Ledger, B: FederateAmbassador> Model for Courier<L, B> {
+    ghost use Rattle.hla_rti.specs.Callers.{Caller};
+
+    ghost Value = { Caller };
+
+    ghost view = { λ c. c.seat };
+}
+
+impl<L: Ledger, B: FederateAmbassador> Courier<L, B> {
+    /// Takes the first message off the wire from one federate to another, and hands it to the second (this profile). Answers
+    /// `Carried`, with what was there. `FederationExecutionDoesNotExist`; `FederateNotExecutionMember` where the second is
+    /// not joined, the first never was, or both are one. `HistoryFull` and `OutOfMemory` without a record. A fault has
+    /// changed nothing.
+    pub fn carry(
+        &mut self,
+        rt: &impl Wait,
+        execution: ExecutionName,
+        from: FederateNo,
+        to: FederateNo,
+    ) -> Result<Answer, Fault>
+        ensures { IsAnswered self.old execution (act.Step (step.Carry from to)) result self.new }
+    {
+        self.seat
+            .call(rt, &self.shared, execution, Step::Carry { from, to })
+    }
+
+    /// Has a federate announce its promise by a null message on each of its wires, where it is above the last one (this
+    /// profile). Answers `Announced`, with the promise if it was announced. `FederationExecutionDoesNotExist`;
+    /// `FederateNotExecutionMember`. `HistoryFull` and `OutOfMemory` without a record. A fault has changed nothing.
+    pub fn announce(
+        &mut self,
+        rt: &impl Wait,
+        execution: ExecutionName,
+        federate: FederateNo,
+    ) -> Result<Answer, Fault>
+        ensures { IsAnswered self.old execution (act.Step (step.Announce federate)) result self.new }
+    {
+        self.seat
+            .call(rt, &self.shared, execution, Step::Announce { federate })
+    }
+
+    /// Ends the caller without a step.
+    pub fn leave(self) -> Left<L, B>
+        ensures { result ≡ self }
+    {
+        Left {
+            seat: self.seat,
+            ambassador: None,
+        }
+    }
+}

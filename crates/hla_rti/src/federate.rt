@@ -1,0 +1,83 @@
+//! A joined federate.
+
+ghost use Rattle.std.specs.Prelude.{◌≡◌};
+ghost use Rattle.hla_machine.specs.declared.step.Act.TheVariants as act;
+ghost use Rattle.hla_machine.specs.declared.step.Step.TheVariants as step;
+ghost use Rattle.hla_history.specs.Hosts.{IsPlain};
+ghost use Rattle.hla_rti.specs.Callers.{IsAnswered, IsServed};
+
+use crate::seat::{Left, Seat};
+use hla_base::{ExecutionName, Fault, FederateNo};
+use hla_callbacks::FederateAmbassador;
+use hla_history::Shared;
+use hla_machine::{Answer, Service, Step};
+use std::alloc::Global;
+use std::marker::Model;
+use std::sync::ledger::Ledger;
+use std::sync::{Arc, Mutex, Wait};
+
+/// A federate that has joined an execution: its calls are the services of HLA 1.3. It may be moved to a thread of its own.
+/// Contracts see the execution, the number of the federate in it, and the caller with its transcript.
+#[derive(Drop)]
+pub struct Federate<L: Ledger, B: FederateAmbassador> {
+    pub(crate) seat: Seat<L>,
+    pub(crate) shared: Arc<Mutex<Shared<L, B>>, Global>,
+    pub(crate) execution: ExecutionName,
+    pub(crate) federate: FederateNo,
+}
+
+impl<L: Ledger, B: FederateAmbassador> Model for Federate<L, B> {
+    ghost use Rattle.hla_rti.specs.Callers.{Member};
+
+    ghost Value = { Member };
+
+    ghost view = { λ f. record { execution = f.execution; federate = f.federate; caller = f.seat } };
+}
+
+impl<L: Ledger, B: FederateAmbassador> Federate<L, B> {
+    /// Calls a service but Resign.
+    pub(crate) fn serve(&mut self, rt: &impl Wait, service: Service) -> Result<Answer, Fault>
+        requires { IsPlain (step.Call self.old.federate service) }
+        ensures { IsServed self.old service result self.new }
+    {
+        let federate = self.federate;
+        self.seat.call(
+            rt,
+            &self.shared,
+            self.execution,
+            Step::Call { federate, service },
+        )
+    }
+
+    /// Tick (HLA 1.3): gives the federate's ambassador at most one callback, and answers a copy of it, or none where there
+    /// is nothing to give. `FederateInternalError` where the ambassador failed in it: the callback counts as given.
+    /// `FederateNotExecutionMember` and `FederationExecutionDoesNotExist` where the federate or its execution is no longer
+    /// there. `HistoryFull` and `OutOfMemory` without a record; then nothing has changed.
+    pub fn tick(&mut self, rt: &impl Wait) -> Result<Answer, Fault>
+        ensures execution { self.new.execution ≡ self.old.execution }
+        ensures federate { self.new.federate ≡ self.old.federate }
+        ensures answered { IsAnswered self.old.caller self.old.execution
+            (act.Step (step.Tick self.old.federate)) result self.new.caller }
+    {
+        let federate = self.federate;
+        self.seat
+            .call(rt, &self.shared, self.execution, Step::Tick { federate })
+    }
+
+    /// The number of the federate in its execution.
+    pub fn number(&self) -> FederateNo
+        ensures { result ≡ self.now.federate }
+    {
+        self.federate
+    }
+
+    /// Ends the caller without a step: the federate stays joined.
+    pub fn leave(self) -> Left<L, B>
+        ensures { result ≡ self.caller }
+    {
+        Left {
+            seat: self.seat,
+            ambassador: None,
+        }
+    }
+}

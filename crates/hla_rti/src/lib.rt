@@ -1,0 +1,17 @@
+//! The run-time infrastructure behind one lock: federates and other callers, each with a transcript of its own acts.
+#![tactic(auto)]
+
+mod closing;
+mod courier;
+mod federate;
+mod object_services;
+mod rti;
+mod seat;
+mod support_services;
+mod time_services;
+
+pub use closing::{CloseFault, Closed, NotClosed, Unsettled, settle};
+pub use courier::Courier;
+pub use federate::Federate;
+pub use rti::{MAX_CALLERS, MAX_COURIERS, Rti};
+pub use seat::{Left, Seat};

@@ -1,0 +1,186 @@
+//! The run-time infrastructure.
+
+ghost use Rattle.std.specs.Prelude.{◌≡◌, ◌+◌, ◌⊎◌, [], IfOk, IfErr, MatchResult};
+ghost use Rattle.hla_machine.specs.declared.step.Act.TheVariants as act;
+ghost use Rattle.hla_machine.specs.declared.step.Answer.TheVariants as answer;
+ghost use Rattle.hla_machine.specs.declared.step.Outcome.TheVariants as outcome;
+ghost use Rattle.hla_machine.specs.declared.step.Step.TheVariants as step;
+ghost use Rattle.hla_history.specs.Creating.{catalogue_from};
+ghost use Rattle.hla_rti.specs.Callers.{Caller, new_caller, HasActed, IsAnswered};
+
+use crate::courier::Courier;
+use crate::federate::Federate;
+use crate::seat::Seat;
+use hla_base::{ExecutionName, Fault, List};
+use hla_callbacks::FederateAmbassador;
+use hla_history::Shared;
+use hla_machine::Answer;
+use std::alloc::Global;
+use std::marker::Model;
+use std::sync::ledger::{Blank, Ledger, Share};
+use std::sync::{Arc, Mutex, Wait};
+
+/// How many couriers one run-time infrastructure hands out in all (a limit of this profile).
+pub const MAX_COURIERS: u32 = 1_024;
+
+/// How many callers one run-time infrastructure hands out in all: 16 joins in each of 64 executions, and the couriers.
+pub const MAX_CALLERS: u32 = 64 * 16 + MAX_COURIERS;
+
+/// The run-time infrastructure: executions, their federates' ambassadors and one history behind one lock, and a caller of its
+/// own, which creates and destroys executions. Contracts see how many callers it has handed out, and that caller.
+#[derive(Drop)]
+pub struct Rti<L: Ledger, B: FederateAmbassador> {
+    pub(crate) seat: Seat<L>,
+    /// The parts of the ledger for callers to come.
+    pub(crate) rest: Share<L>,
+    pub(crate) handed: u32,
+    pub(crate) couriers: u32,
+    pub(crate) shared: Arc<Mutex<Shared<L, B>>, Global>,
+    pub(crate) alloc: Global,
+}
+
+impl<L: Ledger, B: FederateAmbassador> Model for Rti<L, B> {
+    ghost use Rattle.std.specs.Prelude.{◌≡◌, ◌+◌};
+    ghost use Rattle.hla_rti.specs.Callers.{Office};
+
+    ghost Value = { Office };
+
+    ghost view = { λ r. record { handed = r.handed; own = r.seat } };
+
+    ghost invariant = { λ r. (r.rest.parts + r.handed ≡ 2048) × (r.rest.amount ≡ 0) × (r.seat.number ≡ 0) };
+}
+
+impl<L: Ledger, B: FederateAmbassador> Rti<L, B> {
+    /// No execution, and room for a history of `history_limit` records. `blank` is a ledger of one part for each caller that
+    /// there may be: the infrastructure itself and `MAX_CALLERS`. `OutOfMemory` where the room was refused.
+    pub fn new(alloc: Global, blank: Blank, history_limit: usize) -> Result<Rti<L, B>, Fault>
+        requires name { blank.name ≡ L.name }
+        requires parts { blank.parts ≡ L.parts }
+        requires all { blank.parts ≡ 2049 }
+        ensures ok { IfOk result (λ r. r ≡ record { handed = 0; own = new_caller 0 }) }
+        ensures err { IfErr result (λ e. e ≡ Fault.OutOfMemory) }
+    {
+        let (book, mut rest) = blank.open::<L>();
+        let share = rest.split_off(1, 0);
+        let shared = Shared::new(alloc, book, history_limit)?;
+        let Ok(shared) = Arc::new(alloc, Mutex::new(shared)) else {
+            return Err(Fault::OutOfMemory);
+        };
+        let seat = Seat {
+            number: 0,
+            transcript: Vec::new(alloc),
+            share,
+        };
+        Ok(Rti {
+            seat,
+            rest,
+            handed: 0,
+            couriers: 0,
+            shared,
+            alloc,
+        })
+    }
+
+    /// Create Federation Execution (HLA 1.3, federation management), with the text of its FED file. Answers `Done`.
+    /// `FederationExecutionAlreadyExists`; `ErrorReadingFED`; `LimitReached` where 16 executions are there, or 64 were
+    /// created. `HistoryFull` and `OutOfMemory` without a record. A fault has changed nothing.
+    pub fn create(
+        &mut self,
+        rt: &impl Wait,
+        name: ExecutionName,
+        fed: &[u8],
+    ) -> Result<Answer, Fault>
+        ensures answered { IsAnswered self.old.own name (act.Create (catalogue_from fed.now)) result self.new.own }
+        ensures handed { self.new.handed ≡ self.old.handed }
+    {
+        self.seat.create(rt, &self.shared, name, fed)
+    }
+
+    /// Destroy Federation Execution (HLA 1.3, federation management). Answers `Done`. `FederationExecutionDoesNotExist`;
+    /// `FederatesCurrentlyJoined`. `HistoryFull` and `OutOfMemory` without a record. A fault has changed nothing.
+    pub fn destroy(&mut self, rt: &impl Wait, name: ExecutionName) -> Result<Answer, Fault>
+        ensures answered { IsAnswered self.old.own name act.Destroy result self.new.own }
+        ensures handed { self.new.handed ≡ self.old.handed }
+    {
+        self.seat.destroy(rt, &self.shared, name)
+    }
+
+    /// A courier, which carries messages over the wires between federates. `LimitReached` where `MAX_COURIERS` were handed
+    /// out, or `MAX_CALLERS` callers in all; `OutOfMemory` where a growth was refused. A fault has changed nothing.
+    pub fn courier(&mut self) -> Result<Courier<L, B>, Fault>
+        ensures courier { IfOk result (λ c. c ≡ new_caller self.new.handed) }
+        ensures handed { MatchResult result (λ _. self.new.handed ≡ self.old.handed + 1)
+            (λ _. self.new.handed ≡ self.old.handed) }
+        ensures own { self.new.own ≡ self.old.own }
+        ensures err { IfErr result (λ e. (e ≡ Fault.LimitReached) ⊎ (e ≡ Fault.OutOfMemory)) }
+    {
+        if self.couriers >= MAX_COURIERS || self.handed >= MAX_CALLERS {
+            return Err(Fault::LimitReached);
+        }
+        let Ok(shared) = Arc::try_clone(&self.shared) else {
+            return Err(Fault::OutOfMemory);
+        };
+        let share = self.rest.split_off(1, 0);
+        self.couriers += 1;
+        self.handed += 1;
+        let seat = Seat {
+            number: self.handed,
+            transcript: Vec::new(self.alloc),
+            share,
+        };
+        Ok(Courier { seat, shared })
+    }
+
+    /// Join Federation Execution (HLA 1.3, federation management): a federate of this name joins the execution, with an
+    /// ambassador that has heard nothing. `FederationExecutionDoesNotExist`; `FederateAlreadyExecutionMember` where a joined
+    /// federate has the name; `LimitReached` where the name has not 1 to 64 bytes, the execution has had 16 joins, or
+    /// `MAX_CALLERS` callers were handed out, which is no step. `HistoryFull` and `OutOfMemory` without a record. A fault has
+    /// changed nothing, and the ambassador comes back with it.
+    pub fn join(
+        &mut self,
+        rt: &impl Wait,
+        name: List<u8>,
+        execution: ExecutionName,
+        ambassador: B,
+    ) -> Result<Federate<L, B>, (Fault, B)>
+        requires { B.heard ambassador ≡ [] }
+        ensures joined { IfOk result (λ f. HasActed self.old.own execution (act.Step (step.Join name))
+            (outcome.Done (answer.Federate f.federate)) self.new.own) }
+        ensures federate { IfOk result (λ f. f ≡ record {
+          execution = execution;
+          federate = f.federate;
+          caller = new_caller self.new.handed;
+        }) }
+        ensures handed { MatchResult result (λ _. self.new.handed ≡ self.old.handed + 1)
+            (λ _. self.new.handed ≡ self.old.handed) }
+        ensures returned { IfErr result (λ e. e.1 ≡ ambassador) }
+    {
+        if self.handed >= MAX_CALLERS {
+            return Err((Fault::LimitReached, ambassador));
+        }
+        let Ok(shared) = Arc::try_clone(&self.shared) else {
+            return Err((Fault::OutOfMemory, ambassador));
+        };
+        match self
+            .seat
+            .join(rt, &self.shared, execution, name, ambassador)
+        {
+            Ok(federate) => {
+                let share = self.rest.split_off(1, 0);
+                self.handed += 1;
+                let seat = Seat {
+                    number: self.handed,
+                    transcript: Vec::new(self.alloc),
+                    share,
+                };
+                Ok(Federate {
+                    seat,
+                    shared,
+                    execution,
+                    federate,
+                })
+            }
+            Err(refused) => Err(refused),
+        }
+    }
+}

@@ -1,0 +1,227 @@
+//! A caller of the run-time infrastructure.
+
+ghost use Rattle.std.specs.Prelude.{◌≡◌, ◌==◌, ◌↔◌, ◌⊎◌, [], Some, is_some, not, IsTrue, IfOk, IfErr};
+ghost use Rattle.hla_machine.specs.declared.step.Act.TheVariants as act;
+ghost use Rattle.hla_machine.specs.declared.step.Answer.TheVariants as answer;
+ghost use Rattle.hla_machine.specs.declared.step.Outcome.TheVariants as outcome;
+ghost use Rattle.hla_machine.specs.declared.step.Step.TheVariants as step;
+ghost use Rattle.hla_history.specs.Creating.{catalogue_from, is_accepted, AnswersJoin};
+ghost use Rattle.hla_history.specs.Hosts.{IsPlain};
+ghost use Rattle.hla_rti.specs.Callers.{answer_given, HasActed, HasNotActed, IsAnswered};
+ghost use Rattle.hla_rti.specs.Close.{Agrees};
+
+use hla_base::{ExecutionName, Fault, FederateNo, List};
+use hla_callbacks::FederateAmbassador;
+use hla_history::{Shared, Stepped};
+use hla_machine::{Answer, Outcome, Record, Step};
+use std::marker::Model;
+use std::sync::ledger::{Ledger, Share};
+use std::sync::{Mutex, Wait};
+
+/// The place of one caller: its number, the records of its own acts in order, and its share of the ledger, which counts
+/// them. Contracts see these three.
+#[derive(Drop)]
+pub struct Seat<L: Ledger> {
+    pub(crate) number: u32,
+    pub(crate) transcript: Vec<Record>,
+    pub(crate) share: Share<L>,
+}
+
+impl<L: Ledger> Model for Seat<L> {
+    ghost use Rattle.std.specs.Prelude.{◌≡◌, length};
+    ghost use Rattle.hla_rti.specs.Callers.{Caller};
+
+    ghost Value = { Caller };
+
+    ghost view = { λ s. record { number = s.number; transcript = s.transcript.items; share = s.share.amount } };
+
+    ghost invariant = { λ s. (s.share.parts ≡ 1) × (s.share.amount ≡ length s.transcript.items) };
+}
+
+/// What a caller leaves behind for `close`: its place, and the ambassador of a federate that resigned.
+#[derive(Drop)]
+pub struct Left<L: Ledger, B: FederateAmbassador> {
+    pub(crate) seat: Seat<L>,
+    pub(crate) ambassador: Option<B>,
+}
+
+impl<L: Ledger, B: FederateAmbassador> Model for Left<L, B> {
+    ghost use Rattle.hla_rti.specs.Callers.{Caller};
+
+    ghost Value = { Caller };
+
+    ghost view = { λ l. l.seat };
+}
+
+impl<L: Ledger, B: FederateAmbassador> Left<L, B> {
+    /// Takes the ambassador out, which is there where the federate resigned and it was not taken before.
+    pub fn take_ambassador(&mut self) -> Option<B>
+        ensures { self.new ≡ self.old }
+    {
+        self.ambassador.take()
+    }
+
+    /// Whether it is that of the caller of this number.
+    pub(crate) fn is_of(&self, number: u32) -> bool
+        ensures { result ≡ (self.now.number == number) }
+    {
+        self.seat.number == number
+    }
+
+    /// Whether the transcript is just the caller's records in the history, in order.
+    pub(crate) fn agrees_with(&self, shared: &Shared<L, B>) -> bool
+        ensures { IsTrue result ↔ Agrees shared.now.history self.now }
+    {
+        self.seat.agrees_with(shared)
+    }
+
+    /// The caller's share of the ledger.
+    pub(crate) fn into_share(self) -> Share<L>
+        ensures parts { result.parts ≡ 1 }
+        ensures amount { result.amount ≡ self.share }
+    {
+        self.seat.into_share()
+    }
+}
+
+/// What an outcome answers the caller.
+fn answered(outcome: Outcome) -> Result<Answer, Fault>
+    ensures { result ≡ answer_given outcome }
+{
+    match outcome {
+        Outcome::Done(answer) => Ok(answer),
+        Outcome::Refused(fault) => Err(fault),
+        Outcome::Failed(_) => Err(Fault::FederateInternalError),
+    }
+}
+
+/// The number of a federate that joined, or why it is refused, with its ambassador.
+fn joined_as<B: FederateAmbassador>(
+    ended: Outcome,
+    back: Option<B>,
+) -> Result<FederateNo, (Fault, B)>
+    requires form { AnswersJoin ended }
+    requires back { is_some back ≡ not (is_accepted ended) }
+    ensures ok { IfOk result (λ n. ended ≡ outcome.Done (answer.Federate n)) }
+    ensures err { IfErr result (λ e. ended ≡ outcome.Refused e.0) }
+    ensures returned { IfErr result (λ e. back ≡ Some e.1) }
+{
+    match ended {
+        Outcome::Done(Answer::Federate(number)) => Ok(number),
+        Outcome::Refused(fault) => match back {
+            Some(inner) => Err((fault, inner)),
+            None => unreachable!(),
+        },
+        _ => unreachable!(),
+    }
+}
+
+impl<L: Ledger> Seat<L> {
+    /// Does a step that is no joining and no resigning, under the lock, and writes it down. It answers what the record says;
+    /// `HistoryFull` and `OutOfMemory` come without a record, and then nothing has changed.
+    pub(crate) fn call<B: FederateAmbassador>(
+        &mut self,
+        rt: &impl Wait,
+        shared: &Mutex<Shared<L, B>>,
+        execution: ExecutionName,
+        step: Step,
+    ) -> Result<Answer, Fault>
+        requires { IsPlain step }
+        ensures { IsAnswered self.old execution (act.Step step) result self.new }
+    {
+        if self.transcript.reserve(1).is_err() {
+            return Err(Fault::OutOfMemory);
+        }
+        let number = self.number;
+        let Stepped { own, answer } = shared
+            .lock(rt)
+            .step(number, execution, step, &mut self.share)?;
+        self.transcript.push_reserved(own);
+        answered(answer)
+    }
+
+    /// Creates an execution under the lock, and writes it down.
+    pub(crate) fn create<B: FederateAmbassador>(
+        &mut self,
+        rt: &impl Wait,
+        shared: &Mutex<Shared<L, B>>,
+        name: ExecutionName,
+        fed: &[u8],
+    ) -> Result<Answer, Fault>
+        ensures { IsAnswered self.old name (act.Create (catalogue_from fed.now)) result self.new }
+    {
+        if self.transcript.reserve(1).is_err() {
+            return Err(Fault::OutOfMemory);
+        }
+        let number = self.number;
+        let Stepped { own, answer } = shared.lock(rt).create(number, name, fed, &mut self.share)?;
+        self.transcript.push_reserved(own);
+        answered(answer)
+    }
+
+    /// Destroys an execution under the lock, and writes it down.
+    pub(crate) fn destroy<B: FederateAmbassador>(
+        &mut self,
+        rt: &impl Wait,
+        shared: &Mutex<Shared<L, B>>,
+        name: ExecutionName,
+    ) -> Result<Answer, Fault>
+        ensures { IsAnswered self.old name act.Destroy result self.new }
+    {
+        if self.transcript.reserve(1).is_err() {
+            return Err(Fault::OutOfMemory);
+        }
+        let number = self.number;
+        let Stepped { own, answer } = shared.lock(rt).destroy(number, name, &mut self.share)?;
+        self.transcript.push_reserved(own);
+        answered(answer)
+    }
+
+    /// Joins a federate under the lock, and writes it down: its number, or why it is refused, with its ambassador.
+    pub(crate) fn join<B: FederateAmbassador>(
+        &mut self,
+        rt: &impl Wait,
+        shared: &Mutex<Shared<L, B>>,
+        execution: ExecutionName,
+        name: List<u8>,
+        inner: B,
+    ) -> Result<FederateNo, (Fault, B)>
+        requires { B.heard inner ≡ [] }
+        ensures joined { IfOk result (λ n. HasActed self.old execution (act.Step (step.Join name))
+            (outcome.Done (answer.Federate n)) self.new) }
+        ensures refused { IfErr result (λ e. HasActed self.old execution (act.Step (step.Join name))
+            (outcome.Refused e.0) self.new ⊎ HasNotActed self.old e.0 self.new) }
+        ensures returned { IfErr result (λ e. e.1 ≡ inner) }
+    {
+        if self.transcript.reserve(1).is_err() {
+            return Err((Fault::OutOfMemory, inner));
+        }
+        let number = self.number;
+        let done = shared
+            .lock(rt)
+            .join(number, execution, name, inner, &mut self.share);
+        match done {
+            Ok(joined) => {
+                let (stepped, back) = joined;
+                self.transcript.push_reserved(stepped.own);
+                joined_as(stepped.answer, back)
+            }
+            Err(refused) => Err(refused),
+        }
+    }
+
+    /// Whether the transcript is just this caller's records in the history, in order.
+    pub(crate) fn agrees_with<B: FederateAmbassador>(&self, shared: &Shared<L, B>) -> bool
+        ensures { IsTrue result ↔ Agrees shared.now.history self.now }
+    {
+        shared.agrees(self.number, self.transcript.as_slice())
+    }
+
+    /// The share of the ledger.
+    pub(crate) fn into_share(self) -> Share<L>
+        ensures parts { result.parts ≡ 1 }
+        ensures amount { result.amount ≡ self.share }
+    {
+        self.share
+    }
+}
