@@ -2,5 +2,11 @@
 pub mod Announced
 -- What carries leave on the wires
 pub mod Carried
+-- Wires on which null messages alone are
+pub mod Nulls
+-- What a tick of a federate that waits picks up
+pub mod Aims
+-- After the carries of a round everyone knows what the others promised
+pub mod Heard
 -- The first round, and the rounds after it
 pub mod FirstRound

@@ -4,3 +4,5 @@ pub mod Keeping
 pub mod Waiting
 -- What the machine's own bound lets a federate have, rounds give it
 pub mod CatchUp
+-- What steps of rounds change and what they keep
+pub mod Moving
