@@ -6,3 +6,5 @@ pub mod Waiting
 pub mod CatchUp
 -- What steps of rounds change and what they keep
 pub mod Moving
+-- Where others are slow, by how much each two rounds bring it on
+pub mod Creep

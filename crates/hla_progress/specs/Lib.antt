@@ -6,3 +6,5 @@ pub mod Rounds
 pub mod AtOnce
 -- What the machine's own bound lets a federate have, rounds give it
 pub mod CatchingUp
+-- Where others are slow, by how much each two rounds bring it on
+pub mod Creeping

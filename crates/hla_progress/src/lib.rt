@@ -3,4 +3,5 @@
 
 pub mod at_once;
 pub mod catching_up;
+pub mod creeping;
 pub mod promises;

@@ -85,11 +85,11 @@ carries_tick f (Announce h ∷ steps) of = absurd of.0
 carries_tick f (Tick h ∷ steps) of = absurd of.0
 
 -- ---- who is not slow promises the goal
-floor_le : (r : TimeRow) (o : Option AdvanceRequest) (queued bound : ℕ) → r.floor ≤ promise_in r o queued bound
+pub floor_le : (r : TimeRow) (o : Option AdvanceRequest) (queued bound : ℕ) → r.floor ≤ promise_in r o queued bound
 floor_le r None queued bound = omega arith
 floor_le r (Some x) queued bound = omega arith
 
-slow_by : (s : Components) (x g : ℕ) (o : Option AdvanceRequest) → next_request (s.row g) ≡ o → is_regulator (s.row g) ≡ true → promise s g < x → BelowRequest (BelowAllTso (central s) g) (s.row g) o x → IsSlow s x g
+pub slow_by : (s : Components) (x g : ℕ) (o : Option AdvanceRequest) → next_request (s.row g) ≡ o → is_regulator (s.row g) ≡ true → promise s g < x → BelowRequest (BelowAllTso (central s) g) (s.row g) o x → IsSlow s x g
 slow_by s x g None is reg low below = absurd below
 slow_by s x g (Some q) is reg low below = record { regulates = reg; request = q; waits = is; low = low }
 

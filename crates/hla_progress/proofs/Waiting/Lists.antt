@@ -117,7 +117,7 @@ unfolding carries_to
 carries_to_of n times zero = tt
 carries_to_of n times (suc g) = EachOf-append IsOfRounds (carries_to n times g) _ (carries_to_of n times g) (carries_from_of (suc g) times n)
 
-round_of : (n m : ℕ) → EachOf IsOfRounds (round n m)
+pub round_of : (n m : ℕ) → EachOf IsOfRounds (round n m)
 round_of n m = EachOf-append IsOfRounds (announcements n) _ (announcements_of n) (EachOf-append IsOfRounds (carries_to n (m + 1) n) _ (carries_to_of n (m + 1) n) (ticks_are n))
 
 pub rounds_of : (k n m : ℕ) → EachOf IsOfRounds (rounds k n m)
