@@ -4,6 +4,8 @@ pub mod Announced
 pub mod Carried
 -- Wires on which null messages alone are
 pub mod Nulls
+-- Once nothing is on its way what waits is all that there is
+pub mod Arrived
 -- What a tick of a federate that waits picks up
 pub mod Aims
 -- After the carries of a round everyone knows what the others promised

@@ -8,3 +8,5 @@ pub mod CatchUp
 pub mod Moving
 -- Where others are slow, by how much each two rounds bring it on
 pub mod Creep
+-- No federation locks up whose regulators all advance
+pub mod GettingOn

@@ -8,3 +8,5 @@ pub mod AtOnce
 pub mod CatchingUp
 -- Where others are slow, by how much each two rounds bring it on
 pub mod Creeping
+-- No federation locks up whose regulators all advance, and who is granted next
+pub mod GettingOn

@@ -4,4 +4,5 @@
 pub mod at_once;
 pub mod catching_up;
 pub mod creeping;
+pub mod getting_on;
 pub mod promises;

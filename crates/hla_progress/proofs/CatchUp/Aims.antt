@@ -1,6 +1,6 @@
 -- What a tick of a federate that waits picks up: what is due and its grant alone, and something once its goal is reached
 use Rattle.std.proofs.Common.{◌≡◌, ◌≢◌, ◌⊎◌, ℕ, ◌≤◌, ◌<◌, min, cond, leb, eqb, ◌&&◌, Bool, true, false, refl, sym, ◌∙◌, ap, le_trans, subst, inl, inr, ⊎_elim, arith, eqb-true, List, [], ◌∷◌, Option, Some, None}
-use Rattle.std.proofs.lemmas.Bool.{cases_eq, cases_Bool}
+use Rattle.std.proofs.lemmas.Bool.{cases_Bool}
 use Rattle.hla_base.specs.declared.content.Event.{Event}
 use Rattle.hla_base.specs.declared.row.AdvanceRequest.{AdvanceRequest}
 use Rattle.hla_base.specs.declared.row.TimeRow.{TimeRow}
@@ -9,21 +9,19 @@ use Rattle.hla_base.specs.Rows.{is_next, is_flush, is_constrained, is_enabled, f
 use Rattle.hla_base.proofs.Tables.{least_le-forever}
 use Rattle.hla_callbacks.specs.declared.callback.Callback.{Callback}
 use Rattle.hla_callbacks.specs.declared.callback.Callback.TheVariants as callback
-use Rattle.hla_null_message.specs.Wires.{events}
-use Rattle.hla_order_queues.specs.Queues.{find_event, first_stamp}
+use Rattle.hla_order_queues.specs.Queues.{first_stamp}
 use Rattle.hla_local.specs.Picking.{Pick, NoPick, PickControl, PickRo, PickRegulates, PickConstrains, PickTso, PickGrant, is_first_fit}
 use Rattle.hla_machine.specs.declared.step.Step.{Step}
-use Rattle.hla_machine.specs.Central.{Copy, BelowAllTso, BelowWake}
+use Rattle.hla_machine.specs.Central.{BelowAllTso, BelowWake}
 use Rattle.hla_machine.proofs.Rows.{le_reach}
 use Rattle.hla_components.specs.Components.{Components}
 use Rattle.hla_components.specs.Component.{local_bound}
-use Rattle.hla_components.specs.CentralOf.{central, wire_copy, tso_copy, ro_copy}
-use Rattle.hla_components.specs.Invariant.{Inv, Kept, stamps}
+use Rattle.hla_components.specs.CentralOf.{central}
+use Rattle.hla_components.specs.Invariant.{Inv}
 use Rattle.hla_components.specs.Next.{next}
 use Rattle.hla_components.specs.Headline.{IsLedTo}
-use Rattle.hla_components.proofs.Wiring.Carries.{Carries-find}
-use Rattle.hla_components.proofs.Wiring.Queues.{find-first_stamp, first_rest}
-use Rattle.hla_components.proofs.Upkeep.Bounds.{copy_cases, tso_of_copy, not_ro_copy, below_all}
+use Rattle.hla_components.proofs.Wiring.Queues.{first_rest}
+use Rattle.hla_components.proofs.Upkeep.Bounds.{below_all}
 use Rattle.hla_components.proofs.Refinement.Picks.{PickFacts, TsoFacts, GrantFacts, pick_tells}
 use Rattle.hla_components.proofs.Refinement.LedTo.{led_inv}
 use Rattle.hla_progress.specs.Rounds.{IsOfRounds}
@@ -31,12 +29,12 @@ use Rattle.hla_progress.specs.AtOnce.{is_tso_due}
 use Rattle.hla_progress.specs.CatchingUp.{IsTarget, IsWaitingFor}
 use Rattle.hla_progress.proofs.Keeping.Firsts.{led_firsts}
 use Rattle.hla_progress.proofs.Keeping.Live.{first_above}
-use Rattle.hla_progress.proofs.Keeping.Own.{own_led}
 use Rattle.hla_progress.proofs.Moving.Led.{next_target}
 use Rattle.hla_progress.proofs.Waiting.Picks.{IsDuePick, Aim, le_leb, pick_reached}
 use Rattle.hla_progress.proofs.Waiting.Steps.{WaitsOn, bound_rises, picked_at}
 use Rattle.hla_progress.proofs.Waiting.Lists.{asked_cap}
-use Rattle.hla_progress.proofs.CatchUp.Nulls.{NullsAlone, none_found, next_nulls}
+use Rattle.hla_progress.proofs.CatchUp.Nulls.{NullsAlone, next_nulls}
+use Rattle.hla_progress.proofs.CatchUp.Arrived.{all_waits}
 
 abbrev pub IsGrantOf : ℕ → Callback → Type 0
 IsGrantOf t k = k ≡ callback.TimeAdvanceGrant t
@@ -114,24 +112,6 @@ module _ (s : Components) (f : ℕ) (q : AdvanceRequest) (t : ℕ) (is : IsLedTo
 
   -- ---- once all that lay on the wires has come
   module _ (nulls : NullsAlone s f) (within : reach q.kind t ≤ local_bound s f) where
-    -- what waits is all that there is
-    all_waits : (x : ℕ) → x ≤ forever → x ≤ first_stamp (s.tso f) → BelowAllTso (central s) f x
-    all_waits x cap low g m c found live tso = ⊎_elim
-        (λ (v : (e : Event) × (find_event g m (events (s.wire g f)) ≡ Some e) × (wire_copy e ≡ c)). ⊎_elim
-        (λ (z : g ≡ 0). rw (← v.2) (from_nobody z v.0 v.1 (tso_of_copy v.0 (rw (← v.2) at tso))))
-        (λ (z : g ≢ 0). absurd (none_found g m v.0 (s.wire g f) (nulls g z) v.1))
-        (cases_eq g 0))
-        (⊎_elim
-        (λ (v : (e : Event) × (find_event g m (s.tso f) ≡ Some e) × (tso_copy e ≡ c)). rw (← v.2) (le_trans low (find-first_stamp g m v.0 (s.tso f) (inv.kept.time.queues f) v.1)))
-        (λ (v : (e : Event) × (find_event g m (s.ro f) ≡ Some e) × (ro_copy e ≡ c)). absurd (not_ro_copy v.0 (rw (← v.2) at tso))))
-        (copy_cases g m (s.wire g f) (s.tso f) (s.ro f) c found)
-      where
-        -- the bound of nobody is FOREVER
-        from_nobody : g ≡ 0 → (e : Event) → find_event g m (events (s.wire g f)) ≡ Some e → e.ordered ≡ true → x ≤ e.stamp
-        from_nobody z e there o =
-            let high = Carries-find _ (s.last_announced g) (s.known_epoch f g) g (stamps s g) (s.serial g) (s.wire g f) (s.bound f g) m e (inv.kept.time.wires g f) there o in
-            let top : s.bound f g ≡ forever = subst (λ g. s.bound f g ≡ forever) (sym z) ((own_led s is).nobody f) in omega (arith, cap)
-
     target_low : t ≤ local_bound s f
     target_low = le_trans (le_reach q.kind t) within
 
@@ -142,7 +122,7 @@ module _ (s : Components) (f : ℕ) (q : AdvanceRequest) (t : ℕ) (is : IsLedTo
     none_aim y first =
         let at : BelowWake (BelowAllTso (central s) f) q None t = rw first at ((w.target.1 y).0) in
         let low : t ≤ first_stamp (s.tso f) = (let l = first_above s f inv t at.1 in let b = target_low in omega arith) in
-        let high = wake_at y None first (min q.asked (first_stamp (s.tso f))) (omega arith, all_waits (min q.asked (first_stamp (s.tso f))) (let c = asked_top in omega arith) (omega arith)) in
+        let high = wake_at y None first (min q.asked (first_stamp (s.tso f))) (omega arith, all_waits s f is nulls (min q.asked (first_stamp (s.tso f))) (let c = asked_top in omega arith) (omega arith)) in
         (at.0, low, omega (arith, at.0))
 
     some_aim : is_next q.kind ≡ true → (p : ℕ) → (s.row f).first_pick ≡ Some p → (t ≤ q.asked) × (t ≤ first_stamp (s.tso f)) × (t ≡ p)

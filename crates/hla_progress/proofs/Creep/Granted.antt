@@ -68,7 +68,7 @@ rounds_append (suc i) j n m = let e : suc i + j ≡ suc (i + j) = omega arith in
 
 -- ---- the goal stands
 -- f itself will send nothing below its goal either
-own_out : (s : Components) (f : ℕ) (q : AdvanceRequest) (t : ℕ) → IsLedTo s → IsWaitingFor s f q t → BelowOut (BelowAllTso (central s) f) (s.row f) (reach q.kind t)
+pub own_out : (s : Components) (f : ℕ) (q : AdvanceRequest) (t : ℕ) → IsLedTo s → IsWaitingFor s f q t → BelowOut (BelowAllTso (central s) f) (s.row f) (reach q.kind t)
 own_out s f q t is w = ⊎_elim
     (λ (y : is_next q.kind ≡ true). let con = w.constrained in let asks = w.asks in
     let waits : next_request (s.row f) ≡ Some q = rw (con, asks, y) refl in

@@ -20,7 +20,7 @@ use Rattle.hla_components.proofs.Refinement.Runs.{each_step}
 use Rattle.hla_components.proofs.Refinement.LedTo.{led_inv, led_next, led_history}
 use Rattle.hla_progress.specs.Rounds.{IsOfRounds}
 use Rattle.hla_progress.specs.CatchingUp.{IsTarget}
-use Rattle.hla_progress.proofs.Moving.Rounds.{RoundStep, round_step}
+use Rattle.hla_progress.proofs.Moving.Rounds.{RoundStep, round_step, NoneGoes, IsNoTick, none_goes}
 use Rattle.hla_progress.proofs.Moving.Outs.{SameRequest, out_stays, role_stays, request_stays}
 use Rattle.hla_progress.proofs.Moving.Targets.{target_stays}
 
@@ -38,6 +38,11 @@ led_sound s is = let h = led_history s is in sound_run (new_central h.catalogue)
 pub led_round : (s : Components) (step : Step) → IsLedTo s → IsOfRounds step → RoundStep (central s) (central (next s step).state)
 led_round s step is of = let one = each_step s step (led_inv s is) in subst (λ (d : Central). RoundStep (central s) d) (sym one.machine.follows)
     (round_step (central s) step (next s step).outcome (next s step).choice (led_sound s is).sound.owes of one.machine.allowed.0)
+
+-- no unretracted copy for a constrained federate goes in announcements and carries
+pub led_goes : (s : Components) (step : Step) (f : ℕ) → IsLedTo s → IsNoTick step → is_constrained (s.row f) ≡ true → NoneGoes (central s) (central (next s step).state).bag f
+led_goes s step f is of con = let one = each_step s step (led_inv s is) in subst (λ (d : Central). NoneGoes (central s) d.bag f) (sym one.machine.follows)
+    (none_goes (central s) step (next s step).outcome (next s step).choice (led_sound s is).sound.owes of one.machine.allowed.0 f con)
 
 -- ---- one step
 module _ (s : Components) (step : Step) (is : IsLedTo s) (of : IsOfRounds step) where

@@ -55,6 +55,14 @@ pub record RoundStep (c d : Central) : Type 0 where
   pub fewer : NoMore d.bag c.bag
   pub moves : Moves c d
 
+-- an announcement or a carry
+abbrev pub IsNoTick : Step → Type 0
+IsNoTick (Join name) = ⊥
+IsNoTick (Call f service) = ⊥
+IsNoTick (Carry from to) = Unit {0}
+IsNoTick (Announce f) = Unit {0}
+IsNoTick (Tick f) = ⊥
+
 same_copies : (bag : Bag) → NoMore bag bag
 same_copies bag g m f k is tso = is
 
@@ -106,12 +114,15 @@ module _ (c : Central) where
   demoted h events f ne g m k is live tso = rw (ne_eqb h f ne) is
 
   -- ---- steps
+  arrival_goes : (g f m l : ℕ) → is_constrained (c.row l) ≡ true → NoneGoes c (cond (is_disabled (c.row f).constrained) (at_key c.bag g m f (option_map demoted_copy (c.bag g m f))) c.bag) l
+  arrival_goes g f m l con = cond_both (is_disabled (c.row f).constrained) (at_key c.bag g m f (option_map demoted_copy (c.bag g m f))) c.bag (λ b. NoneGoes c b l) (λ off. arrived g f m l con off) (λ _. stays l)
+
   arrival : (g f m : ℕ) → RoundStep c (record c { bag = cond (is_disabled (c.row f).constrained) (at_key c.bag g m f (option_map demoted_copy (c.bag g m f))) c.bag })
   arrival g f m = record {
     sent = refl;
     directory = refl;
     fewer = cond_both (is_disabled (c.row f).constrained) (at_key c.bag g m f (option_map demoted_copy (c.bag g m f))) c.bag (λ b. NoMore b c.bag) (λ _. fewer_demoted c.bag g m f) (λ _. same_copies c.bag);
-    moves = NoRow refl (λ l con. cond_both (is_disabled (c.row f).constrained) (at_key c.bag g m f (option_map demoted_copy (c.bag g m f))) c.bag (λ b. NoneGoes c b l) (λ off. arrived g f m l con off) (λ _. stays l));
+    moves = NoRow refl (arrival_goes g f m);
   }
 
   carry_moves : (g f : ℕ) (x : Carried) → Owing c.sent c.owed → MayCarry c g f x → RoundStep c (after_carry c g f x)
@@ -121,6 +132,14 @@ module _ (c : Central) where
   carry_moves g f carried.Nothing owing may = quiet
   carry_moves g f (carried.Null bound) owing may = quiet
   carry_moves g f (carried.Discovery object) owing may = quiet
+
+  carry_goes : (g f : ℕ) (x : Carried) → Owing c.sent c.owed → MayCarry c g f x → (l : ℕ) → is_constrained (c.row l) ≡ true → NoneGoes c (after_carry c g f x).bag l
+  carry_goes g f (carried.Event e) owing may l con = arrival_goes g f e.serial l con
+  carry_goes g f (carried.Removal e) owing may l con = arrival_goes g f e.serial l con
+  carry_goes g f (carried.Retraction e) owing may l con = taken_back g f e.serial l owing may.1
+  carry_goes g f carried.Nothing owing may l con = stays l
+  carry_goes g f (carried.Null bound) owing may l con = stays l
+  carry_goes g f (carried.Discovery object) owing may l con = stays l
 
   row_moves : (h : ℕ) (r : TimeRow) → Move c h r → RoundStep c (record c { row = upd c.row h r })
   row_moves h r move = record { sent = refl; directory = refl; fewer = same_copies c.bag; moves = OneRow h r refl move (λ f ne con. stays f) }
@@ -161,3 +180,16 @@ module _ (c : Central) where
   round_step step (outcome.Done a) o owing of may = done_moves step a o owing of may.1
   round_step (Tick f) (outcome.Failed x) o owing of may = pick_moves f x o may.1
   round_step step out o owing of may = quiet
+
+  -- what is announced and carried takes no unretracted copy from a constrained federate
+  done_goes : (step : Step) (a : Answer) (o : Choice) → Owing c.sent c.owed → IsNoTick step → MayDo c step a o → (l : ℕ) → is_constrained (c.row l) ≡ true → NoneGoes c (after_done c step a o).bag l
+  done_goes (Join name) a o owing of may = absurd of
+  done_goes (Call f s) a o owing of may = absurd of
+  done_goes (Carry g f) (answer.Carried x) o owing of may = carry_goes g f x owing may
+  done_goes (Tick f) a o owing of may = absurd of
+  done_goes step a o owing of may = λ l con. stays l
+
+  pub none_goes : (step : Step) (out : Outcome) (o : Choice) → Owing c.sent c.owed → IsNoTick step → MayEnd c step out o → (l : ℕ) → is_constrained (c.row l) ≡ true → NoneGoes c (after c step out o).bag l
+  none_goes step (outcome.Done a) o owing of may = done_goes step a o owing of may.1
+  none_goes (Tick f) (outcome.Failed x) o owing of may = absurd of
+  none_goes step out o owing of may = λ l con. stays l

@@ -22,7 +22,7 @@ pub wake_map : (below to : ℕ → Type 0) (q : AdvanceRequest) (first : Option 
 wake_map below to q (Some p) x h w = w
 wake_map below to q None x h w = (w.0, h w.1)
 
-wake_same : (below to : ℕ → Type 0) (q : AdvanceRequest) (first : Option ℕ) (t : ℕ) → ((x : ℕ) → below x → to x) → ((x : ℕ) → to x → below x) → WakeIn below q first t → WakeIn to q first t
+pub wake_same : (below to : ℕ → Type 0) (q : AdvanceRequest) (first : Option ℕ) (t : ℕ) → ((x : ℕ) → below x → to x) → ((x : ℕ) → to x → below x) → WakeIn below q first t → WakeIn to q first t
 wake_same below to q first t up down w = (wake_map below to q first t (up t) w.0, λ x b. w.1 x (wake_map to below q first x (down x) b))
 
 -- after a pick at s

@@ -1,0 +1,25 @@
+//! No federation locks up whose regulators all advance; and who is granted next.
+
+ghost use Rattle.hla_progress.specs.GettingOn.{EachLeastIsGranted, NobodyLocksUp, NobodyLocksUpWithWidths};
+
+/// A constrained federate waits in an advance that is no flush, every other regulating federate does too, and its goal is at most
+/// theirs: then it is granted exactly its target, by the round 1 + twice its goal + what is due before it, unless two federates that
+/// are slow for its goal both have the width 0 (Next Event Request Available with the lookahead 0). Who advances without being
+/// constrained, or by a flush, is not waited for: that is granted at once.
+pub fn each_least_is_granted()
+    ensures { EachLeastIsGranted }
+{}
+
+/// There is no deadlock: where some joined federate is in an advance, and every regulating one is, some federate that is in an advance
+/// is granted after some rounds, unless two regulating federates are in Next Event Request Available with the lookahead 0.
+///
+/// Nothing is said of a federation in which a regulating federate is in no advance, nor of how soon by a clock, nor of what happens
+/// while federates call services in between.
+pub fn nobody_locks_up()
+    ensures { NobodyLocksUp }
+{}
+
+/// So with every lookahead positive, or strict requests alone, a federation never locks up.
+pub fn nobody_locks_up_with_widths()
+    ensures { NobodyLocksUpWithWidths }
+{}
