@@ -10,3 +10,5 @@ pub mod Moving
 pub mod Creep
 -- No federation locks up whose regulators all advance
 pub mod GettingOn
+-- The examples, by computation
+pub mod Computed

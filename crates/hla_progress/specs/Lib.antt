@@ -10,3 +10,5 @@ pub mod CatchingUp
 pub mod Creeping
 -- No federation locks up whose regulators all advance, and who is granted next
 pub mod GettingOn
+-- Worked examples of rounds
+pub mod Examples
