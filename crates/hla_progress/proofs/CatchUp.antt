@@ -12,3 +12,5 @@ pub mod Aims
 pub mod Heard
 -- The first round, and the rounds after it
 pub mod FirstRound
+-- One that is to be constrained
+pub mod Constraining

@@ -6,3 +6,5 @@ pub mod OneRound
 pub mod TwoRounds
 -- Who waits is granted
 pub mod Granted
+-- Who is to be constrained is
+pub mod Constrained

@@ -1,6 +1,8 @@
 -- What the machine's own bound lets a federate have, rounds give it
-use Rattle.std.specs.Prelude.{ℕ, ◌+◌, ◌≡◌, ◌≢◌, ◌≤◌, ◌<◌, true, false, Some, length}
+use Rattle.std.specs.Prelude.{ℕ, ◌+◌, ◌≡◌, ◌≢◌, ◌≤◌, ◌<◌, cond, true, false, Some, length}
 use Rattle.hla_base.specs.declared.row.AdvanceRequest.{AdvanceRequest}
+use Rattle.hla_base.specs.declared.row.TimeRow.{TimeRow}
+use Rattle.hla_base.specs.Tables.{one_if}
 use Rattle.hla_base.specs.Rows.{is_next, is_flush, is_regulator, is_constrained, is_pending, next_request, reach}
 use Rattle.hla_callbacks.specs.declared.callback.Callback.TheVariants as callback
 use Rattle.hla_machine.specs.Central.{Central, BelowAllTso, BelowWake, BelowBound}
@@ -49,9 +51,13 @@ EachCatchesUpInARound = (s : Components) (f n m : ℕ) (q : AdvanceRequest) (t :
     IsWaitingFor s f q t → BelowBound (central s) f (reach q.kind t) → NobodyIsSlow s f (reach q.kind t) →
     IsGivenAtLast (happenings s (rounds (1 + due_up_to s f t) n m)) f (λ k. k ≡ callback.TimeAdvanceGrant t)
 
--- likewise one that is to be constrained, and does not wait for its own regulation, once its time is at most the machine's bound
+-- the time from which a federate is constrained that is to be: its own, or while it waits for its regulation the time that comes with that
+abbrev pub coming_time : TimeRow → ℕ
+coming_time r = cond (is_pending r.regulating) r.regulation_time r.time
+
+-- likewise one that is to be constrained, once that time is at most the machine's bound; its own regulation, if it waits for that, is
+-- one callback more
 abbrev pub EachIsConstrainedInARound : Type 0
 EachIsConstrainedInARound = (s : Components) (f n m : ℕ) → IsLedTo s → s.directory.next_federate ≤ n + 1 → ((g : ℕ) → length (s.wire g f) ≤ m) →
-    s.directory.joined f ≡ true → is_pending (s.row f).constrained ≡ true → is_pending (s.row f).regulating ≡ false →
-    BelowBound (central s) f (s.row f).time → NobodyIsSlow s f (s.row f).time →
-    IsGivenAtLast (happenings s (rounds (1 + due_before s f) n m)) f (λ k. k ≡ callback.TimeConstrainedEnabled (s.row f).time)
+    s.directory.joined f ≡ true → is_pending (s.row f).constrained ≡ true → BelowBound (central s) f (coming_time (s.row f)) → NobodyIsSlow s f (coming_time (s.row f)) →
+    IsGivenAtLast (happenings s (rounds (1 + (due_before s f + one_if (is_pending (s.row f).regulating))) n m)) f (λ k. k ≡ callback.TimeConstrainedEnabled (coming_time (s.row f)))

@@ -15,9 +15,9 @@ pub fn each_catches_up_in_a_round()
     ensures { EachCatchesUpInARound }
 {}
 
-/// Likewise a federate that has asked to be constrained, and does not wait for its own regulation, is constrained by the round one
-/// above the number of callbacks that are due before it, if its time is at most what the other regulators may still send, and nobody
-/// else is slow for its time.
+/// Likewise a federate that has asked to be constrained. The time from which it will be is its own, or while its regulation is pending
+/// too the time that comes with that; if it is at most what the other regulators may still send, and nobody else is slow for it, then
+/// it is constrained by the round one above the number of callbacks that are due before it, its own regulation with them.
 pub fn each_is_constrained_in_a_round()
     ensures { EachIsConstrainedInARound }
 {}

@@ -1,6 +1,6 @@
 //! Where others are slow, rounds bring on what they promise.
 
-ghost use Rattle.hla_progress.specs.Creeping.{EachCatchesUp, EachFollowsOne};
+ghost use Rattle.hla_progress.specs.Creeping.{EachCatchesUp, EachFollowsOne, EachIsConstrained};
 
 /// A constrained federate waits in an advance that is no flush, and its goal is at most the least that the other regulators may still
 /// send. Others may be slow for the goal: regulating and constrained, in a next-event request, with a promise below the goal. If the
@@ -18,4 +18,10 @@ pub fn each_catches_up()
 /// Event Request among Time Advance Requests costs one round more.
 pub fn each_follows_one()
     ensures { EachFollowsOne }
+{}
+
+/// Likewise a federate that has asked to be constrained, once the time from which it will be is at most what the other regulators may
+/// still send: it is by the round 1 + 2 k + what is due before it, its own regulation with that, if it waits for it.
+pub fn each_is_constrained()
+    ensures { EachIsConstrained }
 {}

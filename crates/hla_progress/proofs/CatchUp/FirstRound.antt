@@ -4,7 +4,7 @@ use Rattle.std.proofs.lemmas.Bool.{cases_lt}
 use Rattle.std.proofs.lemmas.List.{append_assoc}
 use Rattle.hla_base.specs.declared.row.AdvanceRequest.{AdvanceRequest}
 use Rattle.hla_base.specs.declared.row.TimeRow.{TimeRow}
-use Rattle.hla_base.specs.Rows.{is_regulator, is_pending, next_request, reach}
+use Rattle.hla_base.specs.Rows.{is_regulator, next_request, reach}
 use Rattle.hla_base.specs.Tables.{one_if}
 use Rattle.hla_callbacks.specs.declared.callback.Callback.{Callback}
 use Rattle.hla_callbacks.specs.declared.callback.Callback.TheVariants as callback
@@ -22,11 +22,11 @@ use Rattle.hla_components.specs.Headline.{IsLedTo, happenings, state_after}
 use Rattle.hla_components.proofs.Basics.Each.{EachOf-append}
 use Rattle.hla_components.proofs.Refinement.LedTo.{led_inv, led_next, state_appended}
 use Rattle.hla_progress.specs.Rounds.{announcements, carries_to, ticks, rounds, IsOfRounds, is_tick_of, ticks_of, IsGivenAtLast}
-use Rattle.hla_progress.specs.AtOnce.{asked_time, due_up_to, due_before}
-use Rattle.hla_progress.specs.CatchingUp.{IsWaitingFor, IsSlow, NobodyIsSlow, EachCatchesUpInARound, EachIsConstrainedInARound}
+use Rattle.hla_progress.specs.AtOnce.{due_up_to}
+use Rattle.hla_progress.specs.CatchingUp.{IsWaitingFor, IsSlow, NobodyIsSlow, EachCatchesUpInARound}
 use Rattle.hla_progress.proofs.Keeping.Numbers.{joined_from_one}
-use Rattle.hla_progress.proofs.Waiting.Picks.{IsDuePick, pick_constrains}
-use Rattle.hla_progress.proofs.Waiting.Steps.{WaitsOn, other_waits, unchanged, bound_rises, picked_at}
+use Rattle.hla_progress.proofs.Waiting.Picks.{IsDuePick}
+use Rattle.hla_progress.proofs.Waiting.Steps.{WaitsOn, other_waits, unchanged, picked_at}
 use Rattle.hla_progress.proofs.Waiting.Lists.{list_brings, ticks_of-append, everyone_ticks, rounds_tick, announcements_of, ticks_are, carries_to_of, rounds_of}
 use Rattle.hla_progress.proofs.CatchUp.Announced.{HaveAnnounced}
 use Rattle.hla_progress.proofs.CatchUp.Carried.{IsCarry, to_are}
@@ -44,6 +44,7 @@ waits_trans s t u f limit a b = record {
   constrained = b.constrained ∙ a.constrained;
   regulating = b.regulating ∙ a.regulating;
   time = b.time ∙ a.time;
+  regulation = b.regulation ∙ a.regulation;
   bounds = λ g. le_trans (a.bounds g) (b.bounds g);
   numbers = b.numbers ∙ a.numbers;
 }
@@ -115,6 +116,18 @@ regroup n m d =
 enough_ticks : (f n m d : ℕ) → 1 ≤ f → f ≤ n → d < ticks_of f (ticks n ++ rounds d n m)
 enough_ticks f n m d a b = omega (arith, ticks_of-append f (ticks n) (rounds d n m), everyone_ticks f n a b, rounds_tick d f n m a b)
 
+-- what comes after the first carries comes in the rounds
+pub after_first : (s : Components) (f n m d : ℕ) (P : Callback → Type 0) → IsGivenAtLast (happenings (carried s n m) (ticks n ++ rounds d n m)) f P → IsGivenAtLast (happenings s (rounds (1 + d) n m)) f P
+after_first s f n m d P ends = subst (λ (steps : List Step). IsGivenAtLast (happenings s steps) f P) (sym (regroup n m d))
+    (given_later s (announcements n) (carries_to n (m + 1) n ++ (ticks n ++ rounds d n m)) f P (announcements_tick f n)
+    (given_later (said s n m) (carries_to n (m + 1) n) (ticks n ++ rounds d n m) f P (carries_tick f (carries_to n (m + 1) n) (to_are (m + 1) n n)) ends))
+
+pub rest_of : (n m d : ℕ) → EachOf IsOfRounds (ticks n ++ rounds d n m)
+rest_of n m d = EachOf-append IsOfRounds (ticks n) (rounds d n m) (ticks_are n) (rounds_of d n m)
+
+pub rest_ticks : (s : Components) (f n m d : ℕ) → IsLedTo s → s.directory.joined f ≡ true → s.directory.next_federate ≤ n + 1 → d < ticks_of f (ticks n ++ rounds d n m)
+rest_ticks s f n m d is member few = let counts : f < s.directory.next_federate = (led_inv s is).kept.directory.members f member in enough_ticks f n m d (joined_from_one s f is member) (omega (arith, counts, few))
+
 module _ (s : Components) (f n m d limit : ℕ) (P : Callback → Type 0) (is : IsLedTo s) (member : s.directory.joined f ≡ true) (few : s.directory.next_federate ≤ n + 1) (enough : due_up_to s f limit ≤ d) where
   -- f waits on until the carries of the first round are done
   pub waits_carried : WaitsOn s (carried s n m) f limit 0
@@ -130,18 +143,11 @@ module _ (s : Components) (f n m d limit : ℕ) (P : Callback → Type 0) (is : 
   pub rounds_bring : (C : Components → Type 0) → ((t : Components) → IsLedTo t → C t → IsDuePick (t.row f) limit P (picked_at t f))
       → ((t : Components) (step : Step) (x : ℕ) → IsLedTo t → IsOfRounds step → WaitsOn t (next t step).state f limit x → C t → C (next t step).state)
       → C (carried s n m) → IsGivenAtLast (happenings s (rounds (1 + d) n m)) f P
-  rounds_bring C due lasts c =
-      let counts : f < s.directory.next_federate = (led_inv s is).kept.directory.members f member in
-      let ends : IsGivenAtLast (happenings (carried s n m) (ticks n ++ rounds d n m)) f P =
-      list_brings f limit P C due lasts (carried s n m) (ticks n ++ rounds d n m) (led_carried s n m is) (waits_carried.joined ∙ member) c
-      (EachOf-append IsOfRounds (ticks n) (rounds d n m) (ticks_are n) (rounds_of d n m))
-      (omega (arith, waits_carried.less, enough, enough_ticks f n m d (joined_from_one s f is member) (omega (arith, counts, few)))) in
-      subst (λ (steps : List Step). IsGivenAtLast (happenings s steps) f P) (sym (regroup n m d))
-      (given_later s (announcements n) (carries_to n (m + 1) n ++ (ticks n ++ rounds d n m)) f P (announcements_tick f n)
-      (given_later (said s n m) (carries_to n (m + 1) n) (ticks n ++ rounds d n m) f P (carries_tick f (carries_to n (m + 1) n) (to_are (m + 1) n n)) ends))
+  rounds_bring C due lasts c = after_first s f n m d P (list_brings f limit P C due lasts (carried s n m) (ticks n ++ rounds d n m) (led_carried s n m is) (waits_carried.joined ∙ member) c (rest_of n m d)
+      (omega (arith, waits_carried.less, enough, rest_ticks s f n m d is member few)))
 
 -- ---- the goal is known
-goal_known : (s : Components) (f n m x : ℕ) → IsLedTo s → s.directory.joined f ≡ true → s.directory.next_federate ≤ n + 1 → ((g : ℕ) → g ≢ 0 → length (s.wire g f) ≤ m) → BelowBound (central s) f x → NobodyIsSlow s f x → x ≤ local_bound (carried s n m) f
+pub goal_known : (s : Components) (f n m x : ℕ) → IsLedTo s → s.directory.joined f ≡ true → s.directory.next_federate ≤ n + 1 → ((g : ℕ) → g ≢ 0 → length (s.wire g f) ≤ m) → BelowBound (central s) f x → NobodyIsSlow s f x → x ≤ local_bound (carried s n m) f
 goal_known s f n m x is member few short below quick = all_heard s n m is few f member short x below.0
     (λ g ne j reg. promised_or_slow s x g reg (below.1 g j ne reg) (λ slow. absurd (quick g j ne slow)))
 
@@ -155,20 +161,3 @@ catches_up_in s f n m d q t is few short w below quick enough = rounds_bring s f
 
 pub catches_up : EachCatchesUpInARound
 catches_up s f n m q t is few short w below quick = catches_up_in s f n m (due_up_to s f t) q t is few (λ g _. short g) w below quick (omega arith)
-
--- ---- one that is to be constrained
-record ToConstrain (f time : ℕ) (s : Components) : Type 0 where
-  was : is_pending (s.row f).constrained ≡ true
-  alone : is_pending (s.row f).regulating ≡ false
-  stays : (s.row f).time ≡ time
-  within : time ≤ local_bound s f
-
-pub is_constrained_soon : EachIsConstrainedInARound
-is_constrained_soon s f n m is few short member was alone below quick =
-    let limit = asked_time (s.row f).advance in
-    let time = (s.row f).time in
-    let on = waits_carried s f n m (due_up_to s f limit) limit (λ k. k ≡ callback.TimeConstrainedEnabled time) is member few (omega arith) in
-    rounds_bring s f n m (due_up_to s f limit) limit (λ k. k ≡ callback.TimeConstrainedEnabled time) is member few (omega arith) (ToConstrain f time)
-    (λ t led c. pick_constrains (t.row f) (local_bound t f) limit (λ k. k ≡ callback.TimeConstrainedEnabled time) (ap callback.TimeConstrainedEnabled c.stays) c.was c.alone (le_trans (omega (arith, c.stays)) c.within) (t.controls f) (t.ro f) (t.tso f))
-    (λ t step x led of w c. record { was = ap is_pending w.constrained ∙ c.was; alone = ap is_pending w.regulating ∙ c.alone; stays = w.time ∙ c.stays; within = le_trans c.within (bound_rises t _ f limit x w) })
-    (record { was = ap is_pending on.constrained ∙ was; alone = ap is_pending on.regulating ∙ alone; stays = on.time; within = goal_known s f n m time is member few (λ g _. short g) below quick })

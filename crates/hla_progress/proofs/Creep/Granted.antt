@@ -46,12 +46,12 @@ list_goes s (step ∷ steps) f q t is of w = ⊎_elim
     later on (inr v) = inr (v.0, omega (arith, v.1, on.less))
 
 -- ---- lists one after another
-given_in_front : (s : Components) (xs ys : List Step) (f : ℕ) (P : Callback → Type 0) → IsGivenIn (happenings s xs) f P → IsGivenIn (happenings s (xs ++ ys)) f P
+pub given_in_front : (s : Components) (xs ys : List Step) (f : ℕ) (P : Callback → Type 0) → IsGivenIn (happenings s xs) f P → IsGivenIn (happenings s (xs ++ ys)) f P
 given_in_front s [] ys f P g = absurd g
 given_in_front s (x ∷ xs) ys f P (inl g) = inl g
 given_in_front s (x ∷ xs) ys f P (inr g) = inr (given_in_front (next s x).state xs ys f P g)
 
-given_behind : (s : Components) (xs ys : List Step) (f : ℕ) (P : Callback → Type 0) → IsGivenIn (happenings (state_after s xs) ys) f P → IsGivenIn (happenings s (xs ++ ys)) f P
+pub given_behind : (s : Components) (xs ys : List Step) (f : ℕ) (P : Callback → Type 0) → IsGivenIn (happenings (state_after s xs) ys) f P → IsGivenIn (happenings s (xs ++ ys)) f P
 given_behind s [] ys f P g = g
 given_behind s (x ∷ xs) ys f P g = inr (given_behind (next s x).state xs ys f P g)
 
@@ -61,7 +61,7 @@ given_at_last s (step ∷ steps) f P (inl g) = inl g
 given_at_last s (step ∷ steps) f P (inr g) = inr (given_at_last (next s step).state steps f P g.1)
 
 -- so many rounds, and so many
-rounds_append : (i j n m : ℕ) → rounds (i + j) n m ≡ rounds i n m ++ rounds j n m
+pub rounds_append : (i j n m : ℕ) → rounds (i + j) n m ≡ rounds i n m ++ rounds j n m
 rounds_append zero j n m = let e : zero + j ≡ j = omega arith in ap (λ k. rounds k n m) e
 rounds_append (suc i) j n m = let e : suc i + j ≡ suc (i + j) = omega arith in
     ap (λ k. rounds k n m) e ∙ ap (λ (steps : List Step). round n m ++ steps) (rounds_append i j n m) ∙ sym (append_assoc (round n m) (rounds i n m) (rounds j n m))

@@ -195,15 +195,20 @@ module _ (r : TimeRow) (bound t : ℕ) (P : Callback → Type 0) (grant : P (cal
   pick_reached [] ro tso aim cap inv = reached_ro ro tso aim cap inv
   pick_reached (k ∷ ks) ro tso aim cap inv = tt
 
--- ---- a federate that is constrained from now on, once its time is reached
-module _ (r : TimeRow) (bound limit : ℕ) (P : Callback → Type 0) (awaited : P (callback.TimeConstrainedEnabled r.time)) (was : is_pending r.constrained ≡ true) (alone : is_pending r.regulating ≡ false) (within : r.time ≤ bound) where
-  constrains_due : (tso : List Event) → IsDuePick r limit P (role_pick r tso bound)
-  constrains_due tso = rw (alone, was, le_leb r.time bound within) awaited
+-- ---- a federate that is to be constrained, once its time is reached
+abbrev pub IsSomePick : Pick → Type 0
+IsSomePick p = p ≡ NoPick → ⊥
 
-  constrains_ro : (ro tso : List Event) → IsDuePick r limit P (ro_pick r ro tso bound)
-  constrains_ro [] tso = constrains_due tso
-  constrains_ro (e ∷ es) tso = cond_both (is_held_back r) (role_pick r tso bound) (PickRo e es) (IsDuePick r limit P) (λ _. constrains_due tso) (λ _. tt)
+module _ (r : TimeRow) (bound : ℕ) (was : is_pending r.constrained ≡ true) (within : is_pending r.regulating ≡ false → r.time ≤ bound) where
+  some_role : (tso : List Event) → IsSomePick (role_pick r tso bound)
+  some_role tso = cond_both (is_pending r.regulating) PickRegulates (cond (is_pending r.constrained && leb r.time bound) PickConstrains (advance_pick r r.advance tso bound)) IsSomePick
+      (λ _ none. cc)
+      (λ n. rw (was, le_leb r.time bound (within n)) (λ none. cc))
 
-  pub pick_constrains : (ks : List Control) (ro tso : List Event) → IsDuePick r limit P (pick ks r ro tso bound)
-  pick_constrains [] ro tso = constrains_ro ro tso
-  pick_constrains (k ∷ ks) ro tso = tt
+  some_ro : (ro tso : List Event) → IsSomePick (ro_pick r ro tso bound)
+  some_ro [] tso = some_role tso
+  some_ro (e ∷ es) tso = cond_both (is_held_back r) (role_pick r tso bound) (PickRo e es) IsSomePick (λ _. some_role tso) (λ _ none. cc)
+
+  pub some_pick : (ks : List Control) (ro tso : List Event) → IsSomePick (pick ks r ro tso bound)
+  some_pick [] ro tso = some_ro ro tso
+  some_pick (k ∷ ks) ro tso = λ none. cc

@@ -43,6 +43,7 @@ pub record WaitsOn (s t : Components) (f limit x : ℕ) : Type 0 where
   pub constrained : (t.row f).constrained ≡ (s.row f).constrained
   pub regulating : (t.row f).regulating ≡ (s.row f).regulating
   pub time : (t.row f).time ≡ (s.row f).time
+  pub regulation : (t.row f).regulation_time ≡ (s.row f).regulation_time
   pub bounds : (g : ℕ) → s.bound f g ≤ t.bound f g
   pub numbers : t.directory ≡ s.directory
 
@@ -79,12 +80,13 @@ waits_untouched s t f limit u = record {
   constrained = ap (λ (r : TimeRow). r.constrained) u.row;
   regulating = ap (λ (r : TimeRow). r.regulating) u.row;
   time = ap (λ (r : TimeRow). r.time) u.row;
+  regulation = ap (λ (r : TimeRow). r.regulation_time) u.row;
   bounds = u.bounds;
   numbers = u.directory;
 }
 
 pub unchanged : (s : Components) (f limit : ℕ) → WaitsOn s s f limit 0
-unchanged s f limit = record { joined = refl; waits = λ w. w; same = λ k a. a; less = omega arith; advance = refl; constrained = refl; regulating = refl; time = refl; bounds = λ g. omega arith; numbers = refl }
+unchanged s f limit = record { joined = refl; waits = λ w. w; same = λ k a. a; less = omega arith; advance = refl; constrained = refl; regulating = refl; time = refl; regulation = refl; bounds = λ g. omega arith; numbers = refl }
 
 announce_untouched : (s : Components) (g f : ℕ) → IsUntouched s (announce_outcome s g).state f
 announce_untouched s g f = cond_both (is_regulator (s.row g) && ltb (s.last_announced g) (promise s g))
@@ -140,6 +142,7 @@ carry_waits s g f limit (message.Event e ∷ ms) inv front = record {
   constrained = refl;
   regulating = refl;
   time = refl;
+  regulation = refl;
   bounds = λ g. omega arith;
   numbers = refl;
   waits = λ w. w;
@@ -152,6 +155,7 @@ carry_waits s g f limit (message.Null k v ∷ ms) inv front = record {
   constrained = refl;
   regulating = refl;
   time = refl;
+  regulation = refl;
   bounds = λ h. upd2_each s.bound f g _ (λ l h b. s.bound l h ≤ b) (raised_ge (eqb k (s.known_epoch f g)) (s.bound f g) v) (λ _ _. omega arith) f h;
   numbers = refl;
   waits = λ w. w;
@@ -164,6 +168,7 @@ carry_waits s g f limit (message.Retraction m ∷ ms) inv front = record {
   constrained = refl;
   regulating = refl;
   time = refl;
+  regulation = refl;
   bounds = λ g. omega arith;
   numbers = refl;
   waits = λ w. w;
@@ -176,6 +181,7 @@ carry_waits s g f limit (message.Discovery d ∷ ms) inv front = record {
   constrained = refl;
   regulating = refl;
   time = refl;
+  regulation = refl;
   bounds = λ g. omega arith;
   numbers = refl;
   waits = λ w. w;
@@ -193,13 +199,14 @@ module _ (s : Components) (f limit : ℕ) (P : Callback → Type 0) where
       → due_in_queues (s.row f) limit controls ro tso + total s.directory.next_federate (λ g. due_on_wire (s.row f) limit (s.wire g f)) + 1 ≤ due_up_to s f limit
   queue_less controls ro tso l = omega (arith, l)
 
-  control_less : (k : Control) (rest : List Control) → s.controls f ≡ k ∷ rest → WaitsOn s (record s { controls = upd s.controls f rest }) f limit 1
+  pub control_less : (k : Control) (rest : List Control) → s.controls f ≡ k ∷ rest → WaitsOn s (record s { controls = upd s.controls f rest }) f limit 1
   control_less k rest front = record {
     joined = refl;
     advance = refl;
     constrained = refl;
     regulating = refl;
     time = refl;
+    regulation = refl;
     bounds = λ g. omega arith;
     numbers = refl;
     waits = λ w. w;
@@ -207,13 +214,14 @@ module _ (s : Components) (f limit : ℕ) (P : Callback → Type 0) where
     less = rw upd_same (queue_less rest (s.ro f) (s.tso f) (let l : length (s.controls f) ≡ suc (length rest) = ap length front in omega (arith, l)));
   }
 
-  ro_less : (e : Event) (rest : List Event) → s.ro f ≡ e ∷ rest → is_ro_due (s.row f) ≡ true → WaitsOn s (record s { ro = upd s.ro f rest }) f limit 1
+  pub ro_less : (e : Event) (rest : List Event) → s.ro f ≡ e ∷ rest → is_ro_due (s.row f) ≡ true → WaitsOn s (record s { ro = upd s.ro f rest }) f limit 1
   ro_less e rest front y = record {
     joined = refl;
     advance = refl;
     constrained = refl;
     regulating = refl;
     time = refl;
+    regulation = refl;
     bounds = λ g. omega arith;
     numbers = refl;
     waits = λ w. w;
@@ -229,6 +237,7 @@ module _ (s : Components) (f limit : ℕ) (P : Callback → Type 0) where
     constrained = rw upd_same refl;
     regulating = rw upd_same refl;
     time = rw upd_same refl;
+    regulation = rw upd_same refl;
     bounds = λ g. omega arith;
     numbers = refl;
     waits = λ w. rw upd_same w;
@@ -316,6 +325,7 @@ module _ (s : Components) (f limit : ℕ) (P : Callback → Type 0) (inv : Inv s
           constrained = on.1.constrained;
           regulating = on.1.regulating;
           time = on.1.time;
+          regulation = on.1.regulation;
           bounds = on.1.bounds;
           numbers = on.1.numbers;
         })

@@ -1,4 +1,4 @@
-use Rattle.hla_progress.proofs.CatchUp.FirstRound.{is_constrained_soon}
+use Rattle.hla_progress.proofs.CatchUp.Constraining.{is_constrained_soon}
 use Rattle.hla_progress.proofs.catching_up.each_is_constrained_in_a_round.Goals as goal
 
 pub returns : goal.returns
