@@ -46,9 +46,9 @@ GrantedInTheFourthRound =
     (given_in_rounds (service.NextEventRequest 3) (service.NextEventRequest 3) 3 ≡ [])
     × (given_in_rounds (service.NextEventRequest 3) (service.NextEventRequest 3) 4 ≡ (A, callback.TimeAdvanceGrant 3) ∷ (B, callback.TimeAdvanceGrant 3) ∷ [])
 
--- two available ones hold each other: neither is granted in four
-abbrev pub NotGrantedInFour : Type 0
-NotGrantedInFour = given_in_rounds (service.NextEventRequestAvailable 3) (service.NextEventRequestAvailable 3) 4 ≡ []
+-- two available ones hold each other for ever
+abbrev pub NeverGranted : Type 0
+NeverGranted = (k : ℕ) → given_in_rounds (service.NextEventRequestAvailable 3) (service.NextEventRequestAvailable 3) k ≡ []
 
 -- one Next Event Request with a Time Advance Request: it is granted in the first round, and the other in the second, however far away
 abbrev pub GrantedInTheSecondRound : Type 0
