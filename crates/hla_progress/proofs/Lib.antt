@@ -12,3 +12,5 @@ pub mod Creep
 pub mod GettingOn
 -- The examples, by computation
 pub mod Computed
+-- Two requests that hold each other hold others too
+pub mod Holding

@@ -12,3 +12,5 @@ pub mod Creeping
 pub mod GettingOn
 -- Worked examples of rounds
 pub mod Examples
+-- Two requests that hold each other hold others too
+pub mod Holding

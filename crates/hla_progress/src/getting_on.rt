@@ -1,5 +1,6 @@
 //! No federation locks up whose regulators all advance; and who is granted next.
 
+ghost use Rattle.hla_progress.specs.Holding.{TwoHoldEachOther};
 ghost use Rattle.hla_progress.specs.GettingOn.{EachLeastIsGranted, NobodyLocksUp, NobodyLocksUpWithWidths};
 
 /// A constrained federate waits in an advance that is no flush, every other regulating federate does too, and its goal is at most
@@ -22,4 +23,11 @@ pub fn nobody_locks_up()
 /// So with every lookahead positive, or strict requests alone, a federation never locks up.
 pub fn nobody_locks_up_with_widths()
     ensures { NobodyLocksUpWithWidths }
+{}
+
+/// Where two federates do hold each other, regulating in Next Event Request Available with the lookahead 0 and with promises below the
+/// goal of a constrained federate that waits (one of the two, or a third), no list of announcements, carries and ticks, however long
+/// and in whatever order, holds a grant to it: only another service helps.
+pub fn two_hold_each_other()
+    ensures { TwoHoldEachOther }
 {}

@@ -90,7 +90,7 @@ module _ (s : Components) (f : ℕ) (q : AdvanceRequest) (t : ℕ) (is : IsLedTo
       let low : t ≤ p = (let at : BelowWake (BelowAllTso (central s) f) q (Some p) t = rw first at ((w.target.1 y).0) in at) in
       let high = wake_at y (Some p) first x (omega (arith, e)) in omega (arith, e)
 
-  granted_is : (x : ℕ) → GrantFacts (s.row f) (s.tso f) (local_bound s f) q x → x ≡ t
+  pub granted_is : (x : ℕ) → GrantFacts (s.row f) (s.tso f) (local_bound s f) q x → x ≡ t
   granted_is x facts = let r = facts.reached w.constrained w.unflushed in ⊎_elim
       (λ (y : is_next q.kind ≡ true). let con = w.constrained in let at : x ≡ cond (is_next q.kind && is_constrained (s.row f)) (first_or (s.row f).first_pick q.asked) q.asked = r.0 in
       next_grant y (s.row f).first_pick refl x (rw (y, con) at at) r.1 r.2)
