@@ -1,5 +1,5 @@
 -- The examples of rounds, by computation
-use Rattle.std.proofs.Common.{◌≡◌, ℕ, zero, suc, ltb, ◌&&◌, true, false, refl, sym, ◌∙◌, ap, subst, List, [], ◌∷◌, ◌++◌, map, Option, Some, None}
+use Rattle.std.proofs.Common.{◌≡◌, ℕ, zero, suc, ltb, ◌&&◌, refl, sym, ◌∙◌, ap, subst, List, [], ◌∷◌, ◌++◌, map, Option, Some, None}
 use Rattle.std.proofs.lemmas.Bool.{cond_both}
 use Rattle.std.proofs.lemmas.List.{append_assoc}
 use Rattle.hla_base.specs.declared.fault.Fault.{Fault}
@@ -25,9 +25,9 @@ use Rattle.hla_components.specs.Invariant.{EachOf}
 use Rattle.hla_machine.specs.Runs.{Happening}
 use Rattle.hla_components.specs.Components.{Components, new_components}
 use Rattle.hla_components.specs.Component.{promise, regulation_entry}
-use Rattle.hla_components.specs.Examples.Words.{catalogue, A, B}
+use Rattle.hla_components.specs.Examples.Words.{catalogue}
 use Rattle.hla_components.specs.Headline.{happenings, state_after}
-use Rattle.hla_components.specs.Next.{Outcomes, next, answer_outcome, announce_outcome, carry_outcome, pick_outcome, tick_outcome, unless_refused, components_seen, with_null_announced}
+use Rattle.hla_components.specs.Next.{Outcomes, next, answer_outcome, announce_outcome, carry_outcome, pick_outcome, unless_refused, components_seen, with_null_announced}
 use Rattle.hla_progress.specs.Rounds.{announcements, carries_from, carries_to, ticks, round, rounds, IsOfRounds}
 use Rattle.hla_progress.proofs.Waiting.Steps.{picked_at}
 use Rattle.hla_progress.proofs.Waiting.Lists.{round_of}

@@ -6,3 +6,5 @@ pub mod Outs
 pub mod Targets
 -- States to which steps of the components led
 pub mod Led
+-- Who may still send below a time may do so after them
+pub mod Back

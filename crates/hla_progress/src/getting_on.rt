@@ -1,6 +1,6 @@
 //! No federation locks up whose regulators all advance; and who is granted next.
 
-ghost use Rattle.hla_progress.specs.Holding.{TwoHoldEachOther};
+ghost use Rattle.hla_progress.specs.Holding.{TheBoundHolds, TwoHoldEachOther};
 ghost use Rattle.hla_progress.specs.GettingOn.{EachLeastIsGranted, NobodyLocksUp, NobodyLocksUpWithWidths};
 
 /// A constrained federate waits in an advance that is no flush, every other regulating federate does too, and its goal is at most
@@ -30,4 +30,10 @@ pub fn nobody_locks_up_with_widths()
 /// and in whatever order, holds a grant to it: only another service helps.
 pub fn two_hold_each_other()
     ensures { TwoHoldEachOther }
+{}
+
+/// The bound is exact too: while another regulating federate may still send something below the goal, no such list holds a grant. Only
+/// a flush of that federate, if it is constrained, might let it send no more than that.
+pub fn the_bound_holds()
+    ensures { TheBoundHolds }
 {}

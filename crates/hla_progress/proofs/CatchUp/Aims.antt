@@ -1,11 +1,10 @@
 -- What a tick of a federate that waits picks up: what is due and its grant alone, and something once its goal is reached
-use Rattle.std.proofs.Common.{◌≡◌, ◌≢◌, ◌⊎◌, ℕ, ◌≤◌, ◌<◌, min, cond, leb, eqb, ◌&&◌, Bool, true, false, refl, sym, ◌∙◌, ap, le_trans, subst, inl, inr, ⊎_elim, arith, eqb-true, List, [], ◌∷◌, Option, Some, None}
+use Rattle.std.proofs.Common.{◌≡◌, ◌⊎◌, ℕ, ◌≤◌, min, cond, eqb, ◌&&◌, true, false, refl, sym, ◌∙◌, ap, le_trans, subst, inl, inr, ⊎_elim, arith, eqb-true, List, Option, Some, None}
 use Rattle.std.proofs.lemmas.Bool.{cases_Bool}
 use Rattle.hla_base.specs.declared.content.Event.{Event}
 use Rattle.hla_base.specs.declared.row.AdvanceRequest.{AdvanceRequest}
-use Rattle.hla_base.specs.declared.row.TimeRow.{TimeRow}
 use Rattle.hla_base.specs.Tables.{forever}
-use Rattle.hla_base.specs.Rows.{is_next, is_flush, is_constrained, is_enabled, first_or, grant_time, reach}
+use Rattle.hla_base.specs.Rows.{is_next, is_constrained, is_enabled, first_or, reach}
 use Rattle.hla_base.proofs.Tables.{least_le-forever}
 use Rattle.hla_callbacks.specs.declared.callback.Callback.{Callback}
 use Rattle.hla_callbacks.specs.declared.callback.Callback.TheVariants as callback

@@ -1,5 +1,5 @@
 -- Once no event is on its way to a federate, what waits for it is all that there is, and none of it is retracted
-use Rattle.std.proofs.Common.{◌≡◌, ◌≢◌, ℕ, ◌≤◌, ◌<◌, eqb, true, false, refl, sym, ◌∙◌, le_trans, subst, ⊎_elim, arith, List, [], ◌∷◌, Some}
+use Rattle.std.proofs.Common.{◌≡◌, ◌≢◌, ℕ, ◌≤◌, true, false, refl, sym, ◌∙◌, le_trans, subst, ⊎_elim, arith, List, [], ◌∷◌, Some}
 use Rattle.std.proofs.lemmas.Bool.{cases_eq, cases_Bool}
 use Rattle.hla_base.specs.declared.content.Event.{Event}
 use Rattle.hla_base.specs.Tables.{forever}
@@ -7,7 +7,7 @@ use Rattle.hla_null_message.specs.declared.message.Message.{Message}
 use Rattle.hla_null_message.specs.declared.message.Message.TheVariants as message
 use Rattle.hla_null_message.specs.Wires.{events, retractions}
 use Rattle.hla_order_queues.specs.Queues.{find_event, first_stamp}
-use Rattle.hla_machine.specs.Central.{Copy, BelowAllTso}
+use Rattle.hla_machine.specs.Central.{BelowAllTso}
 use Rattle.hla_components.specs.Components.{Components}
 use Rattle.hla_components.specs.CentralOf.{central, bag_of, wire_copy, tso_copy, ro_copy}
 use Rattle.hla_components.specs.Invariant.{Inv, stamps}

@@ -1,6 +1,6 @@
 -- A federate that is to be constrained: it waits for its regulation first, if that is pending, and then for its time
-use Rattle.std.proofs.Common.{◌≡◌, ◌≢◌, ◌⊎◌, ℕ, ◌+◌, ◌≤◌, ◌<◌, cond, not, Bool, true, false, refl, sym, ◌∙◌, ap, subst, inl, inr, le_trans, ⊎_elim, arith, eq-eqb, ne_eqb, List, [], ◌∷◌, ◌++◌, length, Option, Some, None}
-use Rattle.std.proofs.lemmas.Bool.{cases_eq, cases_Bool}
+use Rattle.std.proofs.Common.{◌≡◌, ◌≢◌, ◌⊎◌, ℕ, ◌+◌, ◌≤◌, ◌<◌, cond, not, true, false, refl, sym, ◌∙◌, ap, subst, inl, inr, le_trans, ⊎_elim, arith, eq-eqb, ne_eqb, List, [], ◌∷◌, ◌++◌, length, Some, None}
+use Rattle.std.proofs.lemmas.Bool.{cases_eq}
 use Rattle.hla_base.specs.declared.row.AdvanceRequest.{AdvanceRequest}
 use Rattle.hla_base.specs.Tables.{one_if}
 use Rattle.hla_base.specs.Rows.{is_pending, row_after_regulation_enabled}
@@ -16,12 +16,12 @@ use Rattle.hla_components.specs.Components.{Components}
 use Rattle.hla_components.specs.Component.{local_bound}
 use Rattle.hla_components.specs.CentralOf.{central}
 use Rattle.hla_components.specs.Invariant.{EachOf}
-use Rattle.hla_components.specs.Next.{Outcomes, next, pick_outcome, tick_outcome, with_row}
+use Rattle.hla_components.specs.Next.{Outcomes, next, pick_outcome, with_row}
 use Rattle.hla_components.specs.Headline.{IsLedTo, happening, happenings, state_after}
 use Rattle.hla_components.proofs.Refinement.Picks.{PickFacts, pick_tells}
 use Rattle.hla_components.proofs.Refinement.LedTo.{led_inv, led_next}
 use Rattle.hla_progress.specs.Rounds.{ticks, rounds, IsOfRounds, is_tick_of, ticks_of, IsGiven, IsGivenAtLast, IsGivenIn}
-use Rattle.hla_progress.specs.AtOnce.{is_ro_due, asked_time, due_up_to, due_before}
+use Rattle.hla_progress.specs.AtOnce.{asked_time, due_up_to, due_before}
 use Rattle.hla_progress.specs.CatchingUp.{NobodyIsSlow, coming_time, EachIsConstrainedInARound}
 use Rattle.hla_progress.proofs.Waiting.Picks.{some_pick}
 use Rattle.hla_progress.proofs.Waiting.Steps.{WaitsOn, bound_rises, other_waits, control_less, ro_less, picked_at}

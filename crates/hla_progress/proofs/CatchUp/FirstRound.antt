@@ -7,7 +7,6 @@ use Rattle.hla_base.specs.declared.row.TimeRow.{TimeRow}
 use Rattle.hla_base.specs.Rows.{is_regulator, next_request, reach}
 use Rattle.hla_base.specs.Tables.{one_if}
 use Rattle.hla_callbacks.specs.declared.callback.Callback.{Callback}
-use Rattle.hla_callbacks.specs.declared.callback.Callback.TheVariants as callback
 use Rattle.hla_null_message.specs.Promise.{promise_in}
 use Rattle.hla_order_queues.specs.Queues.{first_stamp}
 use Rattle.hla_machine.specs.declared.step.Step.{Step}
@@ -16,11 +15,11 @@ use Rattle.hla_machine.specs.Central.{BelowBound, BelowOut, BelowRequest, BelowA
 use Rattle.hla_components.specs.Components.{Components}
 use Rattle.hla_components.specs.Component.{local_bound, promise}
 use Rattle.hla_components.specs.CentralOf.{central}
-use Rattle.hla_components.specs.Invariant.{EachOf, Inv}
+use Rattle.hla_components.specs.Invariant.{EachOf}
 use Rattle.hla_components.specs.Next.{next}
 use Rattle.hla_components.specs.Headline.{IsLedTo, happenings, state_after}
 use Rattle.hla_components.proofs.Basics.Each.{EachOf-append}
-use Rattle.hla_components.proofs.Refinement.LedTo.{led_inv, led_next, state_appended}
+use Rattle.hla_components.proofs.Refinement.LedTo.{led_inv, led_next}
 use Rattle.hla_progress.specs.Rounds.{announcements, carries_to, ticks, rounds, IsOfRounds, is_tick_of, ticks_of, IsGivenAtLast}
 use Rattle.hla_progress.specs.AtOnce.{due_up_to}
 use Rattle.hla_progress.specs.CatchingUp.{IsWaitingFor, IsSlow, NobodyIsSlow, EachCatchesUpInARound}
@@ -28,7 +27,6 @@ use Rattle.hla_progress.proofs.Keeping.Numbers.{joined_from_one}
 use Rattle.hla_progress.proofs.Waiting.Picks.{IsDuePick}
 use Rattle.hla_progress.proofs.Waiting.Steps.{WaitsOn, other_waits, unchanged, picked_at}
 use Rattle.hla_progress.proofs.Waiting.Lists.{list_brings, ticks_of-append, everyone_ticks, rounds_tick, announcements_of, ticks_are, carries_to_of, rounds_of}
-use Rattle.hla_progress.proofs.CatchUp.Announced.{HaveAnnounced}
 use Rattle.hla_progress.proofs.CatchUp.Carried.{IsCarry, to_are}
 use Rattle.hla_progress.proofs.CatchUp.Aims.{IsGrantOf, AtGoal, at_goal_due, at_goal_lasts, waiting_next}
 use Rattle.hla_progress.proofs.CatchUp.Heard.{said, carried, led_said, led_carried, all_heard, nulls_alone}

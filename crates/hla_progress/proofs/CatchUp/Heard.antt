@@ -1,15 +1,13 @@
 -- After the announcements and the carries of a round everyone knows what the others promised
-use Rattle.std.proofs.Common.{◌≡◌, ◌≢◌, ℕ, ◌+◌, ◌≤◌, ◌<◌, ltb, not, eqb, ◌&&◌, Bool, true, false, refl, sym, ◌∙◌, ap, subst, ⊎_elim, arith, le_trans, List, [], length}
+use Rattle.std.proofs.Common.{◌≡◌, ◌≢◌, ℕ, ◌+◌, ◌≤◌, ◌<◌, true, false, sym, ◌∙◌, ap, subst, ⊎_elim, arith, le_trans, [], length}
 use Rattle.std.proofs.lemmas.Bool.{cases_eq, cases_Bool, and_parts, ltb-true}
 use Rattle.std.proofs.lemmas.Bool.Decides.{nat_tests}
 use Rattle.hla_base.specs.Rows.{is_regulator}
 use Rattle.hla_base.specs.Tables.{forever, is_other}
 use Rattle.hla_base.proofs.Tables.{le_least}
-use Rattle.hla_null_message.specs.declared.message.Message.{Message}
-use Rattle.hla_machine.specs.declared.step.Step.{Step}
 use Rattle.hla_components.specs.Components.{Components}
 use Rattle.hla_components.specs.Component.{local_bound, promise}
-use Rattle.hla_components.specs.Invariant.{EachOf, Inv, is_wire}
+use Rattle.hla_components.specs.Invariant.{is_wire}
 use Rattle.hla_components.specs.Headline.{IsLedTo, state_after}
 use Rattle.hla_components.proofs.Upkeep.Bounds.{other_from}
 use Rattle.hla_components.proofs.Refinement.LedTo.{led_inv, led_after}

@@ -1,5 +1,5 @@
 -- Wires on which null messages alone are
-use Rattle.std.proofs.Common.{◌≡◌, ◌≢◌, ℕ, ltb, ◌&&◌, true, false, refl, sym, ◌∙◌, subst, arith, List, [], ◌∷◌, ◌++◌, Option, Some, None}
+use Rattle.std.proofs.Common.{◌≡◌, ◌≢◌, ℕ, ltb, ◌&&◌, refl, sym, ◌∙◌, subst, List, [], ◌∷◌, Option, Some, None}
 use Rattle.std.proofs.lemmas.Bool.{cond_both}
 use Rattle.hla_base.specs.declared.content.Event.{Event}
 use Rattle.hla_base.specs.declared.fault.Fault.{Fault}

@@ -1,5 +1,5 @@
 -- One that is to be constrained is, after what rounds bring
-use Rattle.std.proofs.Common.{◌≡◌, ◌≢◌, ◌⊎◌, ℕ, ◌+◌, ◌*◌, ◌≤◌, cond, Bool, true, false, refl, sym, ◌∙◌, subst, inl, ⊎_elim, arith, List, ◌++◌, length}
+use Rattle.std.proofs.Common.{◌≡◌, ◌≢◌, ℕ, ◌+◌, ◌*◌, ◌≤◌, true, false, refl, sym, subst, inl, ⊎_elim, arith, List, length}
 use Rattle.std.proofs.lemmas.Bool.{cases_eq, cases_Bool}
 use Rattle.hla_base.specs.Tables.{one_if}
 use Rattle.hla_base.specs.Rows.{is_regulator, is_pending}

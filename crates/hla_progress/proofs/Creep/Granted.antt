@@ -1,10 +1,9 @@
 -- Who waits is granted, after what rounds bring
-use Rattle.std.proofs.Common.{◌≡◌, ◌≢◌, ◌⊎◌, ℕ, zero, suc, ◌+◌, ◌*◌, ◌≤◌, ◌<◌, min, Bool, true, false, refl, sym, ◌∙◌, ap, subst, inl, inr, le_trans, ⊎_elim, arith, List, [], ◌∷◌, ◌++◌, length, Some}
+use Rattle.std.proofs.Common.{◌≡◌, ◌≢◌, ◌⊎◌, ℕ, zero, suc, ◌+◌, ◌*◌, ◌≤◌, true, false, refl, sym, ◌∙◌, ap, subst, inl, inr, ⊎_elim, arith, List, [], ◌∷◌, ◌++◌, length, Some}
 use Rattle.std.proofs.lemmas.Bool.{cases_eq, cases_Bool}
 use Rattle.std.proofs.lemmas.List.{append_assoc, append-nil}
-use Rattle.hla_base.specs.declared.row.AdvanceKind.{AdvanceKind}
 use Rattle.hla_base.specs.declared.row.AdvanceRequest.{AdvanceRequest}
-use Rattle.hla_base.specs.Rows.{is_next, is_flush, is_regulator, is_constrained, next_request, width, reach}
+use Rattle.hla_base.specs.Rows.{is_next, next_request, reach}
 use Rattle.hla_callbacks.specs.declared.callback.Callback.{Callback}
 use Rattle.hla_machine.specs.declared.step.Step.{Step}
 use Rattle.hla_machine.specs.Central.{BelowAllTso, BelowOut, BelowBound}
@@ -19,15 +18,15 @@ use Rattle.hla_components.proofs.Refinement.LedTo.{led_inv, led_next}
 use Rattle.hla_progress.specs.Promises.{is_raised_late}
 use Rattle.hla_progress.specs.Rounds.{round, rounds, IsOfRounds, IsGiven, IsGivenAtLast, IsGivenIn}
 use Rattle.hla_progress.specs.AtOnce.{due_up_to}
-use Rattle.hla_progress.specs.CatchingUp.{IsTarget, IsWaitingFor, IsSlow, NobodyIsSlow}
-use Rattle.hla_progress.specs.Creeping.{EachPairIsWide, EachSlowPromises, OneIsSlow, EachCatchesUp, EachFollowsOne}
+use Rattle.hla_progress.specs.CatchingUp.{IsWaitingFor, IsSlow, NobodyIsSlow}
+use Rattle.hla_progress.specs.Creeping.{EachCatchesUp, EachFollowsOne}
 use Rattle.hla_progress.proofs.Keeping.Steps.{led_keeps}
 use Rattle.hla_progress.proofs.Waiting.Steps.{WaitsOn, step_goes}
 use Rattle.hla_progress.proofs.Waiting.Lists.{rounds_of}
 use Rattle.hla_progress.proofs.CatchUp.Aims.{IsGrantOf, waiting_next, due_or_none}
 use Rattle.hla_progress.proofs.CatchUp.FirstRound.{catches_up_in}
-use Rattle.hla_progress.proofs.Creep.OneRound.{Stands, round_after, stands_on, slow_since, promise_grows}
-use Rattle.hla_progress.proofs.Creep.TwoRounds.{HaveSaid, by_slowness, says_promised, one_round, many_rounds}
+use Rattle.hla_progress.proofs.Creep.OneRound.{Stands, round_after, stands_on, slow_since}
+use Rattle.hla_progress.proofs.Creep.TwoRounds.{by_slowness, says_promised, one_round, many_rounds}
 
 -- ---- while it waits
 -- f is granted t, or waits on with no more due

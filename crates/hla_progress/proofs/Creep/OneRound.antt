@@ -1,15 +1,13 @@
 -- What a whole round leaves
-use Rattle.std.proofs.Common.{◌≡◌, ◌≢◌, ℕ, zero, suc, ◌+◌, ◌≤◌, ◌<◌, ltb, not, eqb, ◌&&◌, Bool, true, false, refl, sym, ◌∙◌, ap, le_trans, subst, ⊎_elim, arith, List, [], ◌∷◌, ◌++◌, length, Option, Some, None}
+use Rattle.std.proofs.Common.{◌≡◌, ◌≢◌, ℕ, zero, suc, ◌+◌, ◌≤◌, ltb, not, eqb, ◌&&◌, Bool, true, false, refl, sym, ◌∙◌, ap, subst, ⊎_elim, arith, List, [], ◌∷◌, ◌++◌, length, Option, Some, None}
 use Rattle.std.proofs.lemmas.Bool.{cases_Bool}
 use Rattle.std.proofs.lemmas.Bool.Decides.{nat_tests}
 use Rattle.hla_base.specs.declared.fault.Fault.{Fault}
-use Rattle.hla_base.specs.declared.row.AdvanceRequest.{AdvanceRequest}
 use Rattle.hla_base.specs.Tables.{forever}
 use Rattle.hla_base.specs.Rows.{is_regulator}
 use Rattle.hla_null_message.specs.declared.message.Message.{Message}
 use Rattle.hla_order_queues.specs.declared.control.Control.TheVariants.{ToDiscover, ToRetract}
 use Rattle.hla_local.specs.Picking.{Pick, NoPick, PickControl, PickRo, PickRegulates, PickConstrains, PickTso, PickGrant}
-use Rattle.hla_machine.specs.declared.step.Step.{Step}
 use Rattle.hla_machine.specs.declared.step.Step.TheVariants.{Tick}
 use Rattle.hla_machine.specs.Central.{BelowAllTso, BelowOut}
 use Rattle.hla_machine.specs.Directory.{Directory}
@@ -17,11 +15,10 @@ use Rattle.hla_machine.specs.Refusals.{refusal}
 use Rattle.hla_components.specs.Components.{Components}
 use Rattle.hla_components.specs.Component.{local_bound, promise}
 use Rattle.hla_components.specs.CentralOf.{central}
-use Rattle.hla_components.specs.Invariant.{EachOf, is_wire}
 use Rattle.hla_components.specs.Next.{Outcomes, next, pick_outcome, tick_outcome, unless_refused, components_seen}
 use Rattle.hla_components.specs.Headline.{IsLedTo, state_after}
 use Rattle.hla_components.proofs.Refinement.LedTo.{led_inv, led_after, state_appended}
-use Rattle.hla_progress.specs.Rounds.{announcements, carries_to, ticks, round, IsOfRounds}
+use Rattle.hla_progress.specs.Rounds.{announcements, carries_to, ticks, round}
 use Rattle.hla_progress.specs.CatchingUp.{IsSlow}
 use Rattle.hla_progress.specs.Creeping.{EachPairIsWide}
 use Rattle.hla_progress.proofs.Moving.Outs.{SameRequest}

@@ -1,11 +1,10 @@
 -- What a promise is at least, once the bound has risen
-use Rattle.std.proofs.Common.{◌≡◌, ◌⊎◌, ℕ, ◌+◌, ◌≤◌, ◌<◌, min, Bool, true, false, refl, sym, ◌∙◌, ap, le_trans, subst, inl, inr, ⊎_elim, arith, Option, Some, None}
+use Rattle.std.proofs.Common.{◌≡◌, ℕ, ◌+◌, ◌≤◌, min, true, refl, ap, subst, inl, inr, arith, Option, Some, None}
 use Rattle.std.proofs.lemmas.Bool.{cond_both}
 use Rattle.hla_base.specs.declared.row.AdvanceRequest.{AdvanceRequest}
 use Rattle.hla_base.specs.declared.row.TimeRow.{TimeRow}
 use Rattle.hla_base.specs.Tables.{forever}
-use Rattle.hla_base.specs.Rows.{is_next, is_constrained, keep_if, next_request, width, first_or}
-use Rattle.hla_base.proofs.Tables.{least_le-forever}
+use Rattle.hla_base.specs.Rows.{is_next, is_constrained, keep_if, next_request, width}
 use Rattle.hla_null_message.specs.Promise.{least_wake, promise_in}
 use Rattle.hla_order_queues.specs.Queues.{first_stamp}
 use Rattle.hla_machine.specs.Central.{BelowAllTso, BelowWake, BelowOut, BelowRequest}

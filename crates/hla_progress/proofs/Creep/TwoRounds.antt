@@ -1,5 +1,5 @@
 -- Each two rounds bring on all promises by the widths of two that are slow
-use Rattle.std.proofs.Common.{◌≡◌, ◌≢◌, ℕ, zero, suc, ◌+◌, ◌-◌, ◌*◌, ◌≤◌, ◌<◌, min, Bool, true, refl, sym, ◌∙◌, ap, subst, ⊎_elim, arith, List, [], ◌++◌}
+use Rattle.std.proofs.Common.{◌≡◌, ◌≢◌, ℕ, zero, suc, ◌+◌, ◌-◌, ◌*◌, ◌≤◌, ◌<◌, min, true, refl, sym, ◌∙◌, ap, subst, ⊎_elim, arith, ◌++◌}
 use Rattle.std.proofs.lemmas.Bool.{cases_lt}
 use Rattle.std.proofs.Math.Nat.{suc-mul}
 use Rattle.hla_base.specs.Tables.{forever}
@@ -7,7 +7,6 @@ use Rattle.hla_base.specs.Rows.{is_regulator, next_request, width}
 use Rattle.hla_order_queues.specs.Queues.{first_stamp}
 use Rattle.hla_machine.specs.Central.{BelowAllTso, BelowRequest}
 use Rattle.hla_components.specs.CentralOf.{central}
-use Rattle.hla_machine.specs.declared.step.Step.{Step}
 use Rattle.hla_components.specs.Components.{Components}
 use Rattle.hla_components.specs.Component.{local_bound, promise}
 use Rattle.hla_components.specs.Headline.{state_after}
@@ -17,7 +16,7 @@ use Rattle.hla_progress.specs.CatchingUp.{IsSlow}
 use Rattle.hla_progress.specs.Creeping.{EachPairIsWide, EachSlowPromises}
 use Rattle.hla_progress.proofs.CatchUp.FirstRound.{floor_le, slow_by}
 use Rattle.hla_progress.proofs.Creep.Promising.{slow_ge}
-use Rattle.hla_progress.proofs.Creep.OneRound.{Stands, round_after, stands_on, round_directory, round_role, promise_grows, round_heard, slow_since, slow_width, wide_on}
+use Rattle.hla_progress.proofs.Creep.OneRound.{Stands, round_after, stands_on, round_role, round_heard, slow_since, slow_width, wide_on}
 
 -- each regulator promises x, or b or more
 abbrev pub Says : ℕ → ℕ → Components → Type 0

@@ -1,5 +1,5 @@
 -- What each federate that waits is to be granted
-use Rattle.std.proofs.Common.{◌≡◌, ◌≢◌, ◌⊎◌, ℕ, zero, suc, ◌+◌, ◌≤◌, min, Bool, true, false, refl, sym, ◌∙◌, ap, subst, ⊎_elim, arith, List, [], ◌∷◌, ◌++◌, length, Option, Some, None}
+use Rattle.std.proofs.Common.{◌≡◌, ℕ, zero, suc, ◌+◌, ◌≤◌, min, true, false, refl, sym, ◌∙◌, ap, subst, ⊎_elim, arith, List, [], ◌∷◌, ◌++◌, length, Option, Some, None}
 use Rattle.std.proofs.lemmas.Bool.{cases_Bool}
 use Rattle.hla_base.specs.declared.row.AdvanceRequest.{AdvanceRequest}
 use Rattle.hla_base.specs.declared.row.TimeRow.{TimeRow}
@@ -17,7 +17,7 @@ use Rattle.hla_components.specs.Headline.{IsLedTo, state_after}
 use Rattle.hla_components.proofs.Basics.Each.{EachOf-append, EachOf-weaker}
 use Rattle.hla_components.proofs.Refinement.LedTo.{led_inv, led_next, state_appended}
 use Rattle.hla_progress.specs.Rounds.{announcements, carries_to, IsOfRounds}
-use Rattle.hla_progress.specs.CatchingUp.{IsWake, IsTarget, IsWaitingFor}
+use Rattle.hla_progress.specs.CatchingUp.{IsTarget, IsWaitingFor}
 use Rattle.hla_progress.proofs.Moving.Rounds.{IsNoTick}
 use Rattle.hla_progress.proofs.Moving.Targets.{WakeIn, wake_same}
 use Rattle.hla_progress.proofs.Moving.Led.{led_round, led_goes}

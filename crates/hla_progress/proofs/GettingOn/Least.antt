@@ -1,5 +1,5 @@
 -- Among the federates that are in an advance one waits for nobody, or one has the least goal
-use Rattle.std.proofs.Common.{◌≡◌, ◌≢◌, ◌⊎◌, ℕ, zero, suc, ◌+◌, ◌≤◌, ◌<◌, not, Bool, true, false, refl, sym, ◌∙◌, subst, inl, inr, ⊎_elim, arith, le_trans, Option, Some, None}
+use Rattle.std.proofs.Common.{◌≡◌, ◌≢◌, ◌⊎◌, ℕ, zero, suc, ◌≤◌, ◌<◌, not, true, false, refl, sym, subst, inl, inr, ⊎_elim, arith, Option, Some, None}
 use Rattle.std.proofs.lemmas.Bool.{cases_eq, cases_lt, cases_Bool}
 use Rattle.hla_base.specs.declared.row.AdvanceRequest.{AdvanceRequest}
 use Rattle.hla_base.specs.Rows.{is_flush, is_constrained, is_advancing, is_none_of, reach}

@@ -1,13 +1,12 @@
 -- The federate with the least goal is granted
-use Rattle.std.proofs.Common.{◌≡◌, ◌≢◌, ◌⊎◌, ℕ, zero, suc, ◌+◌, ◌*◌, ◌≤◌, ◌<◌, cond, Bool, true, false, refl, sym, ◌∙◌, subst, inl, inr, le_trans, ⊎_elim, arith, List, [], ◌∷◌, length, Option, Some, None}
+use Rattle.std.proofs.Common.{◌≡◌, ℕ, ◌+◌, ◌*◌, ◌≤◌, ◌<◌, cond, Bool, true, false, refl, sym, subst, inl, inr, le_trans, ⊎_elim, arith, List, [], ◌∷◌, length, Option, Some, None}
 use Rattle.std.proofs.lemmas.Bool.{cases_lt, cases_Bool}
 use Rattle.std.proofs.Math.Nat.{mul-one}
 use Rattle.hla_base.specs.declared.row.AdvanceRequest.{AdvanceRequest}
 use Rattle.hla_base.specs.declared.row.TimeRow.{TimeRow}
 use Rattle.hla_base.specs.Tables.{forever}
-use Rattle.hla_base.specs.Rows.{is_strict, is_next, is_flush, is_regulator, is_constrained, is_advancing, next_request, width, reach}
+use Rattle.hla_base.specs.Rows.{is_strict, is_next, is_flush, is_constrained, is_advancing, next_request, width, reach}
 use Rattle.hla_callbacks.specs.declared.callback.Callback.{Callback}
-use Rattle.hla_callbacks.specs.declared.callback.Callback.TheVariants as callback
 use Rattle.hla_machine.specs.Central.{BelowAllTso, BelowWake, BelowOut, BelowRequest, BelowBound}
 use Rattle.hla_machine.specs.Runs.{Happening}
 use Rattle.hla_components.specs.Components.{Components}
@@ -15,17 +14,17 @@ use Rattle.hla_components.specs.CentralOf.{central}
 use Rattle.hla_components.specs.Headline.{IsLedTo, happenings}
 use Rattle.hla_components.proofs.Refinement.LedTo.{led_inv}
 use Rattle.hla_progress.specs.Promises.{is_raised_late}
-use Rattle.hla_progress.specs.Rounds.{rounds, IsGiven, IsGivenIn}
-use Rattle.hla_progress.specs.AtOnce.{WaitsForNobody, IsAwaited, due_up_to, due_before}
+use Rattle.hla_progress.specs.Rounds.{rounds, IsGivenIn}
+use Rattle.hla_progress.specs.AtOnce.{IsAwaited, due_up_to, due_before}
 use Rattle.hla_progress.specs.CatchingUp.{IsWaitingFor, IsSlow}
 use Rattle.hla_progress.specs.Creeping.{EachPairIsWide}
-use Rattle.hla_progress.specs.GettingOn.{NobodyIsBefore, EachLeastIsGranted, EachRegulatorAdvances, IsOfNoWidth, NoTwoHold, EachHasWidth, SomebodyIsGranted, NobodyLocksUp, NobodyLocksUpWithWidths}
+use Rattle.hla_progress.specs.GettingOn.{NobodyIsBefore, EachLeastIsGranted, EachRegulatorAdvances, IsOfNoWidth, NoTwoHold, SomebodyIsGranted, NobodyLocksUp, NobodyLocksUpWithWidths}
 use Rattle.hla_progress.proofs.Keeping.Changes.{next_asked}
 use Rattle.hla_progress.proofs.Waiting.Lists.{comes_at_once}
 use Rattle.hla_progress.proofs.CatchUp.Aims.{IsGrantOf}
 use Rattle.hla_progress.proofs.Creep.Granted.{own_out, given_at_last, catches_up_creeping}
 use Rattle.hla_progress.proofs.GettingOn.Exists.{waits_for}
-use Rattle.hla_progress.proofs.GettingOn.Least.{IsIn, HasTarget, goal_of, Free, some_free, AllBound, NobodyIn, Least, least_of_all}
+use Rattle.hla_progress.proofs.GettingOn.Least.{Free, some_free, AllBound, NobodyIn, Least, least_of_all}
 
 -- ---- the least goal is at most the bound
 request_less : (below : ℕ → Type 0) (r : TimeRow) (o : Option AdvanceRequest) (v x : ℕ) → x ≤ v → BelowRequest below r o v → BelowRequest below r o x

@@ -1,16 +1,15 @@
 -- Nothing waits before the first pick of a federate's advance
-use Rattle.std.proofs.Common.{◌≡◌, ◌≢◌, ◌⊎◌, ℕ, ◌+◌, ◌≤◌, max, min, cond, ltb, not, ◌&&◌, Bool, true, false, refl, sym, ◌∙◌, subst, inl, inr, ⊎_elim, le_trans, arith, List, [], ◌∷◌, filter, Option, Some, None}
+use Rattle.std.proofs.Common.{◌≡◌, ◌⊎◌, ℕ, ◌+◌, ◌≤◌, cond, ltb, not, ◌&&◌, Bool, true, false, refl, sym, ◌∙◌, subst, inl, inr, ⊎_elim, le_trans, arith, List, [], ◌∷◌, filter, Option, Some, None}
 use Rattle.std.proofs.lemmas.Bool.{cond_both, and_parts, ltb-true}
 use Rattle.hla_base.specs.declared.content.Event.{Event}
 use Rattle.hla_base.specs.declared.fault.Fault.{Fault}
 use Rattle.hla_base.specs.declared.row.AdvanceRequest.{AdvanceRequest}
 use Rattle.hla_base.specs.declared.row.Role.TheVariants.{Disabled, Pending}
 use Rattle.hla_base.specs.declared.row.TimeRow.{TimeRow}
-use Rattle.hla_base.specs.Tables.{forever, upd, or_else, is_other}
-use Rattle.hla_base.specs.Rows.{is_flush, is_regulator, is_constrained, new_row, reach, bar_after, row_after_request, row_with_entry, row_after_regulation_enabled, row_after_constraint_enabled, row_after_pick, row_after_grant}
+use Rattle.hla_base.specs.Tables.{upd, or_else, is_other}
+use Rattle.hla_base.specs.Rows.{is_flush, is_regulator, is_constrained, new_row, bar_after, row_after_request, row_with_entry, row_after_regulation_enabled, row_after_constraint_enabled, row_after_pick, row_after_grant}
 use Rattle.hla_base.specs.declared.row.AdvanceKind.TheVariants as kind
 use Rattle.hla_base.proofs.Tables.{upd_each, upd_same, upd_other, by_number, least_le}
-use Rattle.hla_fed_file.specs.CatalogueValue.{CatalogueValue}
 use Rattle.hla_null_message.specs.declared.message.Message.{Message}
 use Rattle.hla_null_message.specs.declared.message.Message.TheVariants as message
 use Rattle.hla_order_queues.specs.declared.control.Control.TheVariants.{ToDiscover, ToRetract}

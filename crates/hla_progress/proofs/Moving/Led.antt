@@ -1,11 +1,9 @@
 -- What the machine's state keeps over lists of steps, for a state to which steps of the components led
-use Rattle.std.proofs.Common.{◌≡◌, ◌⊎◌, ℕ, Bool, true, false, refl, sym, ◌∙◌, subst, List, [], ◌∷◌, Some, None}
+use Rattle.std.proofs.Common.{◌≡◌, ◌⊎◌, ℕ, true, false, refl, sym, ◌∙◌, subst, List, [], ◌∷◌, Some, None}
 use Rattle.hla_base.specs.declared.row.AdvanceRequest.{AdvanceRequest}
-use Rattle.hla_base.specs.declared.row.TimeRow.{TimeRow}
 use Rattle.hla_base.specs.Rows.{is_flush, is_regulator, is_constrained}
 use Rattle.hla_machine.specs.declared.step.Step.{Step}
 use Rattle.hla_machine.specs.Central.{Central, BelowAllTso, BelowOut, new_central}
-use Rattle.hla_machine.specs.Machine.{MayEnd}
 use Rattle.hla_machine.specs.Runs.{Happening, IsRun}
 use Rattle.hla_machine.specs.History.{next_state}
 use Rattle.hla_machine.proofs.Keeps.{IsKept}

@@ -1,12 +1,10 @@
 -- What steps of rounds keep of the machine's state: nobody may send less than before, and requests last until they are granted
-use Rattle.std.proofs.Common.{◌≡◌, ◌≢◌, ◌⊎◌, ℕ, ◌≤◌, cond, not, ◌&&◌, Bool, true, false, refl, sym, ◌∙◌, subst, inl, inr, ⊎_elim, arith, Option, Some, None}
-use Rattle.std.proofs.lemmas.Bool.{cases_eq}
+use Rattle.std.proofs.Common.{◌≡◌, ℕ, cond, not, ◌&&◌, true, refl, sym, ◌∙◌, arith, Some, None}
 use Rattle.hla_base.specs.declared.row.AdvanceRequest.{AdvanceRequest}
 use Rattle.hla_base.specs.declared.row.Role.{Role}
 use Rattle.hla_base.specs.declared.row.Role.TheVariants.{Disabled, Pending, Enabled}
 use Rattle.hla_base.specs.declared.row.TimeRow.{TimeRow}
-use Rattle.hla_base.specs.Tables.{upd, when}
-use Rattle.hla_base.specs.Rows.{is_next, is_flush, is_constrained, is_regulator, is_disabled, is_pending, keep_if, next_request, first_or, grant_time, row_after_regulation_enabled, row_after_constraint_enabled, row_after_pick, row_after_grant}
+use Rattle.hla_base.specs.Rows.{is_next, is_constrained, is_regulator, is_disabled, is_pending, next_request, first_or, row_after_regulation_enabled, row_after_constraint_enabled, row_after_grant}
 use Rattle.hla_base.proofs.Tables.{upd_each}
 use Rattle.hla_machine.specs.Central.{Central, Tso, BelowOut}
 use Rattle.hla_machine.specs.Callbacks.{MayGrant}

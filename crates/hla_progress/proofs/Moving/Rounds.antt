@@ -1,6 +1,6 @@
 -- What a step of rounds does to the machine's state: no copy comes, and at most one row changes
-use Rattle.std.proofs.Common.{◌≡◌, ◌≢◌, ◌⊎◌, ℕ, ◌≤◌, cond, eqb, ◌&&◌, Bool, true, false, refl, sym, ◌∙◌, subst, inl, inr, ⊎_elim, arith, ne_eqb, List, Option, Some, None, option_map}
-use Rattle.std.proofs.lemmas.Bool.{cases_eq, cond_both, cases_Bool}
+use Rattle.std.proofs.Common.{◌≡◌, ◌≢◌, ℕ, ◌≤◌, cond, true, false, refl, sym, ◌∙◌, subst, ⊎_elim, ne_eqb, List, Some, None, option_map}
+use Rattle.std.proofs.lemmas.Bool.{cond_both}
 use Rattle.hla_base.specs.declared.number.EventHandle.{EventHandle}
 use Rattle.hla_base.specs.declared.content.Content.{Content}
 use Rattle.hla_base.specs.declared.content.Content.TheVariants as content
@@ -24,8 +24,8 @@ use Rattle.hla_machine.specs.declared.step.Outcome.{Outcome}
 use Rattle.hla_machine.specs.declared.step.Outcome.TheVariants as outcome
 use Rattle.hla_machine.specs.declared.step.Choice.{Choice}
 use Rattle.hla_machine.specs.declared.step.Choice.TheVariants as choice
-use Rattle.hla_machine.specs.Central.{Central, Copy, CopyOrder, Ro, Tso, Demoted, at_key, demoted_copy}
-use Rattle.hla_machine.specs.Callbacks.{IsCopy, MayPickIn, MayDeliver, MayPickUp, MayGrant, MayConstrain, is_among, with_demoted, row_after, after_delivery, after_constraint, after_pick}
+use Rattle.hla_machine.specs.Central.{Central, Copy, Ro, Tso, Demoted, at_key, demoted_copy}
+use Rattle.hla_machine.specs.Callbacks.{IsCopy, MayPickIn, MayDeliver, MayPickUp, MayGrant, MayConstrain, with_demoted, row_after, after_delivery, after_constraint, after_pick}
 use Rattle.hla_machine.specs.Machine.{MayCarry, MayDo, MayEnd, after_carry, after_done, after}
 use Rattle.hla_machine.proofs.Keeps.{Bag, NoMore, fewer_removed, fewer_demoted, fewer_moved}
 use Rattle.hla_machine.proofs.Runs.{row_after_is}

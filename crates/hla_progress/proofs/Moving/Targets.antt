@@ -1,11 +1,11 @@
 -- What a federate waits for stays the same until it is granted
-use Rattle.std.proofs.Common.{◌≡◌, ◌≢◌, ◌⊎◌, ℕ, ◌≤◌, cond, Bool, true, false, refl, sym, ◌∙◌, subst, inl, inr, ⊎_elim, arith, Option, Some, None}
+use Rattle.std.proofs.Common.{◌≡◌, ◌≢◌, ◌⊎◌, ℕ, ◌≤◌, true, false, refl, sym, ◌∙◌, subst, inl, inr, ⊎_elim, arith, Option, Some, None}
 use Rattle.std.proofs.lemmas.Bool.{cases_eq}
 use Rattle.hla_base.specs.declared.number.EventHandle.{EventHandle}
 use Rattle.hla_base.specs.declared.content.Content.{Content}
 use Rattle.hla_base.specs.declared.row.AdvanceRequest.{AdvanceRequest}
 use Rattle.hla_base.specs.declared.row.TimeRow.{TimeRow}
-use Rattle.hla_base.specs.Tables.{upd, or_else}
+use Rattle.hla_base.specs.Tables.{or_else}
 use Rattle.hla_base.specs.Rows.{is_next, is_flush, is_constrained, row_after_pick}
 use Rattle.hla_base.proofs.Tables.{upd_same, upd_other}
 use Rattle.hla_machine.specs.Central.{Central, Tso, BelowWake}

@@ -1,5 +1,5 @@
 -- Lists of steps, and rounds
-use Rattle.std.proofs.Common.{◌≡◌, ◌≢◌, ℕ, zero, suc, ◌+◌, ◌≤◌, ◌<◌, eqb, true, refl, ◌∙◌, inl, inr, ⊎_elim, arith, eq-eqb, List, [], ◌∷◌, ◌++◌, replicate, Option, Some, None, le_trans, ap, false, sym, subst}
+use Rattle.std.proofs.Common.{◌≡◌, ◌≢◌, ℕ, zero, suc, ◌+◌, ◌≤◌, ◌<◌, eqb, true, refl, ◌∙◌, inl, inr, ⊎_elim, arith, eq-eqb, List, [], ◌∷◌, ◌++◌, replicate, Option, Some, le_trans, ap, false, subst}
 use Rattle.std.proofs.lemmas.Bool.{cases_eq, cond_both}
 use Rattle.hla_base.specs.Tables.{one_if, forever}
 use Rattle.hla_callbacks.specs.declared.callback.Callback.{Callback}

@@ -14,7 +14,6 @@ use Rattle.hla_order_queues.specs.declared.control.Control.{Control}
 use Rattle.hla_order_queues.specs.Queues.{first_stamp}
 use Rattle.hla_local.specs.Picking.{Pick, NoPick, PickControl, PickRo, PickRegulates, PickConstrains, PickTso, PickGrant, is_reached, is_first_fit, flush_time, is_picked, grant_pick, tso_pick, advance_pick, role_pick, is_held_back, ro_pick, pick}
 use Rattle.hla_components.specs.Invariant.{RowInv}
-use Rattle.hla_progress.specs.Promises.{is_raised_late}
 use Rattle.hla_progress.specs.AtOnce.{is_flush_asked, WaitsForNobody, IsAwaited, is_tso_due}
 
 -- what is picked up: something that is due, up to the limit, or what is waited for

@@ -1,4 +1,4 @@
-use Rattle.hla_progress.proofs.Holding.{two_hold}
+use Rattle.hla_progress.proofs.Holding.TwoZeros.{two_hold}
 use Rattle.hla_progress.proofs.getting_on.two_hold_each_other.Goals as goal
 
 pub returns : goal.returns
