@@ -5,8 +5,8 @@ ghost use Rattle.hla_progress.specs.GettingOn.{EachLeastIsGranted, NobodyLocksUp
 
 /// A constrained federate waits in an advance that is no flush, every other regulating federate does too, and its goal is at most
 /// theirs: then it is granted exactly its target, by the round 1 + twice its goal + what is due before it, unless two federates that
-/// are slow for its goal both have the width 0 (Next Event Request Available with the lookahead 0). Who advances without being
-/// constrained, or by a flush, is not waited for: that is granted at once.
+/// are slow for its goal both have the width 0 (Next Event Request Available with the lookahead 0). A regulator that advances without
+/// being constrained, or flushes, is none of these: it is granted at once, as `at_once::each_comes_at_once` says.
 pub fn each_least_is_granted()
     ensures { EachLeastIsGranted }
 {}
