@@ -2,5 +2,7 @@
 pub mod Exists
 -- Whose goal is the least
 pub mod Least
+-- The more is asked for, the more is due before it
+pub mod Limits
 -- That one is granted
 pub mod Nobody

@@ -6,7 +6,7 @@ use Rattle.hla_callbacks.specs.declared.callback.Callback.TheVariants as callbac
 use Rattle.hla_components.specs.Components.{Components}
 use Rattle.hla_components.specs.Headline.{IsLedTo, happenings}
 use Rattle.hla_progress.specs.Rounds.{rounds, IsGivenIn}
-use Rattle.hla_progress.specs.AtOnce.{IsAwaited, due_up_to}
+use Rattle.hla_progress.specs.AtOnce.{IsAwaited, asked_time, due_up_to, due_before}
 use Rattle.hla_progress.specs.CatchingUp.{IsWaitingFor}
 use Rattle.hla_progress.specs.Creeping.{EachPairIsWide}
 
@@ -41,12 +41,14 @@ NoTwoHold s = (g h : ℕ) → g ≢ h → IsOfNoWidth s g → IsOfNoWidth s h �
 abbrev pub EachHasWidth : Components → Type 0
 EachHasWidth s = (g : ℕ) (p : AdvanceRequest) → s.directory.joined g ≡ true → is_regulator (s.row g) ≡ true → (s.row g).advance ≡ Some p → 1 ≤ width (s.row g).lookahead p.kind
 
--- some joined federate that is in an advance is given the grant for which it waits, after some rounds
+-- some joined federate that is in an advance is given the grant for which it waits, by the round 1 + twice what the time that it asked
+-- for reaches to at most + what is due before it
 pub record SomebodyIsGranted (s : Components) (n m : ℕ) : Type 0 where
   pub federate : ℕ
   pub joined : s.directory.joined federate ≡ true
   pub advances : is_advancing (s.row federate) ≡ true
   pub count : ℕ
+  pub soon : count ≤ 1 + 2 * (asked_time (s.row federate).advance + 1) + due_before s federate
   pub given : IsGivenIn (happenings s (rounds count n m)) federate (IsAwaited (s.row federate))
 
 -- where somebody is in an advance, and every regulator is, somebody is granted, unless two requests hold each other

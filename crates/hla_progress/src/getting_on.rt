@@ -12,7 +12,8 @@ pub fn each_least_is_granted()
 {}
 
 /// There is no deadlock: where some joined federate is in an advance, and every regulating one is, some federate that is in an advance
-/// is granted after some rounds, unless two regulating federates are in Next Event Request Available with the lookahead 0.
+/// is granted, unless two regulating federates are in Next Event Request Available with the lookahead 0. It is by the round
+/// 1 + 2 (a + 1) + what is due before it, where a is the time that it asked for.
 ///
 /// Nothing is said of a federation in which a regulating federate is in no advance, nor of how soon by a clock, nor of what happens
 /// while federates call services in between.

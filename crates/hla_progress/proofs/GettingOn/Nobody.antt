@@ -15,7 +15,7 @@ use Rattle.hla_components.specs.Headline.{IsLedTo, happenings}
 use Rattle.hla_components.proofs.Refinement.LedTo.{led_inv}
 use Rattle.hla_progress.specs.Promises.{is_raised_late}
 use Rattle.hla_progress.specs.Rounds.{rounds, IsGivenIn}
-use Rattle.hla_progress.specs.AtOnce.{IsAwaited, due_up_to, due_before}
+use Rattle.hla_progress.specs.AtOnce.{IsAwaited, asked_time, due_up_to, due_before}
 use Rattle.hla_progress.specs.CatchingUp.{IsWaitingFor, IsSlow}
 use Rattle.hla_progress.specs.Creeping.{EachPairIsWide}
 use Rattle.hla_progress.specs.GettingOn.{NobodyIsBefore, EachLeastIsGranted, EachRegulatorAdvances, IsOfNoWidth, NoTwoHold, SomebodyIsGranted, NobodyLocksUp, NobodyLocksUpWithWidths}
@@ -24,6 +24,7 @@ use Rattle.hla_progress.proofs.Waiting.Lists.{comes_at_once}
 use Rattle.hla_progress.proofs.CatchUp.Aims.{IsGrantOf}
 use Rattle.hla_progress.proofs.Creep.Granted.{own_out, given_at_last, catches_up_creeping}
 use Rattle.hla_progress.proofs.GettingOn.Exists.{waits_for}
+use Rattle.hla_progress.proofs.GettingOn.Limits.{up_to_more}
 use Rattle.hla_progress.proofs.GettingOn.Least.{Free, some_free, AllBound, NobodyIn, Least, least_of_all}
 
 -- ---- the least goal is at most the bound
@@ -46,15 +47,19 @@ module _ (s : Components) (f : ℕ) (q : AdvanceRequest) (t : ℕ) (is : IsLedTo
       by_first None first b = b.0
       by_first (Some p) first b = omega (arith, b, ((led_inv s is).numbers f).first q p w.asks first)
 
+  reach_next : reach q.kind t ≤ t + 1
+  reach_next = by_kind (is_strict q.kind)
+    where
+      by_kind : (b : Bool) → cond b (t + 1) t ≤ t + 1
+      by_kind true = omega arith
+      by_kind false = omega arith
+
   goal_cap : reach q.kind t ≤ forever
   goal_cap = omega (arith, target_asked, ((led_inv s is).numbers f).asked q w.asks, reach_next)
-    where
-      reach_next : reach q.kind t ≤ t + 1
-      reach_next = by_kind (is_strict q.kind)
-        where
-          by_kind : (b : Bool) → cond b (t + 1) t ≤ t + 1
-          by_kind true = omega arith
-          by_kind false = omega arith
+
+  soon_enough : 1 + 2 * reach q.kind t + due_up_to s f t ≤ 1 + 2 * (asked_time (s.row f).advance + 1) + due_before s f
+  soon_enough = subst (λ (o : Option AdvanceRequest). 1 + 2 * reach q.kind t + due_up_to s f t ≤ 1 + 2 * (asked_time o + 1) + due_up_to s f (asked_time o)) (sym w.asks)
+      (omega (arith, reach_next, target_asked, up_to_more s f t q.asked target_asked))
 
   least_bound_of : NobodyIsBefore s f (reach q.kind t) → BelowBound (central s) f (reach q.kind t)
   least_bound_of first = (goal_cap, λ g j ne reg. let b = first g j ne reg in out_less (BelowAllTso (central s) g) (s.row g) (reach b.0.kind b.1) (reach q.kind t) b.3 (own_out s g b.0 b.1 is b.2))
@@ -98,6 +103,7 @@ module _ (s : Components) (n m : ℕ) (is : IsLedTo s) (few : s.directory.next_f
     joined = f.1.0;
     advances = f.1.1;
     count = 1 + due_before s f.0;
+    soon = omega arith;
     given = given_at_last s (rounds (1 + due_before s f.0) n m) f.0 (IsAwaited (s.row f.0)) (comes_at_once s f.0 n m is f.1.0 few f.2);
   }
 
@@ -110,6 +116,7 @@ module _ (s : Components) (n m : ℕ) (is : IsLedTo s) (few : s.directory.next_f
         joined = w.joined;
         advances = l.is.1;
         count = 1 + 2 * reach q.kind t + due_up_to s f t;
+        soon = soon_enough s f q t is w;
         given = given_as (happenings s (rounds (1 + 2 * reach q.kind t + due_up_to s f t) n m)) f (IsGrantOf t) (IsAwaited (s.row f)) (awaited s f q t is w)
             (least_is_granted s f n m q t is few short w first (wide_enough s (reach q.kind t) none));
       }
