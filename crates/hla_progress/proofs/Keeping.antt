@@ -10,3 +10,7 @@ pub mod Numbers
 pub mod Steps
 -- What a component knows of itself, and of the number 0
 pub mod Own
+-- Nothing waits before the first pick
+pub mod Firsts
+-- What waits first at or below the bound is not retracted
+pub mod Live

@@ -4,3 +4,13 @@ pub mod Keeping
 pub mod Waiting
 -- What the machine's own bound lets a federate have, rounds give it
 pub mod CatchUp
+-- What steps of rounds change and what they keep
+pub mod Moving
+-- Where others are slow, by how much each two rounds bring it on
+pub mod Creep
+-- No federation locks up whose regulators all advance
+pub mod GettingOn
+-- The examples, by computation
+pub mod Computed
+-- Two requests that hold each other hold others too
+pub mod Holding

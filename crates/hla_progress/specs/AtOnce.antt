@@ -41,40 +41,49 @@ IsAwaited r k = ⊥
 abbrev pub is_ro_due : TimeRow → Bool
 is_ro_due r = not (is_held_back r)
 
-abbrev pub is_tso_asked : Option AdvanceRequest → Event → Bool
-is_tso_asked None e = false
-is_tso_asked (Some q) e = is_flush q.kind || leb e.stamp q.asked
+abbrev pub is_tso_asked : Option AdvanceRequest → ℕ → Event → Bool
+is_tso_asked None limit e = false
+is_tso_asked (Some q) limit e = is_flush q.kind || leb e.stamp limit
 
--- what waits in time-stamp order: in a flush all, in another advance what is at most the time that is asked for
-abbrev pub is_tso_due : TimeRow → Event → Bool
-is_tso_due r e = is_constrained r && is_tso_asked r.advance e
+-- what waits in time-stamp order: in a flush all, in another advance what is at most a limit
+abbrev pub is_tso_due : TimeRow → ℕ → Event → Bool
+is_tso_due r limit e = is_constrained r && is_tso_asked r.advance limit e
 
 -- how many callbacks may come of a message on a wire: of a null message none
-abbrev pub due_of : TimeRow → Message → ℕ
-due_of r (message.Event e) = one_if (cond (is_kept_in_order r e) (is_tso_due r e) (is_ro_due r))
-due_of r (message.Null k v) = 0
-due_of r (message.Retraction m) = 1
-due_of r (message.Discovery d) = 1
+abbrev pub due_of : TimeRow → ℕ → Message → ℕ
+due_of r limit (message.Event e) = one_if (cond (is_kept_in_order r e) (is_tso_due r limit e) (is_ro_due r))
+due_of r limit (message.Null k v) = 0
+due_of r limit (message.Retraction m) = 1
+due_of r limit (message.Discovery d) = 1
 
-abbrev pub due_on_wire : TimeRow → List Message → ℕ
-due_on_wire r [] = 0
-due_on_wire r (m ∷ ms) = due_of r m + due_on_wire r ms
+abbrev pub due_on_wire : TimeRow → ℕ → List Message → ℕ
+due_on_wire r limit [] = 0
+due_on_wire r limit (m ∷ ms) = due_of r limit m + due_on_wire r limit ms
 
-abbrev pub due_in_order : TimeRow → List Event → ℕ
-due_in_order r [] = 0
-due_in_order r (e ∷ es) = one_if (is_tso_due r e) + due_in_order r es
+abbrev pub due_in_order : TimeRow → ℕ → List Event → ℕ
+due_in_order r limit [] = 0
+due_in_order r limit (e ∷ es) = one_if (is_tso_due r limit e) + due_in_order r limit es
 
-abbrev pub due_in_queues : TimeRow → List Control → List Event → List Event → ℕ
-due_in_queues r controls ro tso = length controls + (cond (is_ro_due r) (length ro) 0 + due_in_order r tso)
+abbrev pub due_in_queues : TimeRow → ℕ → List Control → List Event → List Event → ℕ
+due_in_queues r limit controls ro tso = length controls + (cond (is_ro_due r) (length ro) 0 + due_in_order r limit tso)
 
 -- the sum of the first n entries
 unfoldable pub total : ℕ → (ℕ → ℕ) → ℕ
 total zero t = 0
 total (suc n) t = total n t + t n
 
--- how many callbacks may be given to f before the one for which it waits, if nothing more is sent to it
+-- how many callbacks may be given to f before the one for which it waits, if nothing more is sent to it, and of what waits in
+-- time-stamp order only what is at most the limit; an event and its retraction on a wire count as two
+abbrev pub due_up_to : Components → ℕ → ℕ → ℕ
+due_up_to s f limit = due_in_queues (s.row f) limit (s.controls f) (s.ro f) (s.tso f) + total s.directory.next_federate (λ g. due_on_wire (s.row f) limit (s.wire g f))
+
+abbrev pub asked_time : Option AdvanceRequest → ℕ
+asked_time None = 0
+asked_time (Some q) = q.asked
+
+-- the limit is the time that f asked for
 abbrev pub due_before : Components → ℕ → ℕ
-due_before s f = due_in_queues (s.row f) (s.controls f) (s.ro f) (s.tso f) + total s.directory.next_federate (λ g. due_on_wire (s.row f) (s.wire g f))
+due_before s f = due_up_to s f (asked_time (s.row f).advance)
 
 -- ---- the theorems
 -- the callback comes among announcements, carries and ticks in whatever order, once f ticks more often than callbacks are due before

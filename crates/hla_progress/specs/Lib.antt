@@ -6,3 +6,11 @@ pub mod Rounds
 pub mod AtOnce
 -- What the machine's own bound lets a federate have, rounds give it
 pub mod CatchingUp
+-- Where others are slow, by how much each two rounds bring it on
+pub mod Creeping
+-- No federation locks up whose regulators all advance, and who is granted next
+pub mod GettingOn
+-- Worked examples of rounds
+pub mod Examples
+-- Two requests that hold each other hold others too
+pub mod Holding

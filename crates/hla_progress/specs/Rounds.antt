@@ -64,3 +64,8 @@ IsGiven h f P = (k : Callback) × GivesCallback h.step h.outcome f k × P k
 abbrev pub IsGivenAtLast : List Happening → ℕ → (Callback → Type 0) → Type 0
 IsGivenAtLast [] f P = ⊥
 IsGivenAtLast (h ∷ hs) f P = IsGiven h f P ⊎ ((is_tick_of f h.step ≡ true → IsGiven h f (λ _. Unit {0})) × IsGivenAtLast hs f P)
+
+-- at one of the happenings f is given a callback of the kind P
+abbrev pub IsGivenIn : List Happening → ℕ → (Callback → Type 0) → Type 0
+IsGivenIn [] f P = ⊥
+IsGivenIn (h ∷ hs) f P = IsGiven h f P ⊎ IsGivenIn hs f P

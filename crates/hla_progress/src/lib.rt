@@ -3,4 +3,7 @@
 
 pub mod at_once;
 pub mod catching_up;
+pub mod creeping;
+pub mod examples;
+pub mod getting_on;
 pub mod promises;

@@ -56,7 +56,7 @@ announced_outcome t g = cond_both (is_regulator (t.row g) && ltb (t.last_announc
         (cases_Bool (ltb (t.last_announced g) (promise t g)))
 
 -- who is not joined is refused, and says nothing
-announced_next : (t : Components) (g : ℕ) → IsAnnounced t (next t (Announce g)).state g
+pub announced_next : (t : Components) (g : ℕ) → IsAnnounced t (next t (Announce g)).state g
 announced_next t g = ⊎_elim
     (λ (y : t.directory.joined g ≡ true). rw y (announced_outcome t g))
     (λ (n : t.directory.joined g ≡ false). rw n (record { directory = refl; row = refl; tso = refl; bound = refl; said = λ j _. absurd (cc); others = λ _ _. refl; wires = λ _ _. omega arith; other_wires = λ _ _ _. omega arith }))

@@ -1,51 +1,48 @@
 -- The first round, and the rounds after it
 use Rattle.std.proofs.Common.{◌≡◌, ◌≢◌, inr, ℕ, zero, suc, ◌+◌, ◌≤◌, ◌<◌, Bool, true, false, refl, sym, ap, ◌∙◌, subst, ⊎_elim, arith, le_trans, List, [], ◌∷◌, ◌++◌, length, Option, Some, None}
-use Rattle.std.proofs.lemmas.Bool.{cases_eq, cases_lt, cases_Bool}
-use Rattle.std.proofs.lemmas.Bool.Decides.{nat_tests}
+use Rattle.std.proofs.lemmas.Bool.{cases_lt}
 use Rattle.std.proofs.lemmas.List.{append_assoc}
 use Rattle.hla_base.specs.declared.row.AdvanceRequest.{AdvanceRequest}
 use Rattle.hla_base.specs.declared.row.TimeRow.{TimeRow}
-use Rattle.hla_base.specs.Rows.{is_regulator, is_enabled, next_request, reach}
-use Rattle.hla_base.specs.Tables.{one_if, is_other}
-use Rattle.hla_base.proofs.Tables.{le_least}
+use Rattle.hla_base.specs.Rows.{is_regulator, next_request, reach}
+use Rattle.hla_base.specs.Tables.{one_if}
 use Rattle.hla_callbacks.specs.declared.callback.Callback.{Callback}
-use Rattle.hla_callbacks.specs.declared.callback.Callback.TheVariants as callback
 use Rattle.hla_null_message.specs.Promise.{promise_in}
 use Rattle.hla_order_queues.specs.Queues.{first_stamp}
 use Rattle.hla_machine.specs.declared.step.Step.{Step}
 use Rattle.hla_machine.specs.declared.step.Step.TheVariants.{Join, Call, Carry, Announce, Tick}
-use Rattle.hla_machine.specs.Central.{BelowBound, BelowRequest, BelowAllTso}
+use Rattle.hla_machine.specs.Central.{BelowBound, BelowOut, BelowRequest, BelowAllTso}
 use Rattle.hla_components.specs.Components.{Components}
 use Rattle.hla_components.specs.Component.{local_bound, promise}
 use Rattle.hla_components.specs.CentralOf.{central}
-use Rattle.hla_components.specs.Invariant.{EachOf, Inv}
+use Rattle.hla_components.specs.Invariant.{EachOf}
 use Rattle.hla_components.specs.Next.{next}
 use Rattle.hla_components.specs.Headline.{IsLedTo, happenings, state_after}
 use Rattle.hla_components.proofs.Basics.Each.{EachOf-append}
-use Rattle.hla_components.proofs.Upkeep.Bounds.{other_from}
-use Rattle.hla_components.proofs.Refinement.Runs.{each_step}
-use Rattle.hla_components.proofs.Refinement.LedTo.{led_inv, led_after}
-use Rattle.hla_progress.specs.Promises.{bound_after}
+use Rattle.hla_components.proofs.Refinement.LedTo.{led_inv, led_next}
 use Rattle.hla_progress.specs.Rounds.{announcements, carries_to, ticks, rounds, IsOfRounds, is_tick_of, ticks_of, IsGivenAtLast}
-use Rattle.hla_progress.specs.AtOnce.{due_before}
-use Rattle.hla_progress.specs.CatchingUp.{IsSlow, NobodyIsSlow, EachCatchesUpInARound}
-use Rattle.hla_progress.proofs.Keeping.Steps.{led_keeps}
+use Rattle.hla_progress.specs.AtOnce.{due_up_to}
+use Rattle.hla_progress.specs.CatchingUp.{IsWaitingFor, IsSlow, NobodyIsSlow, EachCatchesUpInARound}
 use Rattle.hla_progress.proofs.Keeping.Numbers.{joined_from_one}
-use Rattle.hla_progress.proofs.Keeping.Own.{own_led}
-use Rattle.hla_progress.proofs.Waiting.Steps.{WaitsOn, other_waits, unchanged}
-use Rattle.hla_progress.proofs.Waiting.Lists.{list_brings, HasReached, reached_is_due, reached_lasts, awaited_grant, ticks_of-append, everyone_ticks, rounds_tick, announcements_of, ticks_are, carries_to_of, rounds_of}
-use Rattle.hla_progress.proofs.CatchUp.Announced.{HaveAnnounced, after_announcements}
-use Rattle.hla_progress.proofs.CatchUp.Carried.{IsCarry, IsOpen, IsCarriedOn, all_on, carried_away, to_often, to_are}
+use Rattle.hla_progress.proofs.Waiting.Picks.{IsDuePick}
+use Rattle.hla_progress.proofs.Waiting.Steps.{WaitsOn, other_waits, unchanged, picked_at}
+use Rattle.hla_progress.proofs.Waiting.Lists.{list_brings, ticks_of-append, everyone_ticks, rounds_tick, announcements_of, ticks_are, carries_to_of, rounds_of}
+use Rattle.hla_progress.proofs.CatchUp.Carried.{IsCarry, to_are}
+use Rattle.hla_progress.proofs.CatchUp.Aims.{IsGrantOf, AtGoal, at_goal_due, at_goal_lasts, waiting_next}
+use Rattle.hla_progress.proofs.CatchUp.Heard.{said, carried, led_said, led_carried, all_heard, nulls_alone}
 
 -- ---- steps before the first tick of f
-waits_trans : (s t u : Components) (f : ℕ) → WaitsOn s t f 0 → WaitsOn t u f 0 → WaitsOn s u f 0
-waits_trans s t u f a b = record {
+pub waits_trans : (s t u : Components) (f limit : ℕ) → WaitsOn s t f limit 0 → WaitsOn t u f limit 0 → WaitsOn s u f limit 0
+waits_trans s t u f limit a b = record {
   joined = b.joined ∙ a.joined;
   waits = λ w. b.waits (a.waits w);
   same = λ k x. a.same k (b.same k x);
   less = omega (arith, a.less, b.less);
   advance = b.advance ∙ a.advance;
   constrained = b.constrained ∙ a.constrained;
+  regulating = b.regulating ∙ a.regulating;
+  time = b.time ∙ a.time;
+  regulation = b.regulation ∙ a.regulation;
   bounds = λ g. le_trans (a.bounds g) (b.bounds g);
   numbers = b.numbers ∙ a.numbers;
 }
@@ -57,11 +54,17 @@ no_tick false n e = refl
 later_none : (b : Bool) (n : ℕ) → one_if b + n ≡ 0 → n ≡ 0
 later_none b n e = omega (arith, e)
 
-waits_through : (s : Components) (steps : List Step) (f : ℕ) → Inv s → EachOf IsOfRounds steps → ticks_of f steps ≡ 0 → WaitsOn s (state_after s steps) f 0
-waits_through s [] f inv of none = unchanged s f
-waits_through s (step ∷ steps) f inv of none = waits_trans s (next s step).state (state_after (next s step).state steps) f
-    (other_waits s f step inv of.0 (no_tick (is_tick_of f step) (ticks_of f steps) none))
-    (waits_through (next s step).state steps f (each_step s step inv).kept of.1 (later_none (is_tick_of f step) (ticks_of f steps) none))
+module _ (f limit : ℕ) where
+  waits_through : (s : Components) (steps : List Step) → IsLedTo s → EachOf IsOfRounds steps → ticks_of f steps ≡ 0 → WaitsOn s (state_after s steps) f limit 0
+  waits_through s [] is of none = unchanged s f limit
+  waits_through s (step ∷ steps) is of none = waits_trans s (next s step).state (state_after (next s step).state steps) f limit
+      (other_waits s f limit step (led_inv s is) of.0 (no_tick (is_tick_of f step) (ticks_of f steps) none))
+      (waits_through (next s step).state steps (led_next s step is) of.1 (later_none (is_tick_of f step) (ticks_of f steps) none))
+
+  waiting_through : (q : AdvanceRequest) (t : ℕ) (s : Components) (steps : List Step) → IsLedTo s → EachOf IsOfRounds steps → ticks_of f steps ≡ 0 → IsWaitingFor s f q t → IsWaitingFor (state_after s steps) f q t
+  waiting_through q t s [] is of none w = w
+  waiting_through q t s (step ∷ steps) is of none w = waiting_through q t (next s step).state steps (led_next s step is) of.1 (later_none (is_tick_of f step) (ticks_of f steps) none)
+      (waiting_next s step f limit 0 q t is of.0 (other_waits s f limit step (led_inv s is) of.0 (no_tick (is_tick_of f step) (ticks_of f steps) none)) w)
 
 given_later : (s : Components) (xs ys : List Step) (f : ℕ) (P : Callback → Type 0) → ticks_of f xs ≡ 0 → IsGivenAtLast (happenings (state_after s xs) ys) f P → IsGivenAtLast (happenings s (xs ++ ys)) f P
 given_later s [] ys f P none g = g
@@ -81,81 +84,23 @@ carries_tick f (Announce h ∷ steps) of = absurd of.0
 carries_tick f (Tick h ∷ steps) of = absurd of.0
 
 -- ---- who is not slow promises the goal
-floor_le : (r : TimeRow) (o : Option AdvanceRequest) (queued bound : ℕ) → r.floor ≤ promise_in r o queued bound
+pub floor_le : (r : TimeRow) (o : Option AdvanceRequest) (queued bound : ℕ) → r.floor ≤ promise_in r o queued bound
 floor_le r None queued bound = omega arith
 floor_le r (Some x) queued bound = omega arith
 
-slow_by : (s : Components) (x g : ℕ) (o : Option AdvanceRequest) → next_request (s.row g) ≡ o → is_regulator (s.row g) ≡ true → promise s g < x → BelowRequest (BelowAllTso (central s) g) (s.row g) o x → IsSlow s x g
+pub slow_by : (s : Components) (x g : ℕ) (o : Option AdvanceRequest) → next_request (s.row g) ≡ o → is_regulator (s.row g) ≡ true → promise s g < x → BelowRequest (BelowAllTso (central s) g) (s.row g) o x → IsSlow s x g
 slow_by s x g None is reg low below = absurd below
 slow_by s x g (Some q) is reg low below = record { regulates = reg; request = q; waits = is; low = low }
 
-goal_promised : (s : Components) (f x g : ℕ) → BelowBound (central s) f x → NobodyIsSlow s f x → s.directory.joined g ≡ true → g ≢ f → is_regulator (s.row g) ≡ true → x ≤ promise s g
-goal_promised s f x g below quick member ne reg = ⊎_elim
+-- a regulator that may send nothing below x promises x, or is slow for it
+pub promised_or_slow : (s : Components) (x g : ℕ) → is_regulator (s.row g) ≡ true → BelowOut (BelowAllTso (central s) g) (s.row g) x → (IsSlow s x g → x ≤ promise s g) → x ≤ promise s g
+promised_or_slow s x g reg out slow = ⊎_elim
     (λ (l : promise s g < x). ⊎_elim
     (λ (a : x ≤ (s.row g).floor). le_trans a (floor_le (s.row g) (next_request (s.row g)) (first_stamp (s.tso g)) (local_bound s g)))
-    (λ (b : BelowRequest (BelowAllTso (central s) g) (s.row g) (next_request (s.row g)) x). absurd (quick g member ne (slow_by s x g (next_request (s.row g)) refl reg l b)))
-    (below.1 g member ne reg))
+    (λ (b : BelowRequest (BelowAllTso (central s) g) (s.row g) (next_request (s.row g)) x). slow (slow_by s x g (next_request (s.row g)) refl reg l b))
+    out)
     (λ (l : x ≤ promise s g). l)
     (cases_lt (promise s g) x)
-
--- ---- after the announcements and the carries of a round
-module _ (s : Components) (f n m x : ℕ) (is : IsLedTo s) (member : s.directory.joined f ≡ true) (few : s.directory.next_federate ≤ n + 1) (short : (g : ℕ) → length (s.wire g f) ≤ m)
-    (below : BelowBound (central s) f x) (quick : NobodyIsSlow s f x) where
-  abbrev said : Components
-  said = state_after s (announcements n)
-
-  abbrev carried : Components
-  carried = state_after said (carries_to n (m + 1) n)
-
-  heard : IsCarriedOn said carried
-  heard = all_on said (carries_to n (m + 1) n) (to_are (m + 1) n n)
-
-  led : IsLedTo carried
-  led = led_after said (carries_to n (m + 1) n) (led_after s (announcements n) is)
-
-  a : HaveAnnounced s said n
-  a = after_announcements s n
-
-  f_counts : (1 ≤ f) × (f ≤ n)
-  f_counts = let l : f < s.directory.next_federate = (led_inv s is).kept.directory.members f member in (joined_from_one s f is member, omega arith)
-
-  is_open : (g : ℕ) → g ≢ f → g ≢ 0 → g < s.directory.next_federate → IsOpen said g f
-  is_open g ne z l = record { other = ne; numbered = z; below = rw a.directory (grind (arith, nat_tests)); member = rw a.directory member }
-
-  empty_wire : (g : ℕ) → g ≢ f → g ≢ 0 → g < s.directory.next_federate → carried.wire g f ≡ []
-  empty_wire g ne z l = carried_away said g f (carries_to n (m + 1) n) (is_open g ne z l) (to_are (m + 1) n n)
-      (le_trans (let b = a.wires g f in let c = short g in let d : length (said.wire g f) ≤ m + 1 = omega arith in d) (to_often (m + 1) g f n n (omega arith) (omega arith) f_counts.0 f_counts.1 ne))
-
-  -- what each announced last is at or above the goal
-  last_above : (g : ℕ) → g ≢ f → g ≢ 0 → g < s.directory.next_federate → x ≤ carried.last_announced g
-  last_above g ne z l = ⊎_elim
-      (λ (y : is_regulator (s.row g) ≡ true).
-      let j : s.directory.joined g ≡ true = (led_inv s is).kept.time.regulators g y in
-      let last : carried.last_announced g ≡ said.last_announced g = ap (λ (t : ℕ → ℕ). t g) heard.last in
-      omega (arith, goal_promised s f x g below quick j ne y, a.said g (omega arith) (omega arith) j y, last))
-      (λ (e : is_regulator (s.row g) ≡ false).
-      let off : is_regulator (carried.row g) ≡ false = rw (heard.row, a.row) e in
-      omega (arith, (led_keeps carried led).silent g off, below.0))
-      (cases_Bool (is_regulator (s.row g)))
-
-  other_bound : (g : ℕ) → g ≢ f → g ≢ 0 → g < s.directory.next_federate → x ≤ carried.bound f g
-  other_bound g ne z l =
-      let o : is_other carried.directory.joined g f ≡ true = rw (heard.directory, a.directory) (other_from s.directory.joined g f ne member) in
-      let ends : bound_after (carried.known_epoch f g) (carried.bound f g) (carried.wire g f) ≡ carried.last_announced g = (led_keeps carried led).wires g f o in
-      let is_last : carried.bound f g ≡ carried.last_announced g = rw (empty_wire g ne z l) at ends in
-      omega (arith, last_above g ne z l, is_last)
-
-  each_bound : (g : ℕ) → g < s.directory.next_federate → x ≤ carried.bound f g
-  each_bound g l = ⊎_elim
-      (λ (e : g ≡ f). rw e (omega (arith, (own_led carried led).own f, below.0)))
-      (λ (ne : g ≢ f). ⊎_elim
-      (λ (e : g ≡ 0). rw e (omega (arith, (own_led carried led).nobody f, below.0)))
-      (λ (z : g ≢ 0). other_bound g ne z l)
-      (cases_eq g 0))
-      (cases_eq g f)
-
-  pub goal_known : x ≤ local_bound carried f
-  goal_known = rw (heard.directory, a.directory) (le_least s.directory.next_federate (carried.bound f) x below.0 each_bound)
 
 -- ---- the rounds
 -- the first round, and what follows its carries
@@ -169,23 +114,48 @@ regroup n m d =
 enough_ticks : (f n m d : ℕ) → 1 ≤ f → f ≤ n → d < ticks_of f (ticks n ++ rounds d n m)
 enough_ticks f n m d a b = omega (arith, ticks_of-append f (ticks n) (rounds d n m), everyone_ticks f n a b, rounds_tick d f n m a b)
 
+-- what comes after the first carries comes in the rounds
+pub after_first : (s : Components) (f n m d : ℕ) (P : Callback → Type 0) → IsGivenAtLast (happenings (carried s n m) (ticks n ++ rounds d n m)) f P → IsGivenAtLast (happenings s (rounds (1 + d) n m)) f P
+after_first s f n m d P ends = subst (λ (steps : List Step). IsGivenAtLast (happenings s steps) f P) (sym (regroup n m d))
+    (given_later s (announcements n) (carries_to n (m + 1) n ++ (ticks n ++ rounds d n m)) f P (announcements_tick f n)
+    (given_later (said s n m) (carries_to n (m + 1) n) (ticks n ++ rounds d n m) f P (carries_tick f (carries_to n (m + 1) n) (to_are (m + 1) n n)) ends))
+
+pub rest_of : (n m d : ℕ) → EachOf IsOfRounds (ticks n ++ rounds d n m)
+rest_of n m d = EachOf-append IsOfRounds (ticks n) (rounds d n m) (ticks_are n) (rounds_of d n m)
+
+pub rest_ticks : (s : Components) (f n m d : ℕ) → IsLedTo s → s.directory.joined f ≡ true → s.directory.next_federate ≤ n + 1 → d < ticks_of f (ticks n ++ rounds d n m)
+rest_ticks s f n m d is member few = let counts : f < s.directory.next_federate = (led_inv s is).kept.directory.members f member in enough_ticks f n m d (joined_from_one s f is member) (omega (arith, counts, few))
+
+module _ (s : Components) (f n m d limit : ℕ) (P : Callback → Type 0) (is : IsLedTo s) (member : s.directory.joined f ≡ true) (few : s.directory.next_federate ≤ n + 1) (enough : due_up_to s f limit ≤ d) where
+  -- f waits on until the carries of the first round are done
+  pub waits_carried : WaitsOn s (carried s n m) f limit 0
+  waits_carried = waits_trans s (said s n m) (carried s n m) f limit
+      (waits_through f limit s (announcements n) is (announcements_of n) (announcements_tick f n))
+      (waits_through f limit (said s n m) (carries_to n (m + 1) n) (led_said s n m is) (carries_to_of n (m + 1) n) (carries_tick f (carries_to n (m + 1) n) (to_are (m + 1) n n)))
+
+  pub waiting_carried : (q : AdvanceRequest) (t : ℕ) → IsWaitingFor s f q t → IsWaitingFor (carried s n m) f q t
+  waiting_carried q t w = waiting_through f limit q t (said s n m) (carries_to n (m + 1) n) (led_said s n m is) (carries_to_of n (m + 1) n) (carries_tick f (carries_to n (m + 1) n) (to_are (m + 1) n n))
+      (waiting_through f limit q t s (announcements n) is (announcements_of n) (announcements_tick f n) w)
+
+  -- what makes each pick due from then on brings the callback in time
+  pub rounds_bring : (C : Components → Type 0) → ((t : Components) → IsLedTo t → C t → IsDuePick (t.row f) limit P (picked_at t f))
+      → ((t : Components) (step : Step) (x : ℕ) → IsLedTo t → IsOfRounds step → WaitsOn t (next t step).state f limit x → C t → C (next t step).state)
+      → C (carried s n m) → IsGivenAtLast (happenings s (rounds (1 + d) n m)) f P
+  rounds_bring C due lasts c = after_first s f n m d P (list_brings f limit P C due lasts (carried s n m) (ticks n ++ rounds d n m) (led_carried s n m is) (waits_carried.joined ∙ member) c (rest_of n m d)
+      (omega (arith, waits_carried.less, enough, rest_ticks s f n m d is member few)))
+
+-- ---- the goal is known
+pub goal_known : (s : Components) (f n m x : ℕ) → IsLedTo s → s.directory.joined f ≡ true → s.directory.next_federate ≤ n + 1 → ((g : ℕ) → g ≢ 0 → length (s.wire g f) ≤ m) → BelowBound (central s) f x → NobodyIsSlow s f x → x ≤ local_bound (carried s n m) f
+goal_known s f n m x is member few short below quick = all_heard s n m is few f member short x below.0
+    (λ g ne j reg. promised_or_slow s x g reg (below.1 g j ne reg) (λ slow. absurd (quick g j ne slow)))
+
+pub catches_up_in : (s : Components) (f n m d : ℕ) (q : AdvanceRequest) (t : ℕ) → IsLedTo s → s.directory.next_federate ≤ n + 1 → ((g : ℕ) → g ≢ 0 → length (s.wire g f) ≤ m)
+    → IsWaitingFor s f q t → BelowBound (central s) f (reach q.kind t) → NobodyIsSlow s f (reach q.kind t) → due_up_to s f t ≤ d → IsGivenAtLast (happenings s (rounds (1 + d) n m)) f (IsGrantOf t)
+catches_up_in s f n m d q t is few short w below quick enough = rounds_bring s f n m d t (IsGrantOf t) is w.joined few enough (AtGoal q t f) (at_goal_due q t f) (at_goal_lasts q t f) (record {
+  waiting = waiting_carried s f n m d t (IsGrantOf t) is w.joined few enough q t w;
+  within = goal_known s f n m (reach q.kind t) is w.joined few short below quick;
+  nulls = nulls_alone s n m is few f w.joined short;
+})
+
 pub catches_up : EachCatchesUpInARound
-catches_up s f n m q is member few short con asks nx fl below quick =
-    let d = due_before s f in
-    let said = state_after s (announcements n) in
-    let carried = state_after said (carries_to n (m + 1) n) in
-    let led_said : IsLedTo said = led_after s (announcements n) is in
-    let led_carried : IsLedTo carried = led_after said (carries_to n (m + 1) n) led_said in
-    let w : WaitsOn s carried f 0 = waits_trans s said carried f
-    (waits_through s (announcements n) f (led_inv s is) (announcements_of n) (announcements_tick f n))
-    (waits_through said (carries_to n (m + 1) n) f (led_inv said led_said) (carries_to_of n (m + 1) n) (carries_tick f (carries_to n (m + 1) n) (to_are (m + 1) n n))) in
-    let reached : HasReached q f carried = record { asks = w.advance ∙ asks; constrained = ap is_enabled w.constrained ∙ con; within = goal_known s f n m (reach q.kind q.asked) is member few short below quick } in
-    let counts : f < s.directory.next_federate = (led_inv s is).kept.directory.members f member in
-    let ends : IsGivenAtLast (happenings carried (ticks n ++ rounds d n m)) f (λ k. k ≡ callback.TimeAdvanceGrant q.asked) =
-    list_brings f (HasReached q f) (reached_is_due q f nx fl) (reached_lasts q f) carried (ticks n ++ rounds d n m) (λ k. k ≡ callback.TimeAdvanceGrant q.asked) (led_inv carried led_carried) (w.joined ∙ member) reached
-    (awaited_grant (carried.row f) q ((led_inv carried led_carried).kept.time.rows f) reached.asks nx fl)
-    (EachOf-append IsOfRounds (ticks n) (rounds d n m) (ticks_are n) (rounds_of d n m))
-    (omega (arith, w.less, enough_ticks f n m d (joined_from_one s f is member) (omega (arith, counts, few)))) in
-    subst (λ (steps : List Step). IsGivenAtLast (happenings s steps) f (λ k. k ≡ callback.TimeAdvanceGrant q.asked)) (sym (regroup n m d))
-    (given_later s (announcements n) (carries_to n (m + 1) n ++ (ticks n ++ rounds d n m)) f (λ k. k ≡ callback.TimeAdvanceGrant q.asked) (announcements_tick f n)
-    (given_later said (carries_to n (m + 1) n) (ticks n ++ rounds d n m) f (λ k. k ≡ callback.TimeAdvanceGrant q.asked) (carries_tick f (carries_to n (m + 1) n) (to_are (m + 1) n n)) ends))
+catches_up s f n m q t is few short w below quick = catches_up_in s f n m (due_up_to s f t) q t is few (λ g _. short g) w below quick (omega arith)

@@ -48,7 +48,7 @@ kept_asked : (p : AdvanceRequest → Bool) (o : Option AdvanceRequest) (q : Adva
 kept_asked p None q e = e
 kept_asked p (Some x) q e = cond_both (p x) (Some x) None (λ y. y ≡ Some q → Some x ≡ Some q) (λ _ e. e) (λ _ e. absurd (cc)) e
 
-next_asked : (r : TimeRow) (q : AdvanceRequest) → next_request r ≡ Some q → r.advance ≡ Some q
+pub next_asked : (r : TimeRow) (q : AdvanceRequest) → next_request r ≡ Some q → r.advance ≡ Some q
 next_asked r q e = cond_both (is_constrained r) (keep_if (λ x. is_next x.kind) r.advance) None (λ y. y ≡ Some q → r.advance ≡ Some q)
     (λ _ e. kept_asked (λ x. is_next x.kind) r.advance q e) (λ _ e. absurd (cc)) e
 

@@ -18,7 +18,7 @@ use Rattle.hla_progress.proofs.Keeping.Changes.{raised_idle, keeps_sent, announc
 not_below_itself : (n : ℕ) → n < n → ⊥
 not_below_itself n l = omega arith
 
-other_than : (members : ℕ → Bool) (g f : ℕ) → is_other members g f ≡ true → g ≢ f
+pub other_than : (members : ℕ → Bool) (g f : ℕ) → is_other members g f ≡ true → g ≢ f
 other_than members g f o same = let p = and_parts (not (eqb g f)) (members f) o in let e : eqb g f ≡ true = grind (arith, nat_tests) in absurd (cc)
 
 -- ---- a federate joins

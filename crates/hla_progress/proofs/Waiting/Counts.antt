@@ -31,12 +31,12 @@ total-changed (suc n) t u i l h = ⊎_elim
     (cases_eq i n)
 
 -- ---- wires
-due_on_wire-append : (r : TimeRow) (ms ns : List Message) → due_on_wire r (ms ++ ns) ≡ due_on_wire r ms + due_on_wire r ns
-due_on_wire-append r [] ns = omega arith
-due_on_wire-append r (m ∷ ms) ns = omega (arith, due_on_wire-append r ms ns)
+due_on_wire-append : (r : TimeRow) (x : ℕ) (ms ns : List Message) → due_on_wire r x (ms ++ ns) ≡ due_on_wire r x ms + due_on_wire r x ns
+due_on_wire-append r x [] ns = omega arith
+due_on_wire-append r x (m ∷ ms) ns = omega (arith, due_on_wire-append r x ms ns)
 
-pub due_on_wire-null : (r : TimeRow) (k v : ℕ) (ms : List Message) → due_on_wire r (put_behind (message.Null k v) ms) ≡ due_on_wire r ms
-due_on_wire-null r k v ms = omega (arith, due_on_wire-append r ms (message.Null k v ∷ []))
+pub due_on_wire-null : (r : TimeRow) (x k v : ℕ) (ms : List Message) → due_on_wire r x (put_behind (message.Null k v) ms) ≡ due_on_wire r x ms
+due_on_wire-null r x k v ms = omega (arith, due_on_wire-append r x ms (message.Null k v ∷ []))
 
 -- ---- queues
 length-remove_le : (g m : ℕ) (es : List Event) → length (remove_event g m es) ≤ length es
@@ -48,33 +48,33 @@ counted_le : (b : Bool) (x y : ℕ) → x ≤ y → cond b x 0 ≤ cond b y 0
 counted_le true x y l = l
 counted_le false x y l = omega arith
 
-ordered-remove_le : (r : TimeRow) (g m : ℕ) (es : List Event) → due_in_order r (remove_event g m es) ≤ due_in_order r es
+ordered-remove_le : (r : TimeRow) (limit g m : ℕ) (es : List Event) → due_in_order r limit (remove_event g m es) ≤ due_in_order r limit es
 unfolding remove_event
-ordered-remove_le r g m [] = omega arith
-ordered-remove_le r g m (e ∷ es) = cond_both (is_event g m e) es (e ∷ remove_event g m es) (λ xs. due_in_order r xs ≤ due_in_order r (e ∷ es)) (λ _. omega arith) (λ _. omega (arith, ordered-remove_le r g m es))
+ordered-remove_le r limit g m [] = omega arith
+ordered-remove_le r limit g m (e ∷ es) = cond_both (is_event g m e) es (e ∷ remove_event g m es) (λ xs. due_in_order r limit xs ≤ due_in_order r limit (e ∷ es)) (λ _. omega arith) (λ _. omega (arith, ordered-remove_le r limit g m es))
 
-ordered-insert : (r : TimeRow) (e : Event) (es : List Event) → due_in_order r (insert_event e es) ≡ one_if (is_tso_due r e) + due_in_order r es
+ordered-insert : (r : TimeRow) (limit : ℕ) (e : Event) (es : List Event) → due_in_order r limit (insert_event e es) ≡ one_if (is_tso_due r limit e) + due_in_order r limit es
 unfolding insert_event
-ordered-insert r e [] = refl
-ordered-insert r e (x ∷ xs) = cond_both (is_before e x) (e ∷ x ∷ xs) (x ∷ insert_event e xs) (λ ys. due_in_order r ys ≡ one_if (is_tso_due r e) + due_in_order r (x ∷ xs)) (λ _. refl) (λ _. omega (arith, ordered-insert r e xs))
+ordered-insert r limit e [] = refl
+ordered-insert r limit e (x ∷ xs) = cond_both (is_before e x) (e ∷ x ∷ xs) (x ∷ insert_event e xs) (λ ys. due_in_order r limit ys ≡ one_if (is_tso_due r limit e) + due_in_order r limit (x ∷ xs)) (λ _. refl) (λ _. omega (arith, ordered-insert r limit e xs))
 
 -- an event that comes is due in the queue that it goes to
-event_counts : (r : TimeRow) (kept late : Bool) (es fs : List Event) (e : Event)
-    → cond late (length (cond kept fs (fs ++ e ∷ []))) 0 + due_in_order r (cond kept (insert_event e es) es) ≡ cond late (length fs) 0 + due_in_order r es + one_if (cond kept (is_tso_due r e) late)
-event_counts r true true es fs e = omega (arith, ordered-insert r e es)
-event_counts r true false es fs e = omega (arith, ordered-insert r e es)
-event_counts r false true es fs e = omega (arith, length-append fs (e ∷ []))
-event_counts r false false es fs e = omega (arith, length-append fs (e ∷ []))
+event_counts : (r : TimeRow) (limit : ℕ) (kept late : Bool) (es fs : List Event) (e : Event)
+    → cond late (length (cond kept fs (fs ++ e ∷ []))) 0 + due_in_order r limit (cond kept (insert_event e es) es) ≡ cond late (length fs) 0 + due_in_order r limit es + one_if (cond kept (is_tso_due r limit e) late)
+event_counts r limit true true es fs e = omega (arith, ordered-insert r limit e es)
+event_counts r limit true false es fs e = omega (arith, ordered-insert r limit e es)
+event_counts r limit false true es fs e = omega (arith, length-append fs (e ∷ []))
+event_counts r limit false false es fs e = omega (arith, length-append fs (e ∷ []))
 
-module _ (r : TimeRow) (controls : List Control) (ro tso : List Event) where
-  pub due_event : (e : Event) → due_in_queues r controls (ro_with_event r e ro) (tso_with_event r e tso) ≡ due_in_queues r controls ro tso + due_of r (message.Event e)
-  due_event e = omega (arith, event_counts r (is_kept_in_order r e) (is_ro_due r) tso ro e)
+module _ (r : TimeRow) (limit : ℕ) (controls : List Control) (ro tso : List Event) where
+  pub due_event : (e : Event) → due_in_queues r limit controls (ro_with_event r e ro) (tso_with_event r e tso) ≡ due_in_queues r limit controls ro tso + due_of r limit (message.Event e)
+  due_event e = omega (arith, event_counts r limit (is_kept_in_order r e) (is_ro_due r) tso ro e)
 
-  pub due_control : (k : Control) → due_in_queues r (controls ++ k ∷ []) ro tso ≡ due_in_queues r controls ro tso + 1
+  pub due_control : (k : Control) → due_in_queues r limit (controls ++ k ∷ []) ro tso ≡ due_in_queues r limit controls ro tso + 1
   due_control k = omega (arith, length-append controls (k ∷ []))
 
-  pub due_retraction : (g m : ℕ) → due_in_queues r (controls_with_retraction g m tso ro controls) (remove_event g m ro) (remove_event g m tso) ≤ due_in_queues r controls ro tso + 1
-  due_retraction g m = omega (arith, asked, counted_le (is_ro_due r) _ _ (length-remove_le g m ro), ordered-remove_le r g m tso)
+  pub due_retraction : (g m : ℕ) → due_in_queues r limit (controls_with_retraction g m tso ro controls) (remove_event g m ro) (remove_event g m tso) ≤ due_in_queues r limit controls ro tso + 1
+  due_retraction g m = omega (arith, asked, counted_le (is_ro_due r) _ _ (length-remove_le g m ro), ordered-remove_le r limit g m tso)
     where
       asked : length (controls_with_retraction g m tso ro controls) ≤ length controls + 1
       asked = cond_both (is_none_of (or_else (find_event g m tso) (find_event g m ro))) (controls ++ ToRetract (record { sender = g; serial = m }) ∷ []) controls (λ ks. length ks ≤ length controls + 1)

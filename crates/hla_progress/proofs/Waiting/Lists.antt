@@ -1,47 +1,49 @@
 -- Lists of steps, and rounds
-use Rattle.std.proofs.Common.{◌≡◌, ◌≢◌, ℕ, zero, suc, ◌+◌, ◌≤◌, ◌<◌, eqb, true, refl, ◌∙◌, inl, inr, ⊎_elim, arith, eq-eqb, List, [], ◌∷◌, ◌++◌, replicate, Some, None, le_trans, ap, false, sym, subst}
+use Rattle.std.proofs.Common.{◌≡◌, ◌≢◌, ℕ, zero, suc, ◌+◌, ◌≤◌, ◌<◌, eqb, true, refl, ◌∙◌, inl, inr, ⊎_elim, arith, eq-eqb, List, [], ◌∷◌, ◌++◌, replicate, Option, Some, le_trans, ap, false, subst}
 use Rattle.std.proofs.lemmas.Bool.{cases_eq, cond_both}
-use Rattle.hla_base.specs.Tables.{one_if}
+use Rattle.hla_base.specs.Tables.{one_if, forever}
 use Rattle.hla_callbacks.specs.declared.callback.Callback.{Callback}
 use Rattle.hla_machine.specs.declared.step.Step.{Step}
 use Rattle.hla_machine.specs.declared.step.Step.TheVariants.{Carry, Tick}
 use Rattle.hla_components.specs.Components.{Components}
 use Rattle.hla_components.specs.Invariant.{EachOf, Inv}
-use Rattle.hla_components.specs.Headline.{happening, happenings}
+use Rattle.hla_components.specs.Headline.{IsLedTo, happening, happenings}
 use Rattle.hla_components.specs.Next.{next}
 use Rattle.hla_components.proofs.Basics.Each.{EachOf-append}
-use Rattle.hla_components.proofs.Refinement.Runs.{each_step}
-use Rattle.hla_components.proofs.Refinement.LedTo.{led_inv}
+use Rattle.hla_components.proofs.Refinement.LedTo.{led_inv, led_next}
 use Rattle.hla_callbacks.specs.declared.callback.Callback.TheVariants as callback
 use Rattle.hla_base.specs.declared.row.AdvanceRequest.{AdvanceRequest}
-use Rattle.hla_base.specs.declared.row.TimeRow.{TimeRow}
 use Rattle.hla_base.specs.Rows.{is_constrained, is_enabled, is_next, is_flush, reach}
-use Rattle.hla_base.proofs.Tables.{least-mono, least_le-forever}
+use Rattle.hla_base.proofs.Tables.{least_le-forever}
 use Rattle.hla_components.specs.Component.{local_bound}
-use Rattle.hla_components.specs.Invariant.{RowInv}
-use Rattle.hla_progress.specs.Promises.{is_raised_late}
 use Rattle.hla_progress.specs.Rounds.{announcements, carries_from, carries_to, ticks, round, rounds, IsOfRounds, is_tick_of, ticks_of, IsGiven, IsGivenAtLast}
-use Rattle.hla_progress.specs.AtOnce.{WaitsForNobody, IsAwaited, due_before, EachTickAnswersAtOnce, EachComesAtOnce, EachReachedComesAtOnce}
+use Rattle.hla_progress.specs.AtOnce.{WaitsForNobody, IsAwaited, asked_time, due_up_to, due_before, EachTickAnswersAtOnce, EachComesAtOnce, EachReachedComesAtOnce}
 use Rattle.hla_progress.proofs.Keeping.Numbers.{joined_from_one}
 use Rattle.hla_progress.proofs.Waiting.Picks.{IsDuePick, pick_due, pick_reached}
-use Rattle.hla_progress.proofs.Waiting.Steps.{WaitsOn, step_brings, picked_at}
+use Rattle.hla_progress.proofs.Waiting.Steps.{WaitsOn, step_brings, picked_at, bound_rises}
 
 -- what makes each pick of f due, and lasts while f waits
-module _ (f : ℕ) (C : Components → Type 0) (due : (s : Components) → Inv s → C s → IsDuePick (s.row f) (picked_at s f)) (lasts : (s t : Components) (x : ℕ) → WaitsOn s t f x → C s → C t) where
-  pub list_brings : (s : Components) (steps : List Step) (P : Callback → Type 0) → Inv s → s.directory.joined f ≡ true → C s → ((k : Callback) → IsAwaited (s.row f) k → P k)
-      → EachOf IsOfRounds steps → due_before s f < ticks_of f steps → IsGivenAtLast (happenings s steps) f P
-  list_brings s [] P inv member c to of less = absurd (omega (arith, less))
-  list_brings s (step ∷ steps) P inv member c to of less = ⊎_elim
-      (λ (g : IsGiven (happening step (next s step)) f (IsAwaited (s.row f))). inl (g.0, g.1, to g.0 g.2))
-      (λ (w : (is_tick_of f step ≡ true → IsGiven (happening step (next s step)) f (λ _. Unit {0})) × WaitsOn s (next s step).state f (one_if (is_tick_of f step))).
-      inr (w.0, list_brings (next s step).state steps P (each_step s step inv).kept (w.1.joined ∙ member) (lasts s (next s step).state _ w.1 c) (λ k a. to k (w.1.same k a)) of.1 (omega (arith, less, w.1.less))))
-      (step_brings s f inv member (due s inv c) step of.0)
+module _ (f limit : ℕ) (P : Callback → Type 0) (C : Components → Type 0) (due : (s : Components) → IsLedTo s → C s → IsDuePick (s.row f) limit P (picked_at s f))
+    (lasts : (s : Components) (step : Step) (x : ℕ) → IsLedTo s → IsOfRounds step → WaitsOn s (next s step).state f limit x → C s → C (next s step).state) where
+  pub list_brings : (s : Components) (steps : List Step) → IsLedTo s → s.directory.joined f ≡ true → C s → EachOf IsOfRounds steps → due_up_to s f limit < ticks_of f steps → IsGivenAtLast (happenings s steps) f P
+  list_brings s [] is member c of less = absurd (omega (arith, less))
+  list_brings s (step ∷ steps) is member c of less = ⊎_elim
+      (λ (g : IsGiven (happening step (next s step)) f P). inl g)
+      (λ (w : (is_tick_of f step ≡ true → IsGiven (happening step (next s step)) f (λ _. Unit {0})) × WaitsOn s (next s step).state f limit (one_if (is_tick_of f step))).
+      inr (w.0, list_brings (next s step).state steps (led_next s step is) (w.1.joined ∙ member) (lasts s step _ is of.0 w.1 c) of.1 (omega (arith, less, w.1.less))))
+      (step_brings s f limit P (led_inv s is) member (due s is c) step of.0)
 
-nobody_due : (f : ℕ) (s : Components) → Inv s → WaitsForNobody (s.row f) → IsDuePick (s.row f) (picked_at s f)
-nobody_due f s inv waits = pick_due (s.row f) (local_bound s f) (s.controls f) (s.ro f) (s.tso f) (inv.kept.time.rows f) waits
+-- ---- who waits for nobody
+-- what it waits for is what P says
+pub record WaitsAs (f : ℕ) (P : Callback → Type 0) (s : Components) : Type 0 where
+  pub waits : WaitsForNobody (s.row f)
+  pub same : (k : Callback) → IsAwaited (s.row f) k → P k
 
 pub tick_answers : EachTickAnswersAtOnce
-tick_answers s steps f is member waits of less = list_brings f (λ t. WaitsForNobody (t.row f)) (nobody_due f) (λ s t x w. w.waits) s steps (IsAwaited (s.row f)) (led_inv s is) member waits (λ k a. a) of less
+tick_answers s steps f is member waits of less = let limit = asked_time (s.row f).advance in list_brings f limit (IsAwaited (s.row f)) (WaitsAs f (IsAwaited (s.row f)))
+    (λ t led w. pick_due (t.row f) (local_bound t f) limit (IsAwaited (s.row f)) w.same (t.controls f) (t.ro f) (t.tso f) ((led_inv t led).kept.time.rows f) w.waits)
+    (λ t step x led o on w. record { waits = on.waits w.waits; same = λ k a. w.same k (on.same k a) })
+    s steps is member (record { waits = waits; same = λ k a. a }) of less
 
 -- ---- a goal that is reached
 -- a constrained federate in Time Advance Request (Available), whose goal is at most the least bound that it knows
@@ -50,27 +52,25 @@ pub record HasReached (q : AdvanceRequest) (f : ℕ) (s : Components) : Type 0 w
   pub constrained : is_constrained (s.row f) ≡ true
   pub within : reach q.kind q.asked ≤ local_bound s f
 
-pub reached_lasts : (q : AdvanceRequest) (f : ℕ) (s t : Components) (x : ℕ) → WaitsOn s t f x → HasReached q f s → HasReached q f t
-reached_lasts q f s t x w h = record {
+reached_lasts : (q : AdvanceRequest) (f limit : ℕ) (s t : Components) (x : ℕ) → WaitsOn s t f limit x → HasReached q f s → HasReached q f t
+reached_lasts q f limit s t x w h = record {
   asks = w.advance ∙ h.asks;
   constrained = ap is_enabled w.constrained ∙ h.constrained;
-  within = le_trans h.within (rw w.numbers (least-mono s.directory.next_federate (s.bound f) (t.bound f) (λ g _. w.bounds g)));
+  within = le_trans h.within (bound_rises s t f limit x w);
 }
 
-pub reached_is_due : (q : AdvanceRequest) (f : ℕ) → is_next q.kind ≡ false → is_flush q.kind ≡ false → (s : Components) → Inv s → HasReached q f s → IsDuePick (s.row f) (picked_at s f)
-reached_is_due q f nx fl s inv h = pick_reached (s.row f) (local_bound s f) q h.asks h.constrained nx fl h.within (s.controls f) (s.ro f) (s.tso f) (least_le-forever s.directory.next_federate (s.bound f)) (inv.kept.time.rows f)
+-- what f asks for is a number of 64 bits
+pub asked_cap : (s : Components) (f : ℕ) (q : AdvanceRequest) → Inv s → (s.row f).advance ≡ Some q → q.asked ≤ forever
+asked_cap s f q inv asks = omega (arith, (inv.numbers f).asked q asks)
 
--- what it waits for is the grant of the time that it asked for
-pub awaited_grant : (r : TimeRow) (q : AdvanceRequest) → RowInv r → r.advance ≡ Some q → is_next q.kind ≡ false → is_flush q.kind ≡ false → (k : Callback) → IsAwaited r k → k ≡ callback.TimeAdvanceGrant q.asked
-awaited_grant r q inv asks nx fl (callback.TimeRegulationEnabled t) a = absurd (let none : r.advance ≡ None = inv.idle a.0 in let no : Some q ≡ None = sym asks ∙ none in cc)
-awaited_grant r q inv asks nx fl (callback.TimeAdvanceGrant t) a =
-    let same : Some q ≡ Some a.0 = sym asks ∙ a.1 in let is : q ≡ a.0 = cc in
-    ap callback.TimeAdvanceGrant (a.3 (subst (λ (x : AdvanceRequest). is_raised_late r x ≡ false) is (rw (nx, fl) refl)) ∙ ap (λ (x : AdvanceRequest). x.asked) (sym is))
-awaited_grant r q inv asks nx fl k a = absurd a
+reached_is_due : (q : AdvanceRequest) (f : ℕ) → is_next q.kind ≡ false → is_flush q.kind ≡ false → (s : Components) → IsLedTo s → HasReached q f s → IsDuePick (s.row f) q.asked (λ k. k ≡ callback.TimeAdvanceGrant q.asked) (picked_at s f)
+reached_is_due q f nx fl s is h = pick_reached (s.row f) (local_bound s f) q.asked (λ k. k ≡ callback.TimeAdvanceGrant q.asked) refl q h.asks h.constrained fl h.within (s.controls f) (s.ro f) (s.tso f)
+    (record { plain = λ _. refl; next = λ y. absurd (cc); asked = omega arith; waiting = λ y. absurd (cc); cap = asked_cap s f q (led_inv s is) h.asks })
+    (least_le-forever s.directory.next_federate (s.bound f)) ((led_inv s is).kept.time.rows f)
 
 pub reached_comes : EachReachedComesAtOnce
-reached_comes s steps f q is member con asks nx fl within of less = list_brings f (HasReached q f) (reached_is_due q f nx fl) (reached_lasts q f) s steps (λ k. k ≡ callback.TimeAdvanceGrant q.asked) (led_inv s is) member
-    (record { asks = asks; constrained = con; within = within }) (awaited_grant (s.row f) q ((led_inv s is).kept.time.rows f) asks nx fl) of less
+reached_comes s steps f q is member con asks nx fl within of less = list_brings f q.asked (λ k. k ≡ callback.TimeAdvanceGrant q.asked) (HasReached q f) (reached_is_due q f nx fl) (λ t step x led o on h. reached_lasts q f q.asked t _ x on h) s steps is member
+    (record { asks = asks; constrained = con; within = within }) of (subst (λ (o : Option AdvanceRequest). due_up_to s f (asked_time o) < ticks_of f steps) asks less)
 
 -- ---- rounds
 pub ticks_of-append : (f : ℕ) (xs ys : List Step) → ticks_of f (xs ++ ys) ≡ ticks_of f xs + ticks_of f ys
@@ -117,7 +117,7 @@ unfolding carries_to
 carries_to_of n times zero = tt
 carries_to_of n times (suc g) = EachOf-append IsOfRounds (carries_to n times g) _ (carries_to_of n times g) (carries_from_of (suc g) times n)
 
-round_of : (n m : ℕ) → EachOf IsOfRounds (round n m)
+pub round_of : (n m : ℕ) → EachOf IsOfRounds (round n m)
 round_of n m = EachOf-append IsOfRounds (announcements n) _ (announcements_of n) (EachOf-append IsOfRounds (carries_to n (m + 1) n) _ (carries_to_of n (m + 1) n) (ticks_are n))
 
 pub rounds_of : (k n m : ℕ) → EachOf IsOfRounds (rounds k n m)
