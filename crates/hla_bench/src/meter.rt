@@ -42,6 +42,7 @@ pub struct Visit {
 }
 
 impl Meter {
+    /// A federation that no federate has joined yet.
     pub fn new(alloc: Global, catalogue: Catalogue) -> Meter {
         Meter {
             alloc,

@@ -7,6 +7,7 @@ pub struct Random {
 }
 
 impl Random {
+    /// The first of them.
     pub fn new() -> Random {
         Random { state: 1 }
     }
