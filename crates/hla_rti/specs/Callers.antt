@@ -42,8 +42,8 @@ answer_given (outcome.Refused e) = Err e
 answer_given (outcome.Failed k) = Err fault.FederateInternalError
 
 -- a caller's act answers what its record says; or nothing was recorded, and it answers why
-abbrev pub IsAnswered : Caller → List ℕ → Act → Result Answer Fault → Caller → Type 0
-IsAnswered old name a result new =
+abbrev pub HasAnswered : Caller → List ℕ → Act → Result Answer Fault → Caller → Type 0
+HasAnswered old name a result new =
     ((out : Outcome) × (result ≡ answer_given out) × HasActed old name a out new)
     ⊎ ((e : Fault) × (result ≡ Err e) × HasNotActed old e new)
 
@@ -58,7 +58,7 @@ unfoldable pub IsServed : Member → Service → Result Answer Fault → Member 
 IsServed old service result new =
     (new.execution ≡ old.execution)
     × (new.federate ≡ old.federate)
-    × IsAnswered old.caller old.execution (act.Step (Call old.federate service)) result new.caller
+    × HasAnswered old.caller old.execution (act.Step (Call old.federate service)) result new.caller
 
 -- what is seen of the infrastructure: how many callers it has handed out, and itself as a caller
 pub record Office : Type 0 where

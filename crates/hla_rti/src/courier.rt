@@ -3,7 +3,7 @@
 ghost use Rattle.std.specs.Prelude.{◌≡◌};
 ghost use Rattle.hla_machine.specs.declared.step.Act.TheVariants as act;
 ghost use Rattle.hla_machine.specs.declared.step.Step.TheVariants as step;
-ghost use Rattle.hla_rti.specs.Callers.{IsAnswered};
+ghost use Rattle.hla_rti.specs.Callers.{HasAnswered};
 
 use crate::seat::{Left, Seat};
 use hla_base::{ExecutionName, Fault, FederateNo};
@@ -43,7 +43,7 @@ impl<L: Ledger, B: FederateAmbassador> Courier<L, B> {
         from: FederateNo,
         to: FederateNo,
     ) -> Result<Answer, Fault>
-        ensures { IsAnswered self.old execution (act.Step (step.Carry from to)) result self.new }
+        ensures { HasAnswered self.old execution (act.Step (step.Carry from to)) result self.new }
     {
         self.seat
             .call(rt, &self.shared, execution, Step::Carry { from, to })
@@ -58,7 +58,7 @@ impl<L: Ledger, B: FederateAmbassador> Courier<L, B> {
         execution: ExecutionName,
         federate: FederateNo,
     ) -> Result<Answer, Fault>
-        ensures { IsAnswered self.old execution (act.Step (step.Announce federate)) result self.new }
+        ensures { HasAnswered self.old execution (act.Step (step.Announce federate)) result self.new }
     {
         self.seat
             .call(rt, &self.shared, execution, Step::Announce { federate })

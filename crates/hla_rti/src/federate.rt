@@ -4,7 +4,7 @@ ghost use Rattle.std.specs.Prelude.{◌≡◌};
 ghost use Rattle.hla_machine.specs.declared.step.Act.TheVariants as act;
 ghost use Rattle.hla_machine.specs.declared.step.Step.TheVariants as step;
 ghost use Rattle.hla_history.specs.Hosts.{IsPlain};
-ghost use Rattle.hla_rti.specs.Callers.{IsAnswered, IsServed};
+ghost use Rattle.hla_rti.specs.Callers.{HasAnswered, IsServed};
 
 use crate::seat::{Left, Seat};
 use hla_base::{ExecutionName, Fault, FederateNo};
@@ -56,7 +56,7 @@ impl<L: Ledger, B: FederateAmbassador> Federate<L, B> {
     pub fn tick(&mut self, rt: &impl Wait) -> Result<Answer, Fault>
         ensures execution { self.new.execution ≡ self.old.execution }
         ensures federate { self.new.federate ≡ self.old.federate }
-        ensures answered { IsAnswered self.old.caller self.old.execution
+        ensures answered { HasAnswered self.old.caller self.old.execution
             (act.Step (step.Tick self.old.federate)) result self.new.caller }
     {
         let federate = self.federate;

@@ -6,7 +6,7 @@ ghost use Rattle.hla_machine.specs.declared.step.Answer.TheVariants as answer;
 ghost use Rattle.hla_machine.specs.declared.step.Outcome.TheVariants as outcome;
 ghost use Rattle.hla_machine.specs.declared.step.Step.TheVariants as step;
 ghost use Rattle.hla_history.specs.Creating.{catalogue_from};
-ghost use Rattle.hla_rti.specs.Callers.{Caller, new_caller, HasActed, IsAnswered};
+ghost use Rattle.hla_rti.specs.Callers.{Caller, new_caller, HasActed, HasAnswered};
 
 use crate::courier::Courier;
 use crate::federate::Federate;
@@ -90,7 +90,7 @@ impl<L: Ledger, B: FederateAmbassador> Rti<L, B> {
         name: ExecutionName,
         fed: &[u8],
     ) -> Result<Answer, Fault>
-        ensures answered { IsAnswered self.old.own name (act.Create (catalogue_from fed.now)) result self.new.own }
+        ensures answered { HasAnswered self.old.own name (act.Create (catalogue_from fed.now)) result self.new.own }
         ensures handed { self.new.handed ≡ self.old.handed }
     {
         self.seat.create(rt, &self.shared, name, fed)
@@ -99,7 +99,7 @@ impl<L: Ledger, B: FederateAmbassador> Rti<L, B> {
     /// Destroy Federation Execution (HLA 1.3, federation management). Answers `Done`. `FederationExecutionDoesNotExist`;
     /// `FederatesCurrentlyJoined`. `HistoryFull` and `OutOfMemory` without a record. A fault has changed nothing.
     pub fn destroy(&mut self, rt: &impl Wait, name: ExecutionName) -> Result<Answer, Fault>
-        ensures answered { IsAnswered self.old.own name act.Destroy result self.new.own }
+        ensures answered { HasAnswered self.old.own name act.Destroy result self.new.own }
         ensures handed { self.new.handed ≡ self.old.handed }
     {
         self.seat.destroy(rt, &self.shared, name)

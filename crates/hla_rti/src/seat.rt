@@ -7,7 +7,7 @@ ghost use Rattle.hla_machine.specs.declared.step.Outcome.TheVariants as outcome;
 ghost use Rattle.hla_machine.specs.declared.step.Step.TheVariants as step;
 ghost use Rattle.hla_history.specs.Creating.{catalogue_from, is_accepted, AnswersJoin};
 ghost use Rattle.hla_history.specs.Hosts.{IsPlain};
-ghost use Rattle.hla_rti.specs.Callers.{answer_given, HasActed, HasNotActed, IsAnswered};
+ghost use Rattle.hla_rti.specs.Callers.{answer_given, HasActed, HasNotActed, HasAnswered};
 ghost use Rattle.hla_rti.specs.Close.{Agrees};
 
 use hla_base::{ExecutionName, Fault, FederateNo, List};
@@ -127,7 +127,7 @@ impl<L: Ledger> Seat<L> {
         step: Step,
     ) -> Result<Answer, Fault>
         requires { IsPlain step }
-        ensures { IsAnswered self.old execution (act.Step step) result self.new }
+        ensures { HasAnswered self.old execution (act.Step step) result self.new }
     {
         if self.transcript.reserve(1).is_err() {
             return Err(Fault::OutOfMemory);
@@ -148,7 +148,7 @@ impl<L: Ledger> Seat<L> {
         name: ExecutionName,
         fed: &[u8],
     ) -> Result<Answer, Fault>
-        ensures { IsAnswered self.old name (act.Create (catalogue_from fed.now)) result self.new }
+        ensures { HasAnswered self.old name (act.Create (catalogue_from fed.now)) result self.new }
     {
         if self.transcript.reserve(1).is_err() {
             return Err(Fault::OutOfMemory);
@@ -166,7 +166,7 @@ impl<L: Ledger> Seat<L> {
         shared: &Mutex<Shared<L, B>>,
         name: ExecutionName,
     ) -> Result<Answer, Fault>
-        ensures { IsAnswered self.old name act.Destroy result self.new }
+        ensures { HasAnswered self.old name act.Destroy result self.new }
     {
         if self.transcript.reserve(1).is_err() {
             return Err(Fault::OutOfMemory);

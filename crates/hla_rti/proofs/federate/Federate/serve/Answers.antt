@@ -1,11 +1,11 @@
 use Rattle.std.proofs.Common.{◌≡◌, refl, subst}
 use Rattle.hla_machine.specs.declared.step.Act.TheVariants as act
 use Rattle.hla_machine.specs.declared.step.Step.TheVariants.{Call}
-use Rattle.hla_rti.specs.Callers.{Member, IsAnswered, IsServed}
+use Rattle.hla_rti.specs.Callers.{Member, HasAnswered, IsServed}
 use Rattle.hla_rti.proofs.federate.Federate.serve.Goals as goal
 
 pub returns : goal.returns
 unfolding IsServed
 returns g c =
     subst (λ (m : Member). (c.self.inside.execution ≡ m.execution) × (c.self.inside.federate ≡ m.federate)
-    × IsAnswered m.caller m.execution (act.Step (Call m.federate c.args.service)) c.call.result c.call.new.self) c.self.view_is (refl, refl, c.call.ensures)
+    × HasAnswered m.caller m.execution (act.Step (Call m.federate c.args.service)) c.call.result c.call.new.self) c.self.view_is (refl, refl, c.call.ensures)
