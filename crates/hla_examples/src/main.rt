@@ -10,7 +10,7 @@ use std::rt::Runtime;
 use std::{fs, io};
 
 /// The examples, by name.
-const NAMES: [&str; 25] = [
+const NAMES: [&str; 26] = [
     "ancestor",
     "late_subscriber",
     "refusals",
@@ -27,6 +27,7 @@ const NAMES: [&str; 25] = [
     "stale_bound",
     "creep",
     "creep_available",
+    "deadlock",
     "newcomer",
     "epoch",
     "retraction",
