@@ -47,6 +47,10 @@ HasAnswered old name a result new =
     ((out : Outcome) × (result ≡ answer_given out) × HasActed old name a out new)
     ⊎ ((e : Fault) × (result ≡ Err e) × HasNotActed old e new)
 
+-- a resigning was done
+abbrev pub HasResigned : Caller → List ℕ → Act → Caller → Type 0
+HasResigned old name a new = (what : Answer) × HasActed old name a (outcome.Done what) new
+
 -- a federate of an execution, as a caller
 pub record Member : Type 0 where
   pub execution : List ℕ

@@ -1,19 +1,20 @@
 //! A caller of the run-time infrastructure.
 
-ghost use Rattle.std.specs.Prelude.{◌≡◌, ◌==◌, ◌↔◌, ◌⊎◌, [], Some, is_some, not, IsTrue, IfOk, IfErr};
+ghost use Rattle.std.specs.Prelude.{◌≡◌, ◌==◌, ◌↔◌, ◌⊎◌, [], true, Some, Err, is_some, not, IsTrue, IfOk, IfErr};
+ghost use Rattle.hla_machine.specs.declared.service.Service.TheVariants as service;
 ghost use Rattle.hla_machine.specs.declared.step.Act.TheVariants as act;
 ghost use Rattle.hla_machine.specs.declared.step.Answer.TheVariants as answer;
 ghost use Rattle.hla_machine.specs.declared.step.Outcome.TheVariants as outcome;
 ghost use Rattle.hla_machine.specs.declared.step.Step.TheVariants as step;
 ghost use Rattle.hla_history.specs.Creating.{catalogue_from, is_accepted, AnswersJoin};
 ghost use Rattle.hla_history.specs.Hosts.{IsPlain};
-ghost use Rattle.hla_rti.specs.Callers.{answer_given, HasActed, HasNotActed, HasAnswered};
+ghost use Rattle.hla_rti.specs.Callers.{answer_given, HasActed, HasNotActed, HasAnswered, HasResigned};
 ghost use Rattle.hla_rti.specs.Close.{Agrees};
 
 use hla_base::{ExecutionName, Fault, FederateNo, List};
 use hla_callbacks::FederateAmbassador;
 use hla_history::{Shared, Stepped};
-use hla_machine::{Answer, Outcome, Record, Step};
+use hla_machine::{Answer, Outcome, Record, ResignAction, Step};
 use std::marker::Model;
 use std::sync::ledger::{Ledger, Share};
 use std::sync::{Mutex, Wait};
@@ -116,6 +117,23 @@ fn joined_as<B: FederateAmbassador>(
     }
 }
 
+/// The ambassador of a federate that resigned, or why it is refused.
+fn resigned_with<B: FederateAmbassador>(ended: Outcome, back: Option<B>) -> Result<B, Fault>
+    requires { is_some back ≡ is_accepted ended }
+    ensures ok { IfOk result (λ _. is_accepted ended ≡ true) }
+    ensures returned { IfOk result (λ b. back ≡ Some b) }
+    ensures err { IfErr result (λ e. answer_given ended ≡ Err e) }
+{
+    match ended {
+        Outcome::Done(_) => match back {
+            Some(inner) => Ok(inner),
+            None => unreachable!(),
+        },
+        Outcome::Refused(fault) => Err(fault),
+        Outcome::Failed(_) => Err(Fault::FederateInternalError),
+    }
+}
+
 impl<L: Ledger> Seat<L> {
     /// Does a step that is no joining and no resigning, under the lock, and writes it down. It answers what the record says;
     /// `HistoryFull` and `OutOfMemory` come without a record, and then nothing has changed.
@@ -207,6 +225,37 @@ impl<L: Ledger> Seat<L> {
                 joined_as(stepped.answer, back)
             }
             Err(refused) => Err(refused),
+        }
+    }
+
+    /// Resigns a federate under the lock, and writes it down: its ambassador, or why it is refused.
+    pub(crate) fn resign<B: FederateAmbassador>(
+        &mut self,
+        rt: &impl Wait,
+        shared: &Mutex<Shared<L, B>>,
+        execution: ExecutionName,
+        federate: FederateNo,
+        action: ResignAction,
+    ) -> Result<B, Fault>
+        ensures resigned { IfOk result (λ _. HasResigned self.old execution
+            (act.Step (step.Call federate (service.Resign action))) self.new) }
+        ensures refused { IfErr result (λ e. HasAnswered self.old execution
+            (act.Step (step.Call federate (service.Resign action))) (Err e) self.new) }
+    {
+        if self.transcript.reserve(1).is_err() {
+            return Err(Fault::OutOfMemory);
+        }
+        let number = self.number;
+        let done = shared
+            .lock(rt)
+            .resign(number, execution, federate, action, &mut self.share);
+        match done {
+            Ok(resigned) => {
+                let (stepped, back) = resigned;
+                self.transcript.push_reserved(stepped.own);
+                resigned_with(stepped.answer, back)
+            }
+            Err(fault) => Err(fault),
         }
     }
 
