@@ -1,6 +1,6 @@
 //! A joined federate.
 
-ghost use Rattle.std.specs.Prelude.{◌≡◌, Err, IfOk, IfErr};
+ghost use Rattle.std.specs.Prelude.{◌≡◌, true, None, is_some, Err, IfOk, IfErr};
 ghost use Rattle.hla_machine.specs.declared.service.Service.TheVariants as service;
 ghost use Rattle.hla_machine.specs.declared.step.Act.TheVariants as act;
 ghost use Rattle.hla_machine.specs.declared.step.Step.TheVariants as step;
@@ -77,7 +77,8 @@ impl<L: Ledger, B: FederateAmbassador> Federate<L, B> {
         action: ResignAction,
     ) -> Result<Left<L, B>, (Fault, Federate<L, B>)>
         ensures resigned { IfOk result (λ l. HasResigned self.caller self.execution
-            (act.Step (step.Call self.federate (service.Resign action))) l) }
+            (act.Step (step.Call self.federate (service.Resign action))) l.caller) }
+        ensures ambassador { IfOk result (λ l. is_some l.heard ≡ true) }
         ensures refused { IfErr result (λ e. IsServed self (service.Resign action) (Err e.0) e.1) }
     {
         match self
@@ -101,7 +102,7 @@ impl<L: Ledger, B: FederateAmbassador> Federate<L, B> {
 
     /// Ends the caller without a step: the federate stays joined.
     pub fn leave(self) -> Left<L, B>
-        ensures { result ≡ self.caller }
+        ensures { result ≡ record { caller = self.caller; heard = None } }
     {
         Left {
             seat: self.seat,

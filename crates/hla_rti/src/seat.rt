@@ -1,6 +1,6 @@
 //! A caller of the run-time infrastructure.
 
-ghost use Rattle.std.specs.Prelude.{◌≡◌, ◌==◌, ◌↔◌, ◌⊎◌, [], true, Some, Err, is_some, not, IsTrue, IfOk, IfErr};
+ghost use Rattle.std.specs.Prelude.{◌≡◌, ◌==◌, ◌↔◌, ◌⊎◌, [], true, None, Some, Err, option_map, is_some, not, IsTrue, IfOk, IfErr};
 ghost use Rattle.hla_machine.specs.declared.service.Service.TheVariants as service;
 ghost use Rattle.hla_machine.specs.declared.step.Act.TheVariants as act;
 ghost use Rattle.hla_machine.specs.declared.step.Answer.TheVariants as answer;
@@ -39,7 +39,8 @@ impl<L: Ledger> Model for Seat<L> {
     ghost invariant = { λ s. (s.share.parts ≡ 1) × (s.share.amount ≡ length s.transcript.items) };
 }
 
-/// What a caller leaves behind for `close`: its place, and the ambassador of a federate that resigned.
+/// What a caller leaves behind for `close`: its place, and the ambassador of a federate that resigned. Contracts see the
+/// caller with its transcript, and what the ambassador has heard.
 #[derive(Drop)]
 pub struct Left<L: Ledger, B: FederateAmbassador> {
     pub(crate) seat: Seat<L>,
@@ -47,31 +48,33 @@ pub struct Left<L: Ledger, B: FederateAmbassador> {
 }
 
 impl<L: Ledger, B: FederateAmbassador> Model for Left<L, B> {
-    ghost use Rattle.hla_rti.specs.Callers.{Caller};
+    ghost use Rattle.std.specs.Prelude.{option_map};
+    ghost use Rattle.hla_rti.specs.Callers.{Leaver};
 
-    ghost Value = { Caller };
+    ghost Value = { Leaver };
 
-    ghost view = { λ l. l.seat };
+    ghost view = { λ l. record { caller = l.seat; heard = option_map (λ b. B.heard b) l.ambassador } };
 }
 
 impl<L: Ledger, B: FederateAmbassador> Left<L, B> {
     /// Takes the ambassador out, which is there where the federate resigned and it was not taken before.
     pub fn take_ambassador(&mut self) -> Option<B>
-        ensures { self.new ≡ self.old }
+        ensures taken { option_map (λ b. B.heard b) result ≡ self.old.heard }
+        ensures after { self.new ≡ record { caller = self.old.caller; heard = None } }
     {
         self.ambassador.take()
     }
 
     /// Whether it is that of the caller of this number.
     pub(crate) fn is_of(&self, number: u32) -> bool
-        ensures { result ≡ (self.now.number == number) }
+        ensures { result ≡ (self.now.caller.number == number) }
     {
         self.seat.number == number
     }
 
     /// Whether the transcript is just the caller's records in the history, in order.
     pub(crate) fn agrees_with(&self, shared: &Shared<L, B>) -> bool
-        ensures { IsTrue result ↔ Agrees shared.now.history self.now }
+        ensures { IsTrue result ↔ Agrees shared.now.history self.now.caller }
     {
         self.seat.agrees_with(shared)
     }
@@ -79,7 +82,7 @@ impl<L: Ledger, B: FederateAmbassador> Left<L, B> {
     /// The caller's share of the ledger.
     pub(crate) fn into_share(self) -> Share<L>
         ensures parts { result.parts ≡ 1 }
-        ensures amount { result.amount ≡ self.share }
+        ensures amount { result.amount ≡ self.caller.share }
     {
         self.seat.into_share()
     }
