@@ -1,5 +1,5 @@
 -- What a call makes of its caller.
-use Rattle.std.proofs.Common.{◌≡◌, ℕ, ◌+◌, List, [], ◌∷◌, ◌++◌, sym, ◌∙◌, ap, inl, ◌⊎◌, subst}
+use Rattle.std.proofs.Common.{◌≡◌, ℕ, ◌+◌, List, [], ◌∷◌, ◌++◌, Bool, true, false, sym, ◌∙◌, ap, inl, ◌⊎◌, subst}
 use Rattle.std.specs.Prelude.{Result, Ok, Err, IfOk, IfErr}
 use Rattle.hla_base.specs.declared.fault.Fault.{Fault}
 use Rattle.hla_machine.specs.declared.step.Act.{Act}
@@ -9,7 +9,8 @@ use Rattle.hla_machine.specs.declared.step.Outcome.{Outcome}
 use Rattle.hla_machine.specs.declared.step.Outcome.TheVariants as outcome
 use Rattle.hla_machine.specs.declared.step.Choice.{Choice}
 use Rattle.hla_machine.specs.declared.step.Record.{Record}
-use Rattle.hla_rti.specs.Callers.{Caller, HasActed, HasNotActed, answer_given, HasAnswered}
+use Rattle.hla_rti.specs.Callers.{Caller, HasActed, HasNotActed, answer_given, HasAnswered, HasResigned}
+use Rattle.hla_history.specs.Creating.{is_accepted}
 
 pub has_acted : (old new : Caller) (name : List ℕ) (a : Act) (own : Record) (out : Outcome) (chosen : Choice)
     → own ≡ record { actor = old.number; execution = name; act = a; outcome = out; choice = chosen }
@@ -41,3 +42,25 @@ pub unjoined_acted : {X : Type 0} (old new : Caller) (name : List ℕ) (a : Act)
 unjoined_acted old new name a own out chosen (Ok n) is number grows counts ends = tt
 unjoined_acted old new name a own out chosen (Err e) is number grows counts ends =
     inl (subst (λ (o : Outcome). HasActed old name a o new) ends (has_acted old new name a own out chosen is number grows counts))
+
+-- ---- a resigning
+done_acted : (old new : Caller) (name : List ℕ) (a : Act) (out : Outcome) → is_accepted out ≡ true → HasActed old name a out new → HasResigned old name a new
+done_acted old new name a (outcome.Done what) accepted acted = (what, acted)
+done_acted old new name a (outcome.Refused e) accepted acted = absurd (let no : false ≡ true = accepted in cc)
+done_acted old new name a (outcome.Failed k) accepted acted = absurd (let no : false ≡ true = accepted in cc)
+
+pub resigned_acted : {X : Type 0} (old new : Caller) (name : List ℕ) (a : Act) (own : Record) (out : Outcome) (chosen : Choice) (result : Result X Fault)
+    → own ≡ record { actor = old.number; execution = name; act = a; outcome = out; choice = chosen }
+    → new.number ≡ old.number → new.transcript ≡ old.transcript ++ own ∷ [] → new.share ≡ old.share + 1
+    → IfOk result (λ b. is_accepted out ≡ true) → IfOk result (λ b. HasResigned old name a new)
+resigned_acted old new name a own out chosen (Ok b) is number grows counts accepted =
+    done_acted old new name a out accepted (has_acted old new name a own out chosen is number grows counts)
+resigned_acted old new name a own out chosen (Err e) is number grows counts accepted = tt
+
+pub unresigned_acted : {X : Type 0} (old new : Caller) (name : List ℕ) (a : Act) (own : Record) (out : Outcome) (chosen : Choice) (result : Result X Fault)
+    → own ≡ record { actor = old.number; execution = name; act = a; outcome = out; choice = chosen }
+    → new.number ≡ old.number → new.transcript ≡ old.transcript ++ own ∷ [] → new.share ≡ old.share + 1
+    → IfErr result (λ e. answer_given out ≡ Err e) → IfErr result (λ e. HasAnswered old name a (Err e) new)
+unresigned_acted old new name a own out chosen (Ok b) is number grows counts ends = tt
+unresigned_acted old new name a own out chosen (Err e) is number grows counts ends =
+    inl (out, sym ends, has_acted old new name a own out chosen is number grows counts)

@@ -2,38 +2,38 @@
 use Rattle.std.proofs.Common.{◌≡◌, ℕ, zero, suc, Bool, true, false, ◌||◌, ◌==◌, ◌+◌, ◌≤◌, ◌≢◌, cond, List, [], ◌∷◌, length, refl, sym, ◌∙◌, ap, arith, zero-le}
 use Rattle.std.specs.List.{list_any}
 use Rattle.std.proofs.lemmas.Bool.Decides.{nat_tests}
-use Rattle.hla_rti.specs.Callers.{Caller}
+use Rattle.hla_rti.specs.Callers.{Leaver}
 use Rattle.hla_rti.specs.Close.{AllHere}
 
 -- without the first caller of this number
-without : ℕ → List Caller → List Caller
+without : ℕ → List Leaver → List Leaver
 without n [] = []
-without n (c ∷ cs) = cond (c.number == n) cs (c ∷ without n cs)
+without n (c ∷ cs) = cond (c.caller.number == n) cs (c ∷ without n cs)
 
-shorter : (n : ℕ) (cs : List Caller) → list_any (λ (c : Caller). c.number == n) cs ≡ true → length (without n cs) + 1 ≡ length cs
+shorter : (n : ℕ) (cs : List Leaver) → list_any (λ (c : Leaver). c.caller.number == n) cs ≡ true → length (without n cs) + 1 ≡ length cs
 unfolding without
 shorter n [] is = absurd (let no : false ≡ true = is in cc)
-shorter n (c ∷ cs) is = go (shorter n cs) (c.number == n) refl
+shorter n (c ∷ cs) is = go (shorter n cs) (c.caller.number == n) refl
   where
-    go : (list_any (λ (d : Caller). d.number == n) cs ≡ true → length (without n cs) + 1 ≡ length cs) → (b : Bool) → (c.number == n) ≡ b → length (cond b cs (c ∷ without n cs)) + 1 ≡ length (c ∷ cs)
+    go : (list_any (λ (d : Leaver). d.caller.number == n) cs ≡ true → length (without n cs) + 1 ≡ length cs) → (b : Bool) → (c.caller.number == n) ≡ b → length (cond b cs (c ∷ without n cs)) + 1 ≡ length (c ∷ cs)
     go ih true e = omega arith
     go ih false e =
-        let there : list_any (λ (d : Caller). d.number == n) cs ≡ true = sym (ap (λ (t : Bool). t || list_any (λ (d : Caller). d.number == n) cs) e) ∙ is in
+        let there : list_any (λ (d : Leaver). d.caller.number == n) cs ≡ true = sym (ap (λ (t : Bool). t || list_any (λ (d : Leaver). d.caller.number == n) cs) e) ∙ is in
         omega (arith, ih there)
 
-others : (n m : ℕ) (cs : List Caller) → m ≢ n
-    → list_any (λ (c : Caller). c.number == m) (without n cs) ≡ list_any (λ (c : Caller). c.number == m) cs
+others : (n m : ℕ) (cs : List Leaver) → m ≢ n
+    → list_any (λ (c : Leaver). c.caller.number == m) (without n cs) ≡ list_any (λ (c : Leaver). c.caller.number == m) cs
 unfolding without
 others n m [] ne = refl
-others n m (c ∷ cs) ne = go (others n m cs ne) (c.number == n) refl
+others n m (c ∷ cs) ne = go (others n m cs ne) (c.caller.number == n) refl
   where
-    go : list_any (λ (d : Caller). d.number == m) (without n cs) ≡ list_any (λ (d : Caller). d.number == m) cs → (b : Bool) → (c.number == n) ≡ b → list_any (λ (d : Caller). d.number == m) (cond b cs (c ∷ without n cs)) ≡ list_any (λ (d : Caller). d.number == m) (c ∷ cs)
+    go : list_any (λ (d : Leaver). d.caller.number == m) (without n cs) ≡ list_any (λ (d : Leaver). d.caller.number == m) cs → (b : Bool) → (c.caller.number == n) ≡ b → list_any (λ (d : Leaver). d.caller.number == m) (cond b cs (c ∷ without n cs)) ≡ list_any (λ (d : Leaver). d.caller.number == m) (c ∷ cs)
     go ih true e =
-        let apart : (c.number == m) ≡ false = grind (arith, nat_tests) in
-        sym (ap (λ (t : Bool). t || list_any (λ (d : Caller). d.number == m) cs) apart)
-    go ih false e = ap (λ (t : Bool). (c.number == m) || t) ih
+        let apart : (c.caller.number == m) ≡ false = grind (arith, nat_tests) in
+        sym (ap (λ (t : Bool). t || list_any (λ (d : Leaver). d.caller.number == m) cs) apart)
+    go ih false e = ap (λ (t : Bool). (c.caller.number == m) || t) ih
 
-pub here_length : (n : ℕ) (cs : List Caller) → AllHere n cs → n ≤ length cs
+pub here_length : (n : ℕ) (cs : List Leaver) → AllHere n cs → n ≤ length cs
 here_length zero cs here = zero-le
 here_length (suc n) cs here =
     let top = here (suc n) (omega arith) (omega arith) in

@@ -1,7 +1,8 @@
 -- What is seen of the callers of one run-time infrastructure
-use Rattle.std.specs.Prelude.{◌≡◌, ℕ, ◌+◌, ◌⊎◌, List, [], ◌∷◌, ◌++◌, Result, Ok, Err}
+use Rattle.std.specs.Prelude.{◌≡◌, ℕ, ◌+◌, ◌⊎◌, Option, List, [], ◌∷◌, ◌++◌, Result, Ok, Err}
 use Rattle.hla_base.specs.declared.fault.Fault.{Fault}
 use Rattle.hla_base.specs.declared.fault.Fault.TheVariants as fault
+use Rattle.hla_callbacks.specs.declared.callback.Callback.{Callback}
 use Rattle.hla_machine.specs.declared.service.Service.{Service}
 use Rattle.hla_machine.specs.declared.step.Step.TheVariants.{Call}
 use Rattle.hla_machine.specs.declared.step.Act.{Act}
@@ -47,6 +48,10 @@ HasAnswered old name a result new =
     ((out : Outcome) × (result ≡ answer_given out) × HasActed old name a out new)
     ⊎ ((e : Fault) × (result ≡ Err e) × HasNotActed old e new)
 
+-- a resigning was done
+abbrev pub HasResigned : Caller → List ℕ → Act → Caller → Type 0
+HasResigned old name a new = (what : Answer) × HasActed old name a (outcome.Done what) new
+
 -- a federate of an execution, as a caller
 pub record Member : Type 0 where
   pub execution : List ℕ
@@ -59,6 +64,11 @@ IsServed old service result new =
     (new.execution ≡ old.execution)
     × (new.federate ≡ old.federate)
     × HasAnswered old.caller old.execution (act.Step (Call old.federate service)) result new.caller
+
+-- what a caller leaves behind: itself, and what the ambassador that goes out with it has heard, if one does
+pub record Leaver : Type 0 where
+  pub caller : Caller
+  pub heard : Option (List Callback)
 
 -- what is seen of the infrastructure: how many callers it has handed out, and itself as a caller
 pub record Office : Type 0 where

@@ -3,26 +3,26 @@ use Rattle.std.specs.Prelude.{◌≡◌, ℕ, ◌≤◌, ◌<◌, ◌⊎◌, ◌
 use Rattle.std.specs.List.{list_any}
 use Rattle.hla_machine.specs.declared.step.Record.{Record}
 use Rattle.hla_history.specs.Closing.{records_by}
-use Rattle.hla_rti.specs.Callers.{Caller}
+use Rattle.hla_rti.specs.Callers.{Caller, Leaver}
 
 -- each caller that was handed out is in the list
-abbrev pub AllHere : ℕ → List Caller → Type 0
-AllHere handed lefts = (n : ℕ) → 1 ≤ n → n ≤ handed → list_any (λ (c : Caller). c.number == n) lefts ≡ true
+abbrev pub AllHere : ℕ → List Leaver → Type 0
+AllHere handed lefts = (n : ℕ) → 1 ≤ n → n ≤ handed → list_any (λ (l : Leaver). l.caller.number == n) lefts ≡ true
 
 -- the transcript is the caller's records, in order
 abbrev pub Agrees : List Record → Caller → Type 0
 Agrees history c = c.transcript ≡ records_by c.number history
 
 -- the callers before this place agree
-abbrev pub AgreeBefore : List Record → List Caller → ℕ → Type 0
-AgreeBefore history lefts k = (j : ℕ) (c : Caller) → j < k → slice_get lefts j ≡ Some c → Agrees history c
+abbrev pub AgreeBefore : List Record → List Leaver → ℕ → Type 0
+AgreeBefore history lefts k = (j : ℕ) (l : Leaver) → j < k → slice_get lefts j ≡ Some l → Agrees history l.caller
 
 -- the caller at this place is the first that differs, or, at the list's length, the infrastructure itself differs
-abbrev pub DiffersFirst : List Record → List Caller → Caller → ℕ → Type 0
+abbrev pub DiffersFirst : List Record → List Leaver → Caller → ℕ → Type 0
 DiffersFirst history lefts own k =
     AgreeBefore history lefts k
-    × (((c : Caller) × (slice_get lefts k ≡ Some c) × (Agrees history c → ⊥)) ⊎ ((k ≡ length lefts) × (Agrees history own → ⊥)))
+    × (((l : Leaver) × (slice_get lefts k ≡ Some l) × (Agrees history l.caller → ⊥)) ⊎ ((k ≡ length lefts) × (Agrees history own → ⊥)))
 
 -- all agree
-abbrev pub AllAgree : List Record → List Caller → Caller → Type 0
+abbrev pub AllAgree : List Record → List Leaver → Caller → Type 0
 AllAgree history lefts own = AgreeBefore history lefts (length lefts) × Agrees history own

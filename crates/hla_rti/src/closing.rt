@@ -3,7 +3,7 @@
 ghost use Rattle.std.specs.Prelude.{◌≡◌, ◌≢◌, ◌+◌, ◌≤◌, ◌↔◌, ◌==◌, vec_len, IsTrue, IfOk, IfErr, OnOk, OnErr, IfSome, IfNone};
 ghost use Rattle.std.specs.List.{list_any};
 ghost use Rattle.hla_history.specs.Closing.{Replays};
-ghost use Rattle.hla_rti.specs.Callers.{Caller};
+ghost use Rattle.hla_rti.specs.Callers.{Leaver};
 ghost use Rattle.hla_rti.specs.Close.{AllHere, AllAgree, DiffersFirst};
 
 use crate::rti::Rti;
@@ -64,7 +64,7 @@ pub struct NotClosed<L: Ledger, B: FederateAmbassador> {
 
 /// Whether the caller of this number is in the list.
 fn holds<L: Ledger, B: FederateAmbassador>(lefts: &[Left<L, B>], number: u32) -> bool
-    ensures { result ≡ list_any (λ (c : Caller). c.number == number) lefts.now }
+    ensures { result ≡ list_any (λ (l : Leaver). l.caller.number == number) lefts.now }
 {
     lefts.iter().any(|l| l.is_of(number))
 }

@@ -1,6 +1,6 @@
 //! A courier.
 
-ghost use Rattle.std.specs.Prelude.{◌≡◌};
+ghost use Rattle.std.specs.Prelude.{◌≡◌, None};
 ghost use Rattle.hla_machine.specs.declared.step.Act.TheVariants as act;
 ghost use Rattle.hla_machine.specs.declared.step.Step.TheVariants as step;
 ghost use Rattle.hla_rti.specs.Callers.{HasAnswered};
@@ -66,7 +66,7 @@ impl<L: Ledger, B: FederateAmbassador> Courier<L, B> {
 
     /// Ends the caller without a step.
     pub fn leave(self) -> Left<L, B>
-        ensures { result ≡ self }
+        ensures { result ≡ record { caller = self; heard = None } }
     {
         Left {
             seat: self.seat,

@@ -1,16 +1,17 @@
 //! A joined federate.
 
-ghost use Rattle.std.specs.Prelude.{◌≡◌};
+ghost use Rattle.std.specs.Prelude.{◌≡◌, true, None, is_some, Err, IfOk, IfErr};
+ghost use Rattle.hla_machine.specs.declared.service.Service.TheVariants as service;
 ghost use Rattle.hla_machine.specs.declared.step.Act.TheVariants as act;
 ghost use Rattle.hla_machine.specs.declared.step.Step.TheVariants as step;
 ghost use Rattle.hla_history.specs.Hosts.{IsPlain};
-ghost use Rattle.hla_rti.specs.Callers.{HasAnswered, IsServed};
+ghost use Rattle.hla_rti.specs.Callers.{HasAnswered, HasResigned, IsServed};
 
 use crate::seat::{Left, Seat};
 use hla_base::{ExecutionName, Fault, FederateNo};
 use hla_callbacks::FederateAmbassador;
 use hla_history::Shared;
-use hla_machine::{Answer, Service, Step};
+use hla_machine::{Answer, ResignAction, Service, Step};
 use std::alloc::Global;
 use std::marker::Model;
 use std::sync::ledger::Ledger;
@@ -64,6 +65,34 @@ impl<L: Ledger, B: FederateAmbassador> Federate<L, B> {
             .call(rt, &self.shared, self.execution, Step::Tick { federate })
     }
 
+    /// Resign Federation Execution (HLA 1.3, federation management), and the action says what becomes of the federate's
+    /// objects. The place and the ambassador go out for `close`. `InvalidResignAction` where the action releases attributes;
+    /// `FederateOwnsAttributes` by no action while the federate has objects; `LimitReached` where a removal would need a
+    /// serial above 10^18; `FederateNotExecutionMember` and `FederationExecutionDoesNotExist` where the federate or its
+    /// execution is no longer there. `HistoryFull` and `OutOfMemory` without a record; then the federate comes back as it
+    /// was. At any other fault it comes back with its record, and nothing else has changed.
+    pub fn resign(
+        mut self,
+        rt: &impl Wait,
+        action: ResignAction,
+    ) -> Result<Left<L, B>, (Fault, Federate<L, B>)>
+        ensures resigned { IfOk result (λ l. HasResigned self.caller self.execution
+            (act.Step (step.Call self.federate (service.Resign action))) l.caller) }
+        ensures ambassador { IfOk result (λ l. is_some l.heard ≡ true) }
+        ensures refused { IfErr result (λ e. IsServed self (service.Resign action) (Err e.0) e.1) }
+    {
+        match self
+            .seat
+            .resign(rt, &self.shared, self.execution, self.federate, action)
+        {
+            Ok(inner) => Ok(Left {
+                seat: self.seat,
+                ambassador: Some(inner),
+            }),
+            Err(fault) => Err((fault, self)),
+        }
+    }
+
     /// The number of the federate in its execution.
     pub fn number(&self) -> FederateNo
         ensures { result ≡ self.now.federate }
@@ -73,7 +102,7 @@ impl<L: Ledger, B: FederateAmbassador> Federate<L, B> {
 
     /// Ends the caller without a step: the federate stays joined.
     pub fn leave(self) -> Left<L, B>
-        ensures { result ≡ self.caller }
+        ensures { result ≡ record { caller = self.caller; heard = None } }
     {
         Left {
             seat: self.seat,

@@ -13,5 +13,5 @@ mod time_services;
 pub use closing::{CloseFault, Closed, NotClosed, Unsettled, settle};
 pub use courier::Courier;
 pub use federate::Federate;
-pub use rti::{MAX_CALLERS, MAX_COURIERS, Rti};
+pub use rti::{MAX_CALLERS, MAX_COURIERS, MAX_HISTORY_LIMIT, Rti};
 pub use seat::{Left, Seat};

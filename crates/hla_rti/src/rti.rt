@@ -1,12 +1,12 @@
 //! The run-time infrastructure.
 
-ghost use Rattle.std.specs.Prelude.{◌≡◌, ◌+◌, ◌⊎◌, [], IfOk, IfErr, MatchResult};
+ghost use Rattle.std.specs.Prelude.{◌≡◌, ◌+◌, ◌<◌, ◌≤◌, ◌⊎◌, [], IfOk, IfErr, OnOk, MatchResult};
 ghost use Rattle.hla_machine.specs.declared.step.Act.TheVariants as act;
 ghost use Rattle.hla_machine.specs.declared.step.Answer.TheVariants as answer;
 ghost use Rattle.hla_machine.specs.declared.step.Outcome.TheVariants as outcome;
 ghost use Rattle.hla_machine.specs.declared.step.Step.TheVariants as step;
 ghost use Rattle.hla_history.specs.Creating.{catalogue_from};
-ghost use Rattle.hla_rti.specs.Callers.{Caller, new_caller, HasActed, HasAnswered};
+ghost use Rattle.hla_rti.specs.Callers.{Caller, new_caller, HasActed, HasNotActed, HasAnswered};
 
 use crate::courier::Courier;
 use crate::federate::Federate;
@@ -25,6 +25,9 @@ pub const MAX_COURIERS: u32 = 1_024;
 
 /// How many callers one run-time infrastructure hands out in all: 16 joins in each of 64 executions, and the couriers.
 pub const MAX_CALLERS: u32 = 64 * 16 + MAX_COURIERS;
+
+/// The greatest limit of a history (a limit of this profile).
+pub const MAX_HISTORY_LIMIT: usize = 1_048_576;
 
 /// The run-time infrastructure: executions, their federates' ambassadors and one history behind one lock, and a caller of its
 /// own, which creates and destroys executions. Contracts see how many callers it has handed out, and that caller.
@@ -52,14 +55,20 @@ impl<L: Ledger, B: FederateAmbassador> Model for Rti<L, B> {
 
 impl<L: Ledger, B: FederateAmbassador> Rti<L, B> {
     /// No execution, and room for a history of `history_limit` records. `blank` is a ledger of one part for each caller that
-    /// there may be: the infrastructure itself and `MAX_CALLERS`. `OutOfMemory` where the room was refused.
+    /// there may be: the infrastructure itself and `MAX_CALLERS`. `LimitReached` where the limit is above
+    /// `MAX_HISTORY_LIMIT`; `OutOfMemory` where the room was refused.
     pub fn new(alloc: Global, blank: Blank, history_limit: usize) -> Result<Rti<L, B>, Fault>
         requires name { blank.name ≡ L.name }
         requires parts { blank.parts ≡ L.parts }
         requires all { blank.parts ≡ 2049 }
         ensures ok { IfOk result (λ r. r ≡ record { handed = 0; own = new_caller 0 }) }
-        ensures err { IfErr result (λ e. e ≡ Fault.OutOfMemory) }
+        ensures limit { OnOk result (history_limit ≤ 1048576) }
+        ensures err { IfErr result (λ e. ((e ≡ Fault.LimitReached) × (1048576 < history_limit))
+            ⊎ ((e ≡ Fault.OutOfMemory) × (history_limit ≤ 1048576))) }
     {
+        if history_limit > MAX_HISTORY_LIMIT {
+            return Err(Fault::LimitReached);
+        }
         let (book, mut rest) = blank.open::<L>();
         let share = rest.split_off(1, 0);
         let shared = Shared::new(alloc, book, history_limit)?;
@@ -153,6 +162,10 @@ impl<L: Ledger, B: FederateAmbassador> Rti<L, B> {
         }) }
         ensures handed { MatchResult result (λ _. self.new.handed ≡ self.old.handed + 1)
             (λ _. self.new.handed ≡ self.old.handed) }
+        ensures refused { IfErr result (λ e.
+            (HasActed self.old.own execution (act.Step (step.Join name)) (outcome.Refused e.0) self.new.own
+            ⊎ HasNotActed self.old.own e.0 self.new.own)
+            ⊎ ((e.0 ≡ Fault.LimitReached) × (self.new.own ≡ self.old.own))) }
         ensures returned { IfErr result (λ e. e.1 ≡ ambassador) }
     {
         if self.handed >= MAX_CALLERS {

@@ -1,19 +1,20 @@
 //! A caller of the run-time infrastructure.
 
-ghost use Rattle.std.specs.Prelude.{◌≡◌, ◌==◌, ◌↔◌, ◌⊎◌, [], Some, is_some, not, IsTrue, IfOk, IfErr};
+ghost use Rattle.std.specs.Prelude.{◌≡◌, ◌==◌, ◌↔◌, ◌⊎◌, [], true, None, Some, Err, option_map, is_some, not, IsTrue, IfOk, IfErr};
+ghost use Rattle.hla_machine.specs.declared.service.Service.TheVariants as service;
 ghost use Rattle.hla_machine.specs.declared.step.Act.TheVariants as act;
 ghost use Rattle.hla_machine.specs.declared.step.Answer.TheVariants as answer;
 ghost use Rattle.hla_machine.specs.declared.step.Outcome.TheVariants as outcome;
 ghost use Rattle.hla_machine.specs.declared.step.Step.TheVariants as step;
 ghost use Rattle.hla_history.specs.Creating.{catalogue_from, is_accepted, AnswersJoin};
 ghost use Rattle.hla_history.specs.Hosts.{IsPlain};
-ghost use Rattle.hla_rti.specs.Callers.{answer_given, HasActed, HasNotActed, HasAnswered};
+ghost use Rattle.hla_rti.specs.Callers.{answer_given, HasActed, HasNotActed, HasAnswered, HasResigned};
 ghost use Rattle.hla_rti.specs.Close.{Agrees};
 
 use hla_base::{ExecutionName, Fault, FederateNo, List};
 use hla_callbacks::FederateAmbassador;
 use hla_history::{Shared, Stepped};
-use hla_machine::{Answer, Outcome, Record, Step};
+use hla_machine::{Answer, Outcome, Record, ResignAction, Step};
 use std::marker::Model;
 use std::sync::ledger::{Ledger, Share};
 use std::sync::{Mutex, Wait};
@@ -38,7 +39,8 @@ impl<L: Ledger> Model for Seat<L> {
     ghost invariant = { λ s. (s.share.parts ≡ 1) × (s.share.amount ≡ length s.transcript.items) };
 }
 
-/// What a caller leaves behind for `close`: its place, and the ambassador of a federate that resigned.
+/// What a caller leaves behind for `close`: its place, and the ambassador of a federate that resigned. Contracts see the
+/// caller with its transcript, and what the ambassador has heard.
 #[derive(Drop)]
 pub struct Left<L: Ledger, B: FederateAmbassador> {
     pub(crate) seat: Seat<L>,
@@ -46,31 +48,33 @@ pub struct Left<L: Ledger, B: FederateAmbassador> {
 }
 
 impl<L: Ledger, B: FederateAmbassador> Model for Left<L, B> {
-    ghost use Rattle.hla_rti.specs.Callers.{Caller};
+    ghost use Rattle.std.specs.Prelude.{option_map};
+    ghost use Rattle.hla_rti.specs.Callers.{Leaver};
 
-    ghost Value = { Caller };
+    ghost Value = { Leaver };
 
-    ghost view = { λ l. l.seat };
+    ghost view = { λ l. record { caller = l.seat; heard = option_map (λ b. B.heard b) l.ambassador } };
 }
 
 impl<L: Ledger, B: FederateAmbassador> Left<L, B> {
     /// Takes the ambassador out, which is there where the federate resigned and it was not taken before.
     pub fn take_ambassador(&mut self) -> Option<B>
-        ensures { self.new ≡ self.old }
+        ensures taken { option_map (λ b. B.heard b) result ≡ self.old.heard }
+        ensures after { self.new ≡ record { caller = self.old.caller; heard = None } }
     {
         self.ambassador.take()
     }
 
     /// Whether it is that of the caller of this number.
     pub(crate) fn is_of(&self, number: u32) -> bool
-        ensures { result ≡ (self.now.number == number) }
+        ensures { result ≡ (self.now.caller.number == number) }
     {
         self.seat.number == number
     }
 
     /// Whether the transcript is just the caller's records in the history, in order.
     pub(crate) fn agrees_with(&self, shared: &Shared<L, B>) -> bool
-        ensures { IsTrue result ↔ Agrees shared.now.history self.now }
+        ensures { IsTrue result ↔ Agrees shared.now.history self.now.caller }
     {
         self.seat.agrees_with(shared)
     }
@@ -78,7 +82,7 @@ impl<L: Ledger, B: FederateAmbassador> Left<L, B> {
     /// The caller's share of the ledger.
     pub(crate) fn into_share(self) -> Share<L>
         ensures parts { result.parts ≡ 1 }
-        ensures amount { result.amount ≡ self.share }
+        ensures amount { result.amount ≡ self.caller.share }
     {
         self.seat.into_share()
     }
@@ -113,6 +117,23 @@ fn joined_as<B: FederateAmbassador>(
             None => unreachable!(),
         },
         _ => unreachable!(),
+    }
+}
+
+/// The ambassador of a federate that resigned, or why it is refused.
+fn resigned_with<B: FederateAmbassador>(ended: Outcome, back: Option<B>) -> Result<B, Fault>
+    requires { is_some back ≡ is_accepted ended }
+    ensures ok { IfOk result (λ _. is_accepted ended ≡ true) }
+    ensures returned { IfOk result (λ b. back ≡ Some b) }
+    ensures err { IfErr result (λ e. answer_given ended ≡ Err e) }
+{
+    match ended {
+        Outcome::Done(_) => match back {
+            Some(inner) => Ok(inner),
+            None => unreachable!(),
+        },
+        Outcome::Refused(fault) => Err(fault),
+        Outcome::Failed(_) => Err(Fault::FederateInternalError),
     }
 }
 
@@ -207,6 +228,37 @@ impl<L: Ledger> Seat<L> {
                 joined_as(stepped.answer, back)
             }
             Err(refused) => Err(refused),
+        }
+    }
+
+    /// Resigns a federate under the lock, and writes it down: its ambassador, or why it is refused.
+    pub(crate) fn resign<B: FederateAmbassador>(
+        &mut self,
+        rt: &impl Wait,
+        shared: &Mutex<Shared<L, B>>,
+        execution: ExecutionName,
+        federate: FederateNo,
+        action: ResignAction,
+    ) -> Result<B, Fault>
+        ensures resigned { IfOk result (λ _. HasResigned self.old execution
+            (act.Step (step.Call federate (service.Resign action))) self.new) }
+        ensures refused { IfErr result (λ e. HasAnswered self.old execution
+            (act.Step (step.Call federate (service.Resign action))) (Err e) self.new) }
+    {
+        if self.transcript.reserve(1).is_err() {
+            return Err(Fault::OutOfMemory);
+        }
+        let number = self.number;
+        let done = shared
+            .lock(rt)
+            .resign(number, execution, federate, action, &mut self.share);
+        match done {
+            Ok(resigned) => {
+                let (stepped, back) = resigned;
+                self.transcript.push_reserved(stepped.own);
+                resigned_with(stepped.answer, back)
+            }
+            Err(fault) => Err(fault),
         }
     }
 
