@@ -207,7 +207,7 @@ module _ (d : Directory) (accounts : List Account) (f : ℕ) (some : 0 < f) (wit
 
 module _ (d : Directory) (accounts : List Account) (f : ℕ) (some : 0 < f) (within : f ≤ length accounts) where
   -- only what is due changes
-  due_changed : (es : List EventHandle) → central_with d (set accounts (f - 1) (record (account_at accounts f) { due = es })) ≡ record (central_with d accounts) { due = λ g m. upd ((central_with d accounts).due g m) f (times_listed es g m) }
+  pub due_changed : (es : List EventHandle) → central_with d (set accounts (f - 1) (record (account_at accounts f) { due = es })) ≡ record (central_with d accounts) { due = λ g m. upd ((central_with d accounts).due g m) f (times_listed es g m) }
   due_changed es =
       let a : Account = record (account_at accounts f) { due = es } in
       λ i. record {

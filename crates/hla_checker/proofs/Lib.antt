@@ -16,3 +16,5 @@ pub mod EntryLemmas
 pub mod HandleLemmas
 -- The next discovery of one federate's objects
 pub mod OfferLemmas
+-- How often retractions are under way and due, after one account changed
+pub mod CountLemmas
