@@ -33,7 +33,7 @@ upd_itself t f x same = fun_ext (λ g. ⊎_elim
     (cases_Bool (eqb f g)))
 
 -- what is read of the entries of a table after one changed
-upd_read : {X Y : Type 0} (p : X → Y) (t : ℕ → X) (f : ℕ) (x : X) → (λ g. p (upd t f x g)) ≡ upd (λ g. p (t g)) f (p x)
+pub upd_read : {X Y : Type 0} (p : X → Y) (t : ℕ → X) (f : ℕ) (x : X) → (λ g. p (upd t f x g)) ≡ upd (λ g. p (t g)) f (p x)
 unfolding upd
 upd_read p t f x = fun_ext (λ g. ⊎_elim (λ (y : eqb f g ≡ true). rw y refl) (λ (n : eqb f g ≡ false). rw n refl) (cases_Bool (eqb f g)))
 

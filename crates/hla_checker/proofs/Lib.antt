@@ -18,3 +18,7 @@ pub mod HandleLemmas
 pub mod OfferLemmas
 -- How often retractions are under way and due, after one account changed
 pub mod CountLemmas
+-- Discoveries that wait for one federate, after a change
+pub mod OfferChanges
+-- The accounts after a federate joins or leaves
+pub mod JoinLemmas

@@ -9,7 +9,7 @@ use Rattle.hla_machine.specs.declared.step.Carried.{Carried}
 use Rattle.hla_machine.specs.declared.step.Carried.TheVariants as carried
 use Rattle.hla_machine.specs.Machine.{is_removal}
 use Rattle.hla_checker.specs.declared.account.Account.{Account}
-use Rattle.hla_checker.specs.declared.account.Offer.{Offer}
+use Rattle.hla_checker.specs.declared.offers.Offer.{Offer}
 use Rattle.hla_checker.specs.declared.bag.Waiting.{Waiting}
 use Rattle.hla_checker.specs.Bags.{waiting_at, is_listed}
 use Rattle.hla_checker.specs.Accounts.{account_at}

@@ -9,7 +9,7 @@ ghost use Rattle.hla_checker.specs.Accounts.{account_at, no_account, copy_at, co
 ghost use Rattle.hla_checker.specs.Bags.{waiting_at};
 ghost use Rattle.hla_checker.specs.Ticks.{has_no_offer, is_discovered, may_deliver, is_moved_below, is_among_if_below, may_constrain};
 
-use crate::account::Offer;
+use crate::offers::Offer;
 use crate::accounts::Accounts;
 use crate::bag::{Waiting, is_listed};
 use crate::bounds::ordered_stamp;

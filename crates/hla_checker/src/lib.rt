@@ -10,12 +10,14 @@ mod changes;
 mod deliveries;
 mod entries;
 mod handles;
+mod joining;
 mod offers;
 mod row_change;
 mod ticks;
 
-pub use account::{Account, Offer};
+pub use account::Account;
 pub use accounts::Accounts;
 pub use bag::{Bag, Waiting};
 pub use handles::Handles;
+pub use offers::{Offer, Offers};
 pub use row_change::RowChange;
