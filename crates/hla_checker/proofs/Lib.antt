@@ -22,3 +22,5 @@ pub mod CountLemmas
 pub mod OfferChanges
 -- The accounts after a federate joins or leaves
 pub mod JoinLemmas
+-- The accounts after a message is sent or retracted
+pub mod SendLemmas

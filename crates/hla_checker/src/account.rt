@@ -1,15 +1,19 @@
 //! What is kept of one federate.
 
-ghost use Rattle.std.specs.Prelude.{◌≡◌, true, false, []};
+ghost use Rattle.std.specs.Prelude.{◌≡◌, ℕ, ◌≤◌, ◌+◌, true, false, [], OnOk, OnErr, IfErr};
+ghost use Rattle.hla_base.specs.declared.fault.Fault.TheVariants.{OutOfMemory};
+ghost use Rattle.hla_base.specs.Limits.{max_serial};
 ghost use Rattle.hla_base.specs.Rows.{new_row};
+ghost use Rattle.hla_base.specs.Tables.{upd};
+ghost use Rattle.hla_retraction.specs.Receivers.{receiver_set};
 ghost use Rattle.hla_retraction.specs.SentEvents.{no_event};
 ghost use Rattle.hla_retraction.specs.SentRows.{sent_of};
 
 use crate::bag::Bag;
 use crate::handles::Handles;
 use crate::offers::Offers;
-use hla_base::{List, Serial};
-use hla_retraction::Sent;
+use hla_base::{Fault, List, Serial, Ticks};
+use hla_retraction::{Receivers, Sent};
 use hla_time_roles::TimeState;
 use std::alloc::Global;
 
@@ -79,5 +83,33 @@ impl Account {
         self.offers.clear();
         self.owed.clear();
         self.due.clear();
+    }
+
+    /// A message was sent that may not be retracted: it took the next serial.
+    pub fn take_serial(&mut self)
+        requires { self.old.next_serial ≤ max_serial }
+        ensures { self.new ≡ record self.old { next_serial = self.old.next_serial + 1 } }
+    {
+        self.next_serial += 1;
+    }
+
+    /// A message was sent that may be retracted: it took the next serial. Its stamp is in ticks. `OutOfMemory`, and all as
+    /// it was, where a growth was refused.
+    pub fn note(&mut self, stamp: Ticks, receivers: Receivers) -> Result<(), Fault>
+        requires unsent { (m : ℕ) → self.old.next_serial ≤ m → sent_of self.old.sent m ≡ no_event }
+        requires room { self.old.next_serial ≤ max_serial }
+        ensures account { OnOk result (self.new ≡ record self.old { next_serial = self.old.next_serial + 1; sent = self.new.sent }) }
+        ensures sent { OnOk result (sent_of self.new.sent ≡ upd (sent_of self.old.sent) self.old.next_serial (record {
+          stamp = stamp;
+          retractable = true;
+          retracted = false;
+          receivers = receiver_set receivers;
+        })) }
+        ensures err { IfErr result (λ e. e ≡ Fault.OutOfMemory) }
+        ensures unchanged { OnErr result (self.new ≡ self.old) }
+    {
+        self.sent.note(self.next_serial, stamp, receivers)?;
+        self.next_serial += 1;
+        Ok(())
     }
 }

@@ -13,6 +13,7 @@ mod handles;
 mod joining;
 mod offers;
 mod row_change;
+mod sending;
 mod ticks;
 
 pub use account::Account;
