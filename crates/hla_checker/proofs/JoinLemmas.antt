@@ -1,5 +1,5 @@
 -- The accounts after a federate joins or leaves
-use Rattle.std.proofs.Common.{eqb-true, ◌≡◌, ◌≢◌, ℕ, zero, suc, ◌+◌, ◌-◌, ◌<◌, ◌≤◌, cond, eqb, Bool, true, false, List, [], ◌∷◌, ◌++◌, length, length-set, set, get_or, Option, Some, None, option_map, refl, sym, ap, ◌∙◌, ⊎_elim, subst, arith}
+use Rattle.std.proofs.Common.{◌≡◌, ◌≢◌, ℕ, zero, suc, ◌+◌, ◌-◌, ◌<◌, ◌≤◌, cond, eqb, true, false, List, [], ◌∷◌, ◌++◌, length, length-set, set, get_or, None, option_map, refl, sym, ap, ◌∙◌, ⊎_elim, subst, arith}
 use Rattle.std.proofs.lemmas.Bool.{cases_eq, cases_lt}
 use Rattle.std.proofs.lemmas.Bool.Decides.{nat_tests}
 use Rattle.std.proofs.lemmas.List.{length-append, get_or_append_left, get_or_past}
@@ -12,8 +12,7 @@ use Rattle.hla_base.proofs.Tables.{upd_each}
 use Rattle.hla_retraction.specs.declared.sent.SentRow.{SentRow}
 use Rattle.hla_retraction.specs.SentEvents.{no_event}
 use Rattle.hla_retraction.specs.SentRows.{sent_of}
-use Rattle.hla_machine.specs.Directory.{Directory, without_member, without_objects_of}
-use Rattle.hla_machine.specs.Central.{Central}
+use Rattle.hla_machine.specs.Directory.{Directory, without_member}
 use Rattle.hla_machine.specs.Machine.{after_join, after_leaving}
 use Rattle.hla_checker.specs.declared.account.Account.{Account}
 use Rattle.hla_checker.specs.Bags.{waiting_at, AreApart}
@@ -76,9 +75,9 @@ account_at-push accounts a = fun_ext (λ g. at g)
         beside k ne = ⊎_elim
             (λ (l : k < length accounts). get_or_append_left accounts (a ∷ []) no_account k l)
             (λ (past : length accounts ≤ k).
-              let size = length-append accounts (a ∷ []) in
-              let far : length (accounts ++ a ∷ []) ≤ k = omega (arith, size, past, ne) in
-              get_or_past (accounts ++ a ∷ []) k no_account far ∙ sym (get_or_past accounts k no_account past))
+            let size = length-append accounts (a ∷ []) in
+            let far : length (accounts ++ a ∷ []) ≤ k = omega (arith, size, past, ne) in
+            get_or_past (accounts ++ a ∷ []) k no_account far ∙ sym (get_or_past accounts k no_account past))
             (cases_lt k (length accounts))
 
 -- the account of a newcomer

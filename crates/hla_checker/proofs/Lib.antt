@@ -24,3 +24,5 @@ pub mod OfferChanges
 pub mod JoinLemmas
 -- The accounts after a message is sent or retracted
 pub mod SendLemmas
+-- To whom the retraction of a message goes, one federate after another
+pub mod RetractLemmas

@@ -9,7 +9,6 @@ use Rattle.hla_base.specs.Tables.{upd, upd2, when}
 use Rattle.hla_base.specs.declared.content.Discovery.{Discovery}
 use Rattle.hla_retraction.specs.SentRows.{sent_of}
 use Rattle.hla_machine.specs.Directory.{Directory}
-use Rattle.hla_machine.specs.Central.{Central}
 use Rattle.hla_checker.specs.declared.account.Account.{Account}
 use Rattle.hla_checker.specs.declared.offers.Offer.{Offer}
 use Rattle.hla_checker.specs.Accounts.{AreKept, account_at, central_with, copy_at, offers_from, times_listed}
@@ -126,7 +125,7 @@ module _ (d : Directory) (accounts : List Account) (f : ℕ) (some : 0 < f) (wit
       ap (λ (a : Account). central_with d (set accounts (f - 1) (record a { offers = os }))) is
       ∙ offers_changed os
       ∙ ap (λ (t : ℕ → ℕ → List Discovery). record (central_with d accounts) { discoveries = t })
-        (lists_set (central_with d accounts).discoveries op (λ g. offers_from g os) from f (λ g. changed g ∙ ap (λ (a : Account). cond (eqb from g) (op (offers_from g a.offers)) (offers_from g a.offers)) is))
+      (lists_set (central_with d accounts).discoveries op (λ g. offers_from g os) from f (λ g. changed g ∙ ap (λ (a : Account). cond (eqb from g) (op (offers_from g a.offers)) (offers_from g a.offers)) is))
 
 pub offers_kept : (accounts : List Account) (f : ℕ) → 0 < f → f ≤ length accounts → AreKept accounts → (x : Account) (os : List Offer) → x ≡ account_at accounts f → AreKept (set accounts (f - 1) (record x { offers = os }))
 offers_kept accounts f some within kept x os is = subst (λ (a : Account). AreKept (set accounts (f - 1) (record a { offers = os }))) (sym is)

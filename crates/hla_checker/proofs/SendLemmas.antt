@@ -1,5 +1,5 @@
 -- The accounts after a message is sent or retracted
-use Rattle.std.proofs.Common.{eqb-true, ◌≡◌, ℕ, ◌+◌, ◌-◌, ◌<◌, ◌≤◌, cond, eqb, ◌&&◌, Bool, true, false, List, [], length, length-set, set, Option, Some, None, Result, Ok, Err, OnOk, OnErr, refl, sym, ap, ◌∙◌, subst, arith}
+use Rattle.std.proofs.Common.{eqb-true, ◌≡◌, ℕ, ◌+◌, ◌-◌, ◌<◌, ◌≤◌, cond, eqb, ◌&&◌, Bool, true, false, List, length, length-set, set, Some, None, Result, Ok, Err, OnOk, OnErr, refl, sym, ap, ◌∙◌, subst, arith}
 use Rattle.std.proofs.Math.Path.{fun_ext}
 use Rattle.hla_base.specs.declared.fault.Fault.{Fault}
 use Rattle.hla_base.specs.Tables.{upd, upd2}
@@ -8,7 +8,7 @@ use Rattle.hla_retraction.specs.declared.sent.SentRow.{SentRow}
 use Rattle.hla_retraction.specs.SentEvents.{SentEvent, no_event}
 use Rattle.hla_retraction.specs.SentRows.{sent_of}
 use Rattle.hla_machine.specs.Directory.{Directory}
-use Rattle.hla_machine.specs.Central.{Central, is_key}
+use Rattle.hla_machine.specs.Central.{is_key}
 use Rattle.hla_machine.proofs.Bags.{key_parts}
 use Rattle.hla_checker.specs.declared.account.Account.{Account}
 use Rattle.hla_checker.specs.declared.bag.Waiting.{Waiting}
@@ -53,7 +53,7 @@ module _ (accounts : List Account) (f : ℕ) (some : 0 < f) (within : f ≤ leng
   pub serial_kept : AreKept accounts → (x : Account) → x ≡ account_at accounts f → AreKept (set accounts (f - 1) (record x { next_serial = x.next_serial + 1 }))
   serial_kept kept x is = subst (λ (x : Account). AreKept (set accounts (f - 1) (record x { next_serial = x.next_serial + 1 }))) (sym is)
       (kept_set kept (record (account_at accounts f) { next_serial = (account_at accounts f).next_serial + 1 }) (omega arith) (kept.apart f) (λ h m le. kept.unused f h m le)
-        (λ m le. kept.unsent f m (omega (arith, le))))
+      (λ m le. kept.unsent f m (omega (arith, le))))
 
   -- one message is put in
   pub put_kept : AreKept accounts → (x : Account) (ws : List Waiting) (g m : ℕ) (w : Waiting) → x ≡ account_at accounts f → AreApart ws → m < (account_at accounts g).next_serial → waiting_at ws ≡ upd2 (waiting_at x.bag) g m (Some w) →
@@ -61,7 +61,7 @@ module _ (accounts : List Account) (f : ℕ) (some : 0 < f) (within : f ≤ leng
   unfolding upd2
   put_kept kept x ws g m w is apart used table = subst (λ (x : Account). AreKept (set accounts (f - 1) (record x { bag = ws }))) (sym is)
       (kept_set kept (record (account_at accounts f) { bag = ws }) (omega arith) apart
-        (λ h n le. ap (λ t. t h n) table ∙ by h n (is_key g m h n) refl le) (λ m le. kept.unsent f m le))
+      (λ h n le. ap (λ t. t h n) table ∙ by h n (is_key g m h n) refl le) (λ m le. kept.unsent f m le))
     where
       by : (h n : ℕ) (b : Bool) → is_key g m h n ≡ b → (account_at accounts h).next_serial ≤ n → cond b (Some w) (waiting_at x.bag h n) ≡ None
       by h n true e le =
@@ -76,7 +76,7 @@ module _ (accounts : List Account) (f : ℕ) (some : 0 < f) (within : f ≤ leng
   puts_kept kept x ws g m w (Ok u) is apart used table same = put_kept kept x ws g m w is apart used table
   puts_kept kept x ws g m w (Err e) is apart used table same = subst (λ (x : Account). AreKept (set accounts (f - 1) (record x { bag = ws }))) (sym is)
       (kept_set kept (record (account_at accounts f) { bag = ws }) (omega arith) apart
-        (λ h n le. ap (λ ws. waiting_at ws h n) same ∙ ap (λ (a : Account). waiting_at a.bag h n) is ∙ kept.unused f h n le) (λ m le. kept.unsent f m le))
+      (λ h n le. ap (λ ws. waiting_at ws h n) same ∙ ap (λ (a : Account). waiting_at a.bag h n) is ∙ kept.unused f h n le) (λ m le. kept.unsent f m le))
 
   -- x is what was read, and a the account after a message that may be retracted was noted
   abbrev pub IsNoted : Account → Account → SentEvent → Type 0
@@ -85,7 +85,7 @@ module _ (accounts : List Account) (f : ℕ) (some : 0 < f) (within : f ≤ leng
   note_kept : AreKept accounts → (a : Account) (e : SentEvent) → IsNoted (account_at accounts f) a e → AreKept (set accounts (f - 1) a)
   note_kept kept a e noted = subst (λ (a : Account). AreKept (set accounts (f - 1) a)) (sym noted.0)
       (kept_set kept (record (account_at accounts f) { next_serial = (account_at accounts f).next_serial + 1; sent = a.sent }) (omega arith) (kept.apart f) (λ h m le. kept.unused f h m le)
-        (λ m le. ap (λ t. t m) noted.1 ∙ past m le))
+      (λ m le. ap (λ t. t m) noted.1 ∙ past m le))
     where
       past : (m : ℕ) → (account_at accounts f).next_serial + 1 ≤ m → upd (sent_of (account_at accounts f).sent) (account_at accounts f).next_serial e m ≡ no_event
       past m le = upd_each (sent_of (account_at accounts f).sent) (account_at accounts f).next_serial e (λ j x. (account_at accounts f).next_serial + 1 ≤ j → x ≡ no_event)
@@ -101,9 +101,9 @@ module _ (accounts : List Account) (f : ℕ) (some : 0 < f) (within : f ≤ leng
       sent_of rows ≡ upd (sent_of x.sent) m (record (sent_of x.sent m) { retracted = true }) → AreKept (set accounts (f - 1) (record x { sent = rows }))
   retract_kept kept x rows m is may table = subst (λ (x : Account). AreKept (set accounts (f - 1) (record x { sent = rows }))) (sym is)
       (kept_set kept (record (account_at accounts f) { sent = rows }) (omega arith) (kept.apart f) (λ h m le. kept.unused f h m le)
-        (λ n le. ap (λ t. t n) (table ∙ ap (λ (a : Account). upd (sent_of a.sent) m (record (sent_of a.sent m) { retracted = true })) is)
-          ∙ upd_each (sent_of (account_at accounts f).sent) m (record (sent_of (account_at accounts f).sent m) { retracted = true }) (λ j y. (account_at accounts f).next_serial ≤ j → y ≡ no_event)
-            (λ l. absurd (clash (sent_of (account_at accounts f).sent m) may (kept.unsent f m l))) (λ j ne. kept.unsent f j) n le))
+      (λ n le. ap (λ t. t n) (table ∙ ap (λ (a : Account). upd (sent_of a.sent) m (record (sent_of a.sent m) { retracted = true })) is)
+      ∙ upd_each (sent_of (account_at accounts f).sent) m (record (sent_of (account_at accounts f).sent m) { retracted = true }) (λ j y. (account_at accounts f).next_serial ≤ j → y ≡ no_event)
+      (λ l. absurd (clash (sent_of (account_at accounts f).sent m) may (kept.unsent f m l))) (λ j ne. kept.unsent f j) n le))
     where
       clash : (e : SentEvent) → e.retractable ≡ true → e ≡ no_event → ⊥
       clash e t is = let p : e.retractable ≡ false = ap (λ (e : SentEvent). e.retractable) is in absurd (let q = sym p ∙ t in cc)
@@ -142,7 +142,7 @@ module _ (d : Directory) (accounts : List Account) (f : ℕ) (some : 0 < f) (wit
       ap (λ (a : Account). central_with d (set accounts (f - 1) a)) (noted.0 ∙ ap (λ (x : Account). record x { next_serial = x.next_serial + 1; sent = a.sent }) is)
       ∙ sent_changed ((account_at accounts f).next_serial + 1) a.sent
       ∙ ap (λ (t : ℕ → ℕ → SentEvent). record c { serial = upd c.serial f (c.serial f + 1); sent = t })
-        (ap (upd c.sent f) (noted.1 ∙ ap (λ (x : Account). upd (sent_of x.sent) x.next_serial e) is) ∙ upd2_row c.sent f (c.serial f) e)
+      (ap (upd c.sent f) (noted.1 ∙ ap (λ (x : Account). upd (sent_of x.sent) x.next_serial e) is) ∙ upd2_row c.sent f (c.serial f) e)
 
   pub retract_set : (x : Account) (rows : List SentRow) (m : ℕ) → x ≡ account_at accounts f → sent_of rows ≡ upd (sent_of x.sent) m (record (sent_of x.sent m) { retracted = true }) →
       central_with d (set accounts (f - 1) (record x { sent = rows })) ≡ record (central_with d accounts) { sent = upd2 (central_with d accounts).sent f m (record ((central_with d accounts).sent f m) { retracted = true }) }
@@ -151,4 +151,4 @@ module _ (d : Directory) (accounts : List Account) (f : ℕ) (some : 0 < f) (wit
       ∙ sent_changed (account_at accounts f).next_serial rows
       ∙ ap (λ (t : ℕ → ℕ). record c { serial = t; sent = upd c.sent f (sent_of rows) }) (upd_itself c.serial f (account_at accounts f).next_serial refl)
       ∙ ap (λ (t : ℕ → ℕ → SentEvent). record c { sent = t })
-        (ap (upd c.sent f) (table ∙ ap (λ (a : Account). upd (sent_of a.sent) m (record (sent_of a.sent m) { retracted = true })) is) ∙ upd2_row c.sent f m (record (c.sent f m) { retracted = true }))
+      (ap (upd c.sent f) (table ∙ ap (λ (a : Account). upd (sent_of a.sent) m (record (sent_of a.sent m) { retracted = true })) is) ∙ upd2_row c.sent f m (record (c.sent f m) { retracted = true }))

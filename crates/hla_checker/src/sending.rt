@@ -31,7 +31,12 @@ impl Accounts {
 
     /// A federate sends a message that it may retract, with a stamp in ticks, to these receivers: the message takes its next
     /// serial. `OutOfMemory` where a growth was refused.
-    pub fn note(&mut self, federate: FederateNo, stamp: Ticks, receivers: Receivers) -> Result<(), Fault>
+    pub fn note(
+        &mut self,
+        federate: FederateNo,
+        stamp: Ticks,
+        receivers: Receivers,
+    ) -> Result<(), Fault>
         requires some { 0 < federate }
         requires within { federate ≤ length self.old }
         requires room { (account_at self.old federate).next_serial ≤ max_serial }

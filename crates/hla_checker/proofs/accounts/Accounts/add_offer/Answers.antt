@@ -1,8 +1,6 @@
 -- The discoveries of the one account are written.
-use Rattle.std.proofs.Common.{◌≡◌, ◌≤◌, ◌-◌, ◌+◌, ◌++◌, ◌∷◌, [], drop, length, set, subst, ap, ◌∙◌}
+use Rattle.std.proofs.Common.{◌≡◌, ◌≤◌, ◌-◌, ◌++◌, ◌∷◌, [], length, set, subst, ap, ◌∙◌}
 use Rattle.hla_base.specs.Tables.{upd2}
-use Rattle.hla_machine.specs.Directory.{Directory, without_member}
-use Rattle.hla_machine.specs.Machine.{after_leaving}
 use Rattle.hla_checker.specs.Accounts.{account_at, central_with, offers_from}
 use Rattle.hla_checker.proofs.ChangeLemmas.{account_read}
 use Rattle.hla_checker.proofs.OfferChanges.{offers_set, offers_kept, offers-push}
@@ -21,4 +19,4 @@ invariant_of-self c = offers_kept c.self.inside.accounts.items c.args.federate c
 pub returns-clause-ok : goal.returns-clause-ok
 returns-clause-ok c = on_ok c.add.result (λ pushed d. subst (λ v. central_with d (set c.self.inside.accounts.items (c.args.federate - 1) (record c.index_mut.result.now { offers = c.add.new.self })) ≡ record (central_with d v) { discoveries = upd2 (central_with d v).discoveries c.args.offer.from c.args.federate ((central_with d v).discoveries c.args.offer.from c.args.federate ++ c.args.offer.discovery ∷ []) }) c.self.view_is
     (offers_set d c.self.inside.accounts.items c.args.federate c.requires.some (inside c) (λ xs. xs ++ c.args.offer.discovery ∷ []) c.index_mut.result.now c.add.new.self c.args.offer.from (read c)
-      (λ g. ap (offers_from g) pushed ∙ offers-push c.index_mut.result.now.offers c.args.offer g))) c.add.ensures.ok
+    (λ g. ap (offers_from g) pushed ∙ offers-push c.index_mut.result.now.offers c.args.offer g))) c.add.ensures.ok

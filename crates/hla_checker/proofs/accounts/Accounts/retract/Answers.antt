@@ -1,16 +1,10 @@
 -- What the one account has sent is written.
-use Rattle.std.proofs.Common.{◌≡◌, ◌≤◌, ◌-◌, ◌+◌, ℕ, true, false, Some, length, set, subst, sym, ap, ◌∙◌}
-use Rattle.hla_base.specs.Limits.{max_serial}
-use Rattle.hla_base.specs.Tables.{upd, upd2}
-use Rattle.hla_retraction.specs.SentEvents.{no_event}
+use Rattle.std.proofs.Common.{◌≡◌, ◌≤◌, ◌-◌, true, length, set, subst, sym}
+use Rattle.hla_base.specs.Tables.{upd2}
 use Rattle.hla_retraction.specs.SentRows.{sent_of}
-use Rattle.hla_retraction.specs.Receivers.{receiver_set}
-use Rattle.hla_machine.specs.Central.{at_key}
 use Rattle.hla_checker.specs.declared.account.Account.{Account}
-use Rattle.hla_checker.specs.Bags.{waiting_at}
-use Rattle.hla_checker.specs.Accounts.{account_at, central_with, copy_of, AreKept}
-use Rattle.hla_checker.proofs.ChangeLemmas.{account_read, account_shown, entry_set}
-use Rattle.hla_checker.proofs.CountLemmas.{on_ok}
+use Rattle.hla_checker.specs.Accounts.{account_at, central_with}
+use Rattle.hla_checker.proofs.ChangeLemmas.{account_read, account_shown}
 use Rattle.hla_checker.proofs.SendLemmas.{retract_kept, retract_set}
 use Rattle.hla_checker.proofs.accounts.Accounts.retract.Goals as goal
 

@@ -1,9 +1,7 @@
 -- The discoveries of the one account are written.
-use Rattle.std.proofs.Common.{◌≡◌, ◌≤◌, ◌-◌, ◌+◌, ◌++◌, ◌∷◌, [], drop, length, set, subst, ap, ◌∙◌}
+use Rattle.std.proofs.Common.{◌≡◌, ◌≤◌, ◌-◌, drop, length, set, subst}
 use Rattle.hla_base.specs.Tables.{upd2}
-use Rattle.hla_machine.specs.Directory.{Directory, without_member}
-use Rattle.hla_machine.specs.Machine.{after_leaving}
-use Rattle.hla_checker.specs.Accounts.{account_at, central_with, offers_from}
+use Rattle.hla_checker.specs.Accounts.{account_at, central_with}
 use Rattle.hla_checker.proofs.ChangeLemmas.{account_read}
 use Rattle.hla_checker.proofs.OfferChanges.{offers_set, offers_kept}
 use Rattle.hla_checker.proofs.accounts.Accounts.take_offer.Goals as goal

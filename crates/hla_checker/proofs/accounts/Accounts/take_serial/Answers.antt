@@ -1,16 +1,10 @@
 -- The next serial of the one account is written.
-use Rattle.std.proofs.Common.{◌≡◌, ◌≤◌, ◌-◌, ◌+◌, ℕ, true, false, Some, length, set, subst, sym, ap, ◌∙◌}
+use Rattle.std.proofs.Common.{◌≡◌, ◌≤◌, ◌-◌, ◌+◌, length, set, subst, sym, ap, ◌∙◌}
 use Rattle.hla_base.specs.Limits.{max_serial}
-use Rattle.hla_base.specs.Tables.{upd, upd2}
-use Rattle.hla_retraction.specs.SentEvents.{no_event}
-use Rattle.hla_retraction.specs.SentRows.{sent_of}
-use Rattle.hla_retraction.specs.Receivers.{receiver_set}
-use Rattle.hla_machine.specs.Central.{at_key}
+use Rattle.hla_base.specs.Tables.{upd}
 use Rattle.hla_checker.specs.declared.account.Account.{Account}
-use Rattle.hla_checker.specs.Bags.{waiting_at}
-use Rattle.hla_checker.specs.Accounts.{account_at, central_with, copy_of, AreKept}
-use Rattle.hla_checker.proofs.ChangeLemmas.{account_read, account_shown, entry_set}
-use Rattle.hla_checker.proofs.CountLemmas.{on_ok}
+use Rattle.hla_checker.specs.Accounts.{account_at, central_with, AreKept}
+use Rattle.hla_checker.proofs.ChangeLemmas.{account_read, account_shown}
 use Rattle.hla_checker.proofs.SendLemmas.{serial_kept, serial_set}
 use Rattle.hla_checker.proofs.accounts.Accounts.take_serial.Goals as goal
 
