@@ -12,6 +12,7 @@ mod entries;
 mod handles;
 mod joining;
 mod offers;
+mod refusals;
 mod retracting;
 mod row_change;
 mod sending;
