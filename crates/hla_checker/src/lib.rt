@@ -17,6 +17,7 @@ mod retracting;
 mod row_change;
 mod sending;
 mod ticks;
+mod time_refusals;
 
 pub use account::Account;
 pub use accounts::Accounts;
