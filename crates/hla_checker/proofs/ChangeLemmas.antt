@@ -33,7 +33,7 @@ upd_itself t f x same = fun_ext (λ g. ⊎_elim
     (cases_Bool (eqb f g)))
 
 -- what is read of the entries of a table after one changed
-upd_read : {X Y : Type 0} (p : X → Y) (t : ℕ → X) (f : ℕ) (x : X) → (λ g. p (upd t f x g)) ≡ upd (λ g. p (t g)) f (p x)
+pub upd_read : {X Y : Type 0} (p : X → Y) (t : ℕ → X) (f : ℕ) (x : X) → (λ g. p (upd t f x g)) ≡ upd (λ g. p (t g)) f (p x)
 unfolding upd
 upd_read p t f x = fun_ext (λ g. ⊎_elim (λ (y : eqb f g ≡ true). rw y refl) (λ (n : eqb f g ≡ false). rw n refl) (cases_Bool (eqb f g)))
 
@@ -153,32 +153,36 @@ module _ (d : Directory) (accounts : List Account) (f : ℕ) (some : 0 < f) (wit
       ∙ bag_changed ws
       ∙ ap (λ (b : ℕ → ℕ → ℕ → Option Copy). record (central_with d accounts) { bag = b }) (bag_ext _ bag each)
 
-  -- one message less
-  pub take_set : (x : Account) (ws : List Waiting) (g m : ℕ) → x ≡ account_at accounts f → waiting_at ws ≡ upd2 (waiting_at x.bag) g m None →
-      central_with d (set accounts (f - 1) (record x { bag = ws })) ≡ record (central_with d accounts) { bag = at_key (central_with d accounts).bag g m f None }
+  -- one message more or less
+  pub entry_set : (x : Account) (ws : List Waiting) (g m : ℕ) (o : Option Waiting) → x ≡ account_at accounts f → waiting_at ws ≡ upd2 (waiting_at x.bag) g m o →
+      central_with d (set accounts (f - 1) (record x { bag = ws })) ≡ record (central_with d accounts) { bag = at_key (central_with d accounts).bag g m f (option_map copy_of o) }
   unfolding upd upd2 at_key
-  take_set x ws g m is table = bag_set x ws (at_key (central_with d accounts).bag g m f None) is taken_at
+  entry_set x ws g m o is table = bag_set x ws (at_key (central_with d accounts).bag g m f (option_map copy_of o)) is written_at
     where
-      here : (h n : ℕ) → copy_at ws h n ≡ cond (is_key g m h n) None (copy_at (account_at accounts f).bag h n)
-      here h n = ap (λ t. option_map copy_of (t h n)) table ∙ by (is_key g m h n) ∙ ap (λ (a : Account). cond (is_key g m h n) None (copy_at a.bag h n)) is
+      here : (h n : ℕ) → copy_at ws h n ≡ cond (is_key g m h n) (option_map copy_of o) (copy_at (account_at accounts f).bag h n)
+      here h n = ap (λ t. option_map copy_of (t h n)) table ∙ by (is_key g m h n) ∙ ap (λ (a : Account). cond (is_key g m h n) (option_map copy_of o) (copy_at a.bag h n)) is
         where
-          by : (b : Bool) → option_map copy_of (cond b None (waiting_at x.bag h n)) ≡ cond b None (copy_at x.bag h n)
+          by : (b : Bool) → option_map copy_of (cond b o (waiting_at x.bag h n)) ≡ cond b (option_map copy_of o) (copy_at x.bag h n)
           by true = refl
           by false = refl
 
-      taken_at : (h n k : ℕ) → upd ((central_with d accounts).bag h n) f (copy_at ws h n) k ≡ at_key (central_with d accounts).bag g m f None h n k
-      taken_at h n k = ⊎_elim
+      written_at : (h n k : ℕ) → upd ((central_with d accounts).bag h n) f (copy_at ws h n) k ≡ at_key (central_with d accounts).bag g m f (option_map copy_of o) h n k
+      written_at h n k = ⊎_elim
           (λ (y : eqb f k ≡ true). let e : f ≡ k = grind (arith, nat_tests) in rw (y, here h n) (by (is_key g m h n) (ap (λ j. copy_at (account_at accounts j).bag h n) e)))
           (λ (n' : eqb f k ≡ false). rw n' (neither (is_key g m h n)))
           (cases_Bool (eqb f k))
         where
-          by : (b : Bool) → copy_at (account_at accounts f).bag h n ≡ copy_at (account_at accounts k).bag h n → cond b None (copy_at (account_at accounts f).bag h n) ≡ cond (b && true) None (copy_at (account_at accounts k).bag h n)
+          by : (b : Bool) → copy_at (account_at accounts f).bag h n ≡ copy_at (account_at accounts k).bag h n → cond b (option_map copy_of o) (copy_at (account_at accounts f).bag h n) ≡ cond (b && true) (option_map copy_of o) (copy_at (account_at accounts k).bag h n)
           by true e = refl
           by false e = e
 
-          neither : (b : Bool) → copy_at (account_at accounts k).bag h n ≡ cond (b && false) None (copy_at (account_at accounts k).bag h n)
+          neither : (b : Bool) → copy_at (account_at accounts k).bag h n ≡ cond (b && false) (option_map copy_of o) (copy_at (account_at accounts k).bag h n)
           neither true = refl
           neither false = refl
+
+  pub take_set : (x : Account) (ws : List Waiting) (g m : ℕ) → x ≡ account_at accounts f → waiting_at ws ≡ upd2 (waiting_at x.bag) g m None →
+      central_with d (set accounts (f - 1) (record x { bag = ws })) ≡ record (central_with d accounts) { bag = at_key (central_with d accounts).bag g m f None }
+  take_set x ws g m is table = entry_set x ws g m None is table
 
   -- messages are demoted
   pub demote_set : (x : Account) (ws : List Waiting) (events : List EventHandle) → x ≡ account_at accounts f → waiting_at ws ≡ with_listed_demoted events (waiting_at x.bag) →
@@ -207,7 +211,7 @@ module _ (d : Directory) (accounts : List Account) (f : ℕ) (some : 0 < f) (wit
 
 module _ (d : Directory) (accounts : List Account) (f : ℕ) (some : 0 < f) (within : f ≤ length accounts) where
   -- only what is due changes
-  due_changed : (es : List EventHandle) → central_with d (set accounts (f - 1) (record (account_at accounts f) { due = es })) ≡ record (central_with d accounts) { due = λ g m. upd ((central_with d accounts).due g m) f (times_listed es g m) }
+  pub due_changed : (es : List EventHandle) → central_with d (set accounts (f - 1) (record (account_at accounts f) { due = es })) ≡ record (central_with d accounts) { due = λ g m. upd ((central_with d accounts).due g m) f (times_listed es g m) }
   due_changed es =
       let a : Account = record (account_at accounts f) { due = es } in
       λ i. record {

@@ -16,3 +16,13 @@ pub mod EntryLemmas
 pub mod HandleLemmas
 -- The next discovery of one federate's objects
 pub mod OfferLemmas
+-- How often retractions are under way and due, after one account changed
+pub mod CountLemmas
+-- Discoveries that wait for one federate, after a change
+pub mod OfferChanges
+-- The accounts after a federate joins or leaves
+pub mod JoinLemmas
+-- The accounts after a message is sent or retracted
+pub mod SendLemmas
+-- To whom the retraction of a message goes, one federate after another
+pub mod RetractLemmas

@@ -4,7 +4,7 @@ use Rattle.std.specs.List.{find, cons_option}
 use Rattle.hla_base.specs.Tables.{when}
 use Rattle.hla_base.specs.declared.content.Discovery.{Discovery}
 use Rattle.hla_machine.specs.Callbacks.{IsNextDiscovery}
-use Rattle.hla_checker.specs.declared.account.Offer.{Offer}
+use Rattle.hla_checker.specs.declared.offers.Offer.{Offer}
 use Rattle.hla_checker.specs.Accounts.{offers_from}
 
 -- that of the first offer, if there is one

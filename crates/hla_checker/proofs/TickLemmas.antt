@@ -22,7 +22,7 @@ use Rattle.hla_machine.specs.Central.{Copy, Ro, Tso, KeyLe, BelowBound, BelowAll
 use Rattle.hla_machine.specs.declared.step.Choice.TheVariants as choice
 use Rattle.hla_machine.specs.Callbacks.{IsDiscovered, IsCopy, MayDeliver, MayConstrain, AreBelow, is_among, MayReceive, IsFirstRo, IsAtFirstPick, IsLeastKey, MayPick, MayPickIn, WhileAdvancing, MayGrantFlush, MayGrantAs, MayGrant}
 use Rattle.hla_checker.specs.declared.account.Account.{Account}
-use Rattle.hla_checker.specs.declared.account.Offer.{Offer}
+use Rattle.hla_checker.specs.declared.offers.Offer.{Offer}
 use Rattle.hla_checker.specs.declared.bag.Waiting.{Waiting}
 use Rattle.hla_checker.specs.Bags.{waiting_at, is_listed}
 use Rattle.hla_checker.specs.Accounts.{account_at, offers_from, copy_of, copy_given, copy_at, central_with, AreKept}

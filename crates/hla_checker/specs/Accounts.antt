@@ -15,7 +15,7 @@ use Rattle.hla_machine.specs.Directory.{Directory}
 use Rattle.hla_machine.specs.Central as machine
 use Rattle.hla_machine.specs.Central.{Central, Copy, Ro, Tso, is_key}
 use Rattle.hla_checker.specs.declared.account.Account.{Account}
-use Rattle.hla_checker.specs.declared.account.Offer.{Offer}
+use Rattle.hla_checker.specs.declared.offers.Offer.{Offer}
 use Rattle.hla_checker.specs.declared.bag.Waiting.{Waiting}
 use Rattle.hla_checker.specs.Bags.{waiting_at, AreApart}
 

@@ -4,12 +4,13 @@ use Rattle.std.specs.List.{list_all, list_any}
 use Rattle.std.specs.Option.{option_map_or}
 use Rattle.hla_base.specs.declared.number.EventHandle.{EventHandle}
 use Rattle.hla_base.specs.Rows.{is_constrained, is_regulator, is_enabled, next_request, bar_of}
-use Rattle.hla_base.specs.Tables.{greatest}
+use Rattle.hla_base.specs.Tables.{greatest, is_other}
+use Rattle.hla_retraction.specs.SentRows.{sent_of}
 use Rattle.hla_machine.specs.declared.step.Carried.{Carried}
 use Rattle.hla_machine.specs.declared.step.Carried.TheVariants as carried
 use Rattle.hla_machine.specs.Machine.{is_removal}
 use Rattle.hla_checker.specs.declared.account.Account.{Account}
-use Rattle.hla_checker.specs.declared.account.Offer.{Offer}
+use Rattle.hla_checker.specs.declared.offers.Offer.{Offer}
 use Rattle.hla_checker.specs.declared.bag.Waiting.{Waiting}
 use Rattle.hla_checker.specs.Bags.{waiting_at, is_listed}
 use Rattle.hla_checker.specs.Accounts.{account_at}
@@ -83,3 +84,8 @@ is_below_some_wake accounts f e (suc n) = is_below_wake_of accounts f e n || is_
 abbrev pub may_enter : List Account → ℕ → ℕ → ℕ → Bool
 may_enter accounts f earliest e = let low = greatest (length accounts + 1) earliest (λ g. bar_of (account_at accounts g).state) in
     leb low e && (leb e low || is_below_some_wake accounts f e (length accounts + 1))
+
+-- ---- retraction
+-- the retraction of g's message with serial m goes to f: f is joined, is not g, and the message was sent to it
+abbrev pub is_told_of : List Account → ℕ → ℕ → ℕ → Bool
+is_told_of accounts g m f = is_other (λ k. (account_at accounts k).is_joined) g f && (sent_of (account_at accounts g).sent m).receivers f

@@ -1,6 +1,6 @@
 //! What waits for one federate.
 
-ghost use Rattle.std.specs.Prelude.{◌≡◌, ◌↔◌, IsTrue, None, Some, OnOk, OnErr, IfErr};
+ghost use Rattle.std.specs.Prelude.{◌≡◌, ◌↔◌, IsTrue, [], None, Some, OnOk, OnErr, IfErr};
 ghost use Rattle.std.specs.Option.{option_copied};
 ghost use Rattle.hla_base.specs.declared.fault.Fault.TheVariants.{OutOfMemory};
 ghost use Rattle.hla_base.specs.Tables.{upd2};
@@ -55,7 +55,7 @@ fn demoted(delivery: Delivery) -> Delivery
 impl Bag {
     /// Nothing waits; it takes no memory.
     pub fn new(alloc: Global) -> Bag
-        ensures { waiting_at result ≡ (λ _ _. None) }
+        ensures { result ≡ [] }
     {
         Bag {
             waiting: Vec::new(alloc),
@@ -134,8 +134,7 @@ impl Bag {
 
     /// Nothing waits any more.
     pub fn clear(&mut self)
-        ensures table { waiting_at self.new ≡ (λ _ _. None) }
-        ensures apart { AreApart self.new }
+        ensures { self.new ≡ [] }
     {
         self.waiting.clear();
     }

@@ -7,10 +7,10 @@ ghost use Rattle.hla_checker.specs.Bags.{waiting_at};
 ghost use Rattle.hla_checker.specs.Bounds.{demoted_stamp};
 ghost use Rattle.hla_checker.specs.Calls.{may_bound, is_at_most_demoted, is_below_all_demoted, may_be_next, waits_in_order, may_cease, are_distinct, is_carried, is_offered, may_carry, may_announce};
 
-use crate::account::Offer;
 use crate::accounts::Accounts;
 use crate::bag::{Waiting, is_listed};
 use crate::bounds::ordered_stamp;
+use crate::offers::Offer;
 use hla_base::{Content, EventHandle, FederateNo, ObjectNo, Ticks};
 use hla_callbacks::Delivery;
 use hla_machine::Carried;

@@ -1,17 +1,18 @@
 //! What changes of one account do to the state that accounts stand for.
 
-ghost use Rattle.std.specs.Prelude.{◌≡◌, ◌<◌, ◌≤◌, ◌-◌, None, length, not};
+ghost use Rattle.std.specs.Prelude.{◌≡◌, ◌<◌, ◌≤◌, ◌+◌, ◌-◌, None, length, not, is_some, OnOk, IfErr};
+ghost use Rattle.hla_base.specs.declared.fault.Fault.TheVariants.{OutOfMemory};
 ghost use Rattle.hla_machine.specs.Directory.{Directory};
 ghost use Rattle.hla_base.specs.Rows.{is_disabled};
 ghost use Rattle.hla_machine.specs.Central.{at_key, at3};
-ghost use Rattle.hla_machine.specs.Machine.{after_arrival};
+ghost use Rattle.hla_machine.specs.Machine.{after_arrival, after_retraction_arrival};
 ghost use Rattle.hla_machine.specs.Callbacks.{with_central_row, with_demoted};
-ghost use Rattle.hla_checker.specs.Accounts.{account_at, central_with};
+ghost use Rattle.hla_checker.specs.Accounts.{account_at, central_with, copy_at};
 ghost use Rattle.hla_checker.specs.RowChanges.{changed_row, MayChangeRow};
 
 use crate::accounts::Accounts;
 use crate::row_change::RowChange;
-use hla_base::{EventHandle, FederateNo};
+use hla_base::{EventHandle, Fault, FederateNo};
 
 impl Accounts {
     /// The row of a federate changes.
@@ -78,5 +79,64 @@ impl Accounts {
         } }
     {
         self.accounts[federate as usize - 1].due.remove(event);
+    }
+
+    /// A federate is to be asked to take an event back. `OutOfMemory` where a growth was refused.
+    fn add_due(&mut self, federate: FederateNo, event: EventHandle) -> Result<(), Fault>
+        requires some { 0 < federate }
+        requires within { federate ≤ length self.old }
+        ensures ok { OnOk result ((d : Directory) → let c = central_with d self.old in central_with d self.new ≡ record c {
+          due = at3 c.due event.sender event.serial federate (c.due event.sender event.serial federate + 1);
+        }) }
+        ensures err { IfErr result (λ e. e ≡ Fault.OutOfMemory) }
+    {
+        self.accounts[federate as usize - 1].due.add(event)
+    }
+
+    /// A retraction of an event is under way to a federate. `OutOfMemory` where a growth was refused.
+    pub fn add_owed(&mut self, federate: FederateNo, event: EventHandle) -> Result<(), Fault>
+        requires some { 0 < federate }
+        requires within { federate ≤ length self.old }
+        ensures ok { OnOk result ((d : Directory) → let c = central_with d self.old in central_with d self.new ≡ record c {
+          owed = at3 c.owed event.sender event.serial federate (c.owed event.sender event.serial federate + 1);
+        }) }
+        ensures err { IfErr result (λ e. e ≡ Fault.OutOfMemory) }
+    {
+        self.accounts[federate as usize - 1].owed.add(event)
+    }
+
+    /// A retraction of an event is no longer under way to a federate. It looks at all that are under way to it.
+    fn take_owed(&mut self, federate: FederateNo, event: EventHandle)
+        requires some { 0 < federate }
+        requires within { federate ≤ length self.old }
+        ensures { (d : Directory) → let c = central_with d self.old in central_with d self.new ≡ record c {
+          owed = at3 c.owed event.sender event.serial federate (c.owed event.sender event.serial federate - 1);
+        } }
+    {
+        self.accounts[federate as usize - 1].owed.remove(event);
+    }
+
+    /// Whether a message waits for a federate.
+    fn is_there(&self, federate: FederateNo, event: EventHandle) -> bool
+        ensures { result ≡ is_some (copy_at (account_at self.now federate).bag event.sender event.serial) }
+    {
+        self.find(federate, event).is_some()
+    }
+
+    /// A retraction arrives for a federate (HLA 1.3, Retract): it takes the message back, or the federate, which has picked
+    /// it up, is to be asked to. `OutOfMemory` where a growth was refused. It looks at all that waits for the federate.
+    pub fn settle(&mut self, federate: FederateNo, event: EventHandle) -> Result<(), Fault>
+        requires some { 0 < federate }
+        requires within { federate ≤ length self.old }
+        ensures ok { OnOk result ((d : Directory) → central_with d self.new ≡ after_retraction_arrival
+            (central_with d self.old) event.sender federate event.serial) }
+        ensures err { IfErr result (λ e. e ≡ Fault.OutOfMemory) }
+    {
+        if !self.is_there(federate, event) {
+            self.add_due(federate, event)?;
+        }
+        self.take(federate, event);
+        self.take_owed(federate, event);
+        Ok(())
     }
 }

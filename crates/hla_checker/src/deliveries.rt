@@ -9,10 +9,10 @@ ghost use Rattle.hla_checker.specs.Accounts.{account_at, no_account, copy_at, co
 ghost use Rattle.hla_checker.specs.Bags.{waiting_at};
 ghost use Rattle.hla_checker.specs.Ticks.{has_no_offer, is_discovered, may_deliver, is_moved_below, is_among_if_below, may_constrain};
 
-use crate::account::Offer;
 use crate::accounts::Accounts;
 use crate::bag::{Waiting, is_listed};
 use crate::bounds::ordered_stamp;
+use crate::offers::Offer;
 use crate::ticks::may_receive;
 use hla_base::{Content, EventHandle, FederateNo, ObjectNo, Plain, Ticks};
 use hla_callbacks::Delivery;

@@ -71,6 +71,13 @@ impl Handles {
         }
     }
 
+    /// There is none any more.
+    pub fn clear(&mut self)
+        ensures { self.new ≡ [] }
+    {
+        self.events.clear();
+    }
+
     fn place_of(&self, event: EventHandle) -> Option<usize>
         ensures { result ≡ position (is_handle_of event.sender event.serial) self.now }
     {
