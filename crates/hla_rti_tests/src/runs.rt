@@ -1,0 +1,251 @@
+ghost use Rattle.std.specs.Prelude.{◌≡◌, [], IfOk};
+
+use hla_base::{ExecutionName, Fault, List};
+use hla_callbacks::Recorder;
+use hla_machine::{Answer, Outcome, ResignAction};
+use hla_rti::{CloseFault, Closed, Federate, Left, NotClosed, Rti};
+use std::alloc::Global;
+use std::marker::Brand;
+use std::process::Abort;
+use std::sync::Wait;
+use std::sync::ledger::{Blank, Ledger};
+use std::test::Fail;
+
+const FED: &[u8] = b"(FED
+ (Federation Demo)
+ (FEDversion v1.3)
+ (spaces)
+ (objects
+  (class ObjectRoot
+   (attribute privilegeToDelete reliable timestamp)))
+ (interactions
+  (class InteractionRoot reliable receive)))
+";
+
+/// A federate that joined; it must not be refused.
+fn joined<L: Ledger>(
+    rt: &(impl Wait + Abort),
+    rti: &mut Rti<L, Recorder>,
+    name: List<u8>,
+    execution: ExecutionName,
+    ambassador: Recorder,
+) -> Federate<L, Recorder>
+    requires { ambassador.heard ≡ [] }
+{
+    match rti.join(rt, name, execution, ambassador) {
+        Ok(federate) => federate,
+        Err((fault, _)) => panic!(rt; "refused: {fault}"),
+    }
+}
+
+/// A name of one letter.
+fn letter(alloc: Global, letter: u8) -> Result<List<u8>, Fail> {
+    let mut name = List::new(alloc);
+    name.push(letter)?;
+    Ok(name)
+}
+
+/// The records of a run whose callers have all come back.
+fn closed<L: Ledger>(
+    rt: &(impl Wait + Abort),
+    rti: Rti<L, Recorder>,
+    lefts: Vec<Left<L, Recorder>>,
+) -> Closed
+    requires { L.parts ≡ 2049 }
+{
+    match rti.close(rt, lefts) {
+        Ok(closed) => closed,
+        Err(_) => panic!(rt; "not closed"),
+    }
+}
+
+/// A history of two records is full after a creation and a joining, and nothing changes then.
+fn full_at_two<L: Ledger>(rt: &(impl Wait + Abort), alloc: Global, blank: Blank) -> Result<(), Fail>
+    requires name { blank.name ≡ L.name }
+    requires parts { blank.parts ≡ L.parts }
+    requires all { blank.parts ≡ 2049 }
+{
+    let play = ExecutionName::new(b"play")?;
+    let mut rti = Rti::<L, Recorder>::new(alloc, blank, 2)?;
+    assert!(rt; rti.create(rt, play, FED) == Ok(Answer::Done));
+    let a = letter(alloc, b'A')?;
+    let mut a = joined(rt, &mut rti, a, play, Recorder::new(alloc));
+    assert!(rt; a.tick(rt) == Err(Fault::HistoryFull));
+    assert!(rt; a.query_federate_time(rt) == Err(Fault::HistoryFull));
+    assert!(rt; rti.destroy(rt, play) == Err(Fault::HistoryFull));
+    let mut lefts = Vec::new(alloc);
+    lefts.push(a.leave())?;
+    assert_eq!(rt; closed(rt, rti, lefts).records().len(), 2);
+    Ok(())
+}
+
+#[test]
+fn full_at_two_at_a_brand(rt: HostRuntime) -> Result<(), Fail> {
+    full_at_two::<Brand>(&rt, rt.alloc(), Blank::new(2049))
+}
+
+/// An ambassador that fails has heard the callback, the record holds it, and the next tick has nothing to give.
+fn failing_ambassador<L: Ledger>(
+    rt: &(impl Wait + Abort),
+    alloc: Global,
+    blank: Blank,
+) -> Result<(), Fail>
+    requires name { blank.name ≡ L.name }
+    requires parts { blank.parts ≡ L.parts }
+    requires all { blank.parts ≡ 2049 }
+{
+    let play = ExecutionName::new(b"play")?;
+    let mut rti = Rti::<L, Recorder>::new(alloc, blank, 100)?;
+    assert!(rt; rti.create(rt, play, FED) == Ok(Answer::Done));
+    let a = letter(alloc, b'A')?;
+    let mut a = joined(rt, &mut rti, a, play, Recorder::failing(alloc, 0));
+    assert!(rt; a.enable_time_regulation(rt, 0, 1) == Ok(Answer::Done));
+    assert!(rt; a.tick(rt) == Err(Fault::FederateInternalError));
+    assert!(rt; a.tick(rt) == Ok(Answer::Ticked(None)));
+    let Ok(mut left) = a.resign(rt, ResignAction::NoAction) else {
+        panic!(rt; "not resigned");
+    };
+    match left.take_ambassador() {
+        Some(ambassador) => assert_eq!(rt; ambassador.callbacks().len(), 1),
+        None => panic!(rt; "no ambassador"),
+    }
+    let mut lefts = Vec::new(alloc);
+    lefts.push(left)?;
+    let closed = closed(rt, rti, lefts);
+    assert_eq!(rt; closed.records().len(), 6);
+    match closed.records().get(3) {
+        Some(record) => assert!(rt; matches!(record.outcome, Outcome::Failed(_))),
+        None => panic!(rt; "no record"),
+    }
+    Ok(())
+}
+
+#[test]
+fn failing_ambassador_at_a_brand(rt: HostRuntime) -> Result<(), Fail> {
+    failing_ambassador::<Brand>(&rt, rt.alloc(), Blank::new(2049))
+}
+
+/// A creation from a FED file that is refused answers ErrorReadingFED, and is recorded.
+fn refused_fed_file<L: Ledger>(
+    rt: &(impl Wait + Abort),
+    alloc: Global,
+    blank: Blank,
+) -> Result<(), Fail>
+    requires name { blank.name ≡ L.name }
+    requires parts { blank.parts ≡ L.parts }
+    requires all { blank.parts ≡ 2049 }
+{
+    let play = ExecutionName::new(b"play")?;
+    let mut rti = Rti::<L, Recorder>::new(alloc, blank, 100)?;
+    assert!(rt; rti.create(rt, play, b"(FED") == Err(Fault::ErrorReadingFED));
+    assert!(rt; rti.destroy(rt, play) == Err(Fault::FederationExecutionDoesNotExist));
+    assert_eq!(rt; closed(rt, rti, Vec::new(alloc)).records().len(), 2);
+    Ok(())
+}
+
+#[test]
+fn refused_fed_file_at_a_brand(rt: HostRuntime) -> Result<(), Fail> {
+    refused_fed_file::<Brand>(&rt, rt.alloc(), Blank::new(2049))
+}
+
+/// After 64 rounds of creating and destroying no execution is created.
+fn sixty_four_rounds<L: Ledger>(
+    rt: &(impl Wait + Abort),
+    alloc: Global,
+    blank: Blank,
+) -> Result<(), Fail>
+    requires name { blank.name ≡ L.name }
+    requires parts { blank.parts ≡ L.parts }
+    requires all { blank.parts ≡ 2049 }
+{
+    let play = ExecutionName::new(b"play")?;
+    let mut rti = Rti::<L, Recorder>::new(alloc, blank, 200)?;
+    for _ in 0..64 {
+        assert!(rt; rti.create(rt, play, FED) == Ok(Answer::Done));
+        assert!(rt; rti.destroy(rt, play) == Ok(Answer::Done));
+    }
+    assert!(rt; rti.create(rt, play, FED) == Err(Fault::LimitReached));
+    assert_eq!(rt; closed(rt, rti, Vec::new(alloc)).records().len(), 129);
+    Ok(())
+}
+
+#[test]
+fn sixty_four_rounds_at_a_brand(rt: HostRuntime) -> Result<(), Fail> {
+    sixty_four_rounds::<Brand>(&rt, rt.alloc(), Blank::new(2049))
+}
+
+/// Where a caller is missing nothing is closed, and it is once the caller has come back.
+fn one_missing<L: Ledger>(rt: &(impl Wait + Abort), alloc: Global, blank: Blank) -> Result<(), Fail>
+    requires name { blank.name ≡ L.name }
+    requires parts { blank.parts ≡ L.parts }
+    requires all { blank.parts ≡ 2049 }
+{
+    let play = ExecutionName::new(b"play")?;
+    let mut rti = Rti::<L, Recorder>::new(alloc, blank, 100)?;
+    assert!(rt; rti.create(rt, play, FED) == Ok(Answer::Done));
+    let a = letter(alloc, b'A')?;
+    let a = joined(rt, &mut rti, a, play, Recorder::new(alloc));
+    let Err(back) = rti.close(rt, Vec::new(alloc)) else {
+        panic!(rt; "closed without the federate");
+    };
+    let NotClosed {
+        rti,
+        mut lefts,
+        fault,
+    } = back;
+    assert!(rt; fault == CloseFault::Missing);
+    lefts.push(a.leave())?;
+    assert_eq!(rt; closed(rt, rti, lefts).records().len(), 2);
+    Ok(())
+}
+
+#[test]
+fn one_missing_at_a_brand(rt: HostRuntime) -> Result<(), Fail> {
+    one_missing::<Brand>(&rt, rt.alloc(), Blank::new(2049))
+}
+
+/// Two federates and a courier, from the creation to the destruction.
+fn whole_run<L: Ledger>(rt: &(impl Wait + Abort), alloc: Global, blank: Blank) -> Result<(), Fail>
+    requires name { blank.name ≡ L.name }
+    requires parts { blank.parts ≡ L.parts }
+    requires all { blank.parts ≡ 2049 }
+{
+    let play = ExecutionName::new(b"play")?;
+    let mut rti = Rti::<L, Recorder>::new(alloc, blank, 100)?;
+    assert!(rt; rti.create(rt, play, FED) == Ok(Answer::Done));
+    let (a, b) = (letter(alloc, b'A')?, letter(alloc, b'B')?);
+    let mut a = joined(rt, &mut rti, a, play, Recorder::new(alloc));
+    let mut b = joined(rt, &mut rti, b, play, Recorder::new(alloc));
+    let mut courier = rti.courier()?;
+    assert!(rt; a.enable_time_regulation(rt, 0, 1) == Ok(Answer::Done));
+    assert!(rt; matches!(a.tick(rt), Ok(Answer::Ticked(Some(_)))));
+    assert!(rt; b.enable_time_constrained(rt) == Ok(Answer::Done));
+    assert!(rt;
+        matches!(
+            courier.announce(rt, play, a.number()),
+            Ok(Answer::Announced(_))
+        )
+    );
+    assert!(rt;
+        matches!(
+            courier.carry(rt, play, a.number(), b.number()),
+            Ok(Answer::Carried(_))
+        )
+    );
+    let mut lefts = Vec::new(alloc);
+    for federate in [a, b] {
+        match federate.resign(rt, ResignAction::NoAction) {
+            Ok(left) => lefts.push(left)?,
+            Err((fault, _)) => panic!(rt; "not resigned: {fault}"),
+        }
+    }
+    lefts.push(courier.leave())?;
+    assert!(rt; rti.destroy(rt, play) == Ok(Answer::Done));
+    assert_eq!(rt; closed(rt, rti, lefts).records().len(), 11);
+    Ok(())
+}
+
+#[test]
+fn whole_run_at_a_brand(rt: HostRuntime) -> Result<(), Fail> {
+    whole_run::<Brand>(&rt, rt.alloc(), Blank::new(2049))
+}
