@@ -3,6 +3,7 @@ pub mod Ambassadors
 pub mod Kept
 pub mod Ears
 pub mod Foreseen
+pub mod FormLaws
 pub mod Hosting
 pub mod Places
 pub mod Seats

@@ -17,12 +17,11 @@ use Rattle.hla_machine.specs.declared.step.Choice.{Choice}
 use Rattle.hla_machine.specs.declared.step.Choice.TheVariants as choice
 use Rattle.hla_machine.specs.declared.step.Record.{Record}
 use Rattle.hla_components.specs.Next.{next}
-use Rattle.hla_history.specs.Creating.{heard_from, AnswersJoin}
+use Rattle.hla_history.specs.Creating.{heard_from}
 use Rattle.hla_history.specs.Heard.{given_outcome}
 use Rattle.hla_history.specs.Hosts.{Host, HostTable, set_host, host_after, hosts_after_step}
 use Rattle.hla_history.specs.Hosting.{HostedValue, host_of, table_of, EndsIn}
-use Rattle.hla_history.proofs.Ambassadors.{given_federate, given_refused}
-use Rattle.hla_history.proofs.NextLaws.{next_real, join_cases, IsJoining, IsTurnedDown}
+use Rattle.hla_history.proofs.NextLaws.{next_real}
 
 -- two names are equal the same way round
 pub apart_back : (a b : List ℕ) (t : Bool) → bytes_eq b a ≡ t → bytes_eq a b ≡ false → t ≡ false
@@ -169,14 +168,3 @@ pub heard_there : {B : Type 0} (o : Option Host) (h : Host) (f : ℕ) (heard : B
     → IfSome back (λ b. heard_from o f ≡ Some (heard b))
 heard_there o h f heard None is there = there
 heard_there o h f heard (Some b) is there = ap (λ (x : Option Host). heard_from x f) is ∙ there
-
--- how a joining ends
-join_answers : (h : Host) (name : List ℕ) (out : Outcome) → given_outcome out ≡ (next h.components (Join name)).outcome → AnswersJoin out
-join_answers h name out gives = ⊎_elim
-    (λ (j : IsJoining h.components name). subst AnswersJoin (sym (given_federate out h.components.directory.next_federate (gives ∙ j.outcome))) tt)
-    (λ (down : IsTurnedDown h.components (Join name)). subst AnswersJoin (sym (given_refused out down.fault (gives ∙ down.outcome))) tt)
-    (join_cases h.components name)
-
-pub joined_answers : (o : Option Host) (name : List ℕ) (out answered : Outcome) (chosen : Choice) → EndsIn o (Join name) out chosen → answered ≡ out → AnswersJoin answered
-joined_answers None name out answered chosen ends is = subst AnswersJoin (sym (is ∙ ends.0)) tt
-joined_answers (Some h) name out answered chosen ends is = subst AnswersJoin (sym is) (join_answers h name out ends.0)

@@ -31,13 +31,6 @@ is_accepted (outcome.Done a) = true
 is_accepted (outcome.Refused e) = false
 is_accepted (outcome.Failed k) = false
 
--- a joining answers the number of the federate, or is refused
-abbrev pub AnswersJoin : Outcome → Type 0
-AnswersJoin (outcome.Done (answer.Federate n)) = Unit {0}
-AnswersJoin (outcome.Done a) = ⊥
-AnswersJoin (outcome.Refused e) = Unit {0}
-AnswersJoin (outcome.Failed k) = ⊥
-
 -- what the ambassador of a federate has heard, if it has one
 abbrev pub heard_from : Option Host → ℕ → Option (List Callback)
 heard_from None f = None

@@ -6,7 +6,8 @@ ghost use Rattle.hla_machine.specs.declared.step.Act.TheVariants as act;
 ghost use Rattle.hla_machine.specs.declared.step.Choice.TheVariants as choice;
 ghost use Rattle.hla_machine.specs.declared.step.Step.TheVariants as step;
 ghost use Rattle.hla_history.specs.Closing.{records_by, Replays};
-ghost use Rattle.hla_history.specs.Creating.{catalogue_from, is_accepted, heard_from, AnswersJoin};
+ghost use Rattle.hla_history.specs.Creating.{catalogue_from, is_accepted, heard_from};
+ghost use Rattle.hla_history.specs.Forms.{NoAnswer, AFederate, EndsInForm, step_form};
 ghost use Rattle.hla_history.specs.Hosts.{IsPlain, IsLockKept, with_record};
 ghost use Rattle.hla_history.specs.Hosting.{held_of, hosts_of};
 
@@ -112,6 +113,7 @@ impl<L: Ledger, B: FederateAmbassador> Shared<L, B> {
           outcome = s.answer;
           choice = s.own.choice;
         }) }
+        ensures form { IfOk result (λ s. EndsInForm (step_form step) s.answer) }
         ensures recorded { IfOk result (λ s. held_of self.new ≡ with_record (held_of self.old) s.own) }
         ensures full { result ≡ Err Fault.HistoryFull ↔ (length self.old.history ≡ self.old.limit) }
         ensures refused { IfErr result (λ e. (e ≡ Fault.HistoryFull) ⊎ (e ≡ Fault.OutOfMemory)) }
@@ -147,6 +149,7 @@ impl<L: Ledger, B: FederateAmbassador> Shared<L, B> {
           outcome = s.answer;
           choice = choice.None;
         }) }
+        ensures form { IfOk result (λ s. EndsInForm NoAnswer s.answer) }
         ensures recorded { IfOk result (λ s. held_of self.new ≡ with_record (held_of self.old) s.own) }
         ensures full { result ≡ Err Fault.HistoryFull ↔ (length self.old.history ≡ self.old.limit) }
         ensures refused { IfErr result (λ e. (e ≡ Fault.HistoryFull) ⊎ (e ≡ Fault.OutOfMemory)) }
@@ -188,6 +191,7 @@ impl<L: Ledger, B: FederateAmbassador> Shared<L, B> {
           outcome = s.answer;
           choice = choice.None;
         }) }
+        ensures form { IfOk result (λ s. EndsInForm NoAnswer s.answer) }
         ensures recorded { IfOk result (λ s. held_of self.new ≡ with_record (held_of self.old) s.own) }
         ensures full { result ≡ Err Fault.HistoryFull ↔ (length self.old.history ≡ self.old.limit) }
         ensures refused { IfErr result (λ e. (e ≡ Fault.HistoryFull) ⊎ (e ≡ Fault.OutOfMemory)) }
@@ -227,7 +231,7 @@ impl<L: Ledger, B: FederateAmbassador> Shared<L, B> {
           choice = p.0.own.choice;
         }) }
         ensures recorded { IfOk result (λ p. held_of self.new ≡ with_record (held_of self.old) p.0.own) }
-        ensures number { IfOk result (λ p. AnswersJoin p.0.answer) }
+        ensures form { IfOk result (λ p. EndsInForm AFederate p.0.answer) }
         ensures back { IfOk result (λ p. p.1 ≡ (if is_accepted p.0.answer then None else Some inner)) }
         ensures full { result ≡ Err (Fault.HistoryFull, inner) ↔ (length self.old.history ≡ self.old.limit) }
         ensures refused { IfErr result (λ e. (e.0 ≡ Fault.HistoryFull) ⊎ (e.0 ≡ Fault.OutOfMemory)) }
@@ -270,6 +274,7 @@ impl<L: Ledger, B: FederateAmbassador> Shared<L, B> {
           outcome = p.0.answer;
           choice = p.0.own.choice;
         }) }
+        ensures form { IfOk result (λ p. EndsInForm NoAnswer p.0.answer) }
         ensures back { IfOk result (λ p. is_some p.1 ≡ is_accepted p.0.answer) }
         ensures heard { IfOk result (λ p. IfSome p.1 (λ b.
             heard_from ((held_of self.old).hosts.host execution) federate ≡ Some (B.heard b))) }

@@ -1,5 +1,5 @@
 -- What a call makes of its caller.
-use Rattle.std.proofs.Common.{◌≡◌, ℕ, ◌+◌, List, [], ◌∷◌, ◌++◌, Bool, true, false, sym, ◌∙◌, ap, inl, ◌⊎◌, subst}
+use Rattle.std.proofs.Common.{◌≡◌, ℕ, ◌+◌, List, [], ◌∷◌, ◌++◌, sym, ◌∙◌, ap, inl, ◌⊎◌, subst}
 use Rattle.std.specs.Prelude.{Result, Ok, Err, IfOk, IfErr}
 use Rattle.hla_base.specs.declared.fault.Fault.{Fault}
 use Rattle.hla_machine.specs.declared.step.Act.{Act}
@@ -9,8 +9,9 @@ use Rattle.hla_machine.specs.declared.step.Outcome.{Outcome}
 use Rattle.hla_machine.specs.declared.step.Outcome.TheVariants as outcome
 use Rattle.hla_machine.specs.declared.step.Choice.{Choice}
 use Rattle.hla_machine.specs.declared.step.Record.{Record}
-use Rattle.hla_rti.specs.Callers.{Caller, HasActed, HasNotActed, answer_given, HasAnswered, HasResigned}
-use Rattle.hla_history.specs.Creating.{is_accepted}
+use Rattle.hla_rti.specs.Callers.{Caller, Member, HasActed, HasNotActed, answer_given, HasAnswered, HasResigned, IsServed}
+use Rattle.hla_machine.specs.declared.service.Service.{Service}
+use Rattle.hla_history.specs.Forms.{AnswerForm, IsOfForm, EndsInForm}
 
 pub has_acted : (old new : Caller) (name : List ℕ) (a : Act) (own : Record) (out : Outcome) (chosen : Choice)
     → own ≡ record { actor = old.number; execution = name; act = a; outcome = out; choice = chosen }
@@ -44,18 +45,13 @@ unjoined_acted old new name a own out chosen (Err e) is number grows counts ends
     inl (subst (λ (o : Outcome). HasActed old name a o new) ends (has_acted old new name a own out chosen is number grows counts))
 
 -- ---- a resigning
-done_acted : (old new : Caller) (name : List ℕ) (a : Act) (out : Outcome) → is_accepted out ≡ true → HasActed old name a out new → HasResigned old name a new
-done_acted old new name a (outcome.Done what) accepted acted = (what, acted)
-done_acted old new name a (outcome.Refused e) accepted acted = absurd (let no : false ≡ true = accepted in cc)
-done_acted old new name a (outcome.Failed k) accepted acted = absurd (let no : false ≡ true = accepted in cc)
-
 pub resigned_acted : {X : Type 0} (old new : Caller) (name : List ℕ) (a : Act) (own : Record) (out : Outcome) (chosen : Choice) (result : Result X Fault)
     → own ≡ record { actor = old.number; execution = name; act = a; outcome = out; choice = chosen }
     → new.number ≡ old.number → new.transcript ≡ old.transcript ++ own ∷ [] → new.share ≡ old.share + 1
-    → IfOk result (λ b. is_accepted out ≡ true) → IfOk result (λ b. HasResigned old name a new)
-resigned_acted old new name a own out chosen (Ok b) is number grows counts accepted =
-    done_acted old new name a out accepted (has_acted old new name a own out chosen is number grows counts)
-resigned_acted old new name a own out chosen (Err e) is number grows counts accepted = tt
+    → IfOk result (λ b. out ≡ outcome.Done answer.Done) → IfOk result (λ b. HasResigned old name a new)
+resigned_acted old new name a own out chosen (Ok b) is number grows counts ends =
+    subst (λ (o : Outcome). HasActed old name a o new) ends (has_acted old new name a own out chosen is number grows counts)
+resigned_acted old new name a own out chosen (Err e) is number grows counts ends = tt
 
 pub unresigned_acted : {X : Type 0} (old new : Caller) (name : List ℕ) (a : Act) (own : Record) (out : Outcome) (chosen : Choice) (result : Result X Fault)
     → own ≡ record { actor = old.number; execution = name; act = a; outcome = out; choice = chosen }
@@ -64,3 +60,18 @@ pub unresigned_acted : {X : Type 0} (old new : Caller) (name : List ℕ) (a : Ac
 unresigned_acted old new name a own out chosen (Ok b) is number grows counts ends = tt
 unresigned_acted old new name a own out chosen (Err e) is number grows counts ends =
     inl (out, sym ends, has_acted old new name a own out chosen is number grows counts)
+
+-- ---- an answer of its own type
+in_form : (form : AnswerForm) (out : Outcome) → EndsInForm form out → IfOk (answer_given out) (λ a. IsOfForm form a)
+in_form form (outcome.Done a) is = is
+in_form form (outcome.Refused e) is = tt
+in_form form (outcome.Failed k) is = tt
+
+pub given_in_form : (form : AnswerForm) (out : Outcome) (result : Result Answer Fault) → EndsInForm form out → result ≡ answer_given out → IfOk result (λ a. IsOfForm form a)
+given_in_form form out result is gives = subst (λ (r : Result Answer Fault). IfOk r (λ a. IsOfForm form a)) (sym gives) (in_form form out is)
+
+pub answered_as : (old new : Caller) (name : List ℕ) (a : Act) (given own : Result Answer Fault) → own ≡ given → HasAnswered old name a given new → HasAnswered old name a own new
+answered_as old new name a given own same done = subst (λ (r : Result Answer Fault). HasAnswered old name a r new) (sym same) done
+
+pub served_as : (old new : Member) (x : Service) (given own : Result Answer Fault) → own ≡ given → IsServed old x given new → IsServed old x own new
+served_as old new x given own same done = subst (λ (r : Result Answer Fault). IsServed old x r new) (sym same) done

@@ -8,6 +8,7 @@ use Rattle.hla_machine.specs.declared.step.Step.TheVariants.{Call}
 use Rattle.hla_machine.specs.declared.step.Act.{Act}
 use Rattle.hla_machine.specs.declared.step.Act.TheVariants as act
 use Rattle.hla_machine.specs.declared.step.Answer.{Answer}
+use Rattle.hla_machine.specs.declared.step.Answer.TheVariants as answer
 use Rattle.hla_machine.specs.declared.step.Outcome.{Outcome}
 use Rattle.hla_machine.specs.declared.step.Outcome.TheVariants as outcome
 use Rattle.hla_machine.specs.declared.step.Choice.{Choice}
@@ -42,6 +43,15 @@ answer_given (outcome.Done a) = Ok a
 answer_given (outcome.Refused e) = Err e
 answer_given (outcome.Failed k) = Err fault.FederateInternalError
 
+-- a call's own answer, as its record says it
+abbrev pub said : {T : Type 0} → (T → Answer) → Result T Fault → Result Answer Fault
+said answer_of (Ok x) = Ok (answer_of x)
+said answer_of (Err e) = Err e
+
+-- a call that answers nothing
+abbrev pub nothing : Unit {0} → Answer
+nothing _ = answer.Done
+
 -- a caller's act answers what its record says; or nothing was recorded, and it answers why
 abbrev pub HasAnswered : Caller → List ℕ → Act → Result Answer Fault → Caller → Type 0
 HasAnswered old name a result new =
@@ -50,7 +60,7 @@ HasAnswered old name a result new =
 
 -- a resigning was done
 abbrev pub HasResigned : Caller → List ℕ → Act → Caller → Type 0
-HasResigned old name a new = (what : Answer) × HasActed old name a (outcome.Done what) new
+HasResigned old name a new = HasActed old name a (outcome.Done answer.Done) new
 
 -- a federate of an execution, as a caller
 pub record Member : Type 0 where

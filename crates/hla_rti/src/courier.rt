@@ -2,14 +2,16 @@
 
 ghost use Rattle.std.specs.Prelude.{◌≡◌, None};
 ghost use Rattle.hla_machine.specs.declared.step.Act.TheVariants as act;
+ghost use Rattle.hla_machine.specs.declared.step.Answer.TheVariants as answer;
 ghost use Rattle.hla_machine.specs.declared.step.Step.TheVariants as step;
-ghost use Rattle.hla_rti.specs.Callers.{HasAnswered};
+ghost use Rattle.hla_rti.specs.Callers.{HasAnswered, said};
 
+use crate::answers::{announced_in, carried_in};
 use crate::seat::{Left, Seat};
-use hla_base::{ExecutionName, Fault, FederateNo};
+use hla_base::{ExecutionName, Fault, FederateNo, Ticks};
 use hla_callbacks::FederateAmbassador;
 use hla_history::Shared;
-use hla_machine::{Answer, Step};
+use hla_machine::{Carried, Step};
 use std::alloc::Global;
 use std::marker::Model;
 use std::sync::ledger::Ledger;
@@ -33,7 +35,7 @@ impl<L: Ledger, B: FederateAmbassador> Model for Courier<L, B> {
 
 impl<L: Ledger, B: FederateAmbassador> Courier<L, B> {
     /// Takes the first message off the wire from one federate to another, and hands it to the second (this profile). Answers
-    /// `Carried`, with what was there. `FederationExecutionDoesNotExist`; `FederateNotExecutionMember` where the second is
+    /// what was there. `FederationExecutionDoesNotExist`; `FederateNotExecutionMember` where the second is
     /// not joined, the first never was, or both are one. `HistoryFull` and `OutOfMemory` without a record. A fault has
     /// changed nothing.
     pub fn carry(
@@ -42,26 +44,30 @@ impl<L: Ledger, B: FederateAmbassador> Courier<L, B> {
         execution: ExecutionName,
         from: FederateNo,
         to: FederateNo,
-    ) -> Result<Answer, Fault>
-        ensures { HasAnswered self.old execution (act.Step (step.Carry from to)) result self.new }
+    ) -> Result<Carried, Fault>
+        ensures { HasAnswered self.old execution (act.Step (step.Carry from to)) (said answer.Carried result) self.new }
     {
-        self.seat
-            .call(rt, &self.shared, execution, Step::Carry { from, to })
+        carried_in(
+            self.seat
+                .call(rt, &self.shared, execution, Step::Carry { from, to }),
+        )
     }
 
     /// Has a federate announce its promise by a null message on each of its wires, where it is above the last one (this
-    /// profile). Answers `Announced`, with the promise if it was announced. `FederationExecutionDoesNotExist`;
+    /// profile). Answers the promise, in ticks, if it was announced. `FederationExecutionDoesNotExist`;
     /// `FederateNotExecutionMember`. `HistoryFull` and `OutOfMemory` without a record. A fault has changed nothing.
     pub fn announce(
         &mut self,
         rt: &impl Wait,
         execution: ExecutionName,
         federate: FederateNo,
-    ) -> Result<Answer, Fault>
-        ensures { HasAnswered self.old execution (act.Step (step.Announce federate)) result self.new }
+    ) -> Result<Option<Ticks>, Fault>
+        ensures { HasAnswered self.old execution (act.Step (step.Announce federate)) (said answer.Announced result) self.new }
     {
-        self.seat
-            .call(rt, &self.shared, execution, Step::Announce { federate })
+        announced_in(
+            self.seat
+                .call(rt, &self.shared, execution, Step::Announce { federate }),
+        )
     }
 
     /// Ends the caller without a step.

@@ -3,13 +3,18 @@
 ghost use Rattle.std.specs.Prelude.{◌≡◌, true, None, is_some, Err, IfOk, IfErr};
 ghost use Rattle.hla_machine.specs.declared.service.Service.TheVariants as service;
 ghost use Rattle.hla_machine.specs.declared.step.Act.TheVariants as act;
+ghost use Rattle.hla_machine.specs.declared.step.Answer.TheVariants as answer;
 ghost use Rattle.hla_machine.specs.declared.step.Step.TheVariants as step;
+ghost use Rattle.hla_history.specs.Forms.{NoAnswer, ARegistration, AHandle, AName, AnEvent, ATime, IsOfForm, service_form};
 ghost use Rattle.hla_history.specs.Hosts.{IsPlain};
-ghost use Rattle.hla_rti.specs.Callers.{HasAnswered, HasResigned, IsServed};
+ghost use Rattle.hla_rti.specs.Callers.{HasAnswered, HasResigned, IsServed, said, nothing};
 
+use crate::answers::{
+    Registration, callback_in, done_in, event_in, handle_in, name_in, registration_in, time_in,
+};
 use crate::seat::{Left, Seat};
-use hla_base::{ExecutionName, Fault, FederateNo};
-use hla_callbacks::FederateAmbassador;
+use hla_base::{EventHandle, ExecutionName, Fault, FederateNo, List, Ticks};
+use hla_callbacks::{Callback, FederateAmbassador};
 use hla_history::Shared;
 use hla_machine::{Answer, ResignAction, Service, Step};
 use std::alloc::Global;
@@ -37,9 +42,10 @@ impl<L: Ledger, B: FederateAmbassador> Model for Federate<L, B> {
 
 impl<L: Ledger, B: FederateAmbassador> Federate<L, B> {
     /// Calls a service but Resign.
-    pub(crate) fn serve(&mut self, rt: &impl Wait, service: Service) -> Result<Answer, Fault>
+    fn serve(&mut self, rt: &impl Wait, service: Service) -> Result<Answer, Fault>
         requires { IsPlain (step.Call self.old.federate service) }
-        ensures { IsServed self.old service result self.new }
+        ensures served { IsServed self.old service result self.new }
+        ensures form { IfOk result (λ a. IsOfForm (service_form service) a) }
     {
         let federate = self.federate;
         self.seat.call(
@@ -50,19 +56,83 @@ impl<L: Ledger, B: FederateAmbassador> Federate<L, B> {
         )
     }
 
+    /// Calls a service that answers nothing.
+    pub(crate) fn serve_done(&mut self, rt: &impl Wait, service: Service) -> Result<(), Fault>
+        requires plain { IsPlain (step.Call self.old.federate service) }
+        requires form { service_form service ≡ NoAnswer }
+        ensures { IsServed self.old service (said nothing result) self.new }
+    {
+        done_in(self.serve(rt, service))
+    }
+
+    /// Calls a service that registers an object.
+    pub(crate) fn serve_registration(
+        &mut self,
+        rt: &impl Wait,
+        service: Service,
+    ) -> Result<Registration, Fault>
+        requires plain { IsPlain (step.Call self.old.federate service) }
+        requires form { service_form service ≡ ARegistration }
+        ensures { IsServed self.old service (said (λ r. answer.Registered r.object r.name) result) self.new }
+    {
+        registration_in(self.serve(rt, service))
+    }
+
+    /// Calls a service that sends a message.
+    pub(crate) fn serve_event(
+        &mut self,
+        rt: &impl Wait,
+        service: Service,
+    ) -> Result<Option<EventHandle>, Fault>
+        requires plain { IsPlain (step.Call self.old.federate service) }
+        requires form { service_form service ≡ AnEvent }
+        ensures { IsServed self.old service (said answer.Sent result) self.new }
+    {
+        event_in(self.serve(rt, service))
+    }
+
+    /// Calls a service that answers a time.
+    pub(crate) fn serve_time(&mut self, rt: &impl Wait, service: Service) -> Result<Ticks, Fault>
+        requires plain { IsPlain (step.Call self.old.federate service) }
+        requires form { service_form service ≡ ATime }
+        ensures { IsServed self.old service (said answer.Time result) self.new }
+    {
+        time_in(self.serve(rt, service))
+    }
+
+    /// Calls a service that answers a number.
+    pub(crate) fn serve_handle(&mut self, rt: &impl Wait, service: Service) -> Result<u32, Fault>
+        requires plain { IsPlain (step.Call self.old.federate service) }
+        requires form { service_form service ≡ AHandle }
+        ensures { IsServed self.old service (said answer.Handle result) self.new }
+    {
+        handle_in(self.serve(rt, service))
+    }
+
+    /// Calls a service that answers a name.
+    pub(crate) fn serve_name(&mut self, rt: &impl Wait, service: Service) -> Result<List<u8>, Fault>
+        requires plain { IsPlain (step.Call self.old.federate service) }
+        requires form { service_form service ≡ AName }
+        ensures { IsServed self.old service (said answer.Name result) self.new }
+    {
+        name_in(self.serve(rt, service))
+    }
+
     /// Tick (HLA 1.3): gives the federate's ambassador at most one callback, and answers a copy of it, or none where there
     /// is nothing to give. `FederateInternalError` where the ambassador failed in it: the callback counts as given.
     /// `FederateNotExecutionMember` and `FederationExecutionDoesNotExist` where the federate or its execution is no longer
     /// there. `HistoryFull` and `OutOfMemory` without a record; then nothing has changed.
-    pub fn tick(&mut self, rt: &impl Wait) -> Result<Answer, Fault>
+    pub fn tick(&mut self, rt: &impl Wait) -> Result<Option<Callback>, Fault>
         ensures execution { self.new.execution ≡ self.old.execution }
         ensures federate { self.new.federate ≡ self.old.federate }
         ensures answered { HasAnswered self.old.caller self.old.execution
-            (act.Step (step.Tick self.old.federate)) result self.new.caller }
+            (act.Step (step.Tick self.old.federate)) (said answer.Ticked result) self.new.caller }
     {
         let federate = self.federate;
-        self.seat
-            .call(rt, &self.shared, self.execution, Step::Tick { federate })
+        callback_in(
+            self.seat
+                .call(rt, &self.shared, self.execution, Step::Tick { federate }),
+        )
     }
 
     /// Resign Federation Execution (HLA 1.3, federation management), and the action says what becomes of the federate's

@@ -1,6 +1,7 @@
 //! The run-time infrastructure behind one lock: federates and other callers, each with a transcript of its own acts.
 #![tactic(auto)]
 
+mod answers;
 mod closing;
 mod courier;
 mod federate;
@@ -10,6 +11,7 @@ mod seat;
 mod support_services;
 mod time_services;
 
+pub use answers::Registration;
 pub use closing::{CloseFault, Closed, NotClosed, Unsettled, settle};
 pub use courier::Courier;
 pub use federate::Federate;

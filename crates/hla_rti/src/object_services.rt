@@ -1,12 +1,14 @@
 //! Declaration and object management of a federate.
 
 ghost use Rattle.hla_machine.specs.declared.service.Service.TheVariants as service;
-ghost use Rattle.hla_rti.specs.Callers.{IsServed};
+ghost use Rattle.hla_machine.specs.declared.step.Answer.TheVariants as answer;
+ghost use Rattle.hla_rti.specs.Callers.{IsServed, said, nothing};
 
+use crate::answers::Registration;
 use crate::federate::Federate;
 use hla_base::{AttributeNo, ClassNo, EventHandle, Fault, HandleValuePair, List, ObjectNo, Ticks};
 use hla_callbacks::FederateAmbassador;
-use hla_machine::{Answer, Service};
+use hla_machine::Service;
 use std::sync::Wait;
 use std::sync::ledger::Ledger;
 
@@ -15,139 +17,124 @@ use std::sync::ledger::Ledger;
 // A call that answers a fault has changed nothing.
 impl<L: Ledger, B: FederateAmbassador> Federate<L, B> {
     /// Publish Object Class (HLA 1.3, declaration management): from now on the federate may register objects of this class
-    /// and update these attributes of them, in place of what it published of the class before. Answers `Done`.
-    /// `ObjectClassNotDefined`; `AttributeNotDefined` where an attribute is not available at the class.
+    /// and update these attributes of them, in place of what it published of the class before. `ObjectClassNotDefined`;
+    /// `AttributeNotDefined` where an attribute is not available at the class.
     pub fn publish_object_class(
         &mut self,
         rt: &impl Wait,
         class: ClassNo,
         attributes: List<AttributeNo>,
-    ) -> Result<Answer, Fault>
-        ensures { IsServed self.old (service.PublishObjectClass class attributes) result self.new }
+    ) -> Result<(), Fault>
+        ensures { IsServed self.old (service.PublishObjectClass class attributes) (said nothing result) self.new }
     {
-        self.serve(rt, Service::PublishObjectClass { class, attributes })
+        self.serve_done(rt, Service::PublishObjectClass { class, attributes })
     }
 
-    /// Unpublish Object Class (HLA 1.3, declaration management). Answers `Done`. `ObjectClassNotDefined`;
-    /// `ObjectClassNotPublished`.
-    pub fn unpublish_object_class(
-        &mut self,
-        rt: &impl Wait,
-        class: ClassNo,
-    ) -> Result<Answer, Fault>
-        ensures { IsServed self.old (service.UnpublishObjectClass class) result self.new }
+    /// Unpublish Object Class (HLA 1.3, declaration management). `ObjectClassNotDefined`; `ObjectClassNotPublished`.
+    pub fn unpublish_object_class(&mut self, rt: &impl Wait, class: ClassNo) -> Result<(), Fault>
+        ensures { IsServed self.old (service.UnpublishObjectClass class) (said nothing result) self.new }
     {
-        self.serve(rt, Service::UnpublishObjectClass { class })
+        self.serve_done(rt, Service::UnpublishObjectClass { class })
     }
 
     /// Subscribe Object Class Attributes (HLA 1.3, declaration management): from now on the federate discovers objects of
     /// this class and is told of updates of these attributes, in place of what it subscribed to of the class before.
-    /// Answers `Done`. `ObjectClassNotDefined`; `AttributeNotDefined` where an attribute is not available at the class.
+    /// `ObjectClassNotDefined`; `AttributeNotDefined` where an attribute is not available at the class.
     pub fn subscribe_object_class_attributes(
         &mut self,
         rt: &impl Wait,
         class: ClassNo,
         attributes: List<AttributeNo>,
-    ) -> Result<Answer, Fault>
-        ensures { IsServed self.old (service.SubscribeObjectClassAttributes class attributes) result self.new }
+    ) -> Result<(), Fault>
+        ensures { IsServed self.old (service.SubscribeObjectClassAttributes class attributes) (said nothing result) self.new }
     {
-        self.serve(
+        self.serve_done(
             rt,
             Service::SubscribeObjectClassAttributes { class, attributes },
         )
     }
 
-    /// Unsubscribe Object Class (HLA 1.3, declaration management). Answers `Done`. `ObjectClassNotDefined`;
-    /// `ObjectClassNotSubscribed`.
-    pub fn unsubscribe_object_class(
-        &mut self,
-        rt: &impl Wait,
-        class: ClassNo,
-    ) -> Result<Answer, Fault>
-        ensures { IsServed self.old (service.UnsubscribeObjectClass class) result self.new }
+    /// Unsubscribe Object Class (HLA 1.3, declaration management). `ObjectClassNotDefined`; `ObjectClassNotSubscribed`.
+    pub fn unsubscribe_object_class(&mut self, rt: &impl Wait, class: ClassNo) -> Result<(), Fault>
+        ensures { IsServed self.old (service.UnsubscribeObjectClass class) (said nothing result) self.new }
     {
-        self.serve(rt, Service::UnsubscribeObjectClass { class })
+        self.serve_done(rt, Service::UnsubscribeObjectClass { class })
     }
 
     /// Publish Interaction Class (HLA 1.3, declaration management): from now on the federate may send interactions of this
-    /// class. Answers `Done`. `InteractionClassNotDefined`.
-    pub fn publish_interaction_class(
-        &mut self,
-        rt: &impl Wait,
-        class: ClassNo,
-    ) -> Result<Answer, Fault>
-        ensures { IsServed self.old (service.PublishInteractionClass class) result self.new }
+    /// class. `InteractionClassNotDefined`.
+    pub fn publish_interaction_class(&mut self, rt: &impl Wait, class: ClassNo) -> Result<(), Fault>
+        ensures { IsServed self.old (service.PublishInteractionClass class) (said nothing result) self.new }
     {
-        self.serve(rt, Service::PublishInteractionClass { class })
+        self.serve_done(rt, Service::PublishInteractionClass { class })
     }
 
-    /// Unpublish Interaction Class (HLA 1.3, declaration management). Answers `Done`. `InteractionClassNotDefined`;
+    /// Unpublish Interaction Class (HLA 1.3, declaration management). `InteractionClassNotDefined`;
     /// `InteractionClassNotPublished`.
     pub fn unpublish_interaction_class(
         &mut self,
         rt: &impl Wait,
         class: ClassNo,
-    ) -> Result<Answer, Fault>
-        ensures { IsServed self.old (service.UnpublishInteractionClass class) result self.new }
+    ) -> Result<(), Fault>
+        ensures { IsServed self.old (service.UnpublishInteractionClass class) (said nothing result) self.new }
     {
-        self.serve(rt, Service::UnpublishInteractionClass { class })
+        self.serve_done(rt, Service::UnpublishInteractionClass { class })
     }
 
     /// Subscribe Interaction Class (HLA 1.3, declaration management): from now on the federate receives interactions of
-    /// this class. Answers `Done`. `InteractionClassNotDefined`.
+    /// this class. `InteractionClassNotDefined`.
     pub fn subscribe_interaction_class(
         &mut self,
         rt: &impl Wait,
         class: ClassNo,
-    ) -> Result<Answer, Fault>
-        ensures { IsServed self.old (service.SubscribeInteractionClass class) result self.new }
+    ) -> Result<(), Fault>
+        ensures { IsServed self.old (service.SubscribeInteractionClass class) (said nothing result) self.new }
     {
-        self.serve(rt, Service::SubscribeInteractionClass { class })
+        self.serve_done(rt, Service::SubscribeInteractionClass { class })
     }
 
-    /// Unsubscribe Interaction Class (HLA 1.3, declaration management). Answers `Done`. `InteractionClassNotDefined`;
+    /// Unsubscribe Interaction Class (HLA 1.3, declaration management). `InteractionClassNotDefined`;
     /// `InteractionClassNotSubscribed`.
     pub fn unsubscribe_interaction_class(
         &mut self,
         rt: &impl Wait,
         class: ClassNo,
-    ) -> Result<Answer, Fault>
-        ensures { IsServed self.old (service.UnsubscribeInteractionClass class) result self.new }
+    ) -> Result<(), Fault>
+        ensures { IsServed self.old (service.UnsubscribeInteractionClass class) (said nothing result) self.new }
     {
-        self.serve(rt, Service::UnsubscribeInteractionClass { class })
+        self.serve_done(rt, Service::UnsubscribeInteractionClass { class })
     }
 
     /// Register Object Instance (HLA 1.3, object management): a new object of a class that the federate publishes, and
-    /// which it then owns. Answers `Registered`, with its number and its name; without a name the object with number H is
-    /// named `object-H`. `ObjectClassNotDefined`; `ObjectClassNotPublished`; `ObjectAlreadyRegistered` where the name was
-    /// ever used in the execution; `LimitReached` where the execution has had 4,096 objects, or the name has not 1 to 255
-    /// bytes.
+    /// which it then owns. Answers its number and its name; without a name the object with number H is named `object-H`.
+    /// `ObjectClassNotDefined`; `ObjectClassNotPublished`; `ObjectAlreadyRegistered` where the name was ever used in the
+    /// execution; `LimitReached` where the execution has had 4,096 objects, or the name has not 1 to 255 bytes.
     pub fn register_object_instance(
         &mut self,
         rt: &impl Wait,
         class: ClassNo,
         name: Option<List<u8>>,
-    ) -> Result<Answer, Fault>
-        ensures { IsServed self.old (service.RegisterObjectInstance class name) result self.new }
+    ) -> Result<Registration, Fault>
+        ensures { IsServed self.old (service.RegisterObjectInstance class name) (said (λ r. answer.Registered r.object r.name) result) self.new }
     {
-        self.serve(rt, Service::RegisterObjectInstance { class, name })
+        self.serve_registration(rt, Service::RegisterObjectInstance { class, name })
     }
 
     /// Update Attribute Values (HLA 1.3, object management), with a stamp in ticks where they are to be given in time-stamp
-    /// order. Answers `Sent`, with the handle of the message in time-stamp order if there is one, by which it may be
-    /// retracted. Where an attribute is named twice, the later value counts. `ObjectNotKnown`; `AttributeNotDefined`;
-    /// `AttributeNotOwned`; `AttributeNotPublished`; `InvalidFederationTime` where the stamp is above 10^18 or below the
-    /// least that the federate may send; `LimitReached` after 10^18 messages.
+    /// order. Answers the handle of the message in time-stamp order if there is one, by which it may be retracted. Where an
+    /// attribute is named twice, the later value counts. `ObjectNotKnown`; `AttributeNotDefined`; `AttributeNotOwned`;
+    /// `AttributeNotPublished`; `InvalidFederationTime` where the stamp is above 10^18 or below the least that the federate
+    /// may send; `LimitReached` after 10^18 messages.
     pub fn update_attribute_values(
         &mut self,
         rt: &impl Wait,
         object: ObjectNo,
         values: List<HandleValuePair>,
         stamp: Option<Ticks>,
-    ) -> Result<Answer, Fault>
-        ensures { IsServed self.old (service.UpdateAttributeValues object values stamp) result self.new }
+    ) -> Result<Option<EventHandle>, Fault>
+        ensures { IsServed self.old (service.UpdateAttributeValues object values stamp) (said answer.Sent result) self.new }
     {
-        self.serve(
+        self.serve_event(
             rt,
             Service::UpdateAttributeValues {
                 object,
@@ -158,20 +145,20 @@ impl<L: Ledger, B: FederateAmbassador> Federate<L, B> {
     }
 
     /// Send Interaction (HLA 1.3, object management), with a stamp in ticks where it is to be given in time-stamp order.
-    /// Answers `Sent`, with the handle of the message in time-stamp order if there is one. Where a parameter is named
-    /// twice, the later value counts. `InteractionClassNotDefined`; `InteractionParameterNotDefined`;
-    /// `InteractionClassNotPublished`; `InvalidFederationTime` where the stamp is above 10^18 or below the least that the
-    /// federate may send; `LimitReached` after 10^18 messages.
+    /// Answers the handle of the message in time-stamp order if there is one. Where a parameter is named twice, the later
+    /// value counts. `InteractionClassNotDefined`; `InteractionParameterNotDefined`; `InteractionClassNotPublished`;
+    /// `InvalidFederationTime` where the stamp is above 10^18 or below the least that the federate may send; `LimitReached`
+    /// after 10^18 messages.
     pub fn send_interaction(
         &mut self,
         rt: &impl Wait,
         class: ClassNo,
         values: List<HandleValuePair>,
         stamp: Option<Ticks>,
-    ) -> Result<Answer, Fault>
-        ensures { IsServed self.old (service.SendInteraction class values stamp) result self.new }
+    ) -> Result<Option<EventHandle>, Fault>
+        ensures { IsServed self.old (service.SendInteraction class values stamp) (said answer.Sent result) self.new }
     {
-        self.serve(
+        self.serve_event(
             rt,
             Service::SendInteraction {
                 class,
@@ -181,26 +168,26 @@ impl<L: Ledger, B: FederateAmbassador> Federate<L, B> {
         )
     }
 
-    /// Delete Object Instance (HLA 1.3, object management): an object that the federate registered. Answers `Done`.
-    /// `ObjectNotKnown`; `DeletePrivilegeNotHeld`; `InvalidFederationTime` where the stamp is above 10^18 or below the
-    /// least that the federate may send; `LimitReached` after 10^18 messages.
+    /// Delete Object Instance (HLA 1.3, object management): an object that the federate registered. `ObjectNotKnown`;
+    /// `DeletePrivilegeNotHeld`; `InvalidFederationTime` where the stamp is above 10^18 or below the least that the
+    /// federate may send; `LimitReached` after 10^18 messages.
     pub fn delete_object_instance(
         &mut self,
         rt: &impl Wait,
         object: ObjectNo,
         stamp: Option<Ticks>,
-    ) -> Result<Answer, Fault>
-        ensures { IsServed self.old (service.DeleteObjectInstance object stamp) result self.new }
+    ) -> Result<(), Fault>
+        ensures { IsServed self.old (service.DeleteObjectInstance object stamp) (said nothing result) self.new }
     {
-        self.serve(rt, Service::DeleteObjectInstance { object, stamp })
+        self.serve_done(rt, Service::DeleteObjectInstance { object, stamp })
     }
 
     /// Retract (HLA 1.3, time management): takes back a message that the federate sent in time-stamp order, by the handle
-    /// that the send answered. Answers `Done`. `InvalidRetractionHandle` where the federate sent no such message, has
-    /// retracted it, or may no longer.
-    pub fn retract(&mut self, rt: &impl Wait, event: EventHandle) -> Result<Answer, Fault>
-        ensures { IsServed self.old (service.Retract event) result self.new }
+    /// that the send answered. `InvalidRetractionHandle` where the federate sent no such message, has retracted it, or may
+    /// no longer.
+    pub fn retract(&mut self, rt: &impl Wait, event: EventHandle) -> Result<(), Fault>
+        ensures { IsServed self.old (service.Retract event) (said nothing result) self.new }
     {
-        self.serve(rt, Service::Retract { event })
+        self.serve_done(rt, Service::Retract { event })
     }
 }

@@ -6,15 +6,15 @@ ghost use Rattle.hla_machine.specs.declared.step.Answer.TheVariants as answer;
 ghost use Rattle.hla_machine.specs.declared.step.Outcome.TheVariants as outcome;
 ghost use Rattle.hla_machine.specs.declared.step.Step.TheVariants as step;
 ghost use Rattle.hla_history.specs.Creating.{catalogue_from};
-ghost use Rattle.hla_rti.specs.Callers.{Caller, new_caller, HasActed, HasNotActed, HasAnswered};
+ghost use Rattle.hla_rti.specs.Callers.{Caller, new_caller, HasActed, HasNotActed, HasAnswered, said, nothing};
 
+use crate::answers::done_in;
 use crate::courier::Courier;
 use crate::federate::Federate;
 use crate::seat::Seat;
 use hla_base::{ExecutionName, Fault, List};
 use hla_callbacks::FederateAmbassador;
 use hla_history::Shared;
-use hla_machine::Answer;
 use std::alloc::Global;
 use std::marker::Model;
 use std::sync::ledger::{Blank, Ledger, Share};
@@ -90,28 +90,23 @@ impl<L: Ledger, B: FederateAmbassador> Rti<L, B> {
         })
     }
 
-    /// Create Federation Execution (HLA 1.3, federation management), with the text of its FED file. Answers `Done`.
+    /// Create Federation Execution (HLA 1.3, federation management), with the text of its FED file.
     /// `FederationExecutionAlreadyExists`; `ErrorReadingFED`; `LimitReached` where 16 executions are there, or 64 were
     /// created. `HistoryFull` and `OutOfMemory` without a record. A fault has changed nothing.
-    pub fn create(
-        &mut self,
-        rt: &impl Wait,
-        name: ExecutionName,
-        fed: &[u8],
-    ) -> Result<Answer, Fault>
-        ensures answered { HasAnswered self.old.own name (act.Create (catalogue_from fed.now)) result self.new.own }
+    pub fn create(&mut self, rt: &impl Wait, name: ExecutionName, fed: &[u8]) -> Result<(), Fault>
+        ensures answered { HasAnswered self.old.own name (act.Create (catalogue_from fed.now)) (said nothing result) self.new.own }
         ensures handed { self.new.handed ≡ self.old.handed }
     {
-        self.seat.create(rt, &self.shared, name, fed)
+        done_in(self.seat.create(rt, &self.shared, name, fed))
     }
 
-    /// Destroy Federation Execution (HLA 1.3, federation management). Answers `Done`. `FederationExecutionDoesNotExist`;
+    /// Destroy Federation Execution (HLA 1.3, federation management). `FederationExecutionDoesNotExist`;
     /// `FederatesCurrentlyJoined`. `HistoryFull` and `OutOfMemory` without a record. A fault has changed nothing.
-    pub fn destroy(&mut self, rt: &impl Wait, name: ExecutionName) -> Result<Answer, Fault>
-        ensures answered { HasAnswered self.old.own name act.Destroy result self.new.own }
+    pub fn destroy(&mut self, rt: &impl Wait, name: ExecutionName) -> Result<(), Fault>
+        ensures answered { HasAnswered self.old.own name act.Destroy (said nothing result) self.new.own }
         ensures handed { self.new.handed ≡ self.old.handed }
     {
-        self.seat.destroy(rt, &self.shared, name)
+        done_in(self.seat.destroy(rt, &self.shared, name))
     }
 
     /// A courier, which carries messages over the wires between federates. `LimitReached` where `MAX_COURIERS` were handed

@@ -1,12 +1,13 @@
 //! A caller of the run-time infrastructure.
 
-ghost use Rattle.std.specs.Prelude.{◌≡◌, ◌==◌, ◌↔◌, ◌⊎◌, [], true, None, Some, Err, option_map, is_some, not, IsTrue, IfOk, IfErr};
+ghost use Rattle.std.specs.Prelude.{◌≡◌, ◌==◌, ◌↔◌, ◌⊎◌, [], None, Some, Err, option_map, is_some, not, IsTrue, IfOk, IfErr};
 ghost use Rattle.hla_machine.specs.declared.service.Service.TheVariants as service;
 ghost use Rattle.hla_machine.specs.declared.step.Act.TheVariants as act;
 ghost use Rattle.hla_machine.specs.declared.step.Answer.TheVariants as answer;
 ghost use Rattle.hla_machine.specs.declared.step.Outcome.TheVariants as outcome;
 ghost use Rattle.hla_machine.specs.declared.step.Step.TheVariants as step;
-ghost use Rattle.hla_history.specs.Creating.{catalogue_from, is_accepted, AnswersJoin};
+ghost use Rattle.hla_history.specs.Creating.{catalogue_from, is_accepted};
+ghost use Rattle.hla_history.specs.Forms.{NoAnswer, AFederate, IsOfForm, EndsInForm, step_form};
 ghost use Rattle.hla_history.specs.Hosts.{IsPlain};
 ghost use Rattle.hla_rti.specs.Callers.{answer_given, HasActed, HasNotActed, HasAnswered, HasResigned};
 ghost use Rattle.hla_rti.specs.Close.{Agrees};
@@ -104,7 +105,7 @@ fn joined_as<B: FederateAmbassador>(
     ended: Outcome,
     back: Option<B>,
 ) -> Result<FederateNo, (Fault, B)>
-    requires form { AnswersJoin ended }
+    requires form { EndsInForm AFederate ended }
     requires back { is_some back ≡ not (is_accepted ended) }
     ensures ok { IfOk result (λ n. ended ≡ outcome.Done (answer.Federate n)) }
     ensures err { IfErr result (λ e. ended ≡ outcome.Refused e.0) }
@@ -122,18 +123,19 @@ fn joined_as<B: FederateAmbassador>(
 
 /// The ambassador of a federate that resigned, or why it is refused.
 fn resigned_with<B: FederateAmbassador>(ended: Outcome, back: Option<B>) -> Result<B, Fault>
-    requires { is_some back ≡ is_accepted ended }
-    ensures ok { IfOk result (λ _. is_accepted ended ≡ true) }
+    requires form { EndsInForm NoAnswer ended }
+    requires back { is_some back ≡ is_accepted ended }
+    ensures ok { IfOk result (λ _. ended ≡ outcome.Done answer.Done) }
     ensures returned { IfOk result (λ b. back ≡ Some b) }
     ensures err { IfErr result (λ e. answer_given ended ≡ Err e) }
 {
     match ended {
-        Outcome::Done(_) => match back {
+        Outcome::Done(Answer::Done) => match back {
             Some(inner) => Ok(inner),
             None => unreachable!(),
         },
         Outcome::Refused(fault) => Err(fault),
-        Outcome::Failed(_) => Err(Fault::FederateInternalError),
+        _ => unreachable!(),
     }
 }
 
@@ -148,7 +150,8 @@ impl<L: Ledger> Seat<L> {
         step: Step,
     ) -> Result<Answer, Fault>
         requires { IsPlain step }
-        ensures { HasAnswered self.old execution (act.Step step) result self.new }
+        ensures answered { HasAnswered self.old execution (act.Step step) result self.new }
+        ensures form { IfOk result (λ a. IsOfForm (step_form step) a) }
     {
         if self.transcript.reserve(1).is_err() {
             return Err(Fault::OutOfMemory);
@@ -169,7 +172,8 @@ impl<L: Ledger> Seat<L> {
         name: ExecutionName,
         fed: &[u8],
     ) -> Result<Answer, Fault>
-        ensures { HasAnswered self.old name (act.Create (catalogue_from fed.now)) result self.new }
+        ensures answered { HasAnswered self.old name (act.Create (catalogue_from fed.now)) result self.new }
+        ensures form { IfOk result (λ a. IsOfForm NoAnswer a) }
     {
         if self.transcript.reserve(1).is_err() {
             return Err(Fault::OutOfMemory);
@@ -187,7 +191,8 @@ impl<L: Ledger> Seat<L> {
         shared: &Mutex<Shared<L, B>>,
         name: ExecutionName,
     ) -> Result<Answer, Fault>
-        ensures { HasAnswered self.old name act.Destroy result self.new }
+        ensures answered { HasAnswered self.old name act.Destroy result self.new }
+        ensures form { IfOk result (λ a. IsOfForm NoAnswer a) }
     {
         if self.transcript.reserve(1).is_err() {
             return Err(Fault::OutOfMemory);

@@ -2,7 +2,7 @@ ghost use Rattle.std.specs.Prelude.{◌≡◌, [], IfOk};
 
 use hla_base::{ExecutionName, Fault, List};
 use hla_callbacks::Recorder;
-use hla_machine::{Answer, Outcome, ResignAction};
+use hla_machine::{Carried, Outcome, ResignAction};
 use hla_rti::{CloseFault, Closed, Federate, Left, NotClosed, Rti};
 use std::alloc::Global;
 use std::marker::Brand;
@@ -67,7 +67,7 @@ fn full_at_two<L: Ledger>(rt: &(impl Wait + Abort), alloc: Global, blank: Blank)
 {
     let play = ExecutionName::new(b"play")?;
     let mut rti = Rti::<L, Recorder>::new(alloc, blank, 2)?;
-    assert!(rt; rti.create(rt, play, FED) == Ok(Answer::Done));
+    assert!(rt; rti.create(rt, play, FED) == Ok(()));
     let a = letter(alloc, b'A')?;
     let mut a = joined(rt, &mut rti, a, play, Recorder::new(alloc));
     assert!(rt; a.tick(rt) == Err(Fault::HistoryFull));
@@ -96,12 +96,12 @@ fn failing_ambassador<L: Ledger>(
 {
     let play = ExecutionName::new(b"play")?;
     let mut rti = Rti::<L, Recorder>::new(alloc, blank, 100)?;
-    assert!(rt; rti.create(rt, play, FED) == Ok(Answer::Done));
+    assert!(rt; rti.create(rt, play, FED) == Ok(()));
     let a = letter(alloc, b'A')?;
     let mut a = joined(rt, &mut rti, a, play, Recorder::failing(alloc, 0));
-    assert!(rt; a.enable_time_regulation(rt, 0, 1) == Ok(Answer::Done));
+    assert!(rt; a.enable_time_regulation(rt, 0, 1) == Ok(()));
     assert!(rt; a.tick(rt) == Err(Fault::FederateInternalError));
-    assert!(rt; a.tick(rt) == Ok(Answer::Ticked(None)));
+    assert!(rt; a.tick(rt) == Ok(None));
     let Ok(mut left) = a.resign(rt, ResignAction::NoAction) else {
         panic!(rt; "not resigned");
     };
@@ -161,8 +161,8 @@ fn sixty_four_rounds<L: Ledger>(
     let play = ExecutionName::new(b"play")?;
     let mut rti = Rti::<L, Recorder>::new(alloc, blank, 200)?;
     for _ in 0..64 {
-        assert!(rt; rti.create(rt, play, FED) == Ok(Answer::Done));
-        assert!(rt; rti.destroy(rt, play) == Ok(Answer::Done));
+        assert!(rt; rti.create(rt, play, FED) == Ok(()));
+        assert!(rt; rti.destroy(rt, play) == Ok(()));
     }
     assert!(rt; rti.create(rt, play, FED) == Err(Fault::LimitReached));
     assert_eq!(rt; closed(rt, rti, Vec::new(alloc)).records().len(), 129);
@@ -182,7 +182,7 @@ fn one_missing<L: Ledger>(rt: &(impl Wait + Abort), alloc: Global, blank: Blank)
 {
     let play = ExecutionName::new(b"play")?;
     let mut rti = Rti::<L, Recorder>::new(alloc, blank, 100)?;
-    assert!(rt; rti.create(rt, play, FED) == Ok(Answer::Done));
+    assert!(rt; rti.create(rt, play, FED) == Ok(()));
     let a = letter(alloc, b'A')?;
     let a = joined(rt, &mut rti, a, play, Recorder::new(alloc));
     let Err(back) = rti.close(rt, Vec::new(alloc)) else {
@@ -212,26 +212,16 @@ fn whole_run<L: Ledger>(rt: &(impl Wait + Abort), alloc: Global, blank: Blank) -
 {
     let play = ExecutionName::new(b"play")?;
     let mut rti = Rti::<L, Recorder>::new(alloc, blank, 100)?;
-    assert!(rt; rti.create(rt, play, FED) == Ok(Answer::Done));
+    assert!(rt; rti.create(rt, play, FED) == Ok(()));
     let (a, b) = (letter(alloc, b'A')?, letter(alloc, b'B')?);
     let mut a = joined(rt, &mut rti, a, play, Recorder::new(alloc));
     let mut b = joined(rt, &mut rti, b, play, Recorder::new(alloc));
     let mut courier = rti.courier()?;
-    assert!(rt; a.enable_time_regulation(rt, 0, 1) == Ok(Answer::Done));
-    assert!(rt; matches!(a.tick(rt), Ok(Answer::Ticked(Some(_)))));
-    assert!(rt; b.enable_time_constrained(rt) == Ok(Answer::Done));
-    assert!(rt;
-        matches!(
-            courier.announce(rt, play, a.number()),
-            Ok(Answer::Announced(_))
-        )
-    );
-    assert!(rt;
-        matches!(
-            courier.carry(rt, play, a.number(), b.number()),
-            Ok(Answer::Carried(_))
-        )
-    );
+    assert!(rt; a.enable_time_regulation(rt, 0, 1) == Ok(()));
+    assert!(rt; matches!(a.tick(rt), Ok(Some(_))));
+    assert!(rt; b.enable_time_constrained(rt) == Ok(()));
+    assert!(rt; courier.announce(rt, play, a.number()) == Ok(None));
+    assert!(rt; courier.carry(rt, play, a.number(), b.number()) == Ok(Carried::Null { bound: 1 }));
     let mut lefts = Vec::new(alloc);
     for federate in [a, b] {
         match federate.resign(rt, ResignAction::NoAction) {
@@ -240,7 +230,7 @@ fn whole_run<L: Ledger>(rt: &(impl Wait + Abort), alloc: Global, blank: Blank) -
         }
     }
     lefts.push(courier.leave())?;
-    assert!(rt; rti.destroy(rt, play) == Ok(Answer::Done));
+    assert!(rt; rti.destroy(rt, play) == Ok(()));
     assert_eq!(rt; closed(rt, rti, lefts).records().len(), 11);
     Ok(())
 }

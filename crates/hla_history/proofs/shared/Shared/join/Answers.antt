@@ -1,7 +1,7 @@
 use Rattle.std.proofs.Common.{arith}
 use Rattle.hla_machine.specs.declared.step.Step.TheVariants.{Join}
 use Rattle.hla_history.specs.Hosting.{hosts_of, table_of}
-use Rattle.hla_history.proofs.Places.{joined_answers}
+use Rattle.hla_history.proofs.FormLaws.{ends_in_form}
 use Rattle.hla_history.proofs.Kept.{kept_step}
 use Rattle.hla_history.proofs.shared.Shared.join.Goals as goal
 
@@ -15,6 +15,6 @@ invariant_of-self g c = (
   omega (arith, c.push_reserved.ensures.capacity, c.self.invariant.2),
 )
 
-pub returns-in-Ok-clause-number : goal.returns-in-Ok-clause-number
-returns-in-Ok-clause-number g c =
-    joined_answers (table_of c.self.inside.executions.items c.args.execution) c.args.name c.in-Ok.joined.0.outcome c.in-Ok.joined.1.answer c.in-Ok.joined.0.choice c.in-Ok.ensures.ends c.in-Ok.ensures.answer
+pub returns-in-Ok-clause-form : goal.returns-in-Ok-clause-form
+returns-in-Ok-clause-form g c =
+    ends_in_form (table_of c.self.inside.executions.items c.args.execution) (Join c.args.name) c.in-Ok.joined.0.outcome c.in-Ok.joined.1.answer c.in-Ok.joined.0.choice c.in-Ok.ensures.ends c.in-Ok.ensures.answer
