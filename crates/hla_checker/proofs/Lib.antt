@@ -1,28 +1,32 @@
--- What a bag has after a change
-pub mod BagLemmas
--- Accounts by number
-pub mod AccountLemmas
--- Tests of accounts decide the bounds of the central machine
-pub mod BoundLemmas
--- Tests of accounts decide what a federate may be given at a tick
-pub mod TickLemmas
--- Tests of accounts decide what services and wires may answer
-pub mod CallLemmas
--- The state that accounts stand for, after one account changed
-pub mod ChangeLemmas
--- The greatest bar and the wakes, step by step
-pub mod EntryLemmas
--- How often an event is in a list, after a change
-pub mod HandleLemmas
--- The next discovery of one federate's objects
-pub mod OfferLemmas
--- How often retractions are under way and due, after one account changed
-pub mod CountLemmas
--- Discoveries that wait for one federate, after a change
-pub mod OfferChanges
--- The accounts after a federate joins or leaves
-pub mod JoinLemmas
--- The accounts after a message is sent or retracted
-pub mod SendLemmas
--- To whom the retraction of a message goes, one federate after another
-pub mod RetractLemmas
+-- Nobody has joined, and nothing is declared
+pub mod NewExecution
+-- Where an execution is, and which state a name means after a change
+pub mod TablePlaces
+-- What a creation and a destruction do to all executions
+pub mod TableChanges
+-- What tests of creations, destructions and steps tell
+pub mod ActVerdicts
+-- One more record of a run
+pub mod RunLemmas
+-- What tests of a step tell, by how it ended
+pub mod StepVerdicts
+-- What tests of a carry or a call tell
+pub mod CallVerdicts
+-- What tests of a tick tell
+pub mod TickVerdicts
+-- What tests of a joining tell
+pub mod JoinVerdicts
+-- What tests of a message that is given tell
+pub mod GivenVerdicts
+-- What tests of a federate that becomes constrained, or ceases to be, tell
+pub mod ConstraintVerdicts
+-- What tests of a query tell
+pub mod QueryVerdicts
+-- What tests of a call tell, whatever the service
+pub mod ServiceVerdicts
+-- What tests of a federate that asks to regulate tell
+pub mod RegulationVerdicts
+-- What tests of a retraction tell
+pub mod RetractionVerdicts
+-- What tests of a discovery tell
+pub mod DiscoveryVerdicts

@@ -1,12 +1,18 @@
--- What waits for one federate, as a table by sender and serial
-pub mod Bags
--- The central machine's state that accounts stand for
-pub mod Accounts
--- The bounds of the central machine, as tests of accounts
-pub mod Bounds
--- What a federate may be given at a tick, as tests of accounts
-pub mod Ticks
--- What services and wires may answer, as tests of accounts
-pub mod Calls
--- What services and callbacks do to the row of a federate
-pub mod RowChanges
+-- What a test tells of a record
+pub mod Verdicts
+-- What is kept of one execution, and the central machine's state that it stands for
+pub mod Kept
+-- What is in answers
+pub mod Answers
+-- What tests of accounts alone tell
+pub mod Accounted
+-- The services of time management that change no more than a row
+pub mod RowServices
+-- Queries of a federate's times
+pub mod Queries
+-- What is kept of all executions, by name
+pub mod Table
+-- Why an execution is not created
+pub mod Creating
+-- Where a list of records ceases to be a run
+pub mod Faults

@@ -1,37 +1,64 @@
-//! Joining and leaving (HLA 1.3, federation management).
+//! Whether the central machine allows a joining.
 
-ghost use Rattle.std.specs.Prelude.{◌≡◌, ◌<◌, ◌≤◌, length, OnOk, IfErr};
-ghost use Rattle.hla_base.specs.declared.fault.Fault.TheVariants.{OutOfMemory};
+ghost use Rattle.std.specs.Prelude.{◌≡◌, ◌<◌, Some, length, OnOk, IfOk, IfErr};
 ghost use Rattle.hla_base.specs.Limits.{max_joins};
-ghost use Rattle.hla_machine.specs.Directory.{Directory, without_member};
-ghost use Rattle.hla_machine.specs.Machine.{after_join, after_leaving};
-ghost use Rattle.hla_checker.specs.Accounts.{central_with};
+ghost use Rattle.hla_base.specs.declared.fault.Fault.TheVariants.{OutOfMemory};
+ghost use Rattle.hla_machine.specs.Machine.{after_join};
+ghost use Rattle.hla_machine.specs.declared.step.Step.TheVariants as steps;
+ghost use Rattle.hla_checker.specs.Kept.{IsConsistent, JudgedStep, central_of};
 
-use crate::account::Account;
-use crate::accounts::Accounts;
-use hla_base::{Fault, FederateNo, List};
-use std::alloc::Global;
+use crate::answers::is_number;
+use crate::kept::KeptExecution;
+use crate::outcomes::is_nothing;
+use crate::verdict::Verdict;
+use hla_base::{Fault, List, Plain};
+use hla_machine::{Choice, Outcome};
 
-impl Accounts {
-    /// A federate joins, under the next number (Join Federation Execution). `OutOfMemory` where a growth was refused.
-    pub fn join(&mut self, name: List<u8>, alloc: Global) -> Result<(), Fault>
-        requires { length self.old < max_joins }
-        ensures ok { OnOk result ((d : Directory) → central_with d self.new ≡ after_join (central_with d self.old) name) }
+impl KeptExecution {
+    /// A federate joins under a name. `OutOfMemory` where a growth was refused.
+    fn admit(&mut self, name: &List<u8>) -> Result<(), Fault>
+        requires consistent { IsConsistent self.old }
+        requires room { length self.old.accounts < max_joins }
+        ensures joined { OnOk result (central_of self.new ≡ after_join (central_of self.old) name.now) }
+        ensures consistent { OnOk result (IsConsistent self.new) }
         ensures err { IfErr result (λ e. e ≡ Fault.OutOfMemory) }
     {
-        match self.accounts.push(Account::new(name, alloc)) {
-            Ok(()) => Ok(()),
-            Err(_) => Err(Fault::OutOfMemory),
-        }
+        let own = name.copy()?;
+        self.declarations.admit()?;
+        self.accounts.join(own, self.alloc)?;
+        Ok(())
     }
 
-    /// A federate leaves (Resign Federation Execution): what is for it goes, and what it sent stays.
-    pub fn leave(&mut self, federate: FederateNo)
-        requires some { 0 < federate }
-        requires within { federate ≤ length self.old }
-        ensures { (d : Directory) → central_with (without_member d federate) self.new ≡ after_leaving
-            (central_with d self.old) federate }
+    /// Whether the machine allows a joining that ended so and chose this; where it does, the federate is joined.
+    /// `OutOfMemory` where a growth was refused.
+    pub(crate) fn judge_join(
+        &mut self,
+        name: &List<u8>,
+        outcome: &Outcome,
+        choice: &Choice,
+    ) -> Result<Verdict, Fault>
+        requires { IsConsistent self.old }
+        ensures ok { IfOk result (JudgedStep self.old (steps.Join name.now) outcome.now choice.now self.new) }
+        ensures err { IfErr result (λ e. e ≡ Fault.OutOfMemory) }
     {
-        self.accounts[federate as usize - 1].leave();
+        let fault = self.accounts.join_fault(name.as_slice());
+        if !is_nothing(choice) {
+            return Ok(Verdict::Wrong);
+        }
+        match outcome {
+            Outcome::Failed(_) => Ok(Verdict::Wrong),
+            Outcome::Refused(given) => Ok(Verdict::of(fault == Some(*given))),
+            Outcome::Done(answer) => match fault {
+                Some(_) => Ok(Verdict::Wrong),
+                None => {
+                    let next = self.accounts.next_federate();
+                    if !is_number(answer, next) {
+                        return Ok(Verdict::Wrong);
+                    }
+                    self.admit(name)?;
+                    Ok(Verdict::Allowed)
+                }
+            },
+        }
     }
 }

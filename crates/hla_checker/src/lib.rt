@@ -1,27 +1,24 @@
-//! An independent checker of recorded runs: it knows the central machine alone, and no components, wires or epochs.
+//! Checks recorded runs against the central machine alone: no components, wires or epochs.
 #![tactic(auto)]
 
-mod account;
-mod accounts;
-mod bag;
-mod bounds;
-mod calls;
-mod changes;
-mod deliveries;
-mod entries;
-mod handles;
+mod announcing;
+mod answers;
+mod carrying;
+mod checking;
+mod constraining;
+mod discovering;
+mod giving;
 mod joining;
-mod offers;
-mod refusals;
+mod judging;
+mod kept;
+mod outcomes;
+mod queries;
+mod regulating;
 mod retracting;
-mod row_change;
-mod sending;
-mod ticks;
-mod time_refusals;
+mod row_services;
+mod table;
+mod ticking;
+mod unconstraining;
+mod verdict;
 
-pub use account::Account;
-pub use accounts::Accounts;
-pub use bag::{Bag, Waiting};
-pub use handles::Handles;
-pub use offers::{Offer, Offers};
-pub use row_change::RowChange;
+pub use checking::{CheckFault, check_run};

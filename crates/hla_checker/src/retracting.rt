@@ -1,63 +1,50 @@
-//! To whom the retraction of a message goes (HLA 1.3, time management, Retract).
+//! Whether the central machine allows that a federate takes a message back.
 
-ghost use Rattle.std.specs.Prelude.{◌≡◌, ◌<◌, ◌≤◌, true, length, OnOk, IfErr};
+ghost use Rattle.std.specs.Prelude.{◌≡◌, true, length, IfOk, IfErr};
 ghost use Rattle.hla_base.specs.declared.fault.Fault.TheVariants.{OutOfMemory};
-ghost use Rattle.hla_retraction.specs.SentRows.{sent_of};
 ghost use Rattle.hla_machine.specs.Directory.{Directory};
-ghost use Rattle.hla_machine.specs.Machine.{after_retract};
-ghost use Rattle.hla_machine.specs.Sends.{owed_to_receivers};
-ghost use Rattle.hla_checker.specs.Accounts.{account_at, central_with};
-ghost use Rattle.hla_checker.specs.Calls.{is_told_of};
+ghost use Rattle.hla_machine.specs.declared.service.Service.TheVariants as services;
+ghost use Rattle.hla_machine.specs.declared.step.Step.TheVariants as steps;
+ghost use Rattle.hla_accounts.specs.Accounts.{account_at, central_with};
+ghost use Rattle.hla_checker.specs.Accounted.{JudgedWith};
 
-use crate::accounts::Accounts;
+use crate::outcomes::{is_done, is_nothing};
+use crate::verdict::Verdict;
+use hla_accounts::Accounts;
 use hla_base::{EventHandle, Fault, FederateNo};
+use hla_machine::{Choice, Outcome};
 
-impl Accounts {
-    /// Whether a message that may be retracted was sent to a federate.
-    fn was_sent_to(&self, event: EventHandle, federate: FederateNo) -> bool
-        ensures { result ≡ (sent_of (account_at self.now event.sender).sent event.serial).receivers federate }
-    {
-        match self.get(event.sender) {
-            Some(account) => account.sent.is_receiver(event.serial, federate),
-            None => false,
-        }
+/// Whether the machine allows a call of Retract by a joined federate that ended so and chose this; where it does, the message
+/// is retracted. `OutOfMemory` where a growth was refused.
+pub(crate) fn judge_retraction(
+    accounts: &mut Accounts,
+    federate: FederateNo,
+    event: EventHandle,
+    outcome: &Outcome,
+    choice: &Choice,
+) -> Result<Verdict, Fault>
+    requires { (account_at accounts.old federate).is_joined ≡ true }
+    ensures ok { IfOk result (λ v. (d : Directory) → JudgedWith d accounts.old (steps.Call federate (services.Retract event))
+        outcome.now choice.now accounts.new v) }
+    ensures err { IfErr result (λ e. e ≡ Fault.OutOfMemory) }
+    ensures size { IfOk result (λ _. length accounts.new ≡ length accounts.old) }
+{
+    let fault = accounts.retract_fault(federate, event);
+    if !is_nothing(choice) {
+        return Ok(Verdict::Wrong);
     }
-
-    /// Whether the retraction of a message goes to a federate: it is joined, is not the sender, and the message was sent to
-    /// it.
-    fn is_told(&self, event: EventHandle, federate: FederateNo) -> bool
-        ensures { result ≡ is_told_of self.now event.sender event.serial federate }
-    {
-        event.sender != federate && self.is_joined(federate) && self.was_sent_to(event, federate)
-    }
-
-    /// The retraction of a message is under way to each federate to which it goes. `OutOfMemory` where a growth was refused.
-    pub fn owe(&mut self, event: EventHandle) -> Result<(), Fault>
-        ensures ok { OnOk result ((d : Directory) → let c = central_with d self.old in central_with d self.new ≡ record c {
-          owed = owed_to_receivers c.owed event.sender event.serial (is_told_of self.old event.sender event.serial);
-        }) }
-        ensures err { IfErr result (λ e. e ≡ Fault.OutOfMemory) }
-    {
-        for receiver in 1..self.next_federate() {
-            if self.is_told(event, receiver) {
-                self.add_owed(receiver, event)?;
+    match outcome {
+        Outcome::Failed(_) => Ok(Verdict::Wrong),
+        Outcome::Refused(given) => Ok(Verdict::of(fault == Some(*given))),
+        Outcome::Done(answer) => match fault {
+            Some(_) => Ok(Verdict::Wrong),
+            None => {
+                if !is_done(answer) {
+                    return Ok(Verdict::Wrong);
+                }
+                accounts.take_back(event)?;
+                Ok(Verdict::Allowed)
             }
-        }
-        Ok(())
-    }
-
-    /// A federate retracts its message (Retract): each other federate to which it was sent and that is joined is to be told.
-    /// `OutOfMemory` where a growth was refused.
-    pub fn take_back(&mut self, event: EventHandle) -> Result<(), Fault>
-        requires some { 0 < event.sender }
-        requires within { event.sender ≤ length self.old }
-        requires may { (sent_of (account_at self.old event.sender).sent event.serial).retractable ≡ true }
-        ensures ok { OnOk result ((d : Directory) → central_with d self.new ≡ after_retract (central_with d self.old)
-            event.sender event.serial) }
-        ensures err { IfErr result (λ e. e ≡ Fault.OutOfMemory) }
-    {
-        self.owe(event)?;
-        self.retract(event.sender, event.serial);
-        Ok(())
+        },
     }
 }

@@ -23,11 +23,11 @@ use Rattle.hla_components.specs.Next.{Outcomes, next, components_seen}
 use Rattle.hla_federation.specs.FederationValue.{FederationValue}
 use Rattle.hla_federation.specs.Steps.Memory.{IsRefusedWith}
 use Rattle.hla_federation.specs.Steps.State.{state_of}
-use Rattle.hla_script.specs.declared.members.Member.{Member}
+use Rattle.hla_requests.specs.declared.members.Member.{Member}
 use Rattle.hla_components.specs.Executions.{Federations, no_federations, central_executions, with_created, with_destroyed, ending_unless, next_act, after_record, step_in, IsNext, AreNext}
 use Rattle.hla_script.specs.Keeping.{components_of, DoesNext, IsStepped, Standing, Holds, execution_after_destroy, IsDestroyed, Leads, IsActed, IsKept}
 use Rattle.hla_script.specs.Playing.{created_catalogue}
-use Rattle.hla_script.specs.Members.{members_from, member_after}
+use Rattle.hla_requests.specs.Members.{members_from, member_after}
 
 -- ---- creating
 no_choice : (f : Option Fault) (x y : Federations) → choice.None ≡ (ending_unless f x y).choice

@@ -6,17 +6,17 @@ use Rattle.hla_base.specs.Limits.{max_history}
 use Rattle.hla_base.specs.declared.fault.Fault.{Fault}
 use Rattle.hla_base.specs.declared.fault.Fault.TheVariants as fault
 use Rattle.hla_commands.specs.declared.lines.Command.{Command}
-use Rattle.hla_script.specs.declared.members.Member.{Member}
+use Rattle.hla_requests.specs.declared.members.Member.{Member}
 use Rattle.hla_fed_file.specs.CatalogueValue.{CatalogueValue}
 use Rattle.hla_machine.specs.declared.step.Outcome.{Outcome}
 use Rattle.hla_machine.specs.declared.step.Outcome.TheVariants as outcome
 use Rattle.hla_machine.specs.declared.step.Record.{Record}
 use Rattle.hla_commands.specs.declared.lines.Line.{Line}
-use Rattle.hla_script.specs.declared.lookups.AskFault.{AskFault}
-use Rattle.hla_script.specs.declared.lookups.AskFault.TheVariants as stop
-use Rattle.hla_script.specs.declared.steps.Request.{Request}
-use Rattle.hla_script.specs.Members.{members}
-use Rattle.hla_script.specs.Requests.{Asks, request_of}
+use Rattle.hla_requests.specs.declared.lookups.AskFault.{AskFault}
+use Rattle.hla_requests.specs.declared.lookups.AskFault.TheVariants as stop
+use Rattle.hla_requests.specs.declared.steps.Request.{Request}
+use Rattle.hla_requests.specs.Members.{members}
+use Rattle.hla_requests.specs.Requests.{Asks, request_of}
 use Rattle.hla_script.specs.Playing.{LineEnds, WithoutStep, Full, OutOfMemory, Recorded, record_of, IsAdmitted, HasNoRoom, IsAnswered, IsPlayed, Plays, transcript}
 use Rattle.hla_transcript.specs.Printed.{line_text}
 use Rattle.hla_transcript.proofs.WriteLemmas.{appends_none, appends_more}

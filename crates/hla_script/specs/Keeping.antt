@@ -14,9 +14,9 @@ use Rattle.hla_machine.specs.declared.step.Outcome.TheVariants as outcome
 use Rattle.hla_machine.specs.declared.step.Choice.{Choice}
 use Rattle.hla_machine.specs.declared.step.Choice.TheVariants as choice
 use Rattle.hla_machine.specs.declared.step.Record.{Record}
-use Rattle.hla_script.specs.declared.members.Member.{Member}
+use Rattle.hla_requests.specs.declared.members.Member.{Member}
 use Rattle.hla_components.specs.Executions.{Federations, no_federations, IsNext, AreNext, after_record}
-use Rattle.hla_script.specs.Members.{members, member_after}
+use Rattle.hla_requests.specs.Members.{members, member_after}
 
 -- the components and wires that a federation stands for
 unfoldable pub components_of : FederationValue → Components

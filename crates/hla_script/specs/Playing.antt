@@ -19,12 +19,12 @@ use Rattle.hla_script.specs.declared.player.StopFault.{StopFault}
 use Rattle.hla_script.specs.declared.player.StopFault.TheVariants as cut
 use Rattle.hla_script.specs.declared.player.PlayFault.{PlayFault}
 use Rattle.hla_script.specs.declared.player.PlayFault.TheVariants as stop
-use Rattle.hla_script.specs.declared.steps.Request.{Request}
-use Rattle.hla_script.specs.declared.steps.Request.TheVariants as request
+use Rattle.hla_requests.specs.declared.steps.Request.{Request}
+use Rattle.hla_requests.specs.declared.steps.Request.TheVariants as request
 use Rattle.hla_commands.specs.Script.{script_of, ParsesAs}
 use Rattle.hla_transcript.specs.Printed.{line_text}
-use Rattle.hla_script.specs.Members.{members}
-use Rattle.hla_script.specs.Requests.{request_of}
+use Rattle.hla_requests.specs.Members.{members}
+use Rattle.hla_requests.specs.Requests.{request_of}
 
 -- ---- the record of a line
 -- a create that is accepted holds the catalogue; so does one past the limit, which is tested behind the FED file

@@ -5,12 +5,11 @@ ghost use Rattle.hla_machine.specs.declared.step.Act.TheVariants as act;
 ghost use Rattle.hla_script.specs.Playing.{act_of, created_catalogue};
 ghost use Rattle.hla_script.specs.Keeping.{components_of, standing, IsStepped, IsDestroyed, IsActed};
 
-use crate::members::{Change, Member, note};
-use crate::steps::Request;
 use hla_base::{ExecutionName, Fault, MAX_CREATES, Plain};
 use hla_fed_file::Catalogue;
 use hla_federation::Federation;
 use hla_machine::{Act, Answer, Choice, Outcome, Record, Step};
+use hla_requests::{Change, Member, Request, note};
 use std::alloc::Global;
 
 /// The execution named `play`, which may not be there, with what its FED file says and the federates that have joined

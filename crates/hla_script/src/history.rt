@@ -3,18 +3,17 @@
 ghost use Rattle.std.specs.Prelude.{◌≡◌, ◌≢◌, ◌+◌, ◌++◌, ◌∷◌, ◌≤◌, ◌<◌, [], OnOk, OnErr, IfOk, IfErr, length, codes, vec_len, vec_capacity};
 ghost use Rattle.hla_base.specs.Limits.{max_history};
 ghost use Rattle.hla_script.specs.Playing.{IsAnswered, LineEnds, IsAdmitted, HasNoRoom};
-ghost use Rattle.hla_script.specs.Members.{members};
+ghost use Rattle.hla_requests.specs.Members.{members};
 ghost use Rattle.hla_transcript.specs.Printed.{line_text};
 ghost use Rattle.hla_script.specs.Keeping.{standing, IsKept};
 ghost use Rattle.hla_machine.specs.declared.step.Outcome.TheVariants as outcome;
 
 use crate::execution::Execution;
-use crate::lookups::AskFault;
-use crate::steps::Request;
 use hla_base::{Fault, MAX_HISTORY};
 use hla_commands::{Command, Line};
 use hla_fed_file::Catalogue;
 use hla_machine::{Outcome, Record};
+use hla_requests::{AskFault, Request};
 use hla_transcript::{Text, print_line};
 
 /// Prints a line that adds no record.

@@ -3,10 +3,7 @@
 
 mod execution;
 mod history;
-mod lookups;
-mod members;
 mod player;
-mod steps;
 
 pub use hla_commands::{
     Call, Command, Declaration, Line, NameValuePair, Script, ScriptFault, ScriptFaultKind, parse,

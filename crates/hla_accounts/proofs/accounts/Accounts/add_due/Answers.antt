@@ -1,0 +1,20 @@
+-- What is due to the one account is written.
+use Rattle.std.proofs.Common.{◌≡◌, ◌≤◌, ◌-◌, ◌+◌, length, set, subst}
+use Rattle.hla_machine.specs.Central.{at3}
+use Rattle.hla_accounts.specs.Accounts.{account_at, central_with}
+use Rattle.hla_accounts.proofs.ChangeLemmas.{account_read, due_kept}
+use Rattle.hla_accounts.proofs.CountLemmas.{on_ok, due_added}
+use Rattle.hla_accounts.proofs.accounts.Accounts.add_due.Goals as goal
+
+inside : (c : goal.After-self-1) → c.args.federate ≤ length c.self.inside.accounts.items
+inside c = rw c.self.view_is c.requires.within
+
+read : (c : goal.After-self-1) → c.index_mut.result.now ≡ account_at c.self.inside.accounts.items c.args.federate
+read c = account_read c.self.inside.accounts.items c.args.federate c.index_mut.result.now c.requires.some (inside c) c.index_mut.ensures.value
+
+pub invariant_of-self : goal.invariant_of-self
+invariant_of-self c = due_kept c.self.inside.accounts.items c.args.federate c.requires.some (inside c) c.self.invariant c.index_mut.result.now c.add.new.self (read c)
+
+pub returns-clause-ok : goal.returns-clause-ok
+returns-clause-ok c = on_ok c.add.result (λ more d. subst (λ v. central_with d (set c.self.inside.accounts.items (c.args.federate - 1) (record c.index_mut.result.now { due = c.add.new.self })) ≡ record (central_with d v) { due = at3 (central_with d v).due c.args.event.sender c.args.event.serial c.args.federate ((central_with d v).due c.args.event.sender c.args.event.serial c.args.federate + 1) }) c.self.view_is
+    (due_added d c.self.inside.accounts.items c.args.federate c.requires.some (inside c) c.index_mut.result.now c.add.new.self c.args.event.sender c.args.event.serial (read c) more)) c.add.ensures.ok

@@ -1,0 +1,9 @@
+-- What is asked of some account is asked of some number.
+use Rattle.std.proofs.Common.{refl, sym, ap, ◌∙◌}
+use Rattle.std.specs.List.{list_any}
+use Rattle.hla_accounts.specs.declared.account.Account.{Account}
+use Rattle.hla_accounts.proofs.RefusalLemmas.{asked_of_one}
+use Rattle.hla_accounts.proofs.accounts.Accounts.is_any_joined.Goals as goal
+
+pub returns : goal.returns
+returns c d = c.is_one_joined.ensures ∙ ap (list_any (λ (a : Account). a.is_joined)) (c.deref.ensures.value ∙ c.self.view_is) ∙ sym (asked_of_one c.args.self.now (λ (a : Account). a.is_joined) refl)

@@ -1,0 +1,19 @@
+-- What is due to the one account is written.
+use Rattle.std.proofs.Common.{◌≡◌, ◌≤◌, ◌-◌, length, set, subst}
+use Rattle.hla_machine.specs.Central.{at3}
+use Rattle.hla_accounts.specs.Accounts.{account_at, central_with}
+use Rattle.hla_accounts.proofs.ChangeLemmas.{account_read, due_kept, due_set}
+use Rattle.hla_accounts.proofs.accounts.Accounts.take_due.Goals as goal
+
+inside : (c : goal.After-self-1) → c.args.federate ≤ length c.self.inside.accounts.items
+inside c = rw c.self.view_is c.requires.within
+
+read : (c : goal.After-self-1) → c.index_mut.result.now ≡ account_at c.self.inside.accounts.items c.args.federate
+read c = account_read c.self.inside.accounts.items c.args.federate c.index_mut.result.now c.requires.some (inside c) c.index_mut.ensures.value
+
+pub invariant_of-self : goal.invariant_of-self
+invariant_of-self c = due_kept c.self.inside.accounts.items c.args.federate c.requires.some (inside c) c.self.invariant c.index_mut.result.now c.remove.new.self (read c)
+
+pub returns : goal.returns
+returns c d = subst (λ v. central_with d (set c.self.inside.accounts.items (c.args.federate - 1) (record c.index_mut.result.now { due = c.remove.new.self })) ≡ record (central_with d v) { due = at3 (central_with d v).due c.args.event.sender c.args.event.serial c.args.federate ((central_with d v).due c.args.event.sender c.args.event.serial c.args.federate - 1) }) c.self.view_is
+    (due_set d c.self.inside.accounts.items c.args.federate c.requires.some (inside c) c.index_mut.result.now c.remove.new.self c.args.event.sender c.args.event.serial (read c) c.remove.ensures)

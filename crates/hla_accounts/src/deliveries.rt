@@ -1,0 +1,181 @@
+//! Whether a federate may be given a message, as tests of accounts (HLA 1.3, object management and time management).
+
+ghost use Rattle.std.specs.Prelude.{◌≡◌, ◌≢◌, ◌↔◌, IsTrue, Some, true};
+ghost use Rattle.std.specs.List.{list_all};
+ghost use Rattle.hla_base.specs.declared.number.EventHandle.{EventHandle};
+ghost use Rattle.hla_machine.specs.Directory.{Directory};
+ghost use Rattle.hla_machine.specs.Callbacks.{MayDeliver};
+ghost use Rattle.hla_accounts.specs.Accounts.{account_at, no_account, copy_at, copy_given, central_with};
+ghost use Rattle.hla_accounts.specs.Bags.{waiting_at};
+ghost use Rattle.hla_accounts.specs.Ticks.{has_no_offer, is_discovered, may_deliver, is_moved_below, is_among_if_below, may_constrain};
+
+use crate::accounts::Accounts;
+use crate::bag::{Waiting, is_listed};
+use crate::bounds::ordered_stamp;
+use crate::offers::Offer;
+use crate::ticks::may_receive;
+use hla_base::{Content, EventHandle, FederateNo, ObjectNo, Plain, Ticks};
+use hla_callbacks::Delivery;
+
+/// Whether none of these discoveries is of an object.
+fn has_no_offer(offers: &[Offer], object: ObjectNo) -> bool
+    ensures { result ≡ has_no_offer offers.now object }
+{
+    offers.iter().all(|offer| offer.discovery.object != object)
+}
+
+impl Accounts {
+    /// Whether the discovery of what a message speaks of was given to a federate before. It looks at all discoveries that
+    /// wait for the federate.
+    fn is_discovered(&self, federate: FederateNo, content: &Content) -> bool
+        ensures { result ≡ is_discovered self.now federate content.now }
+    {
+        let Some(account) = self.get(federate) else {
+            return true;
+        };
+        match content {
+            Content::Interaction { .. } => true,
+            Content::Reflection { object, .. } | Content::Removal { object } => {
+                has_no_offer(account.offers.as_slice(), *object)
+            }
+        }
+    }
+
+    /// Whether a message with this content waits for a federate, to be given so. It looks at all that waits for the federate.
+    fn is_waiting(
+        &self,
+        federate: FederateNo,
+        event: EventHandle,
+        delivery: Delivery,
+        content: &Content,
+    ) -> bool
+        ensures { IsTrue result ↔ (copy_at (account_at self.now federate).bag event.sender event.serial
+            ≡ Some (copy_given delivery content.now)) }
+    {
+        match self.get(federate) {
+            Some(account) => account.bag.holds(event, delivery, content),
+            None => false,
+        }
+    }
+
+    /// Whether a federate may be given a message with this content, where `waits` says whether it waits to be given so.
+    fn may_deliver_waiting(
+        &self,
+        federate: FederateNo,
+        event: EventHandle,
+        delivery: Delivery,
+        content: &Content,
+        waits: bool,
+    ) -> bool
+        requires { waits ≡ true → account_at self.now federate ≢ no_account }
+        ensures { result ≡ may_deliver self.now federate event.sender event.serial content.now delivery waits }
+    {
+        let Some(account) = self.get(federate) else {
+            return false;
+        };
+        let row = account.state.row();
+        let is_discovered = self.is_discovered(federate, content);
+        match delivery {
+            Delivery::Receive => {
+                may_receive(&row) && is_discovered && waits && self.is_first_ro(federate, event)
+            }
+            Delivery::Demoted { .. } => may_receive(&row) && is_discovered && waits,
+            Delivery::TimeStamp { stamp } => {
+                account.state.is_constrained()
+                    && is_discovered
+                    && waits
+                    && self.may_pick_now(federate, event, stamp)
+            }
+        }
+    }
+
+    /// Whether a federate may be given a message with this content now, in this order.
+    pub fn may_deliver(
+        &self,
+        federate: FederateNo,
+        event: EventHandle,
+        delivery: Delivery,
+        content: &Content,
+    ) -> bool
+        ensures { (d : Directory) → IsTrue result ↔ MayDeliver (central_with d self.now) federate content.now
+            event delivery }
+    {
+        let _ = &self.accounts;
+        let waits = self.is_waiting(federate, event, delivery, content);
+        self.may_deliver_waiting(federate, event, delivery, content, waits)
+    }
+
+    /// Whether an event waits for a federate in time-stamp order, with a stamp below a time, in ticks.
+    fn is_moved_below(&self, federate: FederateNo, time: Ticks, event: EventHandle) -> bool
+        ensures { result ≡ is_moved_below time (waiting_at (account_at self.now federate).bag event.sender
+            event.serial) }
+    {
+        match self.find(federate, event) {
+            Some(waiting) => match ordered_stamp(waiting.delivery) {
+                Some(stamp) => stamp < time,
+                None => false,
+            },
+            None => false,
+        }
+    }
+
+    /// Whether a message is among these events, if it waits in time-stamp order, is not retracted, and has a stamp below a
+    /// time, in ticks.
+    fn is_among_if_below(&self, time: Ticks, events: &[EventHandle], waiting: &Waiting) -> bool
+        ensures { result ≡ is_among_if_below self.now time events.now waiting.now }
+    {
+        match ordered_stamp(waiting.delivery) {
+            Some(stamp) => {
+                stamp >= time
+                    || self.is_retracted(waiting.event)
+                    || is_listed(events, waiting.event)
+            }
+            None => true,
+        }
+    }
+
+    /// Whether each of what waits for a federate in time-stamp order, is not retracted, and has a stamp below a time, in
+    /// ticks, is among these events.
+    fn are_all_among(&self, federate: FederateNo, time: Ticks, events: &[EventHandle]) -> bool
+        ensures { result ≡ list_all (is_among_if_below self.now time events.now) (account_at self.now
+            federate).bag }
+    {
+        match self.get(federate) {
+            Some(account) => account
+                .bag
+                .as_slice()
+                .iter()
+                .all(|waiting| self.is_among_if_below(time, events, waiting)),
+            None => true,
+        }
+    }
+
+    /// Whether each of these events waits for a federate in time-stamp order, with a stamp below a time, in ticks.
+    fn are_moved_below(&self, federate: FederateNo, time: Ticks, events: &[EventHandle]) -> bool
+        ensures { result ≡ list_all (λ (e : EventHandle). is_moved_below time (waiting_at (account_at self.now
+            federate).bag e.sender e.serial)) events.now }
+    {
+        events
+            .iter()
+            .all(|event| self.is_moved_below(federate, time, *event))
+    }
+
+    /// Whether a federate that has asked to be constrained may become so at a time, in ticks, where these events move to
+    /// receive order (Time Constrained Enabled). It looks for all that waits for the federate at each of the events.
+    pub fn may_constrain(&self, federate: FederateNo, time: Ticks, events: &[EventHandle]) -> bool
+        ensures { result ≡ may_constrain self.now federate time events.now }
+    {
+        let Some(account) = self.get(federate) else {
+            return false;
+        };
+        if time != account.state.time()
+            || !account.state.is_constraint_pending()
+            || account.state.is_regulation_pending()
+        {
+            return false;
+        }
+        self.is_below_bound(federate, time)
+            && self.are_moved_below(federate, time, events)
+            && self.are_all_among(federate, time, events)
+    }
+}

@@ -1,0 +1,212 @@
+//! What a federate may be given at a tick, as tests of accounts (HLA 1.3, time management).
+
+ghost use Rattle.std.specs.Prelude.{◌≡◌, ◌≤◌, Some};
+ghost use Rattle.hla_base.specs.Limits.{max_time};
+ghost use Rattle.hla_base.specs.Rows.{grant_time, is_constrained, is_flush, RowNumbers};
+ghost use Rattle.hla_accounts.specs.Accounts.{account_at};
+ghost use Rattle.hla_accounts.specs.Ticks.{is_flush_granted, is_granted_as, may_grant, may_receive, is_sent_in_receive_order, is_not_earlier, is_first_ro, is_at_first_pick, is_key_le, is_not_before, is_first_key, may_pick, may_pick_now};
+
+use crate::accounts::Accounts;
+use crate::bag::Waiting;
+use crate::bounds::{ordered_stamp, reach};
+use hla_base::{AdvanceRequest, EventHandle, FederateNo, Role, Ticks, TimeRow};
+use hla_callbacks::Delivery;
+
+/// Whether a federate is time constrained.
+fn is_constrained(row: &TimeRow) -> bool
+    ensures { result ≡ is_constrained row.now }
+{
+    matches!(row.constrained, Role::Enabled)
+}
+
+/// Where a request is granted that is no flush, in ticks: a next-event request at its first pick.
+fn grant_time(row: &TimeRow, request: AdvanceRequest) -> Ticks
+    ensures { result ≡ grant_time row.now request }
+{
+    match row.first_pick {
+        Some(pick) if request.kind.is_next() && is_constrained(row) => pick,
+        _ => request.asked,
+    }
+}
+
+/// Whether a federate with this row may be given messages in receive order: it is unconstrained, or advancing, or has
+/// asynchronous delivery.
+pub fn may_receive(row: &TimeRow) -> bool
+    ensures { result ≡ may_receive row.now }
+{
+    !is_constrained(row) || row.advance.is_some() || row.asynchronous
+}
+
+/// Whether a next-event request takes a stamp, in ticks: after its first pick only that stamp.
+fn is_at_first_pick(row: &TimeRow, request: AdvanceRequest, stamp: Ticks) -> bool
+    ensures { result ≡ is_at_first_pick row.now request stamp }
+{
+    match row.first_pick {
+        Some(pick) => !request.kind.is_next() || stamp == pick,
+        None => true,
+    }
+}
+
+/// Whether a message is no earlier one of the same sender in receive order.
+fn is_not_earlier(event: EventHandle, waiting: &Waiting) -> bool
+    ensures { result ≡ is_not_earlier event.sender event.serial waiting.now }
+{
+    match waiting.delivery {
+        Delivery::Receive => {
+            waiting.event.sender != event.sender || waiting.event.serial >= event.serial
+        }
+        Delivery::Demoted { .. } | Delivery::TimeStamp { .. } => true,
+    }
+}
+
+/// Whether of two events with one stamp the first is not behind the second.
+fn is_key_le(first: EventHandle, second: EventHandle) -> bool
+    ensures { result ≡ is_key_le first.sender first.serial second.sender second.serial }
+{
+    first.sender < second.sender || (first.sender == second.sender && first.serial <= second.serial)
+}
+
+impl Accounts {
+    /// Whether no earlier message of the same sender waits for a federate in receive order. It looks at all that waits for
+    /// the federate.
+    pub fn is_first_ro(&self, federate: FederateNo, event: EventHandle) -> bool
+        ensures { result ≡ is_first_ro self.now federate event.sender event.serial }
+    {
+        match self.get(federate) {
+            Some(account) => account
+                .bag
+                .as_slice()
+                .iter()
+                .all(|waiting| is_not_earlier(event, waiting)),
+            None => true,
+        }
+    }
+
+    /// Whether a flush is granted a time, in ticks, that nothing picked up or waiting is below.
+    fn is_flush_granted(
+        &self,
+        federate: FederateNo,
+        row: &TimeRow,
+        request: AdvanceRequest,
+        time: Ticks,
+    ) -> bool
+        requires { row.now ≡ (account_at self.now federate).state }
+        ensures { result ≡ is_flush_granted self.now federate request time }
+    {
+        let is_flushed_below = match row.flushed {
+            Some(least) => time <= least,
+            None => true,
+        };
+        row.time <= time
+            && time <= request.asked
+            && is_flushed_below
+            && self.is_below_bound(federate, time)
+            && self.is_below_all_tso(federate, time)
+    }
+
+    /// Whether the request in which a federate waits is granted a time, in ticks.
+    fn is_granted(
+        &self,
+        federate: FederateNo,
+        row: &TimeRow,
+        request: AdvanceRequest,
+        time: Ticks,
+    ) -> bool
+        requires row { row.now ≡ (account_at self.now federate).state }
+        requires numbers { RowNumbers row.now }
+        requires waits { row.now.advance ≡ Some request }
+        ensures { result ≡ is_granted_as (is_constrained row.now) (is_flush request.kind) self.now federate
+            request time }
+    {
+        if !is_constrained(row) {
+            return time == request.asked;
+        }
+        if request.kind.is_flush() {
+            return self.is_flush_granted(federate, row, request, time);
+        }
+        time == grant_time(row, request) && self.has_reached(federate, request.kind, time)
+    }
+
+    /// Whether a federate may be granted a time, in ticks (Time Advance Grant). It looks at all that waits for the federate,
+    /// and for each other one that is in a next-event request.
+    pub fn may_grant(&self, federate: FederateNo, time: Ticks) -> bool
+        ensures { result ≡ may_grant self.now federate time }
+    {
+        let Some(account) = self.get(federate) else {
+            return false;
+        };
+        let row = account.state.row();
+        match row.advance {
+            Some(request) => self.is_granted(federate, &row, request, time),
+            None => false,
+        }
+    }
+
+    /// Whether a message does not go before another with this stamp, in ticks: it is retracted, or goes in receive order, or
+    /// has another stamp, or its key is not below.
+    fn is_not_before(&self, event: EventHandle, stamp: Ticks, waiting: &Waiting) -> bool
+        ensures { result ≡ is_not_before self.now event.sender event.serial stamp waiting.now }
+    {
+        match ordered_stamp(waiting.delivery) {
+            Some(other) => {
+                other != stamp
+                    || is_key_le(event, waiting.event)
+                    || self.is_retracted(waiting.event)
+            }
+            None => true,
+        }
+    }
+
+    /// Whether none of what waits for a federate with this stamp, in ticks, has a key below that of an event. It looks at all
+    /// that waits for the federate.
+    fn is_first_key(&self, federate: FederateNo, event: EventHandle, stamp: Ticks) -> bool
+        ensures { result ≡ is_first_key self.now federate event.sender event.serial stamp }
+    {
+        match self.get(federate) {
+            Some(account) => account
+                .bag
+                .as_slice()
+                .iter()
+                .all(|waiting| self.is_not_before(event, stamp, waiting)),
+            None => true,
+        }
+    }
+
+    /// Whether an advance that is no flush picks up an event with this stamp, in ticks: it is not retracted, its stamp is at
+    /// most the asked time, and nothing before it waits or can still come.
+    fn may_pick(
+        &self,
+        federate: FederateNo,
+        row: &TimeRow,
+        request: AdvanceRequest,
+        event: EventHandle,
+        stamp: Ticks,
+    ) -> bool
+        requires row { row.now ≡ (account_at self.now federate).state }
+        requires asked { request.asked ≤ max_time }
+        ensures { result ≡ may_pick self.now federate request event.sender event.serial stamp }
+    {
+        if self.is_retracted(event) || stamp > request.asked {
+            return false;
+        }
+        self.is_below_bound(federate, reach(request.kind, stamp))
+            && self.is_below_all_tso(federate, stamp)
+            && is_at_first_pick(row, request, stamp)
+            && (!request.kind.is_strict() || self.is_first_key(federate, event, stamp))
+    }
+
+    /// Whether a federate may pick up an event with this stamp, in ticks, in time-stamp order, if it waits so.
+    pub fn may_pick_now(&self, federate: FederateNo, event: EventHandle, stamp: Ticks) -> bool
+        ensures { result ≡ may_pick_now self.now federate event.sender event.serial stamp }
+    {
+        let Some(account) = self.get(federate) else {
+            return false;
+        };
+        let row = account.state.row();
+        match row.advance {
+            Some(request) if request.kind.is_flush() => row.time <= stamp,
+            Some(request) => self.may_pick(federate, &row, request, event, stamp),
+            None => false,
+        }
+    }
+}

@@ -1,6 +1,0 @@
--- There is nobody.
-use Rattle.hla_checker.proofs.AccountLemmas.{none_kept}
-use Rattle.hla_checker.proofs.accounts.Accounts.new.Goals as goal
-
-pub invariant_of-result : goal.invariant_of-result
-invariant_of-result c = rw c.new.ensures.items none_kept

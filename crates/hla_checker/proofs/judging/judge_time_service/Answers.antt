@@ -1,0 +1,14 @@
+use Rattle.hla_machine.specs.declared.service.Service.TheVariants as services
+use Rattle.hla_accounts.specs.Accounts.{central_with}
+use Rattle.hla_checker.proofs.ConstraintVerdicts.{moving_called}
+use Rattle.hla_checker.proofs.judging.judge_time_service.Goals as goal
+
+pub returns-in_ok-verdict-in-Retract-clause-ok : goal.returns-in_ok-verdict-in-Retract-clause-ok
+returns-in_ok-verdict-in-Retract-clause-ok c d =
+    moving_called (central_with d c.args.accounts.now) (central_with d c.judge_retraction.new.accounts) c.args.federate (services.Retract c.in-Retract.event) c.args.service.now c.args.outcome.now c.args.choice.now c.in_ok-verdict-in-Retract.verdict
+    c.in-Retract.is (c.in_ok-verdict-in-Retract.ensures.ok d)
+
+pub returns-in-EnableTimeRegulation-clause-ok : goal.returns-in-EnableTimeRegulation-clause-ok
+returns-in-EnableTimeRegulation-clause-ok c d =
+    moving_called (central_with d c.args.accounts.now) (central_with d c.judge_regulation.new.accounts) c.args.federate (services.EnableTimeRegulation c.in-EnableTimeRegulation.time c.in-EnableTimeRegulation.lookahead) c.args.service.now c.args.outcome.now c.args.choice.now c.judge_regulation.result
+    c.in-EnableTimeRegulation.is (c.judge_regulation.ensures.judged d)

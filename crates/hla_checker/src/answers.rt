@@ -1,0 +1,90 @@
+//! What is in answers.
+
+ghost use Rattle.std.specs.Prelude.{◌≡◌, Some};
+ghost use Rattle.std.specs.Bool.{Decides};
+ghost use Rattle.hla_checker.specs.Answers.{announced_in, carried_in, joiner_in, time_in};
+
+use hla_base::{FederateNo, Ticks};
+use hla_machine::{Answer, Carried};
+
+/// The promise of an announcement, if it made one; nothing in the answer to another step.
+pub(crate) fn announced_in(answer: &Answer) -> Option<Option<Ticks>>
+    ensures { result ≡ announced_in answer.now }
+{
+    match answer {
+        Answer::Announced(promise) => Some(*promise),
+        Answer::Done
+        | Answer::Federate(_)
+        | Answer::Registered { .. }
+        | Answer::Handle(_)
+        | Answer::Name(_)
+        | Answer::Sent(_)
+        | Answer::Time(_)
+        | Answer::Ticked(_)
+        | Answer::Carried(_) => None,
+    }
+}
+
+/// What was taken from a wire; nothing in the answer to another step.
+pub(crate) fn carried_in(answer: &Answer) -> Option<Carried>
+    ensures { result ≡ carried_in answer.now }
+{
+    match answer {
+        Answer::Carried(carried) => Some(*carried),
+        Answer::Done
+        | Answer::Federate(_)
+        | Answer::Registered { .. }
+        | Answer::Handle(_)
+        | Answer::Name(_)
+        | Answer::Sent(_)
+        | Answer::Time(_)
+        | Answer::Ticked(_)
+        | Answer::Announced(_) => None,
+    }
+}
+
+/// The number of the federate that joined; nothing in the answer to another step.
+pub(crate) fn joiner_in(answer: &Answer) -> Option<FederateNo>
+    ensures { result ≡ joiner_in answer.now }
+{
+    match answer {
+        Answer::Federate(federate) => Some(*federate),
+        Answer::Done
+        | Answer::Registered { .. }
+        | Answer::Handle(_)
+        | Answer::Name(_)
+        | Answer::Sent(_)
+        | Answer::Time(_)
+        | Answer::Ticked(_)
+        | Answer::Carried(_)
+        | Answer::Announced(_) => None,
+    }
+}
+
+/// Whether an answer is that the federate with this number joined.
+pub(crate) fn is_number(answer: &Answer, number: FederateNo) -> bool
+    ensures { Decides result (joiner_in answer.now ≡ Some number) }
+{
+    match joiner_in(answer) {
+        Some(federate) => federate == number,
+        None => false,
+    }
+}
+
+/// A time, a lookahead or a bound, in ticks; nothing in the answer to another step.
+pub(crate) fn time_in(answer: &Answer) -> Option<Ticks>
+    ensures { result ≡ time_in answer.now }
+{
+    match answer {
+        Answer::Time(time) => Some(*time),
+        Answer::Done
+        | Answer::Federate(_)
+        | Answer::Registered { .. }
+        | Answer::Handle(_)
+        | Answer::Name(_)
+        | Answer::Sent(_)
+        | Answer::Ticked(_)
+        | Answer::Carried(_)
+        | Answer::Announced(_) => None,
+    }
+}

@@ -1,0 +1,43 @@
+//! Whether records are a run of the central machine.
+
+ghost use Rattle.std.specs.Prelude.{IfOk, IfErr};
+ghost use Rattle.hla_checker.specs.Faults.{IsWholeRun, TellsFault};
+
+use crate::table::ExecutionTable;
+use crate::verdict::Verdict;
+use hla_machine::Record;
+use std::alloc::Global;
+use thiserror::Error;
+
+/// Why records were not found to be a run. Places count from 0.
+#[derive(Clone, Copy, Debug, PartialEq, Eq, Error)]
+pub enum CheckFault {
+    /// The record at this place is no step of the machine after those before it, which are a run.
+    #[error("the record at place {0} is no step of the machine")]
+    Place(usize),
+    /// Those before this place are a run; the record at it is of a kind that no test covers yet.
+    #[error("no test covers the record at place {0}")]
+    Open(usize),
+    /// A growth was refused.
+    #[error("OutOfMemory")]
+    Memory,
+}
+
+/// Whether records are a run of all executions from none, as the central machine has it: each is a step that it allows in
+/// the state to which those before it lead. It knows the machine alone: no components, no wires, no epochs. `Place` is the
+/// first record that is no step.
+pub fn check_run(alloc: Global, records: &[Record]) -> Result<(), CheckFault>
+    ensures ok { IfOk result (λ _. IsWholeRun records.now) }
+    ensures err { IfErr result (TellsFault records.now) }
+{
+    let mut table = ExecutionTable::new(alloc);
+    for (place, record) in records.iter().enumerate() {
+        match table.judge(record) {
+            Ok(Verdict::Allowed) => {}
+            Ok(Verdict::Wrong) => return Err(CheckFault::Place(place)),
+            Ok(Verdict::Open) => return Err(CheckFault::Open(place)),
+            Err(_) => return Err(CheckFault::Memory),
+        }
+    }
+    Ok(())
+}

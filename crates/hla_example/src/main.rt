@@ -1,0 +1,159 @@
+//! A small federation: a pump tells how full a tank is, and a display is told so, each on a thread of its own.
+#![tactic(auto)]
+
+mod lives;
+mod start;
+
+ghost use Rattle.std.specs.Prelude.{◌≡◌};
+
+use crate::lives::{Job, Lived, live};
+use crate::start::{Trouble, joined, keep, ready};
+use hla_base::{ExecutionName, Fault};
+use hla_callbacks::{Callback, Delivery, Recorder};
+use hla_machine::ResignAction;
+use hla_rti::{Left, Rti};
+use std::alloc::Global;
+use std::marker::Brand;
+use std::process::ExitCode;
+use std::rt::Runtime;
+use std::sync::Wait;
+use std::sync::ledger::{Blank, Ledger};
+use std::thread::Threads;
+use std::{io, str, thread};
+
+/// The federation execution data: one class of interactions, in time-stamp order, with one parameter.
+const FED: &[u8] = b"(FED
+ (Federation Tank)
+ (FEDversion v1.3)
+ (spaces)
+ (objects)
+ (interactions
+  (class InteractionRoot reliable receive
+   (class Level reliable timestamp
+    (parameter Litres)))))
+";
+
+/// How many records the history may hold.
+const HISTORY_LIMIT: usize = 262_144;
+
+/// Takes the federates out of the execution and destroys it: nobody is left joined, and all places are there for `close`.
+fn ended<L: Ledger>(
+    rt: &impl Wait,
+    alloc: Global,
+    rti: &mut Rti<L, Recorder>,
+    tank: ExecutionName,
+    lived: Vec<Lived<L>>,
+) -> Result<Vec<Left<L, Recorder>>, Trouble> {
+    let mut lefts = Vec::new(alloc);
+    for Lived { job, trouble } in lived {
+        if let Some(trouble) = trouble {
+            return Err(trouble);
+        }
+        match job.federate.resign(rt, ResignAction::NoAction) {
+            Ok(left) => keep(&mut lefts, left)?,
+            Err((fault, _)) => return Err(Trouble::Refused(fault)),
+        }
+        keep(&mut lefts, job.courier.leave())?;
+    }
+    rti.destroy(rt, tank)?;
+    Ok(lefts)
+}
+
+/// Runs the federation to its end: the places of all who took part, the display's the last but one.
+fn run<L: Ledger + Send + Sync, R: Threads + Wait + Sync>(
+    rt: &R,
+    alloc: Global,
+    rti: &mut Rti<L, Recorder>,
+) -> Result<Vec<Left<L, Recorder>>, Trouble> {
+    let tank = ExecutionName::new(b"tank")?;
+    rti.create(rt, tank, FED)?;
+    let pump = joined(rt, alloc, rti, b"pump", tank)?;
+    let display = joined(rt, alloc, rti, b"display", tank)?;
+    let jobs: Vec<Job<L>> = ready(rt, alloc, rti, pump, display)?;
+    let Ok(lived) = thread::map_vec(rt, jobs, &|job| live(rt, alloc, tank, job)) else {
+        return Err(Trouble::Refused(Fault::OutOfMemory));
+    };
+    ended(rt, alloc, rti, tank, lived)
+}
+
+/// Prints a level that was told in time-stamp order.
+fn print_level<R: Runtime>(rt: &R, callback: &Callback) -> io::Result<()> {
+    let Callback::ReceiveInteraction {
+        values,
+        delivery: Delivery::TimeStamp { stamp },
+        ..
+    } = callback
+    else {
+        return Ok(());
+    };
+    for pair in values.as_slice() {
+        let litres = str::from_utf8(pair.value.as_slice()).unwrap_or("?");
+        println!(rt; "at {stamp}: {litres} litres")?;
+    }
+    Ok(())
+}
+
+/// Prints what an ambassador was told.
+fn print_heard<R: Runtime>(rt: &R, ambassador: &Recorder) -> io::Result<()> {
+    for callback in ambassador.callbacks() {
+        print_level(rt, callback)?;
+    }
+    Ok(())
+}
+
+/// The ambassadors of those who resigned.
+fn ambassadors<L: Ledger>(
+    alloc: Global,
+    lefts: &mut Vec<Left<L, Recorder>>,
+) -> Result<Vec<Recorder>, Trouble> {
+    let mut found = Vec::new(alloc);
+    for left in lefts.iter_mut() {
+        if let Some(ambassador) = left.take_ambassador() {
+            keep(&mut found, ambassador)?;
+        }
+    }
+    Ok(found)
+}
+
+/// Runs the federation, closes the infrastructure, which compares each transcript with the history, and answers what the
+/// ambassadors heard.
+fn simulated<L: Ledger + Send + Sync, R: Threads + Wait + Sync>(
+    rt: &R,
+    alloc: Global,
+    blank: Blank,
+) -> Result<Vec<Recorder>, Trouble>
+    requires name { blank.name ≡ L.name }
+    requires parts { blank.parts ≡ L.parts }
+    requires all { blank.parts ≡ 2049 }
+{
+    let mut rti = Rti::<L, Recorder>::new(alloc, blank, HISTORY_LIMIT)?;
+    let mut lefts = run(rt, alloc, &mut rti)?;
+    let heard = ambassadors(alloc, &mut lefts)?;
+    match rti.close(rt, lefts) {
+        Ok(_) => Ok(heard),
+        Err(_) => Err(Trouble::NotClosed),
+    }
+}
+
+/// Runs the federation and prints what was told; the status.
+fn told<R: Runtime + AllocGlobal + Threads + Wait + Sync>(rt: &R) -> io::Result<u8> {
+    let ambassadors = match simulated::<Brand, R>(rt, rt.alloc(), Blank::new(2049)) {
+        Ok(ambassadors) => ambassadors,
+        Err(trouble) => {
+            eprintln!(rt; "{trouble}")?;
+            return Ok(1);
+        }
+    };
+    for ambassador in &ambassadors {
+        print_heard(rt, ambassador)?;
+    }
+    println!(rt; "closed: each transcript is the history's")?;
+    Ok(0)
+}
+
+fn main(rt: HostRuntime) -> ExitCode {
+    match told(&rt) {
+        Ok(status) => ExitCode::from(status),
+        Err(_) => ExitCode::from(1),
+    }
+}

@@ -1,0 +1,86 @@
+//! What is done before the federates' threads begin.
+
+use crate::lives::{Job, Part};
+use hla_base::{ExecutionName, Fault, List};
+use hla_callbacks::Recorder;
+use hla_rti::{Federate, Rti};
+use std::alloc::Global;
+use std::sync::Wait;
+use std::sync::ledger::Ledger;
+use thiserror::Error;
+
+/// Why the federation did not come to its end.
+#[derive(Clone, Copy, Debug, PartialEq, Eq, Error)]
+pub enum Trouble {
+    #[error("a call was refused: {0}")]
+    Refused(#[from] Fault),
+    #[error("no grant came")]
+    NoGrant,
+    #[error("the transcripts are not the history's")]
+    NotClosed,
+}
+
+/// Puts an item at the end of a list.
+pub fn keep<T: Drop>(list: &mut Vec<T>, item: T) -> Result<(), Trouble> {
+    match list.push(item) {
+        Ok(()) => Ok(()),
+        Err(_) => Err(Trouble::Refused(Fault::OutOfMemory)),
+    }
+}
+
+/// A name as the services take it.
+fn name(alloc: Global, text: &[u8]) -> Result<List<u8>, Fault> {
+    let mut name = List::new(alloc);
+    for letter in text {
+        name.push(*letter)?;
+    }
+    Ok(name)
+}
+
+/// Joins a federate, with an ambassador that writes down what it hears.
+pub fn joined<L: Ledger>(
+    rt: &impl Wait,
+    alloc: Global,
+    rti: &mut Rti<L, Recorder>,
+    text: &[u8],
+    execution: ExecutionName,
+) -> Result<Federate<L, Recorder>, Trouble> {
+    let name = name(alloc, text)?;
+    match rti.join(rt, name, execution, Recorder::new(alloc)) {
+        Ok(federate) => Ok(federate),
+        Err((fault, _)) => Err(Trouble::Refused(fault)),
+    }
+}
+
+/// Says what each federate sends and receives and how it takes part in time, and gives each its part and a courier. It is done
+/// before the threads begin, so that the pump sends nothing before the display has subscribed.
+pub fn ready<L: Ledger>(
+    rt: &impl Wait,
+    alloc: Global,
+    rti: &mut Rti<L, Recorder>,
+    mut pump: Federate<L, Recorder>,
+    mut display: Federate<L, Recorder>,
+) -> Result<Vec<Job<L>>, Trouble> {
+    let level = pump.get_interaction_class_handle(rt, name(alloc, b"Level")?)?;
+    let litres = pump.get_parameter_handle(rt, name(alloc, b"Litres")?, level)?;
+    pump.publish_interaction_class(rt, level)?;
+    pump.enable_time_regulation(rt, 0, 1)?;
+    pump.tick(rt)?;
+    display.subscribe_interaction_class(rt, level)?;
+    display.enable_time_constrained(rt)?;
+    display.tick(rt)?;
+    let mut jobs = Vec::new(alloc);
+    let part = Part::Pump { level, litres };
+    for (federate, part) in [(pump, part), (display, Part::Display)] {
+        let courier = rti.courier()?;
+        keep(
+            &mut jobs,
+            Job {
+                federate,
+                courier,
+                part,
+            },
+        )?;
+    }
+    Ok(jobs)
+}

@@ -1,0 +1,10 @@
+//! What the lines of a script ask for.
+#![tactic(auto)]
+
+mod lookups;
+mod members;
+mod steps;
+
+pub use lookups::{AskFault, Class};
+pub use members::{Change, Member, federate_named, joined_federate_named, note};
+pub use steps::{Request, service_of};

@@ -1,0 +1,103 @@
+//! The federates that have joined, by name.
+
+ghost use Rattle.std.specs.Prelude.{◌≡◌, ◌∷◌, ◌++◌, ◌+◌, ◌≤◌, [], map, IfOk, IfErr, is_some, vec_len, vec_capacity};
+ghost use Rattle.hla_requests.specs.Members.{change_of, federate_named, joined_federate_named, with_change, without};
+
+use hla_base::{Fault, FederateNo, List, Plain};
+use hla_machine::{Answer, Outcome, Service, Step};
+
+/// A federate that joined, under its name.
+#[derive(Debug, Drop)]
+pub struct Member {
+    pub name: List<u8>,
+    pub number: FederateNo,
+    /// Whether it has not resigned since.
+    pub is_joined: bool,
+}
+
+/// What a step changes of those that have joined, if it is done.
+#[derive(Debug, Drop)]
+pub enum Change {
+    /// A federate joins under a name.
+    Joins { name: List<u8> },
+    /// A federate resigns.
+    Resigns { federate: FederateNo },
+    /// Nothing.
+    Stays,
+}
+
+impl Change {
+    /// What a step changes; an error is want of memory for the name.
+    pub fn of(step: &Step) -> Result<Change, Fault>
+        ensures { IfOk result (λ change. change ≡ change_of step.now) }
+    {
+        match step {
+            Step::Join { name } => Ok(Change::Joins { name: name.copy()? }),
+            Step::Call {
+                federate,
+                service: Service::Resign { .. },
+            } => Ok(Change::Resigns {
+                federate: *federate,
+            }),
+            _ => Ok(Change::Stays),
+        }
+    }
+}
+
+/// Notes that a federate has resigned.
+fn resign(members: &mut [Member], federate: FederateNo)
+    ensures { members.new ≡ map (without federate) members.old }
+{
+    for member in members.iter_mut() {
+        if member.number == federate {
+            member.is_joined = false;
+        }
+    }
+}
+
+/// Notes a change, if its step was done.
+pub fn note(members: &mut Vec<Member>, change: Change, outcome: &Outcome)
+    requires { vec_len members.old + 1 ≤ vec_capacity members.old }
+    ensures { members.new.items ≡ with_change members.old.items change outcome.now }
+{
+    let Outcome::Done(answer) = outcome else {
+        return;
+    };
+    match change {
+        Change::Joins { name } => {
+            if let Answer::Federate(number) = answer {
+                members.push_reserved(Member {
+                    name,
+                    number: *number,
+                    is_joined: true,
+                });
+            }
+        }
+        Change::Resigns { federate } => resign(members.as_mut_slice(), federate),
+        Change::Stays => {}
+    }
+}
+
+/// The federate that joined last under a name, also where it has resigned since.
+#[tactic(auto, unfolding(crate::specs::Members::federate_named))]
+pub fn federate_named(members: &[Member], name: &[u8]) -> Option<FederateNo>
+    ensures { result ≡ federate_named members.now name.now }
+{
+    members
+        .iter()
+        .rev()
+        .find(|m| m.name.as_slice() == name)
+        .map(|m| m.number)
+}
+
+/// The federate that is joined under a name.
+#[tactic(auto, unfolding(crate::specs::Members::joined_federate_named))]
+pub fn joined_federate_named(members: &[Member], name: &[u8]) -> Option<FederateNo>
+    ensures { result ≡ joined_federate_named members.now name.now }
+{
+    members
+        .iter()
+        .rev()
+        .find(|m| m.is_joined && m.name.as_slice() == name)
+        .map(|m| m.number)
+}
