@@ -38,7 +38,9 @@ def wrong_bodies(edit):
 
 
 def function_at(lines, number):
-    """The function in which a line stands, with the head of the block around it."""
+    """The function in which a line stands, or before which it stands as an attribute, with the head of the block around it."""
+    while lines[number].lstrip().startswith("#[") and number + 1 < len(lines):
+        number += 1
     name, inside = None, False
     for line in reversed(lines[:number + 1]):
         found = FUNCTION.match(line)

@@ -5,8 +5,11 @@
 //!     hla_bench phold FEDERATES POPULATION LOOKAHEAD DELIVERED
 //!     hla_bench queue EVENTS
 //!     hla_bench fed BYTES
+//!     hla_bench bare FEDERATES ROUNDS
+//!     hla_bench run THREADS ROUNDS
 #![tactic(auto)]
 
+mod advancing;
 mod counts;
 mod holding;
 mod lockstep;
@@ -17,10 +20,11 @@ mod reading;
 
 use crate::counts::Counts;
 use hla_base::Fault;
-use std::alloc::Global;
 use std::env::Args;
 use std::process::ExitCode;
 use std::rt::{Clock, Runtime};
+use std::sync::Wait;
+use std::thread::Threads;
 use std::time::{Duration, Instant};
 use std::{env, io};
 
@@ -44,11 +48,19 @@ enum Benchmark {
     Fed {
         bytes: usize,
     },
+    Bare {
+        federates: u32,
+        rounds: u64,
+    },
+    Run {
+        threads: u32,
+        rounds: u64,
+    },
 }
 
 const USAGE: &str =
     "usage: hla_bench lockstep FEDERATES EVENTS ROUNDS | phold FEDERATES POPULATION LOOKAHEAD DELIVERED | \
-    queue EVENTS | fed BYTES";
+    queue EVENTS | fed BYTES | bare FEDERATES ROUNDS | run THREADS ROUNDS";
 
 /// The next word as a number.
 fn number(words: &mut Args) -> Option<u64> {
@@ -82,6 +94,14 @@ fn asked_for(words: &mut Args) -> Option<Benchmark> {
         "fed" => Benchmark::Fed {
             bytes: number(words)? as usize,
         },
+        "bare" => Benchmark::Bare {
+            federates: small(words)?,
+            rounds: number(words)?,
+        },
+        "run" => Benchmark::Run {
+            threads: small(words)?,
+            rounds: number(words)?,
+        },
         _ => return None,
     };
     match words.next() {
@@ -91,7 +111,11 @@ fn asked_for(words: &mut Args) -> Option<Benchmark> {
 }
 
 /// Runs a benchmark.
-fn counts_of(alloc: Global, asked: Benchmark) -> Result<Counts, Fault> {
+fn counts_of<R: AllocGlobal + Threads + Wait + Sync>(
+    rt: &R,
+    asked: Benchmark,
+) -> Result<Counts, Fault> {
+    let alloc = rt.alloc();
     match asked {
         Benchmark::Lockstep {
             federates,
@@ -106,6 +130,8 @@ fn counts_of(alloc: Global, asked: Benchmark) -> Result<Counts, Fault> {
         } => phold::run(alloc, federates, population, lookahead, delivered),
         Benchmark::Queue { events } => holding::run(alloc, events),
         Benchmark::Fed { bytes } => reading::run(alloc, bytes),
+        Benchmark::Bare { federates, rounds } => advancing::run_bare(alloc, federates, rounds),
+        Benchmark::Run { threads, rounds } => advancing::run(rt, alloc, threads, rounds),
     }
 }
 
@@ -123,14 +149,14 @@ fn print_rates<R: Runtime>(rt: &R, counts: &Counts, took: Duration) -> io::Resul
 }
 
 /// Runs a benchmark, and prints its counts and times; the status.
-fn run<R: Runtime + AllocGlobal>(rt: &R) -> io::Result<u8> {
+fn run<R: Runtime + AllocGlobal + Threads + Wait + Sync>(rt: &R) -> io::Result<u8> {
     let mut words = env::args(rt)?;
     let Some(asked) = asked_for(&mut words) else {
         eprintln!(rt; "{USAGE}")?;
         return Ok(2);
     };
     let start = Instant::now(rt)?;
-    let counts = match counts_of(rt.alloc(), asked) {
+    let counts = match counts_of(rt, asked) {
         Ok(counts) => counts,
         Err(fault) => {
             eprintln!(rt; "{fault}")?;

@@ -109,6 +109,12 @@ impl Meter {
         Ok(())
     }
 
+    /// A federate ticks once.
+    pub fn tick(&mut self, federate: FederateNo) -> Result<(), Fault> {
+        let _brought = self.step(&Step::Tick { federate })?;
+        Ok(())
+    }
+
     /// A federate announces its promise.
     pub fn announce(&mut self, federate: FederateNo) -> Result<(), Fault> {
         let _brought = self.step(&Step::Announce { federate })?;
