@@ -16,7 +16,7 @@ pub enum CheckFault {
     #[error("the record at place {0} is no step of the machine")]
     Place(usize),
     /// Those before this place are a run; the record at it is of a kind that no test covers yet.
-    #[error("no test covers the record at place {0}")]
+    #[error("the record at place {0} is of a kind that is not judged")]
     Open(usize),
     /// A growth was refused.
     #[error("OutOfMemory")]
