@@ -217,28 +217,33 @@ impl ExecutionTable {
 
     /// Whether the machine allows a record; where it does, the state after it is kept. `OutOfMemory` where a growth was
     /// refused.
-    pub(crate) fn judge(&mut self, record: &Record) -> Result<Verdict, Fault>
+    pub(crate) fn judge(&mut self, recorded: &Record) -> Result<Verdict, Fault>
         requires consistent { AreConsistent self.old.executions.items }
-        ensures ok { IfOk result (JudgedAct self.old record.now.execution record.now.act
-            record.now.outcome record.now.choice self.new) }
+        ensures ok { IfOk result (JudgedAct self.old recorded.now.execution recorded.now.act
+            recorded.now.outcome recorded.now.choice self.new) }
         ensures err { IfErr result (λ e. e ≡ Fault.OutOfMemory) }
     {
-        match &record.act {
+        match &recorded.act {
             Act::Create { catalogue } => {
                 self.judge_creation(
-                    &record.execution,
+                    &recorded.execution,
                     catalogue,
-                    &record.outcome,
-                    &record.choice,
+                    &recorded.outcome,
+                    &recorded.choice,
                 )
             }
             Act::Destroy => Ok(self.judge_destruction(
-                &record.execution,
-                &record.outcome,
-                &record.choice,
+                &recorded.execution,
+                &recorded.outcome,
+                &recorded.choice,
             )),
             Act::Step(step) => {
-                self.judge_step(&record.execution, step, &record.outcome, &record.choice)
+                self.judge_step(
+                    &recorded.execution,
+                    step,
+                    &recorded.outcome,
+                    &recorded.choice,
+                )
             }
         }
     }
