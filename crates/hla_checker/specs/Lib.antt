@@ -16,3 +16,5 @@ pub mod Table
 pub mod Creating
 -- Where a list of records ceases to be a run
 pub mod Faults
+-- What services send
+pub mod Sending
