@@ -34,3 +34,5 @@ pub mod DiscoveryVerdicts
 pub mod PairPlaces
 -- What an update is cut into, and with which fault a service that sends is refused
 pub mod SendingTests
+-- What tests of services that send messages tell
+pub mod SendVerdicts

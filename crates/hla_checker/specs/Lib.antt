@@ -18,3 +18,5 @@ pub mod Creating
 pub mod Faults
 -- What services send
 pub mod Sending
+-- What is told of a call that chooses nothing, before its answer is looked at
+pub mod Answering

@@ -1,7 +1,7 @@
 //! What a message says to each federate.
 
-ghost use Rattle.std.specs.Prelude.{◌≡◌, filter, length, IfOk, IfErr, option_map};
-ghost use Rattle.hla_base.specs.declared.content.Content.TheVariants as contents;
+ghost use Rattle.std.specs.Prelude.{◌≡◌, ◌≤◌, filter, length, IfOk, IfErr};
+ghost use Rattle.hla_base.specs.Limits.{max_joins};
 ghost use Rattle.hla_base.specs.declared.content.HandleValuePair.{HandleValuePair};
 ghost use Rattle.hla_base.specs.declared.fault.Fault.TheVariants.{OutOfMemory};
 ghost use Rattle.hla_fed_file.specs.Lookup.{has_parameter};
@@ -162,6 +162,7 @@ impl KeptExecution {
     pub(crate) fn contents_of(&self, body: &Body) -> Result<Vec<Option<Content>>, Fault>
         ensures ok { IfOk result (λ contents. AreContents (directory_of self.now) (body_said body.now)
             (length self.now.accounts) contents.items) }
+        ensures few { IfOk result (λ contents. length contents.items ≤ max_joins) }
         ensures err { IfErr result (λ e. e ≡ Fault.OutOfMemory) }
     {
         let end = self.accounts.next_federate();

@@ -2,6 +2,7 @@
 #![tactic(auto)]
 
 mod announcing;
+mod answering;
 mod answers;
 mod carrying;
 mod checking;
@@ -18,6 +19,7 @@ mod queries;
 mod regulating;
 mod retracting;
 mod row_services;
+mod sending;
 mod sending_faults;
 mod table;
 mod ticking;
