@@ -36,3 +36,5 @@ pub mod PairPlaces
 pub mod SendingTests
 -- What tests of services that send messages tell
 pub mod SendVerdicts
+-- What is sent by an update, one message after another
+pub mod UpdateVerdicts

@@ -24,6 +24,7 @@ mod sending_faults;
 mod table;
 mod ticking;
 mod unconstraining;
+mod updating;
 mod verdict;
 
 pub use checking::{CheckFault, check_run};
