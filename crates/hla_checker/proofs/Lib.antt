@@ -30,3 +30,11 @@ pub mod RegulationVerdicts
 pub mod RetractionVerdicts
 -- What tests of a discovery tell
 pub mod DiscoveryVerdicts
+-- Putting a pair among pairs by rising handle
+pub mod PairPlaces
+-- What an update is cut into, and with which fault a service that sends is refused
+pub mod SendingTests
+-- What tests of services that send messages tell
+pub mod SendVerdicts
+-- What is sent by an update, one message after another
+pub mod UpdateVerdicts

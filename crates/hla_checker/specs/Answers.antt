@@ -1,5 +1,6 @@
 -- What is in answers
 use Rattle.std.specs.Prelude.{ℕ, Option, Some, None}
+use Rattle.hla_base.specs.declared.number.EventHandle.{EventHandle}
 use Rattle.hla_machine.specs.declared.step.Carried.{Carried}
 use Rattle.hla_machine.specs.declared.step.Answer.{Answer}
 use Rattle.hla_machine.specs.declared.step.Answer.TheVariants as answer
@@ -15,6 +16,10 @@ carried_in a = None
 abbrev pub joiner_in : Answer → Option ℕ
 joiner_in (answer.Federate federate) = Some federate
 joiner_in a = None
+
+abbrev pub sent_in : Answer → Option (Option EventHandle)
+sent_in (answer.Sent handle) = Some handle
+sent_in a = None
 
 abbrev pub time_in : Answer → Option ℕ
 time_in (answer.Time time) = Some time

@@ -16,3 +16,7 @@ pub mod Table
 pub mod Creating
 -- Where a list of records ceases to be a run
 pub mod Faults
+-- What services send
+pub mod Sending
+-- What is told of a call that chooses nothing, before its answer is looked at
+pub mod Answering

@@ -2,9 +2,9 @@
 
 ghost use Rattle.std.specs.Prelude.{◌≡◌, Some};
 ghost use Rattle.std.specs.Bool.{Decides};
-ghost use Rattle.hla_checker.specs.Answers.{announced_in, carried_in, joiner_in, time_in};
+ghost use Rattle.hla_checker.specs.Answers.{announced_in, carried_in, joiner_in, sent_in, time_in};
 
-use hla_base::{FederateNo, Ticks};
+use hla_base::{EventHandle, FederateNo, Ticks};
 use hla_machine::{Answer, Carried};
 
 /// The promise of an announcement, if it made one; nothing in the answer to another step.
@@ -58,6 +58,34 @@ pub(crate) fn joiner_in(answer: &Answer) -> Option<FederateNo>
         | Answer::Ticked(_)
         | Answer::Carried(_)
         | Answer::Announced(_) => None,
+    }
+}
+
+/// The handle of the message that was sent in time-stamp order, if there is one; nothing in the answer to another step.
+pub(crate) fn sent_in(answer: &Answer) -> Option<Option<EventHandle>>
+    ensures { result ≡ sent_in answer.now }
+{
+    match answer {
+        Answer::Sent(handle) => Some(*handle),
+        Answer::Done
+        | Answer::Federate(_)
+        | Answer::Registered { .. }
+        | Answer::Handle(_)
+        | Answer::Name(_)
+        | Answer::Time(_)
+        | Answer::Ticked(_)
+        | Answer::Carried(_)
+        | Answer::Announced(_) => None,
+    }
+}
+
+/// Whether an answer is that messages were sent, with this handle of the one in time-stamp order, if there is one.
+pub(crate) fn is_sent(answer: &Answer, handle: Option<EventHandle>) -> bool
+    ensures { Decides result (sent_in answer.now ≡ Some handle) }
+{
+    match sent_in(answer) {
+        Some(given) => given == handle,
+        None => false,
     }
 }
 

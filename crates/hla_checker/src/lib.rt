@@ -2,23 +2,29 @@
 #![tactic(auto)]
 
 mod announcing;
+mod answering;
 mod answers;
 mod carrying;
 mod checking;
 mod constraining;
+mod contents;
 mod discovering;
 mod giving;
 mod joining;
 mod judging;
 mod kept;
 mod outcomes;
+mod pairs;
 mod queries;
 mod regulating;
 mod retracting;
 mod row_services;
+mod sending;
+mod sending_faults;
 mod table;
 mod ticking;
 mod unconstraining;
+mod updating;
 mod verdict;
 
 pub use checking::{CheckFault, check_run};

@@ -1,0 +1,9 @@
+use Rattle.std.proofs.Common.{◌≡◌, ◌+◌, length}
+use Rattle.hla_checker.specs.Kept.{directory_of}
+use Rattle.hla_checker.specs.Sending.{body_said, AreContents}
+use Rattle.hla_checker.proofs.kept.KeptExecution.contents_of.Given as goal
+
+-- what it says to those so far
+abbrev pub invariant-loop-federate : goal.invariant-loop-federate
+invariant-loop-federate l =
+    (l.federate ≡ length l.contents.items + 1) × AreContents (directory_of l.self) (body_said l.body) (length l.contents.items) l.contents.items

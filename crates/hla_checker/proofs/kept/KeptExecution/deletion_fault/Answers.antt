@@ -1,0 +1,28 @@
+use Rattle.std.proofs.Common.{◌≡◌, eqb, true, ap, sym, refl, ◌∙◌, arith}
+use Rattle.std.proofs.lemmas.Bool.Decides.{nat_tests}
+use Rattle.hla_base.specs.RowRefusals.{first_fault}
+use Rattle.hla_fed_file.specs.Lookup.{deletion_order}
+use Rattle.hla_fed_file.specs.declared.declared.Order.TheVariants.{Timestamp}
+use Rattle.hla_object_registry.specs.Queries.{is_known_in}
+use Rattle.hla_object_registry.specs.Registered.{registry_of}
+use Rattle.hla_machine.specs.Directory.{ADeletion, deletion_sent, is_of_order}
+use Rattle.hla_accounts.specs.Accounts.{account_at}
+use Rattle.hla_checker.specs.Kept.{KeptValue, directory_of}
+use Rattle.hla_checker.specs.Sending.{sending_tests}
+use Rattle.hla_checker.proofs.SendingTests.{one_stamped, deletion_rest}
+use Rattle.hla_checker.proofs.kept.KeptExecution.deletion_fault.Goals as goal
+
+pub returns-else-owner-federate : goal.returns-else-owner-federate
+returns-else-owner-federate c =
+    let now = c.args.self.now in
+    let f = c.args.federate in
+    let h = c.args.object in
+    let outs = deletion_sent (directory_of now) h in
+    let order = λ (v : KeptValue). is_of_order Timestamp (deletion_order v.catalogue ((registry_of v.objects).object h).class) in
+    let any = one_stamped (record { order = deletion_order now.catalogue ((registry_of now.objects).object h).class; body = ADeletion h })
+    ∙ sym (c.is_timestamp-is_stamped.ensures ∙ ap (is_of_order Timestamp) (c.deletion_order.ensures ∙ ap (deletion_order c.self.inside.catalogue) c.class_of-class.ensures) ∙ ap order c.self.view_is) in
+    let known = ap (λ (v : KeptValue). is_known_in (registry_of v.objects) f h) (sym c.self.view_is) ∙ sym c.is_known.ensures ∙ c.if-not-is_known.false in
+    let owner : ((registry_of now.objects).object h).owner ≡ f = ap (λ (v : KeptValue). ((registry_of v.objects).object h).owner) (sym c.self.view_is) ∙ sym c.owner.ensures ∙ c.if-owner-federate.false in
+    let owned : eqb ((registry_of now.objects).object h).owner f ≡ true = grind (arith, nat_tests) in
+    c.sending_fault.ensures outs any refl ∙ ap (λ (v : KeptValue). first_fault (sending_tests (account_at v.accounts f) c.args.stamp outs)) c.self.view_is
+    ∙ deletion_rest _ _ _ known owned

@@ -1,0 +1,46 @@
+use Rattle.std.proofs.Common.{List, ap, refl, ◌∙◌}
+use Rattle.hla_base.specs.RowRefusals.{first_fault}
+use Rattle.hla_base.specs.declared.content.HandleValuePair.{HandleValuePair}
+use Rattle.hla_machine.specs.Directory.{Directory, interaction_sent}
+use Rattle.hla_machine.specs.Machine.{central_seen}
+use Rattle.hla_machine.specs.Refusals.{call_tests}
+use Rattle.hla_machine.specs.Sends.{after_messages}
+use Rattle.hla_machine.specs.declared.service.Service.TheVariants as services
+use Rattle.hla_machine.specs.declared.step.Step.TheVariants as steps
+use Rattle.hla_checker.specs.Kept.{central_of, directory_of}
+use Rattle.hla_checker.proofs.StepVerdicts.{kept_unchanged}
+use Rattle.hla_checker.proofs.ServiceVerdicts.{joined_refusal}
+use Rattle.hla_checker.proofs.SendVerdicts.{interaction_sending, sending_wrong, sending_done}
+use Rattle.hla_checker.proofs.kept.KeptExecution.judge_send_interaction.Goals as goal
+
+pub returns-then-not-is_sent-clause-ok : goal.returns-then-not-is_sent-clause-ok
+returns-then-not-is_sent-clause-ok c =
+    let now = central_of c.args.self.now in
+    let x = services.SendInteraction c.args.class c.args.values.now c.args.stamp in
+    sending_wrong now c.args.federate x c.args.stamp (λ (d : Directory). interaction_sent d c.args.class c.args.values.now) (interaction_sending c.args.class c.args.values.now c.args.stamp)
+    c.args.outcome.now c.in-Ok.answer.now c.args.choice.now c.interaction_handle-handle.result (c.interaction_handle-handle.ensures c.args.values.now) c.in-Ok.ensures.answered.0
+    now c.is_sent.result c.is_sent.ensures c.if-not-is_sent.true
+
+pub returns-in-Err-clause-ok : goal.returns-in-Err-clause-ok
+returns-in-Err-clause-ok c =
+    let now = central_of c.args.self.now in
+    let x = services.SendInteraction c.args.class c.args.values.now c.args.stamp in
+    let found = c.interaction_fault-fault.ensures
+    ∙ ap (λ (vs : List HandleValuePair). first_fault (call_tests (central_seen now) c.args.federate (services.SendInteraction c.args.class vs c.args.stamp))) c.as_slice.ensures
+    ∙ joined_refusal now c.args.federate x c.requires.joined in
+    kept_unchanged c.args.self.now c.args.self.now (steps.Call c.args.federate x) (steps.Call c.args.federate x) c.args.outcome.now c.args.choice.now c.in-Err.verdict refl refl c.requires.consistent
+    (c.in-Err.ensures.told now c.args.federate x (interaction_sending c.args.class c.args.values.now c.args.stamp).chooses found)
+
+pub returns-in_ok-send_interaction-in-Ok-clause-ok : goal.returns-in_ok-send_interaction-in-Ok-clause-ok
+returns-in_ok-send_interaction-in-Ok-clause-ok c =
+    let now = central_of c.args.self.now in
+    let x = services.SendInteraction c.args.class c.args.values.now c.args.stamp in
+    let found = c.interaction_fault-fault.ensures
+    ∙ ap (λ (vs : List HandleValuePair). first_fault (call_tests (central_seen now) c.args.federate (services.SendInteraction c.args.class vs c.args.stamp))) c.as_slice.ensures
+    ∙ joined_refusal now c.args.federate x c.requires.joined in
+    let follows = c.in_ok-send_interaction-in-Ok.ensures.sent
+    ∙ ap (λ (vs : List HandleValuePair). after_messages now c.args.federate c.args.stamp (interaction_sent (directory_of c.args.self.now) c.args.class vs)) c.as_slice-in-Ok.ensures in
+    let done = sending_done now c.args.federate x c.args.stamp (λ (d : Directory). interaction_sent d c.args.class c.args.values.now) (interaction_sending c.args.class c.args.values.now c.args.stamp)
+    c.args.outcome.now c.in-Ok.answer.now c.args.choice.now c.interaction_handle-handle.result (c.interaction_handle-handle.ensures c.args.values.now) c.in-Ok.ensures.answered.0
+    (central_of c.send_interaction.new.self) c.interaction_fault-fault.result found c.in-Ok.ensures.answered.1 (c.is_sent.ensures.0 c.if-not-is_sent.false) c.in-Ok.ensures.answered.2 follows in
+    (done.0, (done.1, c.in_ok-send_interaction-in-Ok.ensures.consistent))

@@ -1,0 +1,154 @@
+//! Updating attributes, and whether the central machine allows it (HLA 1.3, object management).
+
+ghost use Rattle.std.specs.Prelude.{ℕ, ◌≡◌, ◌≢◌, ◌≤◌, ◌+◌, true, length, OnOk, IfOk, IfErr};
+ghost use Rattle.hla_base.specs.Limits.{max_serial};
+ghost use Rattle.hla_base.specs.declared.fault.Fault.TheVariants.{OutOfMemory};
+ghost use Rattle.hla_machine.specs.Directory.{part_sent, update_sent, values_of_order};
+ghost use Rattle.hla_machine.specs.Machine.{send_answer};
+ghost use Rattle.hla_machine.specs.Sends.{after_messages};
+ghost use Rattle.hla_machine.specs.declared.service.Service.TheVariants as services;
+ghost use Rattle.hla_machine.specs.declared.step.Step.TheVariants as steps;
+ghost use Rattle.hla_accounts.specs.Accounts.{account_at};
+ghost use Rattle.hla_checker.specs.Kept.{IsConsistent, JudgedStep, central_of, directory_of};
+ghost use Rattle.hla_checker.specs.declared.verdict.Verdict.TheVariants as verdicts;
+
+use crate::answering::answer_to;
+use crate::answers::is_sent;
+use crate::contents::{Body, Message};
+use crate::kept::KeptExecution;
+use crate::pairs::by_handle;
+use crate::verdict::Verdict;
+use hla_base::{EventHandle, Fault, FederateNo, HandleValuePair, List, ObjectNo, Plain, Ticks};
+use hla_fed_file::Order;
+use hla_machine::{Choice, Outcome};
+
+impl KeptExecution {
+    /// The values of the attributes whose updates have this order. `OutOfMemory` where a growth was refused.
+    fn values_of_order(
+        &self,
+        order: Order,
+        values: &[HandleValuePair],
+    ) -> Result<List<HandleValuePair>, Fault>
+        ensures ok { IfOk result (λ part. part ≡ values_of_order (directory_of self.now) order values.now) }
+        ensures err { IfErr result (λ e. e ≡ Fault.OutOfMemory) }
+    {
+        let mut part = List::with_room(self.alloc, values.len())?;
+        for value in values {
+            if self.catalogue.attribute_order(value.handle) == order {
+                part.push(value.copy()?)?;
+            }
+        }
+        Ok(part)
+    }
+
+    /// The handle of the part of an update that goes in time-stamp order, if there is one: the part in receive order goes
+    /// before it.
+    fn update_handle(
+        &self,
+        federate: FederateNo,
+        values: &[HandleValuePair],
+        stamp: Option<Ticks>,
+    ) -> Option<EventHandle>
+        requires { (account_at self.now.accounts federate).next_serial ≤ max_serial + 1 }
+        ensures { (object : ℕ) → result ≡ send_answer (central_of self.now) federate stamp
+            (update_sent (directory_of self.now) object values.now) }
+    {
+        if !self.has_order(Order::Timestamp, values) {
+            return None;
+        }
+        if !self
+            .accounts
+            .is_sent_in_order(federate, Order::Timestamp, stamp)
+        {
+            return None;
+        }
+        let before = u64::from(self.has_order(Order::Receive, values));
+        Some(EventHandle {
+            sender: federate,
+            serial: self.accounts.next_serial(federate) + before,
+        })
+    }
+
+    /// A joined federate sends the part of an update that has one order; a part without values makes no message.
+    /// `OutOfMemory` where a growth was refused.
+    fn send_part(
+        &mut self,
+        federate: FederateNo,
+        object: ObjectNo,
+        order: Order,
+        values: List<HandleValuePair>,
+        stamp: Option<Ticks>,
+    ) -> Result<(), Fault>
+        requires consistent { IsConsistent self.old }
+        requires joined { (account_at self.old.accounts federate).is_joined ≡ true }
+        requires room { (account_at self.old.accounts federate).next_serial
+            + length (part_sent order object values) ≤ max_serial + 1 }
+        ensures sent { OnOk result (central_of self.new ≡ after_messages (central_of self.old) federate stamp
+            (part_sent order object values)) }
+        ensures consistent { OnOk result (IsConsistent self.new) }
+        ensures err { IfErr result (λ e. e ≡ Fault.OutOfMemory) }
+    {
+        if values.is_empty() {
+            return Ok(());
+        }
+        let body = Body::Update { object, values };
+        self.send(federate, stamp, &Message { order, body })
+    }
+
+    /// A joined federate updates attributes of an object: those whose updates go in receive order make one message, the
+    /// others another one after it. `OutOfMemory` where a growth was refused.
+    fn send_update(
+        &mut self,
+        federate: FederateNo,
+        object: ObjectNo,
+        values: &[HandleValuePair],
+        stamp: Option<Ticks>,
+    ) -> Result<(), Fault>
+        requires consistent { IsConsistent self.old }
+        requires joined { (account_at self.old.accounts federate).is_joined ≡ true }
+        requires room { (account_at self.old.accounts federate).next_serial
+            + length (update_sent (directory_of self.old) object values.now) ≤ max_serial + 1 }
+        ensures sent { OnOk result (central_of self.new ≡ after_messages (central_of self.old) federate stamp
+            (update_sent (directory_of self.old) object values.now)) }
+        ensures consistent { OnOk result (IsConsistent self.new) }
+        ensures err { IfErr result (λ e. e ≡ Fault.OutOfMemory) }
+    {
+        let values = by_handle(self.alloc, values)?;
+        let received = self.values_of_order(Order::Receive, values.as_slice())?;
+        let stamped = self.values_of_order(Order::Timestamp, values.as_slice())?;
+        self.send_part(federate, object, Order::Receive, received, stamp)?;
+        self.send_part(federate, object, Order::Timestamp, stamped, stamp)
+    }
+
+    /// Whether the machine allows that a joined federate updates attributes of an object, which ended so and chose this;
+    /// where it does, the update is sent. `OutOfMemory` where a growth was refused.
+    pub(crate) fn judge_update_attribute_values(
+        &mut self,
+        federate: FederateNo,
+        object: ObjectNo,
+        values: &List<HandleValuePair>,
+        stamp: Option<Ticks>,
+        outcome: &Outcome,
+        choice: &Choice,
+    ) -> Result<Verdict, Fault>
+        requires consistent { IsConsistent self.old }
+        requires joined { (account_at self.old.accounts federate).is_joined ≡ true }
+        ensures ok { IfOk result (JudgedStep self.old (steps.Call federate
+            (services.UpdateAttributeValues object values.now stamp)) outcome.now choice.now self.new) }
+        ensures exact { IfOk result (λ v. v ≢ verdicts.Open) }
+        ensures err { IfErr result (λ e. e ≡ Fault.OutOfMemory) }
+    {
+        let fault = self.update_fault(federate, object, values.as_slice(), stamp);
+        match answer_to(fault, outcome, choice) {
+            Err(verdict) => Ok(verdict),
+            Ok(answer) => {
+                let handle = self.update_handle(federate, values.as_slice(), stamp);
+                if !is_sent(answer, handle) {
+                    return Ok(Verdict::Wrong);
+                }
+                self.send_update(federate, object, values.as_slice(), stamp)?;
+                Ok(Verdict::Allowed)
+            }
+        }
+    }
+}
