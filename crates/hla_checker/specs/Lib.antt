@@ -20,3 +20,5 @@ pub mod Faults
 pub mod Sending
 -- What is told of a call that chooses nothing, before its answer is looked at
 pub mod Answering
+-- Which calls and callbacks a test is for
+pub mod Kinds

@@ -7,9 +7,11 @@ ghost use Rattle.hla_machine.specs.declared.step.Step.TheVariants as steps;
 ghost use Rattle.hla_accounts.specs.Accounts.{account_at};
 ghost use Rattle.hla_checker.specs.Accounted.{JudgedWith};
 ghost use Rattle.hla_checker.specs.Kept.{IsConsistent, JudgedStep};
+ghost use Rattle.hla_checker.specs.Kinds.{IsLookUpCall, IsMovingCall, IsOtherCall};
 
 use crate::announcing::judge_announcement;
 use crate::carrying::judge_carry;
+use crate::declaring::declaration_of;
 use crate::kept::KeptExecution;
 use crate::outcomes::is_strangers;
 use crate::queries::{judge_query, time_query_of};
@@ -17,22 +19,24 @@ use crate::regulating::judge_regulation;
 use crate::retracting::judge_retraction;
 use crate::row_services::{judge_row_service, row_change_of};
 use crate::ticking::judge_tick;
-use crate::unconstraining::judge_moving_service;
+use crate::unconstraining::judge_unconstraining;
 use crate::verdict::Verdict;
 use hla_accounts::Accounts;
 use hla_base::{Fault, FederateNo};
 use hla_machine::{Choice, Outcome, Service, Step};
 
-/// Whether the machine allows a call of a joined federate that ended so and chose this, where it tests or changes more than
-/// the row of its caller; where it does, the state after it is kept. `OutOfMemory` where a growth was refused.
-fn judge_time_service(
+/// Whether the machine allows a call of a joined federate that ended so and chose this, of the services of time management
+/// that do more than change its row or ask for a time; where it does, the state after it is kept. `OutOfMemory` where a
+/// growth was refused.
+fn judge_moving_call(
     accounts: &mut Accounts,
     federate: FederateNo,
     service: &Service,
     outcome: &Outcome,
     choice: &Choice,
 ) -> Result<Verdict, Fault>
-    requires { (account_at accounts.old federate).is_joined ≡ true }
+    requires joined { (account_at accounts.old federate).is_joined ≡ true }
+    requires moving { IsMovingCall service.now }
     ensures ok { IfOk result (λ v. (d : Directory) → JudgedWith d accounts.old (steps.Call federate service.now) outcome.now
         choice.now accounts.new v) }
     ensures err { IfErr result (λ e. e ≡ Fault.OutOfMemory) }
@@ -46,40 +50,148 @@ fn judge_time_service(
         Service::EnableTimeRegulation { time, lookahead } => Ok(judge_regulation(
             accounts, federate, *time, *lookahead, outcome, choice,
         )),
-        _ => Ok(judge_moving_service(accounts, federate, service, outcome, choice)),
-    }
-}
-
-/// Whether the machine allows a call that ended so and chose this; where it does, the state after it is kept. `OutOfMemory`
-/// where a growth was refused.
-fn judge_call(
-    accounts: &mut Accounts,
-    federate: FederateNo,
-    service: &Service,
-    outcome: &Outcome,
-    choice: &Choice,
-) -> Result<Verdict, Fault>
-    ensures ok { IfOk result (λ v. (d : Directory) → JudgedWith d accounts.old (steps.Call federate service.now) outcome.now
-        choice.now accounts.new v) }
-    ensures err { IfErr result (λ e. e ≡ Fault.OutOfMemory) }
-    ensures size { IfOk result (λ _. length accounts.new ≡ length accounts.old) }
-{
-    if !accounts.is_joined(federate) {
-        return Ok(Verdict::of(is_strangers(outcome, choice)));
-    }
-    match row_change_of(service) {
-        Some(change) => Ok(judge_row_service(accounts, federate, service, change, outcome, choice)),
-        None => match time_query_of(service) {
-            Some(query) => Ok(judge_query(accounts, federate, service, query, outcome, choice)),
-            None => {
-                let verdict = judge_time_service(accounts, federate, service, outcome, choice)?;
-                Ok(verdict)
-            }
-        },
+        Service::DisableTimeConstrained => Ok(judge_unconstraining(
+            accounts, federate, outcome, choice,
+        )),
+        _ => unreachable!(),
     }
 }
 
 impl KeptExecution {
+    /// Whether the machine allows a look-up of a joined federate that ended so and chose this.
+    #[tactic(auto, using(crate::proofs::StepVerdicts::step_as))]
+    fn judge_look_up(
+        &self,
+        federate: FederateNo,
+        service: &Service,
+        outcome: &Outcome,
+        choice: &Choice,
+    ) -> Verdict
+        requires consistent { IsConsistent self.now }
+        requires joined { (account_at self.now.accounts federate).is_joined ≡ true }
+        requires look_up { IsLookUpCall service.now }
+        ensures { JudgedStep self.now (steps.Call federate service.now) outcome.now choice.now self.now result }
+    {
+        match service {
+            Service::GetObjectClassHandle { name } => {
+                self.judge_object_class_number(federate, name, outcome, choice)
+            }
+            Service::GetInteractionClassHandle { name } => {
+                self.judge_interaction_class_number(federate, name, outcome, choice)
+            }
+            Service::GetAttributeHandle { name, class } => {
+                self.judge_attribute_number(federate, name, *class, outcome, choice)
+            }
+            Service::GetParameterHandle { name, class } => {
+                self.judge_parameter_number(federate, name, *class, outcome, choice)
+            }
+            Service::GetObjectInstanceHandle { name } => {
+                self.judge_object_number(federate, name, outcome, choice)
+            }
+            Service::GetObjectInstanceName { object } => {
+                self.judge_object_name(federate, *object, outcome, choice)
+            }
+            _ => unreachable!(),
+        }
+    }
+
+    /// Whether the machine allows a call of a joined federate that ended so and chose this, where it does more than change its
+    /// row, ask for a time or change one declaration; where it does, the state after it is kept. `OutOfMemory` where a growth
+    /// was refused.
+    #[tactic(auto, using(crate::proofs::StepVerdicts::step_as))]
+    fn judge_other_call(
+        &mut self,
+        federate: FederateNo,
+        service: &Service,
+        outcome: &Outcome,
+        choice: &Choice,
+    ) -> Result<Verdict, Fault>
+        requires consistent { IsConsistent self.old }
+        requires joined { (account_at self.old.accounts federate).is_joined ≡ true }
+        requires other { IsOtherCall service.now }
+        ensures ok { IfOk result (JudgedStep self.old (steps.Call federate service.now) outcome.now choice.now self.new) }
+        ensures err { IfErr result (λ e. e ≡ Fault.OutOfMemory) }
+    {
+        match service {
+            Service::Resign { action } => self.judge_resign(federate, *action, outcome, choice),
+            Service::PublishObjectClass { class, attributes } => {
+                self.judge_publishing(federate, *class, attributes, outcome, choice)
+            }
+            Service::SubscribeObjectClassAttributes { class, attributes } => {
+                self.judge_subscribing(federate, *class, attributes, outcome, choice)
+            }
+            Service::RegisterObjectInstance { class, name } => {
+                self.judge_registration(federate, *class, name, outcome, choice)
+            }
+            Service::UpdateAttributeValues {
+                object,
+                values,
+                stamp,
+            } => self.judge_update(federate, *object, values, *stamp, outcome, choice),
+            Service::SendInteraction {
+                class,
+                values,
+                stamp,
+            } => self.judge_send_interaction(federate, *class, values, *stamp, outcome, choice),
+            Service::DeleteObjectInstance { object, stamp } => {
+                self.judge_deletion(federate, *object, *stamp, outcome, choice)
+            }
+            Service::Retract { .. }
+            | Service::EnableTimeRegulation { .. }
+            | Service::DisableTimeConstrained => {
+                judge_moving_call(&mut self.accounts, federate, service, outcome, choice)
+            }
+            _ => Ok(self.judge_look_up(federate, service, outcome, choice)),
+        }
+    }
+
+    /// Whether the machine allows a call of a joined federate that ended so and chose this; where it does, the state after it
+    /// is kept. `OutOfMemory` where a growth was refused.
+    fn judge_member_call(
+        &mut self,
+        federate: FederateNo,
+        service: &Service,
+        outcome: &Outcome,
+        choice: &Choice,
+    ) -> Result<Verdict, Fault>
+        requires consistent { IsConsistent self.old }
+        requires joined { (account_at self.old.accounts federate).is_joined ≡ true }
+        ensures ok { IfOk result (JudgedStep self.old (steps.Call federate service.now) outcome.now choice.now self.new) }
+        ensures err { IfErr result (λ e. e ≡ Fault.OutOfMemory) }
+    {
+        if let Some(change) = row_change_of(service) {
+            return Ok(judge_row_service(
+                &mut self.accounts, federate, service, change, outcome, choice,
+            ));
+        }
+        if let Some(query) = time_query_of(service) {
+            return Ok(judge_query(&self.accounts, federate, service, query, outcome, choice));
+        }
+        if let Some(declaration) = declaration_of(service) {
+            return Ok(self.judge_declaration(federate, service, declaration, outcome, choice));
+        }
+        self.judge_other_call(federate, service, outcome, choice)
+    }
+
+    /// Whether the machine allows a call that ended so and chose this; where it does, the state after it is kept.
+    /// `OutOfMemory` where a growth was refused.
+    fn judge_call(
+        &mut self,
+        federate: FederateNo,
+        service: &Service,
+        outcome: &Outcome,
+        choice: &Choice,
+    ) -> Result<Verdict, Fault>
+        requires { IsConsistent self.old }
+        ensures ok { IfOk result (JudgedStep self.old (steps.Call federate service.now) outcome.now choice.now self.new) }
+        ensures err { IfErr result (λ e. e ≡ Fault.OutOfMemory) }
+    {
+        if !self.accounts.is_joined(federate) {
+            return Ok(Verdict::of(is_strangers(outcome, choice)));
+        }
+        self.judge_member_call(federate, service, outcome, choice)
+    }
+
     /// Whether the machine allows a step that ended so and chose this; where it does, the state after it is kept.
     /// `OutOfMemory` where a growth was refused.
     pub(crate) fn judge(
@@ -98,7 +210,7 @@ impl KeptExecution {
                 Ok(verdict)
             }
             Step::Call { federate, service } => {
-                let verdict = judge_call(&mut self.accounts, *federate, service, outcome, choice)?;
+                let verdict = self.judge_call(*federate, service, outcome, choice)?;
                 Ok(verdict)
             }
             Step::Carry { from, to } => {

@@ -12,6 +12,7 @@ ghost use Rattle.hla_machine.specs.declared.step.Outcome.TheVariants as outcomes
 ghost use Rattle.hla_machine.specs.declared.step.Step.TheVariants as steps;
 ghost use Rattle.hla_callbacks.specs.declared.callback.Callback.TheVariants as callbacks;
 ghost use Rattle.hla_accounts.specs.Accounts.{account_at, central_with};
+ghost use Rattle.hla_checker.specs.Kinds.{IsPlainPick};
 ghost use Rattle.hla_checker.specs.Accounted.{JudgedPick, JudgedWith};
 ghost use Rattle.hla_checker.specs.Verdicts.{Judged};
 
@@ -146,7 +147,8 @@ fn judge_plain_pick(
     callback: &Callback,
     choice: &Choice,
 ) -> Verdict
-    requires { (account_at accounts.old federate).is_joined ≡ true }
+    requires joined { (account_at accounts.old federate).is_joined ≡ true }
+    requires plain { IsPlainPick callback.now }
     ensures judged { (d : Directory) → JudgedPick (central_with d accounts.old) federate callback.now choice.now
         (central_with d accounts.new) result }
     ensures size { length accounts.new ≡ length accounts.old }
@@ -163,9 +165,9 @@ fn judge_plain_pick(
             event,
             delivery,
         } => judge_removal(accounts, federate, *object, *event, *delivery, choice),
-        Callback::DiscoverObjectInstance { .. } => Verdict::Open,
-        Callback::ReflectAttributeValues { .. } => Verdict::Open,
-        Callback::ReceiveInteraction { .. } => Verdict::Open,
+        Callback::DiscoverObjectInstance { .. }
+        | Callback::ReflectAttributeValues { .. }
+        | Callback::ReceiveInteraction { .. } => unreachable!(),
     }
 }
 

@@ -16,7 +16,7 @@ use crate::outcomes::{is_done, is_nothing};
 use crate::verdict::Verdict;
 use hla_accounts::{Accounts, RowChange};
 use hla_base::{EventHandle, FederateNo};
-use hla_machine::{Answer, Choice, Outcome, Service};
+use hla_machine::{Answer, Choice, Outcome};
 
 /// Whether these events may move to receive order as a federate ceases to be constrained.
 fn may_cease(accounts: &Accounts, federate: FederateNo, events: &[EventHandle]) -> bool
@@ -105,27 +105,5 @@ pub(crate) fn judge_unconstraining(
             Some(_) => Verdict::Wrong,
             None => judge_cessation(accounts, federate, answer, choice),
         },
-    }
-}
-
-/// Whether the machine allows a call of a joined federate that moves messages to receive order, ended so and chose this; where
-/// it does, the state after it is kept. `Open` for each other service.
-pub(crate) fn judge_moving_service(
-    accounts: &mut Accounts,
-    federate: FederateNo,
-    service: &Service,
-    outcome: &Outcome,
-    choice: &Choice,
-) -> Verdict
-    requires { (account_at accounts.old federate).is_joined ≡ true }
-    ensures judged { (d : Directory) → JudgedWith d accounts.old (steps.Call federate service.now) outcome.now choice.now
-        accounts.new result }
-    ensures size { length accounts.new ≡ length accounts.old }
-{
-    match service {
-        Service::DisableTimeConstrained => {
-            judge_unconstraining(accounts, federate, outcome, choice)
-        }
-        _ => Verdict::Open,
     }
 }
