@@ -30,3 +30,11 @@ pub mod RegulationVerdicts
 pub mod RetractionVerdicts
 -- What tests of a discovery tell
 pub mod DiscoveryVerdicts
+-- What is told of a call that chooses nothing, whatever the service
+pub mod EndingVerdicts
+-- What tests of a look-up tell
+pub mod LookUpVerdicts
+-- What tests of a declaration tell
+pub mod DeclarationVerdicts
+-- What a federate is to discover, object by object
+pub mod FoundObjects

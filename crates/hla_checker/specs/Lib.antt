@@ -16,3 +16,9 @@ pub mod Table
 pub mod Creating
 -- Where a list of records ceases to be a run
 pub mod Faults
+-- What calls of directory services choose and answer, and what is told of them
+pub mod Calls
+-- What a federate declares of a class by its number alone
+pub mod Declaring
+-- The discoveries of one owner's objects, or of all
+pub mod Offering
