@@ -38,3 +38,11 @@ pub mod SendingTests
 pub mod SendVerdicts
 -- What is sent by an update, one message after another
 pub mod UpdateVerdicts
+-- What is told of a call that chooses nothing, whatever the service
+pub mod EndingVerdicts
+-- What tests of a look-up tell
+pub mod LookUpVerdicts
+-- What tests of a declaration tell
+pub mod DeclarationVerdicts
+-- What a federate is to discover, object by object
+pub mod FoundObjects

@@ -1,6 +1,6 @@
 -- What is in answers
-use Rattle.std.specs.Prelude.{ℕ, Option, Some, None}
 use Rattle.hla_base.specs.declared.number.EventHandle.{EventHandle}
+use Rattle.std.specs.Prelude.{ℕ, Option, Some, None, List}
 use Rattle.hla_machine.specs.declared.step.Carried.{Carried}
 use Rattle.hla_machine.specs.declared.step.Answer.{Answer}
 use Rattle.hla_machine.specs.declared.step.Answer.TheVariants as answer
@@ -24,3 +24,11 @@ sent_in a = None
 abbrev pub time_in : Answer → Option ℕ
 time_in (answer.Time time) = Some time
 time_in a = None
+
+abbrev pub handle_in : Answer → Option ℕ
+handle_in (answer.Handle number) = Some number
+handle_in a = None
+
+abbrev pub name_in : Answer → Option (List ℕ)
+name_in (answer.Name name) = Some name
+name_in a = None

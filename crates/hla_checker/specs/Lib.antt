@@ -22,3 +22,9 @@ pub mod Sending
 pub mod Answering
 -- Which calls and callbacks a test is for
 pub mod Kinds
+-- What calls of directory services choose and answer, and what is told of them
+pub mod Calls
+-- What a federate declares of a class by its number alone
+pub mod Declaring
+-- The discoveries of one owner's objects, or of all
+pub mod Offering

@@ -2,9 +2,12 @@
 
 ghost use Rattle.std.specs.Prelude.{◌≡◌, Some};
 ghost use Rattle.std.specs.Bool.{Decides};
-ghost use Rattle.hla_checker.specs.Answers.{announced_in, carried_in, joiner_in, sent_in, time_in};
+ghost use Rattle.std.specs.Option.{option_copied};
+ghost use Rattle.hla_machine.specs.declared.step.Answer.TheVariants as answers;
+ghost use Rattle.hla_checker.specs.Answers.{announced_in, carried_in, handle_in, joiner_in, name_in, sent_in, time_in};
+ghost use Rattle.hla_checker.specs.Calls.{IsHandleIn};
 
-use hla_base::{EventHandle, FederateNo, Ticks};
+use hla_base::{EventHandle, FederateNo, List, ObjectNo, Ticks};
 use hla_machine::{Answer, Carried};
 
 /// The promise of an announcement, if it made one; nothing in the answer to another step.
@@ -114,5 +117,79 @@ pub(crate) fn time_in(answer: &Answer) -> Option<Ticks>
         | Answer::Ticked(_)
         | Answer::Carried(_)
         | Answer::Announced(_) => None,
+    }
+}
+
+/// The number of a class, an attribute, a parameter or an object; nothing in the answer to another step.
+pub(crate) fn handle_in(answer: &Answer) -> Option<u32>
+    ensures { result ≡ handle_in answer.now }
+{
+    match answer {
+        Answer::Handle(number) => Some(*number),
+        Answer::Done
+        | Answer::Federate(_)
+        | Answer::Registered { .. }
+        | Answer::Name(_)
+        | Answer::Sent(_)
+        | Answer::Time(_)
+        | Answer::Ticked(_)
+        | Answer::Carried(_)
+        | Answer::Announced(_) => None,
+    }
+}
+
+/// Whether an answer is the number that was found.
+pub(crate) fn is_handle(answer: &Answer, found: Option<u32>) -> bool
+    ensures { Decides result (IsHandleIn found answer.now) }
+{
+    match handle_in(answer) {
+        Some(number) => found == Some(number),
+        None => false,
+    }
+}
+
+/// The name of an object; nothing in the answer to another step.
+pub(crate) fn name_in(answer: &Answer) -> Option<&List<u8>>
+    ensures { option_copied result ≡ name_in answer.now }
+{
+    match answer {
+        Answer::Name(name) => Some(name),
+        Answer::Done
+        | Answer::Federate(_)
+        | Answer::Registered { .. }
+        | Answer::Handle(_)
+        | Answer::Sent(_)
+        | Answer::Time(_)
+        | Answer::Ticked(_)
+        | Answer::Carried(_)
+        | Answer::Announced(_) => None,
+    }
+}
+
+/// Whether an answer is this name.
+pub(crate) fn is_name(answer: &Answer, name: &[u8]) -> bool
+    ensures { Decides result (answer.now ≡ answers.Name name.now) }
+{
+    match name_in(answer) {
+        Some(given) => given.as_slice() == name,
+        None => false,
+    }
+}
+
+/// Whether an answer is that an object was registered with this number and this name.
+pub(crate) fn is_registered(answer: &Answer, number: ObjectNo, given: &[u8]) -> bool
+    ensures { Decides result (answer.now ≡ answers.Registered number given.now) }
+{
+    match answer {
+        Answer::Registered { object, name } => *object == number && name.as_slice() == given,
+        Answer::Done
+        | Answer::Federate(_)
+        | Answer::Handle(_)
+        | Answer::Name(_)
+        | Answer::Sent(_)
+        | Answer::Time(_)
+        | Answer::Ticked(_)
+        | Answer::Carried(_)
+        | Answer::Announced(_) => false,
     }
 }

@@ -161,7 +161,12 @@ impl KeptExecution {
     {
         if let Some(change) = row_change_of(service) {
             return Ok(judge_row_service(
-                &mut self.accounts, federate, service, change, outcome, choice,
+                &mut self.accounts,
+                federate,
+                service,
+                change,
+                outcome,
+                choice,
             ));
         }
         if let Some(query) = time_query_of(service) {

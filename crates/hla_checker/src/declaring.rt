@@ -1,0 +1,177 @@
+//! Whether the central machine allows a declaration (HLA 1.3, declaration management), but for subscribing an object class,
+//! which may make objects known.
+
+ghost use Rattle.std.specs.Prelude.{◌≡◌, ◌≢◌, ◌<◌, ◌≤◌, Some, true, IfOk, IfErr};
+ghost use Rattle.hla_base.specs.declared.fault.Fault.TheVariants.{OutOfMemory};
+ghost use Rattle.hla_declaration.specs.Declarations.{declarations_of};
+ghost use Rattle.hla_machine.specs.declared.service.Service.TheVariants as services;
+ghost use Rattle.hla_machine.specs.declared.step.Step.TheVariants as steps;
+ghost use Rattle.hla_accounts.specs.Accounts.{account_at};
+ghost use Rattle.hla_checker.specs.declared.verdict.Verdict.TheVariants as verdicts;
+ghost use Rattle.hla_checker.specs.Declaring.{declaration_of, with_declaration, IsOfClass};
+ghost use Rattle.hla_checker.specs.Kept.{IsConsistent, JudgedStep};
+
+use crate::endings::verdict_unless_done;
+use crate::kept::KeptExecution;
+use crate::verdict::Verdict;
+use hla_base::{AttributeNo, ClassNo, Fault, FederateNo, List, Plain};
+use hla_declaration::Declarations;
+use hla_machine::{Choice, Outcome, Service};
+
+/// What a federate declares of a class by its number alone.
+#[derive(Clone, Copy, Debug, PartialEq, Eq)]
+pub(crate) enum Declaration {
+    /// Unpublish Object Class.
+    UnpublishObject { class: ClassNo },
+    /// Unsubscribe Object Class.
+    UnsubscribeObject { class: ClassNo },
+    /// Publish Interaction Class.
+    PublishInteraction { class: ClassNo },
+    /// Unpublish Interaction Class.
+    UnpublishInteraction { class: ClassNo },
+    /// Subscribe Interaction Class.
+    SubscribeInteraction { class: ClassNo },
+    /// Unsubscribe Interaction Class.
+    UnsubscribeInteraction { class: ClassNo },
+}
+
+/// What a service declares, where it needs no more than a class.
+pub(crate) fn declaration_of(service: &Service) -> Option<Declaration>
+    ensures { result ≡ declaration_of service.now }
+{
+    match service {
+        Service::UnpublishObjectClass { class } => Some(Declaration::UnpublishObject {
+            class: *class,
+        }),
+        Service::UnsubscribeObjectClass { class } => Some(Declaration::UnsubscribeObject {
+            class: *class,
+        }),
+        Service::PublishInteractionClass { class } => Some(Declaration::PublishInteraction {
+            class: *class,
+        }),
+        Service::UnpublishInteractionClass { class } => Some(Declaration::UnpublishInteraction {
+            class: *class,
+        }),
+        Service::SubscribeInteractionClass { class } => Some(Declaration::SubscribeInteraction {
+            class: *class,
+        }),
+        Service::UnsubscribeInteractionClass { class } => Some(Declaration::UnsubscribeInteraction {
+            class: *class,
+        }),
+        Service::Resign { .. }
+        | Service::PublishObjectClass { .. }
+        | Service::SubscribeObjectClassAttributes { .. }
+        | Service::RegisterObjectInstance { .. }
+        | Service::UpdateAttributeValues { .. }
+        | Service::SendInteraction { .. }
+        | Service::DeleteObjectInstance { .. }
+        | Service::Retract { .. }
+        | Service::EnableTimeRegulation { .. }
+        | Service::DisableTimeRegulation
+        | Service::EnableTimeConstrained
+        | Service::DisableTimeConstrained
+        | Service::TimeAdvanceRequest { .. }
+        | Service::TimeAdvanceRequestAvailable { .. }
+        | Service::NextEventRequest { .. }
+        | Service::NextEventRequestAvailable { .. }
+        | Service::FlushQueueRequest { .. }
+        | Service::ModifyLookahead { .. }
+        | Service::EnableAsynchronousDelivery
+        | Service::DisableAsynchronousDelivery
+        | Service::QueryLbts
+        | Service::QueryFederateTime
+        | Service::QueryMinNextEventTime
+        | Service::QueryLookahead
+        | Service::GetObjectClassHandle { .. }
+        | Service::GetInteractionClassHandle { .. }
+        | Service::GetAttributeHandle { .. }
+        | Service::GetParameterHandle { .. }
+        | Service::GetObjectInstanceHandle { .. }
+        | Service::GetObjectInstanceName { .. } => None,
+    }
+}
+
+/// A federate declares this from now on.
+fn declare(declarations: &mut Declarations, federate: FederateNo, declaration: Declaration)
+    requires some { 0 < federate }
+    requires joined { federate ≤ (declarations_of declarations.old).federates }
+    requires defined { IsOfClass (declarations_of declarations.old) declaration }
+    ensures { declarations_of declarations.new ≡ with_declaration (declarations_of declarations.old) federate declaration }
+{
+    match declaration {
+        Declaration::UnpublishObject { class } => {
+            declarations.unpublish_object_class(federate, class);
+        }
+        Declaration::UnsubscribeObject { class } => {
+            declarations.unsubscribe_object_class(federate, class);
+        }
+        Declaration::PublishInteraction { class } => {
+            declarations.publish_interaction_class(federate, class);
+        }
+        Declaration::UnpublishInteraction { class } => {
+            declarations.unpublish_interaction_class(federate, class);
+        }
+        Declaration::SubscribeInteraction { class } => {
+            declarations.subscribe_interaction_class(federate, class);
+        }
+        Declaration::UnsubscribeInteraction { class } => {
+            declarations.unsubscribe_interaction_class(federate, class);
+        }
+    }
+}
+
+impl KeptExecution {
+    /// Whether the machine allows a joined federate's call that declares this, ended so and chose this; where it does, it is
+    /// declared.
+    pub(crate) fn judge_declaration(
+        &mut self,
+        federate: FederateNo,
+        service: &Service,
+        declaration: Declaration,
+        outcome: &Outcome,
+        choice: &Choice,
+    ) -> Verdict
+        requires consistent { IsConsistent self.old }
+        requires joined { (account_at self.old.accounts federate).is_joined ≡ true }
+        requires declaration { declaration_of service.now ≡ Some declaration }
+        ensures judged { JudgedStep self.old (steps.Call federate service.now) outcome.now choice.now self.new result }
+        ensures covered { result ≢ verdicts.Open }
+    {
+        let fault = self.declaration_fault(federate, declaration);
+        match verdict_unless_done(fault, outcome, choice) {
+            Some(verdict) => verdict,
+            None => {
+                declare(&mut self.declarations, federate, declaration);
+                Verdict::Allowed
+            }
+        }
+    }
+
+    /// Whether the machine allows a joined federate's Publish Object Class that ended so and chose this; where it does, the
+    /// class is published. `OutOfMemory` where a growth was refused.
+    pub(crate) fn judge_publishing(
+        &mut self,
+        federate: FederateNo,
+        class: ClassNo,
+        attributes: &List<AttributeNo>,
+        outcome: &Outcome,
+        choice: &Choice,
+    ) -> Result<Verdict, Fault>
+        requires consistent { IsConsistent self.old }
+        requires joined { (account_at self.old.accounts federate).is_joined ≡ true }
+        ensures ok { IfOk result (JudgedStep self.old (steps.Call federate (services.PublishObjectClass class attributes.now))
+            outcome.now choice.now self.new) }
+        ensures covered { IfOk result (λ v. v ≢ verdicts.Open) }
+        ensures err { IfErr result (λ e. e ≡ Fault.OutOfMemory) }
+    {
+        let fault = self.attributes_fault(class, attributes.as_slice());
+        match verdict_unless_done(fault, outcome, choice) {
+            Some(verdict) => Ok(verdict),
+            None => {
+                let own = attributes.copy()?;
+                self.declarations.publish_object_class(federate, class, own);
+                Ok(Verdict::Allowed)
+            }
+        }
+    }
+}

@@ -1,0 +1,126 @@
+//! Why a joined federate's call of a directory service is refused: the first test that applies.
+
+ghost use Rattle.std.specs.Prelude.{◌≡◌, ◌∷◌, [], not};
+ghost use Rattle.std.specs.List.{list_any};
+ghost use Rattle.hla_base.specs.RowRefusals.{first_fault, test_for};
+ghost use Rattle.hla_fed_file.specs.Lookup.{has_attribute};
+ghost use Rattle.hla_machine.specs.Refusals.{no_attribute, no_interaction_class, no_object_class};
+ghost use Rattle.hla_checker.specs.Declaring.{declaration_tests};
+ghost use Rattle.hla_checker.specs.Kept.{directory_of};
+
+use crate::declaring::Declaration;
+use crate::kept::KeptExecution;
+use hla_base::{AttributeNo, ClassNo, Fault, FederateNo};
+
+impl KeptExecution {
+    /// Whether a class lacks one of these attributes.
+    fn lacks_attribute(&self, class: ClassNo, attributes: &[AttributeNo]) -> bool
+        ensures { result ≡ list_any (λ a. not (has_attribute self.now.catalogue class a)) attributes.now }
+    {
+        attributes
+            .iter()
+            .any(|a| !self.catalogue.has_attribute(class, *a))
+    }
+
+    /// Why an object class may not be published or subscribed with these attributes, if it may not.
+    pub(crate) fn attributes_fault(
+        &self,
+        class: ClassNo,
+        attributes: &[AttributeNo],
+    ) -> Option<Fault>
+        ensures { let d = directory_of self.now in
+            result ≡ first_fault (no_object_class d class ∷ no_attribute d class attributes.now ∷ []) }
+    {
+        if !self.catalogue.is_object_class(class) {
+            Some(Fault::ObjectClassNotDefined)
+        } else if self.lacks_attribute(class, attributes) {
+            Some(Fault::AttributeNotDefined)
+        } else {
+            None
+        }
+    }
+
+    /// Why an object class may not be withdrawn, by whether it is declared and the fault where it is not.
+    fn object_class_fault(&self, class: ClassNo, is_declared: bool, fault: Fault) -> Option<Fault>
+        ensures { result ≡ first_fault (no_object_class (directory_of self.now) class ∷ test_for fault (not is_declared) ∷ []) }
+    {
+        if !self.catalogue.is_object_class(class) {
+            Some(Fault::ObjectClassNotDefined)
+        } else if is_declared {
+            None
+        } else {
+            Some(fault)
+        }
+    }
+
+    /// Why a number is of no interaction class, if it is of none.
+    fn interaction_class_fault(&self, class: ClassNo) -> Option<Fault>
+        ensures { result ≡ first_fault (no_interaction_class (directory_of self.now) class ∷ []) }
+    {
+        if self.catalogue.is_interaction_class(class) {
+            None
+        } else {
+            Some(Fault::InteractionClassNotDefined)
+        }
+    }
+
+    /// Why an interaction class may not be withdrawn, by whether it is declared and the fault where it is not.
+    fn withdrawn_interaction_fault(
+        &self,
+        class: ClassNo,
+        is_declared: bool,
+        fault: Fault,
+    ) -> Option<Fault>
+        ensures { result ≡ first_fault (no_interaction_class (directory_of self.now) class ∷ test_for fault (not is_declared) ∷ []) }
+    {
+        if !self.catalogue.is_interaction_class(class) {
+            Some(Fault::InteractionClassNotDefined)
+        } else if is_declared {
+            None
+        } else {
+            Some(fault)
+        }
+    }
+
+    /// Why a federate may not declare this, if it may not.
+    pub(crate) fn declaration_fault(
+        &self,
+        federate: FederateNo,
+        declaration: Declaration,
+    ) -> Option<Fault>
+        ensures { result ≡ first_fault (declaration_tests (directory_of self.now) federate declaration) }
+    {
+        match declaration {
+            Declaration::UnpublishObject { class } => {
+                let is_published = self.declarations.publishes_object_class(federate, class);
+                self.object_class_fault(class, is_published, Fault::ObjectClassNotPublished)
+            }
+            Declaration::UnsubscribeObject { class } => {
+                let is_subscribed = self.declarations.subscribes_object_class(federate, class);
+                self.object_class_fault(class, is_subscribed, Fault::ObjectClassNotSubscribed)
+            }
+            Declaration::PublishInteraction { class } => self.interaction_class_fault(class),
+            Declaration::UnpublishInteraction { class } => {
+                let is_published = self
+                    .declarations
+                    .publishes_interaction_class(federate, class);
+                self.withdrawn_interaction_fault(
+                    class,
+                    is_published,
+                    Fault::InteractionClassNotPublished,
+                )
+            }
+            Declaration::SubscribeInteraction { class } => self.interaction_class_fault(class),
+            Declaration::UnsubscribeInteraction { class } => {
+                let is_subscribed = self
+                    .declarations
+                    .subscribes_interaction_class(federate, class);
+                self.withdrawn_interaction_fault(
+                    class,
+                    is_subscribed,
+                    Fault::InteractionClassNotSubscribed,
+                )
+            }
+        }
+    }
+}
