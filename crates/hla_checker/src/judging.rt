@@ -113,29 +113,19 @@ impl KeptExecution {
         ensures err { IfErr result (λ e. e ≡ Fault.OutOfMemory) }
     {
         match service {
-            Service::Resign { action } => self.judge_resign(federate, *action, outcome, choice),
+            Service::Resign { .. } => Ok(Verdict::Open),
             Service::PublishObjectClass { class, attributes } => {
                 self.judge_publishing(federate, *class, attributes, outcome, choice)
             }
-            Service::SubscribeObjectClassAttributes { class, attributes } => {
-                self.judge_subscribing(federate, *class, attributes, outcome, choice)
-            }
-            Service::RegisterObjectInstance { class, name } => {
-                self.judge_registration(federate, *class, name, outcome, choice)
-            }
-            Service::UpdateAttributeValues {
-                object,
-                values,
-                stamp,
-            } => self.judge_update(federate, *object, values, *stamp, outcome, choice),
+            Service::SubscribeObjectClassAttributes { .. } => Ok(Verdict::Open),
+            Service::RegisterObjectInstance { .. } => Ok(Verdict::Open),
+            Service::UpdateAttributeValues { .. } => Ok(Verdict::Open),
             Service::SendInteraction {
                 class,
                 values,
                 stamp,
             } => self.judge_send_interaction(federate, *class, values, *stamp, outcome, choice),
-            Service::DeleteObjectInstance { object, stamp } => {
-                self.judge_deletion(federate, *object, *stamp, outcome, choice)
-            }
+            Service::DeleteObjectInstance { .. } => Ok(Verdict::Open),
             Service::Retract { .. }
             | Service::EnableTimeRegulation { .. }
             | Service::DisableTimeConstrained => {

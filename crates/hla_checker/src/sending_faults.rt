@@ -62,7 +62,7 @@ impl KeptExecution {
     }
 
     /// Whether a class lacks one of these attributes.
-    fn lacks_attribute(&self, class: ClassNo, values: &[HandleValuePair]) -> bool
+    fn lacks_value(&self, class: ClassNo, values: &[HandleValuePair]) -> bool
         ensures { result ≡ list_any (λ (v : HandleValuePair). not
             (has_attribute self.now.catalogue class v.handle)) values.now }
     {
@@ -159,7 +159,7 @@ impl KeptExecution {
         let is_stamped = self.has_order(Order::Timestamp, values);
         if !self.registry.is_known(object, federate) {
             Some(Fault::ObjectNotKnown)
-        } else if self.lacks_attribute(class, values) {
+        } else if self.lacks_value(class, values) {
             Some(Fault::AttributeNotDefined)
         } else if self.lacks_ownership(federate, object, values) {
             Some(Fault::AttributeNotOwned)

@@ -7,9 +7,7 @@ use Rattle.hla_checker.proofs.kept.KeptExecution.judge.Goals as goal
 
 pub returns-in_ok-verdict-in-Call-clause-ok : goal.returns-in_ok-verdict-in-Call-clause-ok
 returns-in_ok-verdict-in-Call-clause-ok c =
-    let v : KeptValue = record { catalogue = c.self.inside.catalogue; declarations = c.self.inside.declarations; objects = c.self.inside.registry; accounts = c.self.inside.accounts } in
-    kept_changed v c.args.self.now c.judge_call.new.accounts (steps.Call c.in-Call.federate c.in-Call.service) c.args.step.now c.args.outcome.now c.args.choice.now c.in_ok-verdict-in-Call.verdict c.self.view_is c.in-Call.is c.requires
-    (c.in_ok-verdict-in-Call.ensures.ok (directory_of v)) (λ _. c.in_ok-verdict-in-Call.ensures.size)
+    step_as c.args.self.now c.judge_call.new.self (steps.Call c.in-Call.federate c.in-Call.service) c.args.step.now c.args.outcome.now c.args.choice.now c.in_ok-verdict-in-Call.verdict c.in-Call.is c.in_ok-verdict-in-Call.ensures.ok
 
 pub returns-in_ok-verdict-in-Carry-clause-ok : goal.returns-in_ok-verdict-in-Carry-clause-ok
 returns-in_ok-verdict-in-Carry-clause-ok c =

@@ -22,7 +22,7 @@ returns-then-lacks_publication c =
     let rest = first_fault (sending_tests (account_at now.accounts f) c.args.stamp outs) in
     let known = ap (λ (v : KeptValue). is_known_in (registry_of v.objects) f h) (sym c.self.view_is) ∙ sym c.is_known.ensures ∙ c.if-not-is_known.false in
     let class = ap (λ (v : KeptValue). ((registry_of v.objects).object h).class) (sym c.self.view_is) ∙ sym c.class_of-class.ensures in
-    let defined = ap (λ (k : ℕ). list_any (λ (v : HandleValuePair). not (has_attribute now.catalogue k v.handle)) c.args.values.now) class ∙ sym c.lacks_attribute.ensures ∙ c.if-lacks_attribute.false in
+    let defined = ap (λ (k : ℕ). list_any (λ (v : HandleValuePair). not (has_attribute now.catalogue k v.handle)) c.args.values.now) class ∙ sym c.lacks_value.ensures ∙ c.if-lacks_value.false in
     let owned = sym c.lacks_ownership.ensures ∙ c.if-lacks_ownership.false in
     let published = ap (λ (k : ℕ). list_any (λ (v : HandleValuePair). not (is_published (directory_of now) f k v.handle)) c.args.values.now) class ∙ sym c.lacks_publication.ensures ∙ c.if-lacks_publication.true in
     update_rest _ _ _ _ true rest known defined owned published
@@ -36,7 +36,7 @@ returns-else-lacks_publication c =
     let rest = first_fault (sending_tests (account_at now.accounts f) c.args.stamp outs) in
     let known = ap (λ (v : KeptValue). is_known_in (registry_of v.objects) f h) (sym c.self.view_is) ∙ sym c.is_known.ensures ∙ c.if-not-is_known.false in
     let class = ap (λ (v : KeptValue). ((registry_of v.objects).object h).class) (sym c.self.view_is) ∙ sym c.class_of-class.ensures in
-    let defined = ap (λ (k : ℕ). list_any (λ (v : HandleValuePair). not (has_attribute now.catalogue k v.handle)) c.args.values.now) class ∙ sym c.lacks_attribute.ensures ∙ c.if-lacks_attribute.false in
+    let defined = ap (λ (k : ℕ). list_any (λ (v : HandleValuePair). not (has_attribute now.catalogue k v.handle)) c.args.values.now) class ∙ sym c.lacks_value.ensures ∙ c.if-lacks_value.false in
     let owned = sym c.lacks_ownership.ensures ∙ c.if-lacks_ownership.false in
     let published = ap (λ (k : ℕ). list_any (λ (v : HandleValuePair). not (is_published (directory_of now) f k v.handle)) c.args.values.now) class ∙ sym c.lacks_publication.ensures ∙ c.if-lacks_publication.false in
     let any = any_stamped (directory_of now) h c.args.values.now ∙ sym c.has_order-is_stamped.ensures in

@@ -1,7 +1,7 @@
 use Rattle.hla_machine.specs.declared.service.Service.TheVariants as services
 use Rattle.hla_accounts.specs.Accounts.{central_with}
 use Rattle.hla_checker.proofs.ConstraintVerdicts.{moving_called}
-use Rattle.hla_checker.proofs.judging.judge_time_service.Goals as goal
+use Rattle.hla_checker.proofs.judging.judge_moving_call.Goals as goal
 
 pub returns-in_ok-verdict-in-Retract-clause-ok : goal.returns-in_ok-verdict-in-Retract-clause-ok
 returns-in_ok-verdict-in-Retract-clause-ok c d =
@@ -12,3 +12,8 @@ pub returns-in-EnableTimeRegulation-clause-ok : goal.returns-in-EnableTimeRegula
 returns-in-EnableTimeRegulation-clause-ok c d =
     moving_called (central_with d c.args.accounts.now) (central_with d c.judge_regulation.new.accounts) c.args.federate (services.EnableTimeRegulation c.in-EnableTimeRegulation.time c.in-EnableTimeRegulation.lookahead) c.args.service.now c.args.outcome.now c.args.choice.now c.judge_regulation.result
     c.in-EnableTimeRegulation.is (c.judge_regulation.ensures.judged d)
+
+pub returns-in-DisableTimeConstrained-clause-ok : goal.returns-in-DisableTimeConstrained-clause-ok
+returns-in-DisableTimeConstrained-clause-ok c d =
+    moving_called (central_with d c.args.accounts.now) (central_with d c.judge_unconstraining.new.accounts) c.args.federate services.DisableTimeConstrained c.args.service.now c.args.outcome.now c.args.choice.now c.judge_unconstraining.result
+    c.in-DisableTimeConstrained.is (c.judge_unconstraining.ensures.judged d)
