@@ -46,3 +46,5 @@ pub mod LookUpVerdicts
 pub mod DeclarationVerdicts
 -- What a federate is to discover, object by object
 pub mod FoundObjects
+-- What tests of a subscription of an object class tell
+pub mod SubscriptionVerdicts

@@ -13,23 +13,13 @@ ghost use Rattle.hla_accounts.specs.Accounts.{account_at, central_with, offers_f
 ghost use Rattle.hla_checker.specs.Kept.{directory_kept};
 ghost use Rattle.hla_checker.specs.Offering.{is_wanted, wanted_of, wanted_discoveries};
 
+use crate::naming::name_copy;
 use hla_accounts::{Accounts, Offer};
-use hla_base::{ClassNo, Discovery, Fault, FederateNo, List, ObjectNo};
+use hla_base::{ClassNo, Discovery, Fault, FederateNo, ObjectNo};
 use hla_declaration::Declarations;
 use hla_fed_file::Catalogue;
 use hla_object_registry::Registry;
 use std::alloc::Global;
-
-/// A copy of a name; `OutOfMemory` where the growth was refused.
-pub(crate) fn name_copy(alloc: Global, name: &[u8]) -> Result<List<u8>, Fault>
-    ensures ok { IfOk result (λ copy. copy ≡ name.now) }
-    ensures err { IfErr result (λ e. e ≡ Fault.OutOfMemory) }
-{
-    match Vec::from_slice(alloc, name) {
-        Ok(copy) => Ok(List::from_vec(copy)),
-        Err(_) => Err(Fault::OutOfMemory),
-    }
-}
 
 /// Whether discoveries of a federate's objects are asked for: of one owner alone, or of all.
 fn is_wanted(of: Option<FederateNo>, owner: FederateNo) -> bool

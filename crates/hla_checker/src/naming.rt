@@ -1,0 +1,47 @@
+//! Names of objects.
+
+ghost use Rattle.std.specs.Prelude.{◌≡◌, IfOk, IfErr};
+ghost use Rattle.hla_base.specs.declared.fault.Fault.TheVariants.{OutOfMemory};
+ghost use Rattle.hla_machine.specs.Directory.{default_name, name_or_default};
+
+use hla_base::{Fault, List, ObjectNo, Plain};
+use std::alloc::Global;
+use std::io::Write;
+
+/// A copy of a name; `OutOfMemory` where the growth was refused.
+pub(crate) fn name_copy(alloc: Global, name: &[u8]) -> Result<List<u8>, Fault>
+    ensures ok { IfOk result (λ copy. copy ≡ name.now) }
+    ensures err { IfErr result (λ e. e ≡ Fault.OutOfMemory) }
+{
+    match Vec::from_slice(alloc, name) {
+        Ok(copy) => Ok(List::from_vec(copy)),
+        Err(_) => Err(Fault::OutOfMemory),
+    }
+}
+
+/// The name of an object for which none was given; `OutOfMemory` where a growth was refused.
+fn default_name(alloc: Global, object: ObjectNo) -> Result<List<u8>, Fault>
+    ensures ok { IfOk result (λ name. name ≡ default_name object) }
+    ensures err { IfErr result (λ e. e ≡ Fault.OutOfMemory) }
+{
+    let mut name = Vec::new(alloc);
+    match write!(name, "object-{object}") {
+        Ok(()) => Ok(List::from_vec(name)),
+        Err(_) => Err(Fault::OutOfMemory),
+    }
+}
+
+/// The name of an object that is registered with this one, or with none; `OutOfMemory` where a growth was refused.
+pub(crate) fn name_or_default(
+    alloc: Global,
+    object: ObjectNo,
+    given: &Option<List<u8>>,
+) -> Result<List<u8>, Fault>
+    ensures ok { IfOk result (λ name. name ≡ name_or_default object given.now) }
+    ensures err { IfErr result (λ e. e ≡ Fault.OutOfMemory) }
+{
+    match given {
+        Some(name) => name.copy(),
+        None => default_name(alloc, object),
+    }
+}
