@@ -38,3 +38,5 @@ pub mod SendingTests
 pub mod SendVerdicts
 -- What is sent by an update, one message after another
 pub mod UpdateVerdicts
+-- What tests of a deletion and of a resignation tell
+pub mod DeletionVerdicts
