@@ -2,16 +2,14 @@
 
 ghost use Rattle.std.specs.Prelude.{ℕ, ◌≡◌, ◌≢◌, ◌≤◌, ◌<◌, ◌+◌, None, true, length, OnOk, IfOk, IfErr};
 ghost use Rattle.hla_base.specs.Limits.{max_serial};
-ghost use Rattle.hla_base.specs.RowRefusals.{first_fault};
 ghost use Rattle.hla_base.specs.declared.fault.Fault.TheVariants.{OutOfMemory};
-ghost use Rattle.hla_machine.specs.Directory.{deletions_sent};
-ghost use Rattle.hla_machine.specs.Machine.{after_leaving, after_resign, central_seen};
-ghost use Rattle.hla_machine.specs.Refusals.{call_tests};
+ghost use Rattle.hla_machine.specs.Directory.{deletions_sent, objects_of};
+ghost use Rattle.hla_machine.specs.Machine.{after_leaving};
 ghost use Rattle.hla_machine.specs.Sends.{after_messages};
 ghost use Rattle.hla_machine.specs.declared.service.Service.TheVariants as services;
 ghost use Rattle.hla_machine.specs.declared.step.Step.TheVariants as steps;
 ghost use Rattle.hla_accounts.specs.Accounts.{account_at};
-ghost use Rattle.hla_checker.specs.Kept.{IsConsistent, JudgedStep, central_of};
+ghost use Rattle.hla_checker.specs.Kept.{IsConsistent, JudgedStep, central_of, directory_of};
 ghost use Rattle.hla_checker.specs.declared.verdict.Verdict.TheVariants as verdicts;
 
 use crate::answering::answer_to;
@@ -57,18 +55,18 @@ impl KeptExecution {
         Ok(())
     }
 
-    /// A joined federate resigns so, which is not to be refused: its objects that exist are deleted, by rising number.
-    /// `OutOfMemory` where a growth was refused.
-    fn resign(&mut self, federate: FederateNo, action: ResignAction) -> Result<(), Fault>
+    /// A joined federate leaves after its objects that exist are deleted, by rising number. `OutOfMemory` where a growth was
+    /// refused.
+    fn resign(&mut self, federate: FederateNo) -> Result<(), Fault>
         requires consistent { IsConsistent self.old }
         requires joined { (account_at self.old.accounts federate).is_joined ≡ true }
-        requires may { first_fault (call_tests (central_seen (central_of self.old)) federate (services.Resign action))
-            ≡ None }
-        ensures resigned { OnOk result (central_of self.new ≡ after_resign (central_of self.old) federate action) }
+        requires room { (k : ℕ) → k < length (objects_of (directory_of self.old) federate) →
+            (account_at self.old.accounts federate).next_serial + k ≤ max_serial }
+        ensures resigned { OnOk result (central_of self.new ≡ after_leaving (after_messages (central_of self.old) federate None
+            (deletions_sent (objects_of (directory_of self.old) federate))) federate) }
         ensures consistent { OnOk result (IsConsistent self.new) }
         ensures err { IfErr result (λ e. e ≡ Fault.OutOfMemory) }
     {
-        let _ = action;
         let objects = self.registry.objects_owned_by(self.alloc, federate)?;
         self.send_deletions(federate, objects.as_slice())?;
         self.remove_member(federate);
@@ -94,11 +92,12 @@ impl KeptExecution {
         let fault = self.resign_fault(federate, action);
         match answer_to(fault, outcome, choice) {
             Err(verdict) => Ok(verdict),
+            // Where it resigns without an action it has no objects.
             Ok(answer) => {
                 if !is_done(answer) {
                     return Ok(Verdict::Wrong);
                 }
-                self.resign(federate, action)?;
+                self.resign(federate)?;
                 Ok(Verdict::Allowed)
             }
         }

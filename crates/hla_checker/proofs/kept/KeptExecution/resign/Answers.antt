@@ -2,19 +2,18 @@ use Rattle.std.proofs.Common.{◌+◌, ◌≤◌, ◌<◌, List, ℕ, None, leng
 use Rattle.hla_base.specs.Limits.{max_serial}
 use Rattle.hla_machine.specs.Central.{Central}
 use Rattle.hla_machine.specs.Directory.{Directory, deletions_sent, objects_of}
-use Rattle.hla_machine.specs.Machine.{after_leaving, central_seen}
+use Rattle.hla_machine.specs.Machine.{after_leaving}
 use Rattle.hla_machine.specs.Sends.{after_messages}
 use Rattle.hla_accounts.specs.Accounts.{account_at}
 use Rattle.hla_checker.specs.Kept.{KeptValue, central_of, directory_of}
 use Rattle.hla_checker.proofs.UpdateVerdicts.{after_directory}
-use Rattle.hla_checker.proofs.DeletionVerdicts.{resign_room, resign_ways}
 use Rattle.hla_checker.proofs.kept.KeptExecution.resign.Goals as goal
 
 pub send_deletions-requires-clause-room : goal.send_deletions-requires-clause-room
 send_deletions-requires-clause-room c =
     let all = c.as_slice.ensures ∙ c.in_ok-objects.ensures.ok ∙ ap (λ (v : KeptValue). objects_of (directory_of v) c.args.federate) c.self.view_is in
     subst (λ (hs : List ℕ). (k : ℕ) → k < length hs → (account_at c.args.self.now.accounts c.args.federate).next_serial + k ≤ max_serial) (sym all)
-    (resign_room (central_seen (central_of c.args.self.now)) c.args.federate c.args.action c.requires.may)
+    c.requires.room
 
 pub remove_member-requires-clause-joined : goal.remove_member-requires-clause-joined
 remove_member-requires-clause-joined c =
@@ -27,4 +26,3 @@ returns-clause-resigned c =
     c.remove_member.ensures.left
     ∙ ap (λ (s : Central). after_leaving s c.args.federate) (c.in_ok-send_deletions.ensures.sent
     ∙ ap (λ (hs : List ℕ). after_messages (central_of c.args.self.now) c.args.federate None (deletions_sent hs)) all)
-    ∙ resign_ways (central_of c.args.self.now) c.args.federate c.args.action c.requires.may
