@@ -48,3 +48,5 @@ pub mod DeclarationVerdicts
 pub mod FoundObjects
 -- What tests of a subscription of an object class tell
 pub mod SubscriptionVerdicts
+-- What tests of a deletion and of a resignation tell
+pub mod DeletionVerdicts
