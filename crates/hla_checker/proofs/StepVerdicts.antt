@@ -1,8 +1,9 @@
 -- What tests of a step tell, by how it ended
-use Rattle.std.proofs.Common.{◌≡◌, ℕ, List, length, cond, Bool, true, false, Option, Some, None, refl, sym, ◌∙◌, subst}
+use Rattle.std.proofs.Common.{◌≡◌, ℕ, List, length, cond, Bool, true, false, Option, Some, None, Result, Ok, Err, IfOk, refl, sym, ap, ◌∙◌, subst}
 use Rattle.std.specs.Bool.{Decides}
 use mathlib.Core.Bool.{false≢true}
 use Rattle.hla_base.specs.declared.fault.Fault.{Fault}
+use Rattle.hla_machine.specs.declared.service.Service.{Service}
 use Rattle.hla_machine.specs.declared.step.Step.{Step}
 use Rattle.hla_machine.specs.declared.step.Step.TheVariants.{Join, Call, Carry, Announce, Tick}
 use Rattle.hla_machine.specs.declared.step.Answer.{Answer}
@@ -12,6 +13,7 @@ use Rattle.hla_machine.specs.declared.step.Outcome.TheVariants as outcome
 use Rattle.hla_machine.specs.declared.step.Choice.{Choice}
 use Rattle.hla_machine.specs.declared.step.Choice.TheVariants as choice
 use Rattle.hla_machine.specs.Central.{Central}
+use Rattle.hla_machine.specs.Directory.{Directory}
 use Rattle.hla_machine.specs.Refusals.{refusal}
 use Rattle.hla_machine.specs.Machine.{Allowed, IsChoice, MayDo, MayAnnounce, after, central_seen}
 use Rattle.hla_checker.specs.declared.verdict.Verdict.{Verdict}
@@ -110,3 +112,14 @@ kept_changed v w accounts step given out o told same is kept judged size =
 
 pub step_as : (v w : KeptValue) (step given : Step) (out : Outcome) (o : Choice) (told : Verdict) → given ≡ step → JudgedStep v step out o w told → JudgedStep v given out o w told
 step_as v w step given out o told is judged = subst (λ (s : Step). JudgedStep v s out o w told) (sym is) judged
+
+-- ---- calls, as the test of their service ends
+pub called_as : (v w : KeptValue) (f : ℕ) (x given : Service) (out : Outcome) (o : Choice) (told : Result Verdict Fault) → given ≡ x → IfOk told (JudgedStep v (Call f x) out o w) → IfOk told (JudgedStep v (Call f given) out o w)
+called_as v w f x given out o (Ok told) is judged = step_as v w (Call f x) (Call f given) out o told (ap (λ (s : Service). Call f s) is) judged
+called_as v w f x given out o (Err e) is judged = judged
+
+-- one that changes accounts alone
+pub called_changed : (v w : KeptValue) (accounts : List Account) (f : ℕ) (x : Service) (out : Outcome) (o : Choice) (told : Result Verdict Fault) → v ≡ w → IsConsistent w
+    → IfOk told (λ u. (d : Directory) → JudgedWith d v.accounts (Call f x) out o accounts u) → IfOk told (λ u. length accounts ≡ length v.accounts) → IfOk told (JudgedStep w (Call f x) out o (record v { accounts = accounts }))
+called_changed v w accounts f x out o (Ok told) same is judged size = kept_changed v w accounts (Call f x) (Call f x) out o told same refl is (judged (directory_of v)) (λ _. size)
+called_changed v w accounts f x out o (Err e) same is judged size = judged

@@ -98,7 +98,7 @@ impl KeptExecution {
     /// Whether the machine allows a call of a joined federate that ended so and chose this, where it does more than change its
     /// row, ask for a time or change one declaration; where it does, the state after it is kept. `OutOfMemory` where a growth
     /// was refused.
-    #[tactic(auto, using(crate::proofs::StepVerdicts::step_as))]
+    #[tactic(auto, using(crate::proofs::StepVerdicts::called_as))]
     fn judge_other_call(
         &mut self,
         federate: FederateNo,
@@ -117,15 +117,25 @@ impl KeptExecution {
             Service::PublishObjectClass { class, attributes } => {
                 self.judge_publishing(federate, *class, attributes, outcome, choice)
             }
-            Service::SubscribeObjectClassAttributes { .. } => Ok(Verdict::Open),
+            Service::SubscribeObjectClassAttributes { class, attributes } => {
+                self.judge_subscription(federate, *class, attributes, outcome, choice)
+            }
             Service::RegisterObjectInstance { .. } => Ok(Verdict::Open),
-            Service::UpdateAttributeValues { .. } => Ok(Verdict::Open),
+            Service::UpdateAttributeValues {
+                object,
+                values,
+                stamp,
+            } => self.judge_update_attribute_values(
+                federate, *object, values, *stamp, outcome, choice,
+            ),
             Service::SendInteraction {
                 class,
                 values,
                 stamp,
             } => self.judge_send_interaction(federate, *class, values, *stamp, outcome, choice),
-            Service::DeleteObjectInstance { .. } => Ok(Verdict::Open),
+            Service::DeleteObjectInstance { object, stamp } => {
+                self.judge_delete_object_instance(federate, *object, *stamp, outcome, choice)
+            }
             Service::Retract { .. }
             | Service::EnableTimeRegulation { .. }
             | Service::DisableTimeConstrained => {

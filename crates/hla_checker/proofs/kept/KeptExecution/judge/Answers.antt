@@ -11,9 +11,9 @@ returns-in_ok-verdict-in-Call-clause-ok c =
 
 pub returns-in_ok-verdict-in-Carry-clause-ok : goal.returns-in_ok-verdict-in-Carry-clause-ok
 returns-in_ok-verdict-in-Carry-clause-ok c =
-    let v : KeptValue = record { catalogue = c.self-in-Carry.inside.catalogue; declarations = c.self-in-Carry.inside.declarations; objects = c.self-in-Carry.inside.registry; accounts = c.self-in-Carry.inside.accounts } in
+    let v : KeptValue = record { catalogue = c.self.inside.catalogue; declarations = c.self.inside.declarations; objects = c.self.inside.registry; accounts = c.self.inside.accounts } in
     let judged = c.in_ok-verdict-in-Carry.ensures.ok (directory_of v) in
-    kept_changed v c.args.self.now c.judge_carry.new.accounts (steps.Carry c.in-Carry.from c.in-Carry.to) c.args.step.now c.args.outcome.now c.args.choice.now c.in_ok-verdict-in-Carry.verdict c.self-in-Carry.view_is c.in-Carry.is c.requires
+    kept_changed v c.args.self.now c.judge_carry.new.accounts (steps.Carry c.in-Carry.from c.in-Carry.to) c.args.step.now c.args.outcome.now c.args.choice.now c.in_ok-verdict-in-Carry.verdict c.self.view_is c.in-Carry.is c.requires
     judged (size_carried (directory_of v) v.accounts c.judge_carry.new.accounts c.in-Carry.from c.in-Carry.to c.args.outcome.now c.args.choice.now c.in_ok-verdict-in-Carry.verdict judged)
 
 pub returns-in-Announce-clause-ok : goal.returns-in-Announce-clause-ok
