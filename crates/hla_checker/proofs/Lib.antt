@@ -40,3 +40,7 @@ pub mod DeclarationVerdicts
 pub mod FoundObjects
 -- What tests of a subscription of an object class tell
 pub mod SubscriptionVerdicts
+-- To whom a new object becomes known, and for whom its discovery waits, federate by federate
+pub mod NewObjects
+-- What tests of a registration tell
+pub mod RegistrationVerdicts

@@ -19,6 +19,7 @@ mod naming;
 mod offering;
 mod outcomes;
 mod queries;
+mod registering;
 mod regulating;
 mod retracting;
 mod row_services;
