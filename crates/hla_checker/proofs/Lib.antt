@@ -50,3 +50,7 @@ pub mod FoundObjects
 pub mod SubscriptionVerdicts
 -- What tests of a deletion and of a resignation tell
 pub mod DeletionVerdicts
+-- To whom a new object becomes known, and for whom its discovery waits, federate by federate
+pub mod NewObjects
+-- What tests of a registration tell
+pub mod RegistrationVerdicts

@@ -1,9 +1,9 @@
 -- What tests of a subscription of an object class tell
-use Rattle.std.proofs.Common.{◌≡◌, ℕ, List, ◌++◌, Some, None, length, refl, sym, ◌∙◌, ap, subst}
+use Rattle.std.proofs.Common.{◌≡◌, ℕ, List, ◌++◌, Some, None, refl, sym, ◌∙◌, ap}
 use Rattle.hla_base.specs.Tables.{upd, upd2}
 use Rattle.hla_declaration.specs.Lists.{DeclarationLists}
 use Rattle.hla_declaration.specs.Declarations.{DeclarationsValue, declarations_of}
-use Rattle.hla_object_registry.specs.Registered.{Registered, RegistryValue, registry_of}
+use Rattle.hla_object_registry.specs.Registered.{Registered, registry_of}
 use Rattle.hla_machine.specs.Directory.{Directory, with_discoveries_made}
 use Rattle.hla_machine.specs.Central.{Central}
 use Rattle.hla_machine.specs.Machine.{after_subscribe}

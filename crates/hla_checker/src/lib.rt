@@ -23,6 +23,7 @@ mod offering;
 mod outcomes;
 mod pairs;
 mod queries;
+mod registering;
 mod regulating;
 mod resigning;
 mod retracting;

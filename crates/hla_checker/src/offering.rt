@@ -1,7 +1,7 @@
 //! The discoveries that federates are to make, and to whom objects become known by them (HLA 1.3, declaration management and
 //! object management).
 
-ghost use Rattle.std.specs.Prelude.{◌≡◌, ◌<◌, ◌≤◌, ◌&&◌, ◌++◌, cond, eqb, is_some, option_map, ℕ, true, length, OnOk, IfOk, IfErr};
+ghost use Rattle.std.specs.Prelude.{◌≡◌, ◌<◌, ◌≤◌, ◌&&◌, ◌++◌, [], cond, eqb, is_some, option_map, ℕ, true, length, OnOk, IfOk, IfErr};
 ghost use Rattle.hla_base.specs.declared.content.Discovery.{Discovery};
 ghost use Rattle.hla_base.specs.declared.fault.Fault.TheVariants.{OutOfMemory};
 ghost use Rattle.hla_base.specs.Limits.{max_joins};
@@ -11,7 +11,7 @@ ghost use Rattle.hla_object_registry.specs.Registered.{registry_of};
 ghost use Rattle.hla_machine.specs.Directory.{Directory, discoveries_of, discovery_of, with_discoveries_made};
 ghost use Rattle.hla_accounts.specs.Accounts.{account_at, central_with, offers_from};
 ghost use Rattle.hla_checker.specs.Kept.{directory_kept};
-ghost use Rattle.hla_checker.specs.Offering.{is_wanted, wanted_of, wanted_discoveries};
+ghost use Rattle.hla_checker.specs.Offering.{is_wanted, known_to_joined, wanted_of, wanted_discoveries};
 
 use crate::naming::name_copy;
 use hla_accounts::{Accounts, Offer};
@@ -122,4 +122,114 @@ pub(crate) fn make_found_known(
             registry.make_known(object, federate);
         }
     }
+}
+
+/// Whether a federate is joined and is to discover an object now.
+fn is_to_discover(
+    accounts: &Accounts,
+    catalogue: &Catalogue,
+    declarations: &Declarations,
+    registry: &Registry,
+    federate: FederateNo,
+    object: ObjectNo,
+) -> bool
+    ensures { result ≡ (account_at accounts.now federate).is_joined && is_some
+        (discovery_of (directory_kept catalogue.now (declarations_of declarations.now) (registry_of registry.now)) federate object) }
+{
+    accounts.is_joined(federate)
+        && discovery_class(catalogue, declarations, registry, federate, object).is_some()
+}
+
+/// Makes an object known to each joined federate that is to discover it now.
+pub(crate) fn make_new_known(
+    accounts: &Accounts,
+    catalogue: &Catalogue,
+    declarations: &Declarations,
+    registry: &mut Registry,
+    object: ObjectNo,
+)
+    requires some { 0 < object }
+    requires registered { object < (registry_of registry.old).next_object }
+    ensures { registry_of registry.new ≡ record (registry_of registry.old) {
+      known = known_to_joined (directory_kept catalogue.now (declarations_of declarations.now) (registry_of registry.old))
+          (λ f. (account_at accounts.now f).is_joined) object;
+    } }
+{
+    let end = accounts.next_federate();
+    for federate in 1..end {
+        if is_to_discover(
+            accounts,
+            catalogue,
+            declarations,
+            registry,
+            federate,
+            object,
+        ) {
+            registry.make_known(object, federate);
+        }
+    }
+}
+
+/// The discoveries of a federate's objects that another joined federate is to make now wait for that one, behind the others.
+/// `OutOfMemory` where a growth was refused.
+fn offer_new_to(
+    accounts: &mut Accounts,
+    alloc: Global,
+    catalogue: &Catalogue,
+    declarations: &Declarations,
+    registry: &Registry,
+    owner: FederateNo,
+    federate: FederateNo,
+) -> Result<(), Fault>
+    requires some { 0 < federate }
+    requires within { federate ≤ length accounts.old }
+    ensures ok { OnOk result ((d : Directory) → let c = central_with d accounts.old in central_with d accounts.new ≡ record c {
+      discoveries = upd2 c.discoveries owner federate (c.discoveries owner federate ++ cond (is_other c.directory.joined owner federate)
+          (discoveries_of (directory_kept catalogue.now (declarations_of declarations.now) (registry_of registry.now)) owner federate) []);
+    }) }
+    ensures err { IfErr result (λ e. e ≡ Fault.OutOfMemory) }
+{
+    if owner == federate || !accounts.is_joined(federate) {
+        return Ok(());
+    }
+    let offers = offers_to(
+        alloc,
+        catalogue,
+        declarations,
+        registry,
+        Some(owner),
+        federate,
+    )?;
+    accounts.add_offers(federate, offers)
+}
+
+/// The discoveries of a federate's objects that each other joined federate is to make now wait for it, behind the others.
+/// `OutOfMemory` where a growth was refused; nothing is said of the accounts then.
+pub(crate) fn offer_new(
+    accounts: &mut Accounts,
+    alloc: Global,
+    catalogue: &Catalogue,
+    declarations: &Declarations,
+    registry: &Registry,
+    owner: FederateNo,
+) -> Result<(), Fault>
+    ensures ok { OnOk result ((d : Directory) → let c = central_with d accounts.old in central_with d accounts.new ≡ record c {
+      discoveries = upd_row c.discoveries c.directory.joined owner (λ f discoveries. discoveries ++
+          discoveries_of (directory_kept catalogue.now (declarations_of declarations.now) (registry_of registry.now)) owner f);
+    }) }
+    ensures err { IfErr result (λ e. e ≡ Fault.OutOfMemory) }
+{
+    let end = accounts.next_federate();
+    for federate in 1..end {
+        offer_new_to(
+            accounts,
+            alloc,
+            catalogue,
+            declarations,
+            registry,
+            owner,
+            federate,
+        )?;
+    }
+    Ok(())
 }

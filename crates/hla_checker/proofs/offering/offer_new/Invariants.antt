@@ -1,0 +1,9 @@
+-- The discoveries of the federates so far wait.
+use Rattle.hla_declaration.specs.Declarations.{declarations_of}
+use Rattle.hla_object_registry.specs.Registered.{registry_of}
+use Rattle.hla_checker.specs.Kept.{directory_kept}
+use Rattle.hla_checker.proofs.NewObjects.{AreOfferedBelow}
+use Rattle.hla_checker.proofs.offering.offer_new.Given as goal
+
+abbrev pub invariant-loop-federate : goal.invariant-loop-federate
+invariant-loop-federate l = AreOfferedBelow (directory_kept l.catalogue (declarations_of l.declarations) (registry_of l.registry)) l.initial.accounts l.owner l.accounts l.federate
