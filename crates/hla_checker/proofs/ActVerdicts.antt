@@ -79,7 +79,6 @@ step_nowhere t name step out o b v is tests told kept =
 judged_like : (P P' Q Q' : Type 0) (v : Verdict) → (P → P') → (P' → P) → (Q → Q') → Judged P Q v → Judged P' Q' v
 judged_like P P' Q Q' verdict.Allowed to back then is = (to is.0, then is.1)
 judged_like P P' Q Q' verdict.Wrong to back then is = λ p. is (back p)
-judged_like P P' Q Q' verdict.Open to back then is = tt
 
 -- of one that is
 pub step_there : (t s : ExecutionTable) (name : List ℕ) (old new : NamedExecution) (step : Step) (out : Outcome) (o : Choice) (v : Verdict)

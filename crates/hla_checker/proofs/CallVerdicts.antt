@@ -82,7 +82,6 @@ carry_taken c d g f a x is may after = (carries c g f a x is may, after ∙ sym 
 carry_by : (c d : Central) (g f : ℕ) (a : Answer) (v : Verdict) → refusal (central_seen c) (Carry g f) ≡ None → JudgedCarry c g f a d v → JudgedCentral c (Carry g f) (outcome.Done a) choice.None d v
 carry_by c d g f a verdict.Allowed none is = (((none, is.0), refl), is.1)
 carry_by c d g f a verdict.Wrong none is = λ allowed. is allowed.0.1
-carry_by c d g f a verdict.Open none is = tt
 
 pub carry_told : (c d : Central) (g f : ℕ) (found : Option Fault) (a : Answer) (out : Outcome) (o : Choice) (v : Verdict) → found ≡ refusal (central_seen c) (Carry g f) → found ≡ None → out ≡ outcome.Done a → o ≡ choice.None
     → JudgedCarry c g f a d v → JudgedCentral c (Carry g f) out o d v

@@ -63,7 +63,6 @@ unconstrain_refusal c f is = sym (ap (λ (b : Bool). cond (not b) (Some fault.Fe
 ceased_by : (c d : Central) (f : ℕ) (a : Answer) (o : Choice) (v : Verdict) → refusal (central_seen c) (Call f service.DisableTimeConstrained) ≡ None → JudgedCease c f a o d v → JudgedCentral c (Call f service.DisableTimeConstrained) (outcome.Done a) o d v
 ceased_by c d f a o verdict.Allowed none is = (((none, is.0.0), is.0.1), is.1)
 ceased_by c d f a o verdict.Wrong none is = λ allowed. is (allowed.0.1, allowed.1)
-ceased_by c d f a o verdict.Open none is = tt
 
 pub ceased_told : (c d : Central) (f : ℕ) (found : Option Fault) (out : Outcome) (a : Answer) (o : Choice) (v : Verdict) → found ≡ refusal (central_seen c) (Call f service.DisableTimeConstrained) → found ≡ None → out ≡ outcome.Done a → JudgedCease c f a o d v
     → JudgedCentral c (Call f service.DisableTimeConstrained) out o d v

@@ -19,11 +19,6 @@ use Rattle.hla_checker.specs.declared.verdict.Verdict.TheVariants as verdict
 use Rattle.hla_checker.specs.Calls.{AnswersDone, ChoosesNothing, IsLookUp}
 use Rattle.hla_checker.proofs.StepVerdicts.{JudgedCentral}
 
--- a test that is exact leaves nothing open
-pub told_covered : (b : Bool) (v : Verdict) → v ≡ cond b verdict.Allowed verdict.Wrong → v ≢ verdict.Open
-told_covered true v is = λ e. (let both : verdict.Allowed ≡ verdict.Open = sym is ∙ e in cc)
-told_covered false v is = λ e. (let both : verdict.Wrong ≡ verdict.Open = sym is ∙ e in cc)
-
 module _ (c : Central) (f : ℕ) (x : Service) (plain : ChoosesNothing x) where
   ending_chooses : (out : Outcome) (o : Choice) → IsChoice (Call f x) out o → o ≡ choice.None
   ending_chooses (outcome.Done a) o is = (plain o).0 is

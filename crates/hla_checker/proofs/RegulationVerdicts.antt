@@ -31,4 +31,3 @@ asking_as c d f t l e a o v done is judged =
     by : (u : Verdict) → Judged (MayEnter c f (t + l) (choice.Entry e)) (d ≡ after_enter c f l (choice.Entry e)) u → JudgedAsking c f t l answer.Done (choice.Entry e) d u
     by verdict.Allowed j = ((j.0, tt), j.1)
     by verdict.Wrong j = λ may. j may.0
-    by verdict.Open j = tt

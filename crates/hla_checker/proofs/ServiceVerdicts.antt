@@ -28,7 +28,6 @@ JudgedDone c f x a o d v = Judged (MayAnswer c f x a o × IsServiceChoice x o) (
 done_by : (c d : Central) (f : ℕ) (x : Service) (a : Answer) (o : Choice) (v : Verdict) → refusal (central_seen c) (Call f x) ≡ None → JudgedDone c f x a o d v → JudgedCentral c (Call f x) (outcome.Done a) o d v
 done_by c d f x a o verdict.Allowed none is = (((none, is.0.0), is.0.1), is.1)
 done_by c d f x a o verdict.Wrong none is = λ allowed. is (allowed.0.1, allowed.1)
-done_by c d f x a o verdict.Open none is = tt
 
 pub done_told : (c d : Central) (f : ℕ) (x : Service) (found : Option Fault) (out : Outcome) (a : Answer) (o : Choice) (v : Verdict) → found ≡ refusal (central_seen c) (Call f x) → found ≡ None → out ≡ outcome.Done a → JudgedDone c f x a o d v
     → JudgedCentral c (Call f x) out o d v

@@ -96,7 +96,6 @@ kept_unchanged v w step given out o told same is kept judged =
     by : (x : KeptValue) (u : Verdict) → IsConsistent x → JudgedWith (directory_of x) x.accounts step out o x.accounts u → JudgedStep x step out o x u
     by x verdict.Allowed k j = (j.0, (j.1, k))
     by x verdict.Wrong k j = j
-    by x verdict.Open k j = tt
 
 -- ---- a step that changes accounts alone
 pub kept_changed : (v w : KeptValue) (accounts : List Account) (step given : Step) (out : Outcome) (o : Choice) (told : Verdict) → v ≡ w → given ≡ step → IsConsistent w → JudgedWith (directory_of v) v.accounts step out o accounts told
@@ -108,7 +107,6 @@ kept_changed v w accounts step given out o told same is kept judged size =
     by : (u : Verdict) → JudgedWith (directory_of v) v.accounts step out o accounts u → (u ≡ verdict.Allowed → length accounts ≡ length v.accounts) → IsConsistent v → JudgedStep v step out o (record v { accounts = accounts }) u
     by verdict.Allowed j long k = (j.0, (j.1, record { federates = k.federates ∙ sym (long refl); object_classes = k.object_classes; interaction_classes = k.interaction_classes }))
     by verdict.Wrong j long k = j
-    by verdict.Open j long k = tt
 
 pub step_as : (v w : KeptValue) (step given : Step) (out : Outcome) (o : Choice) (told : Verdict) → given ≡ step → JudgedStep v step out o w told → JudgedStep v given out o w told
 step_as v w step given out o told is judged = subst (λ (s : Step). JudgedStep v s out o w told) (sym is) judged

@@ -49,7 +49,6 @@ ticked_by : (c d : Central) (f : ℕ) (a : Answer) (o : Choice) (v : Verdict) �
     → JudgedCentral c (Tick f) (outcome.Done a) o d v
 ticked_by c d f a o verdict.Allowed none is = (((none, is.0.0), is.0.1), is.1)
 ticked_by c d f a o verdict.Wrong none is = λ allowed. is (allowed.0.1, allowed.1)
-ticked_by c d f a o verdict.Open none is = tt
 
 pub ticked_told : (c d : Central) (f : ℕ) (found : Option Fault) (out : Outcome) (a : Answer) (o : Choice) (v : Verdict) → found ≡ refusal (central_seen c) (Tick f) → found ≡ None → out ≡ outcome.Done a
     → Judged (MayDo c (Tick f) a o × IsChoice (Tick f) (outcome.Done a) o) (d ≡ after_done c (Tick f) a o) v → JudgedCentral c (Tick f) out o d v
@@ -58,7 +57,6 @@ ticked_told c d f found out a o v is none ended judged = subst (λ (t : Outcome)
 failed_by : (c d : Central) (f : ℕ) (k : Callback) (o : Choice) (v : Verdict) → refusal (central_seen c) (Tick f) ≡ None → JudgedPick c f k o d v → JudgedCentral c (Tick f) (outcome.Failed k) o d v
 failed_by c d f k o verdict.Allowed none is = (((none, is.0.0), is.0.1), is.1)
 failed_by c d f k o verdict.Wrong none is = λ allowed. is (allowed.0.1, allowed.1)
-failed_by c d f k o verdict.Open none is = tt
 
 pub failed_told : (c d : Central) (f : ℕ) (found : Option Fault) (out : Outcome) (k : Callback) (o : Choice) (v : Verdict) → found ≡ refusal (central_seen c) (Tick f) → found ≡ None → out ≡ outcome.Failed k → JudgedPick c f k o d v → JudgedCentral c (Tick f) out o d v
 failed_told c d f found out k o v is none ended judged = subst (λ (t : Outcome). JudgedCentral c (Tick f) t o d v) (sym ended) (failed_by c d f k o v (sym is ∙ none) judged)

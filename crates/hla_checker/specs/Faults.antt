@@ -3,7 +3,7 @@ use Rattle.std.specs.Prelude.{ℕ, ◌≡◌, List, take, slice_get, Some}
 use Rattle.hla_machine.specs.declared.step.Record.{Record}
 use Rattle.hla_machine.specs.Runs.{Executions, no_executions, AllowedAct, AreRun}
 use Rattle.hla_checker.specs.declared.checking.CheckFault.{CheckFault}
-use Rattle.hla_checker.specs.declared.checking.CheckFault.TheVariants.{Place, Open, Memory}
+use Rattle.hla_checker.specs.declared.checking.CheckFault.TheVariants.{Place, Memory}
 
 -- the records are a run of all executions, from none
 abbrev pub IsWholeRun : List Record → Type 0
@@ -19,5 +19,4 @@ IsNoStep y r = AllowedAct y r.execution r.act r.outcome r.choice → ⊥
 -- the first record that is no step of the machine
 abbrev pub TellsFault : List Record → CheckFault → Type 0
 TellsFault rs (Place place) = IsRunUpTo rs place IsNoStep
-TellsFault rs (Open place) = IsRunUpTo rs place (λ _ _. Unit {0})
 TellsFault rs Memory = Unit {0}

@@ -1,10 +1,9 @@
 //! Calls that choose nothing, before their answers are looked at.
 
-ghost use Rattle.std.specs.Prelude.{◌≡◌, ◌≢◌, None, IfOk, IfErr};
+ghost use Rattle.std.specs.Prelude.{◌≡◌, None, IfOk, IfErr};
 ghost use Rattle.hla_machine.specs.declared.step.Choice.TheVariants as choices;
 ghost use Rattle.hla_machine.specs.declared.step.Outcome.TheVariants as outcomes;
 ghost use Rattle.hla_checker.specs.Answering.{JudgedUnanswered};
-ghost use Rattle.hla_checker.specs.declared.verdict.Verdict.TheVariants as verdicts;
 
 use crate::outcomes::is_nothing;
 use crate::verdict::Verdict;
@@ -21,7 +20,6 @@ pub(crate) fn answer_to<'a>(
     ensures answered { IfOk result (λ a. (outcome.now ≡ outcomes.Done a.now) × (fault ≡ None)
         × (choice.now ≡ choices.None)) }
     ensures told { IfErr result (λ v. JudgedUnanswered fault outcome.now choice.now v) }
-    ensures exact { IfErr result (λ v. v ≢ verdicts.Open) }
 {
     if !is_nothing(choice) {
         return Err(Verdict::Wrong);

@@ -15,9 +15,6 @@ pub enum CheckFault {
     /// The record at this place is no step of the machine after those before it, which are a run.
     #[error("the record at place {0} is no step of the machine")]
     Place(usize),
-    /// Those before this place are a run; the record at it is of a kind that no test covers yet.
-    #[error("the record at place {0} is of a kind that is not judged")]
-    Open(usize),
     /// A growth was refused.
     #[error("OutOfMemory")]
     Memory,
@@ -35,7 +32,6 @@ pub fn check_run(alloc: Global, records: &[Record]) -> Result<(), CheckFault>
         match table.judge(record) {
             Ok(Verdict::Allowed) => {}
             Ok(Verdict::Wrong) => return Err(CheckFault::Place(place)),
-            Ok(Verdict::Open) => return Err(CheckFault::Open(place)),
             Err(_) => return Err(CheckFault::Memory),
         }
     }

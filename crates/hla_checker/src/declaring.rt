@@ -1,13 +1,12 @@
 //! Whether the central machine allows a declaration (HLA 1.3, declaration management), but for subscribing an object class,
 //! which may make objects known.
 
-ghost use Rattle.std.specs.Prelude.{◌≡◌, ◌≢◌, ◌<◌, ◌≤◌, Some, true, IfOk, IfErr};
+ghost use Rattle.std.specs.Prelude.{◌≡◌, ◌<◌, ◌≤◌, Some, true, IfOk, IfErr};
 ghost use Rattle.hla_base.specs.declared.fault.Fault.TheVariants.{OutOfMemory};
 ghost use Rattle.hla_declaration.specs.Declarations.{declarations_of};
 ghost use Rattle.hla_machine.specs.declared.service.Service.TheVariants as services;
 ghost use Rattle.hla_machine.specs.declared.step.Step.TheVariants as steps;
 ghost use Rattle.hla_accounts.specs.Accounts.{account_at};
-ghost use Rattle.hla_checker.specs.declared.verdict.Verdict.TheVariants as verdicts;
 ghost use Rattle.hla_checker.specs.Declaring.{declaration_of, with_declaration, IsOfClass};
 ghost use Rattle.hla_checker.specs.Kept.{IsConsistent, JudgedStep};
 
@@ -134,8 +133,7 @@ impl KeptExecution {
         requires consistent { IsConsistent self.old }
         requires joined { (account_at self.old.accounts federate).is_joined ≡ true }
         requires declaration { declaration_of service.now ≡ Some declaration }
-        ensures judged { JudgedStep self.old (steps.Call federate service.now) outcome.now choice.now self.new result }
-        ensures covered { result ≢ verdicts.Open }
+        ensures { JudgedStep self.old (steps.Call federate service.now) outcome.now choice.now self.new result }
     {
         let fault = self.declaration_fault(federate, declaration);
         match verdict_unless_done(fault, outcome, choice) {
@@ -161,7 +159,6 @@ impl KeptExecution {
         requires joined { (account_at self.old.accounts federate).is_joined ≡ true }
         ensures ok { IfOk result (JudgedStep self.old (steps.Call federate (services.PublishObjectClass class attributes.now))
             outcome.now choice.now self.new) }
-        ensures covered { IfOk result (λ v. v ≢ verdicts.Open) }
         ensures err { IfErr result (λ e. e ≡ Fault.OutOfMemory) }
     {
         let fault = self.attributes_fault(class, attributes.as_slice());

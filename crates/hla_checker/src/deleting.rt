@@ -1,6 +1,6 @@
 //! Deleting an object, and whether the central machine allows it (HLA 1.3, object management).
 
-ghost use Rattle.std.specs.Prelude.{◌≡◌, ◌≢◌, ◌≤◌, ◌<◌, true, OnOk, IfOk, IfErr, ◌∷◌, []};
+ghost use Rattle.std.specs.Prelude.{◌≡◌, ◌≤◌, ◌<◌, true, OnOk, IfOk, IfErr, ◌∷◌, []};
 ghost use Rattle.hla_base.specs.Limits.{max_serial};
 ghost use Rattle.hla_base.specs.declared.fault.Fault.TheVariants.{OutOfMemory};
 ghost use Rattle.hla_object_registry.specs.Registered.{registry_of};
@@ -11,7 +11,6 @@ ghost use Rattle.hla_machine.specs.declared.step.Step.TheVariants as steps;
 ghost use Rattle.hla_accounts.specs.Accounts.{account_at};
 ghost use Rattle.hla_checker.specs.Kept.{IsConsistent, JudgedStep, central_of, directory_of};
 ghost use Rattle.hla_checker.specs.Sending.{outgoing};
-ghost use Rattle.hla_checker.specs.declared.verdict.Verdict.TheVariants as verdicts;
 
 use crate::answering::answer_to;
 use crate::contents::{Body, Message};
@@ -80,7 +79,6 @@ impl KeptExecution {
         requires joined { (account_at self.old.accounts federate).is_joined ≡ true }
         ensures ok { IfOk result (JudgedStep self.old (steps.Call federate
             (services.DeleteObjectInstance object stamp)) outcome.now choice.now self.new) }
-        ensures exact { IfOk result (λ v. v ≢ verdicts.Open) }
         ensures err { IfErr result (λ e. e ≡ Fault.OutOfMemory) }
     {
         let fault = self.deletion_fault(federate, object, stamp);

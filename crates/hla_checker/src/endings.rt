@@ -1,12 +1,11 @@
 //! What is told of a call that chooses nothing by how it ended, whatever the service.
 
-ghost use Rattle.std.specs.Prelude.{◌≡◌, ◌≢◌, ℕ, None, IfOk, IfErr, MatchOption};
+ghost use Rattle.std.specs.Prelude.{◌≡◌, ℕ, None, IfOk, IfErr, MatchOption};
 ghost use Rattle.hla_machine.specs.Central.{Central};
 ghost use Rattle.hla_machine.specs.declared.service.Service.{Service};
 ghost use Rattle.hla_machine.specs.declared.step.Answer.TheVariants as answers;
 ghost use Rattle.hla_machine.specs.declared.step.Choice.TheVariants as choices;
 ghost use Rattle.hla_machine.specs.declared.step.Outcome.TheVariants as outcomes;
-ghost use Rattle.hla_checker.specs.declared.verdict.Verdict.TheVariants as verdicts;
 ghost use Rattle.hla_checker.specs.Calls.{AnswersDone, ChoosesNothing, ToldOf};
 
 use crate::outcomes::{is_done, is_nothing};
@@ -23,7 +22,6 @@ pub(crate) fn answer_to_test<'a>(
     ensures answered { IfOk result (λ a. (fault ≡ None) × (outcome.now ≡ outcomes.Done a.now) × (choice.now ≡ choices.None)) }
     ensures told { IfErr result (λ v. (c : Central) (f : ℕ) (x : Service) → ChoosesNothing x →
         ToldOf fault outcome.now choice.now v c f x) }
-    ensures covered { IfErr result (λ v. v ≢ verdicts.Open) }
 {
     if !is_nothing(choice) {
         return Err(Verdict::Wrong);
@@ -44,10 +42,9 @@ pub(crate) fn verdict_unless_done(
     outcome: &Outcome,
     choice: &Choice,
 ) -> Option<Verdict>
-    ensures told { MatchOption result
+    ensures { MatchOption result
         ((fault ≡ None) × (outcome.now ≡ outcomes.Done answers.Done) × (choice.now ≡ choices.None))
         (λ v. (c : Central) (f : ℕ) (x : Service) → ChoosesNothing x → AnswersDone x → ToldOf fault outcome.now choice.now v c f x) }
-    ensures covered { result ≡ Some verdicts.Open → ⊥ }
 {
     match answer_to_test(fault, outcome, choice) {
         Err(verdict) => Some(verdict),

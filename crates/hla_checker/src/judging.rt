@@ -113,14 +113,16 @@ impl KeptExecution {
         ensures err { IfErr result (λ e. e ≡ Fault.OutOfMemory) }
     {
         match service {
-            Service::Resign { .. } => Ok(Verdict::Open),
+            Service::Resign { action } => self.judge_resign(federate, *action, outcome, choice),
             Service::PublishObjectClass { class, attributes } => {
                 self.judge_publishing(federate, *class, attributes, outcome, choice)
             }
             Service::SubscribeObjectClassAttributes { class, attributes } => {
                 self.judge_subscription(federate, *class, attributes, outcome, choice)
             }
-            Service::RegisterObjectInstance { .. } => Ok(Verdict::Open),
+            Service::RegisterObjectInstance { class, name } => {
+                self.judge_registration(federate, *class, name, outcome, choice)
+            }
             Service::UpdateAttributeValues {
                 object,
                 values,

@@ -1,6 +1,6 @@
 //! Whether the central machine allows a look-up (HLA 1.3, support services). None changes anything.
 
-ghost use Rattle.std.specs.Prelude.{◌≡◌, ◌≢◌, ◌∷◌, [], ℕ, Option, true};
+ghost use Rattle.std.specs.Prelude.{◌≡◌, ◌∷◌, [], ℕ, Option, true};
 ghost use Rattle.std.specs.Bool.{Decides};
 ghost use Rattle.hla_base.specs.RowRefusals.{first_fault};
 ghost use Rattle.hla_fed_file.specs.Lookup.{attribute_named, parameter_named};
@@ -13,7 +13,6 @@ ghost use Rattle.hla_machine.specs.declared.service.Service.TheVariants as servi
 ghost use Rattle.hla_machine.specs.declared.step.Choice.TheVariants as choices;
 ghost use Rattle.hla_machine.specs.declared.step.Step.TheVariants as steps;
 ghost use Rattle.hla_accounts.specs.Accounts.{account_at};
-ghost use Rattle.hla_checker.specs.declared.verdict.Verdict.TheVariants as verdicts;
 ghost use Rattle.hla_checker.specs.Calls.{IsHandleIn, IsLookUp, ToldOf};
 ghost use Rattle.hla_checker.specs.Kept.{IsConsistent, JudgedStep, central_of, directory_of};
 
@@ -41,8 +40,7 @@ fn judge_number(
     outcome: &Outcome,
     choice: &Choice,
 ) -> Verdict
-    ensures judged { (c : Central) (f : ℕ) (x : Service) → IsLookUp c f x (IsHandleIn found) → ToldOf fault outcome.now choice.now result c f x }
-    ensures covered { result ≢ verdicts.Open }
+    ensures { (c : Central) (f : ℕ) (x : Service) → IsLookUp c f x (IsHandleIn found) → ToldOf fault outcome.now choice.now result c f x }
 {
     match answer_to_test(fault, outcome, choice) {
         Err(verdict) => verdict,
@@ -116,9 +114,8 @@ impl KeptExecution {
     ) -> Verdict
         requires consistent { IsConsistent self.now }
         requires joined { (account_at self.now.accounts federate).is_joined ≡ true }
-        ensures judged { JudgedStep self.now (steps.Call federate (services.GetObjectClassHandle name.now)) outcome.now
+        ensures { JudgedStep self.now (steps.Call federate (services.GetObjectClassHandle name.now)) outcome.now
             choice.now self.now result }
-        ensures covered { result ≢ verdicts.Open }
     {
         let found = self.catalogue.object_class(name.as_slice());
         judge_number(unfound_fault(found), found, outcome, choice)
@@ -134,9 +131,8 @@ impl KeptExecution {
     ) -> Verdict
         requires consistent { IsConsistent self.now }
         requires joined { (account_at self.now.accounts federate).is_joined ≡ true }
-        ensures judged { JudgedStep self.now (steps.Call federate (services.GetInteractionClassHandle name.now)) outcome.now
+        ensures { JudgedStep self.now (steps.Call federate (services.GetInteractionClassHandle name.now)) outcome.now
             choice.now self.now result }
-        ensures covered { result ≢ verdicts.Open }
     {
         let found = self.catalogue.interaction_class(name.as_slice());
         judge_number(unfound_fault(found), found, outcome, choice)
@@ -153,9 +149,8 @@ impl KeptExecution {
     ) -> Verdict
         requires consistent { IsConsistent self.now }
         requires joined { (account_at self.now.accounts federate).is_joined ≡ true }
-        ensures judged { JudgedStep self.now (steps.Call federate (services.GetAttributeHandle name.now class)) outcome.now
+        ensures { JudgedStep self.now (steps.Call federate (services.GetAttributeHandle name.now class)) outcome.now
             choice.now self.now result }
-        ensures covered { result ≢ verdicts.Open }
     {
         let found = self.catalogue.attribute(class, name.as_slice());
         judge_number(
@@ -177,9 +172,8 @@ impl KeptExecution {
     ) -> Verdict
         requires consistent { IsConsistent self.now }
         requires joined { (account_at self.now.accounts federate).is_joined ≡ true }
-        ensures judged { JudgedStep self.now (steps.Call federate (services.GetParameterHandle name.now class)) outcome.now
+        ensures { JudgedStep self.now (steps.Call federate (services.GetParameterHandle name.now class)) outcome.now
             choice.now self.now result }
-        ensures covered { result ≢ verdicts.Open }
     {
         let found = self.catalogue.parameter(class, name.as_slice());
         judge_number(
@@ -200,9 +194,8 @@ impl KeptExecution {
     ) -> Verdict
         requires consistent { IsConsistent self.now }
         requires joined { (account_at self.now.accounts federate).is_joined ≡ true }
-        ensures judged { JudgedStep self.now (steps.Call federate (services.GetObjectInstanceHandle name.now)) outcome.now
+        ensures { JudgedStep self.now (steps.Call federate (services.GetObjectInstanceHandle name.now)) outcome.now
             choice.now self.now result }
-        ensures covered { result ≢ verdicts.Open }
     {
         let fault = self.object_named_fault(federate, name.as_slice());
         match answer_to_test(fault, outcome, choice) {
@@ -221,9 +214,8 @@ impl KeptExecution {
     ) -> Verdict
         requires consistent { IsConsistent self.now }
         requires joined { (account_at self.now.accounts federate).is_joined ≡ true }
-        ensures judged { JudgedStep self.now (steps.Call federate (services.GetObjectInstanceName object)) outcome.now
+        ensures { JudgedStep self.now (steps.Call federate (services.GetObjectInstanceName object)) outcome.now
             choice.now self.now result }
-        ensures covered { result ≢ verdicts.Open }
     {
         let fault = self.object_name_fault(federate, object);
         match answer_to_test(fault, outcome, choice) {

@@ -1,7 +1,7 @@
 //! Whether the central machine allows that a federate registers an object (HLA 1.3, object management). Others are to discover
 //! it then.
 
-ghost use Rattle.std.specs.Prelude.{◌≡◌, ◌≢◌, ◌<◌, ◌≤◌, Some, [], true, false, length, OnOk, IfOk, IfErr};
+ghost use Rattle.std.specs.Prelude.{◌≡◌, ◌<◌, ◌≤◌, Some, [], true, false, length, OnOk, IfOk, IfErr};
 ghost use Rattle.std.specs.Option.{option_map_or};
 ghost use Rattle.hla_base.specs.declared.fault.Fault.TheVariants.{OutOfMemory};
 ghost use Rattle.hla_base.specs.Limits.{max_objects};
@@ -14,7 +14,6 @@ ghost use Rattle.hla_machine.specs.Refusals.{call_tests, is_length_in};
 ghost use Rattle.hla_machine.specs.declared.service.Service.TheVariants as services;
 ghost use Rattle.hla_machine.specs.declared.step.Step.TheVariants as steps;
 ghost use Rattle.hla_accounts.specs.Accounts.{account_at};
-ghost use Rattle.hla_checker.specs.declared.verdict.Verdict.TheVariants as verdicts;
 ghost use Rattle.hla_checker.specs.Kept.{IsConsistent, JudgedStep, central_of};
 
 use crate::answers::is_registered;
@@ -123,7 +122,6 @@ impl KeptExecution {
         requires joined { (account_at self.old.accounts federate).is_joined ≡ true }
         ensures ok { IfOk result (JudgedStep self.old (steps.Call federate (services.RegisterObjectInstance class name.now))
             outcome.now choice.now self.new) }
-        ensures covered { IfOk result (λ v. v ≢ verdicts.Open) }
         ensures err { IfErr result (λ e. e ≡ Fault.OutOfMemory) }
     {
         let object = self.registry.next_object();

@@ -1,14 +1,13 @@
 //! Whether the central machine allows that a federate subscribes an object class (HLA 1.3, declaration management). The
 //! federate is to discover what fits its subscriptions then.
 
-ghost use Rattle.std.specs.Prelude.{◌≡◌, ◌≢◌, ◌<◌, ◌≤◌, Some, true, length, OnOk, IfOk, IfErr};
+ghost use Rattle.std.specs.Prelude.{◌≡◌, ◌<◌, ◌≤◌, Some, true, length, OnOk, IfOk, IfErr};
 ghost use Rattle.hla_base.specs.declared.fault.Fault.TheVariants.{OutOfMemory};
 ghost use Rattle.hla_declaration.specs.Declarations.{declarations_of};
 ghost use Rattle.hla_machine.specs.Machine.{after_subscribe};
 ghost use Rattle.hla_machine.specs.declared.service.Service.TheVariants as services;
 ghost use Rattle.hla_machine.specs.declared.step.Step.TheVariants as steps;
 ghost use Rattle.hla_accounts.specs.Accounts.{account_at};
-ghost use Rattle.hla_checker.specs.declared.verdict.Verdict.TheVariants as verdicts;
 ghost use Rattle.hla_checker.specs.Kept.{IsConsistent, JudgedStep, central_of};
 
 use crate::endings::verdict_unless_done;
@@ -72,7 +71,6 @@ impl KeptExecution {
         requires joined { (account_at self.old.accounts federate).is_joined ≡ true }
         ensures ok { IfOk result (JudgedStep self.old (steps.Call federate
             (services.SubscribeObjectClassAttributes class attributes.now)) outcome.now choice.now self.new) }
-        ensures covered { IfOk result (λ v. v ≢ verdicts.Open) }
         ensures err { IfErr result (λ e. e ≡ Fault.OutOfMemory) }
     {
         let fault = self.attributes_fault(class, attributes.as_slice());

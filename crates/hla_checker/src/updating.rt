@@ -1,6 +1,6 @@
 //! Updating attributes, and whether the central machine allows it (HLA 1.3, object management).
 
-ghost use Rattle.std.specs.Prelude.{ℕ, ◌≡◌, ◌≢◌, ◌≤◌, ◌+◌, true, length, OnOk, IfOk, IfErr};
+ghost use Rattle.std.specs.Prelude.{ℕ, ◌≡◌, ◌≤◌, ◌+◌, true, length, OnOk, IfOk, IfErr};
 ghost use Rattle.hla_base.specs.Limits.{max_serial};
 ghost use Rattle.hla_base.specs.declared.fault.Fault.TheVariants.{OutOfMemory};
 ghost use Rattle.hla_machine.specs.Directory.{part_sent, update_sent, values_of_order};
@@ -10,7 +10,6 @@ ghost use Rattle.hla_machine.specs.declared.service.Service.TheVariants as servi
 ghost use Rattle.hla_machine.specs.declared.step.Step.TheVariants as steps;
 ghost use Rattle.hla_accounts.specs.Accounts.{account_at};
 ghost use Rattle.hla_checker.specs.Kept.{IsConsistent, JudgedStep, central_of, directory_of};
-ghost use Rattle.hla_checker.specs.declared.verdict.Verdict.TheVariants as verdicts;
 
 use crate::answering::answer_to;
 use crate::answers::is_sent;
@@ -135,7 +134,6 @@ impl KeptExecution {
         requires joined { (account_at self.old.accounts federate).is_joined ≡ true }
         ensures ok { IfOk result (JudgedStep self.old (steps.Call federate
             (services.UpdateAttributeValues object values.now stamp)) outcome.now choice.now self.new) }
-        ensures exact { IfOk result (λ v. v ≢ verdicts.Open) }
         ensures err { IfErr result (λ e. e ≡ Fault.OutOfMemory) }
     {
         let fault = self.update_fault(federate, object, values.as_slice(), stamp);

@@ -10,8 +10,6 @@ pub(crate) enum Verdict {
     Allowed,
     /// The machine does not allow it.
     Wrong,
-    /// No test covers such a record yet.
-    Open,
 }
 
 impl Verdict {

@@ -2,7 +2,7 @@ use Rattle.std.proofs.Common.{◌≡◌, Some, rules}
 use Rattle.std.specs.Bool.{Decides}
 use Rattle.hla_machine.specs.declared.step.Step.TheVariants.{Call}
 use Rattle.hla_checker.proofs.StepVerdicts.{refused_told, done_wrong}
-use Rattle.hla_checker.proofs.EndingVerdicts.{ending_chose, told_covered}
+use Rattle.hla_checker.proofs.EndingVerdicts.{ending_chose}
 use Rattle.hla_checker.proofs.endings.answer_to_test.Goals as goal
 use Rattle.hla_checker.proofs.endings.answer_to_test.Goals.{After-of}
 
@@ -16,9 +16,6 @@ same_fault c = search rules
 pub returns-in-Refused-clause-told : goal.returns-in-Refused-clause-told
 returns-in-Refused-clause-told c d f x plain is =
     refused_told d (Call f x) c.args.fault c.in-Refused.given c.args.outcome.now c.args.choice.now c.eq.result c.of.result is c.in-Refused.is (same_fault c) (c.is_nothing.ensures.0 c.if-not-is_nothing.false) c.of.ensures
-
-pub returns-in-Refused-clause-covered : goal.returns-in-Refused-clause-covered
-returns-in-Refused-clause-covered c = told_covered c.eq.result c.of.result c.of.ensures
 
 pub returns-in-Some-clause-told : goal.returns-in-Some-clause-told
 returns-in-Some-clause-told c d f x plain is =

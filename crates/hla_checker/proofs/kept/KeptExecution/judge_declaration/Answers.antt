@@ -17,20 +17,20 @@ declare-requires-clause-joined c =
 pub declare-requires-clause-defined : goal.declare-requires-clause-defined
 declare-requires-clause-defined c =
     let v : KeptValue = record { catalogue = c.self.inside.catalogue; declarations = c.self.inside.declarations; objects = c.self.inside.registry; accounts = c.self.inside.accounts } in
-    declared_class v c.args.self.now c.args.federate c.args.declaration c.declaration_fault-fault.result c.self.view_is c.requires.consistent c.declaration_fault-fault.ensures c.in-None.ensures.told.0
+    declared_class v c.args.self.now c.args.federate c.args.declaration c.declaration_fault-fault.result c.self.view_is c.requires.consistent c.declaration_fault-fault.ensures c.in-None.ensures.0
 
-pub returns-in-Some-clause-judged : goal.returns-in-Some-clause-judged
-returns-in-Some-clause-judged c =
+pub returns-in-Some : goal.returns-in-Some
+returns-in-Some c =
     let now = c.args.self.now in
     let x = c.args.service.now in
     let of = declaration_is x c.args.declaration c.requires.declaration in
     called_unchanged now now c.args.federate x c.declaration_fault-fault.result c.args.outcome.now c.args.choice.now c.in-Some.verdict refl c.requires.consistent c.requires.joined
     (declaration_fault_is now now c.args.federate x c.args.declaration c.declaration_fault-fault.result c.args.outcome.now c.args.choice.now refl c.requires.consistent c.requires.joined of c.declaration_fault-fault.ensures)
-    (c.in-Some.ensures.told (central_of now) c.args.federate x of.plain of.only)
+    (c.in-Some.ensures (central_of now) c.args.federate x of.plain of.only)
 
-pub returns-in-None-clause-judged : goal.returns-in-None-clause-judged
-returns-in-None-clause-judged c =
+pub returns-in-None : goal.returns-in-None
+returns-in-None c =
     let v : KeptValue = record { catalogue = c.self.inside.catalogue; declarations = c.self.inside.declarations; objects = c.self.inside.registry; accounts = c.self.inside.accounts } in
     let x = c.args.service.now in
     declaration_done v c.args.self.now c.args.federate x c.args.declaration c.declaration_fault-fault.result c.args.outcome.now c.args.choice.now c.self.view_is c.requires.consistent c.requires.joined
-    (declaration_is x c.args.declaration c.requires.declaration) c.declaration_fault-fault.ensures c.declare.new.declarations c.in-None.ensures.told c.declare.ensures
+    (declaration_is x c.args.declaration c.requires.declaration) c.declaration_fault-fault.ensures c.declare.new.declarations c.in-None.ensures c.declare.ensures

@@ -6,20 +6,20 @@ use Rattle.hla_machine.specs.declared.step.Choice.TheVariants as choices
 use Rattle.hla_machine.specs.Refusals.{call_tests}
 use Rattle.hla_machine.specs.Machine.{MayAnswer, central_seen}
 use Rattle.hla_checker.specs.Kept.{central_of}
-use Rattle.hla_checker.proofs.EndingVerdicts.{looked_up, told_covered}
+use Rattle.hla_checker.proofs.EndingVerdicts.{looked_up}
 use Rattle.hla_checker.proofs.LookUpVerdicts.{called_unchanged, object_number_look_up}
 use Rattle.hla_checker.proofs.kept.KeptExecution.judge_object_number.Goals as goal
 
-pub returns-in-Err-clause-judged : goal.returns-in-Err-clause-judged
-returns-in-Err-clause-judged c =
+pub returns-in-Err : goal.returns-in-Err
+returns-in-Err c =
     let now = c.args.self.now in
     let f = c.args.federate in
     let refused = c.object_named_fault-fault.ensures ∙ ap (λ (n : List ℕ). first_fault (call_tests (central_seen (central_of c.args.self.now)) c.args.federate (services.GetObjectInstanceHandle n))) c.as_slice.ensures in
     called_unchanged now now f (services.GetObjectInstanceHandle c.args.name.now) c.object_named_fault-fault.result c.args.outcome.now c.args.choice.now c.in-Err.verdict refl c.requires.consistent c.requires.joined refused
     (c.in-Err.ensures.told (central_of now) f (services.GetObjectInstanceHandle c.args.name.now) (λ o. (λ e. e, λ e. e)))
 
-pub returns-in-Ok-clause-judged : goal.returns-in-Ok-clause-judged
-returns-in-Ok-clause-judged c =
+pub returns-in-Ok : goal.returns-in-Ok
+returns-in-Ok c =
     let now = c.args.self.now in
     let f = c.args.federate in
     let refused = c.object_named_fault-fault.ensures ∙ ap (λ (n : List ℕ). first_fault (call_tests (central_seen (central_of c.args.self.now)) c.args.federate (services.GetObjectInstanceHandle n))) c.as_slice.ensures in
@@ -27,6 +27,3 @@ returns-in-Ok-clause-judged c =
     called_unchanged now now f (services.GetObjectInstanceHandle c.args.name.now) c.object_named_fault-fault.result c.args.outcome.now c.args.choice.now c.of.result refl c.requires.consistent c.requires.joined refused
     (λ is. looked_up (central_of now) f (services.GetObjectInstanceHandle c.args.name.now) (λ a. MayAnswer (central_of now) f (services.GetObjectInstanceHandle c.args.name.now) a choices.None) (object_number_look_up (central_of now) f c.args.name.now)
     c.object_named_fault-fault.result c.args.outcome.now c.in-Ok.answer.now c.args.choice.now c.is_object_number.result c.of.result is c.in-Ok.ensures.answered tests c.of.ensures)
-
-pub returns-in-Ok-clause-covered : goal.returns-in-Ok-clause-covered
-returns-in-Ok-clause-covered c = told_covered c.is_object_number.result c.of.result c.of.ensures
