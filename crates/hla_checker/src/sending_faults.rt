@@ -1,6 +1,6 @@
 //! Why a federate may not send, delete or resign (HLA 1.3, object management and federation management).
 
-ghost use Rattle.std.specs.Prelude.{◌≡◌, ◌≤◌, ℕ, List, not, length};
+ghost use Rattle.std.specs.Prelude.{◌≡◌, ℕ, List, not, length};
 ghost use Rattle.std.specs.List.{list_any};
 ghost use Rattle.hla_base.specs.declared.content.HandleValuePair.{HandleValuePair};
 ghost use Rattle.hla_base.specs.RowRefusals.{first_fault};
