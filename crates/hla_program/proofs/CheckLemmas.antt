@@ -1,5 +1,5 @@
 -- Records that are a run never differ from it, and what was found is told.
-use Rattle.std.proofs.Common.{◌≡◌, ◌<◌, ℕ, Bool, true, false, ◌||◌, List, [], ◌∷◌, length, take, Option, Some, Result, Ok, Err, IfOk, IfErr, refl, sym, ap, subst, ◌∙◌, arith}
+use Rattle.std.proofs.Common.{◌≡◌, ◌<◌, ℕ, zero, suc, Bool, true, false, ◌||◌, List, [], ◌∷◌, length, take, Some, None, refl, sym, ap, subst, ◌∙◌, arith}
 use Rattle.std.specs.Prelude.{slice_get}
 use Rattle.std.specs.Io.KnownBytes.{Appends, Keeps}
 use Rattle.std.proofs.lemmas.List.{take_all}
@@ -7,11 +7,14 @@ use Rattle.std.proofs.lemmas.Option.{slice_get_within}
 use Rattle.hla_machine.specs.declared.step.Record.{Record}
 use Rattle.hla_machine.specs.Runs.{Executions, no_executions, AllowedAct, after_act, AreRun}
 use Rattle.hla_checker.specs.Faults.{IsWholeRun, IsRunUpTo, IsNoStep}
+use Rattle.hla_script.specs.declared.player.PlayFault.{PlayFault}
+use Rattle.hla_script.specs.declared.player.PlayFault.TheVariants as unplayed
+use Rattle.hla_script.specs.Playing.{StopsBy}
 use Rattle.hla_transcript.specs.Watching.{Stream}
 use Rattle.hla_program.specs.declared.finding.Finding.{Finding}
 use Rattle.hla_program.specs.declared.finding.Finding.TheVariants.{Run, Differs}
-use Rattle.hla_program.specs.Program.{WritesLine, Whole, Cut, EndsTelling, IsFound, EndsChecking, Checked}
-use Rattle.hla_program.proofs.EndLemmas.{appends_kept, or-true}
+use Rattle.hla_program.specs.Program.{WritesLine, Whole, Cut, EndsTelling, StopsCheck, IsFound, EndsChecking, Checked}
+use Rattle.hla_program.proofs.EndLemmas.{appends_kept}
 
 -- in a run each record is a step after those before it
 runs_on : (x : Executions) (rs : List Record) (k : ℕ) (y z : Executions) (r : Record) → AreRun x rs z → AreRun x (take k rs) y → slice_get rs k ≡ Some r → AllowedAct y r.execution r.act r.outcome r.choice
@@ -23,6 +26,13 @@ runs_on x (q ∷ qs) (suc k) y z r run before at = runs_on (after_act x q.execut
 
 pub never_differs : (rs : List Record) (place : ℕ) → IsWholeRun rs → IsRunUpTo rs place IsNoStep → ⊥
 never_differs rs place run stops = stops.4 (runs_on no_executions rs place stops.0 run.0 stops.1 run.1 stops.2 stops.3)
+
+-- where no write failed
+pub stops_check : (fed script : List ℕ) (why : PlayFault) → StopsBy fed script None None why → (why ≡ unplayed.Write → ⊥) → StopsCheck fed script why
+stops_check fed script (unplayed.Fed e) stops other = stops
+stops_check fed script (unplayed.Script e) stops other = stops
+stops_check fed script unplayed.Write stops other = absurd (other refl)
+stops_check fed script unplayed.Memory stops other = stops
 
 or-of-true : (a b : Bool) → (a || b) ≡ false → a ≡ true → ⊥
 or-of-true true b none some = absurd (cc none)

@@ -10,6 +10,9 @@ returns-then-has_failed g c =
     let cut = line_cut _ _ (stream_of g.W.Write.contents c.flush.new.self) _ (subst P (c.as_str.ensures.value ∙ c.in-Ok.ensures) c.tell.ensures) c.flush.ensures.bytes in
     Unwritten cut.0 cut.1 (sym c.has_failed.ensures ∙ c.if-has_failed.true) c.tell_unwritten.ensures.line c.tell_unwritten.ensures.status
 
+pub returns-in_default : goal.returns-in_default
+returns-in_default g c = Untold refl c.tell_out_of_memory.ensures.line c.tell_out_of_memory.ensures.status
+
 pub returns : goal.returns
 returns g c =
     let P : List ℕ → Type 0 = λ line. WritesLine (stream_of g.W.Write.contents c.args.out.now) (stream_of g.W.Write.contents c.tell.new.errors) line in
