@@ -1,11 +1,13 @@
 -- What the words of a command line ask for, the program's name in front
-use Rattle.std.specs.Prelude.{◌≡◌, ◌<◌, ◌==◌, ◌&&◌, Bool, true, not, List, [], ◌∷◌, length, Option, Some, None, IfSome, option_and_then, option_map, codes, if◌then◌else◌}
+use Rattle.std.specs.Prelude.{◌≡◌, ◌<◌, ◌==◌, ◌&&◌, Bool, true, false, not, List, [], ◌∷◌, length, Option, Some, None, IfSome, option_and_then, option_map, codes, if◌then◌else◌}
 use Rattle.std.specs.Option.{option_or}
 use Rattle.std.specs.Str.{bytes_eq}
 use Rattle.clap.specs.Kinds.{Kinds}
 use Rattle.clap.specs.Faults.{fault_of}
 use Rattle.clap.specs.Simple.{App, new_app, new_rule, on_top, subcommand_of, with_rule, with_subcommand}
 use Rattle.clap.specs.Walk.{Row, Rule, Text, first_of, is_empty}
+use Rattle.clap.specs.declared.builder.command.Command.{Command}
+use Rattle.clap.specs.declared.builder.command.Command.TheViews.{out-Command}
 use Rattle.hla_program.specs.Tasks.{NamedTask, Play, Check, Listing}
 
 -- ---- the plain forms, which are read without clap
@@ -37,6 +39,10 @@ file_rule id = record (new_rule id) { required = true }
 -- a subcommand for a FED file and a script
 abbrev pub script_subcommand : Text → App
 script_subcommand name = with_rule (with_rule (new_app name) (file_rule (codes "FED"))) (file_rule (codes "SCRIPT"))
+
+-- none of its arguments is handed on to subcommands
+abbrev pub IsLocal : Command → Type 0
+IsLocal command = (out-Command command).has_globals ≡ false
 
 abbrev pub fed_subcommand : App
 fed_subcommand = with_rule (new_app (codes "fed")) (file_rule (codes "FILE"))

@@ -4,9 +4,8 @@ ghost use Rattle.std.specs.Prelude.{◌≡◌, false, IfOk, IfErr, Some, map, op
 ghost use Rattle.clap.specs.Matches.{first_value, found_of};
 ghost use Rattle.clap.specs.Simple.{app_of};
 ghost use Rattle.clap.specs.Walk.{rule_of, texts};
-ghost use Rattle.clap.specs.Words.{fields_of};
 ghost use Rattle.hla_program.specs.Tasks.{named_task};
-ghost use Rattle.hlaplay.specs.Words.{is_operand, plain_task, file_rule, script_subcommand, command_line, task_with, clap_task, task_of, IsReadAlike};
+ghost use Rattle.hlaplay.specs.Words.{is_operand, plain_task, file_rule, script_subcommand, IsLocal, command_line, task_with, clap_task, task_of, IsReadAlike};
 ghost use Rattle.hlaplay.specs.Refusals.{IsCausedBy, IsFoundIn, RefusesWords};
 
 use clap::error::ErrorKind;
@@ -65,7 +64,7 @@ fn script_command<'a>(
     about: &'a str,
 ) -> Result<Command<'a>, AllocError>
     ensures app { IfOk result (λ command. app_of command ≡ script_subcommand name.entry.now) }
-    ensures local { IfOk result (λ command. (fields_of command).has_globals ≡ false) }
+    ensures local { IfOk result IsLocal }
 {
     Command::new(alloc, name)
         .about(about)
