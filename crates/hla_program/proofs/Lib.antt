@@ -4,3 +4,5 @@ pub mod PartLemmas
 pub mod EndLemmas
 -- A task is done where the run on its opened files ends as it must.
 pub mod TaskLemmas
+-- Records that are a run never differ from it, and what was found is told.
+pub mod CheckLemmas

@@ -1,5 +1,5 @@
 -- How a task ends
-use Rattle.std.specs.Prelude.{◌≡◌, ◌+◌, ℕ, true, false, ◌&&◌, ◌⊎◌, List, ◌++◌, take, Option, MatchBool, codes, decimal}
+use Rattle.std.specs.Prelude.{◌≡◌, ◌+◌, ℕ, true, false, ◌&&◌, ◌⊎◌, List, ◌++◌, length, take, Option, None, MatchBool, codes, decimal}
 use Rattle.std.specs.Str.{bytes_eq}
 use Rattle.std.specs.Io.KnownBytes.{Appends}
 use Rattle.hla_base.specs.Limits.{max_fed_file, max_script}
@@ -9,11 +9,17 @@ use Rattle.hla_commands.specs.FaultName.{kind_name}
 use Rattle.hla_transcript.specs.Listed.{IsListed, StopsListing}
 use Rattle.hla_script.specs.Playing.{IsPlayedFrom, StopsBy}
 use Rattle.hla_commands.specs.declared.lines.ScriptFault.{ScriptFault}
+use Rattle.hla_machine.specs.declared.step.Record.{Record}
+use Rattle.hla_checker.specs.Faults.{IsWholeRun}
 use Rattle.hla_transcript.specs.declared.listing.ListFault.{ListFault}
 use Rattle.hla_transcript.specs.declared.listing.ListFault.TheVariants as unlisted
 use Rattle.hla_script.specs.declared.player.PlayFault.{PlayFault}
 use Rattle.hla_script.specs.declared.player.PlayFault.TheVariants as unplayed
-use Rattle.hla_program.specs.Tasks.{NamedTask, Play, Listing}
+use Rattle.hla_program.specs.Tasks.{NamedTask, Play, Check, Listing}
+use Rattle.hla_program.specs.declared.task.ScriptTask.{ScriptTask}
+use Rattle.hla_program.specs.declared.task.ScriptTask.TheVariants as wanted
+use Rattle.hla_program.specs.declared.finding.Finding.{Finding}
+use Rattle.hla_program.specs.declared.finding.Finding.TheVariants.{Run, Differs}
 use Rattle.hla_program.specs.Parts.{first_part, second_part}
 use Rattle.hla_transcript.specs.Watching.{Stream}
 use Rattle.hla_program.specs.Streams.{IsTaken, LoadStops}
@@ -86,6 +92,45 @@ pub data EndsPlaying (fed script : List ℕ) (out out' err err' : Stream) (statu
   Played : (records : _) → IsPlayedFrom fed script out.bytes out'.bytes records → out'.has_failed ≡ false → err' ≡ err → status ≡ 0 → EndsPlaying fed script out out' err err' status
   PlayStopped : (why : PlayFault) → StopsBy fed script out.bytes out'.bytes why → PlayCause why out' → Complains err err' (play_stop_line why) → status ≡ 1 → EndsPlaying fed script out out' err err' status
 
+-- ---- what the central machine says of a script's records
+-- the records that a script over a FED file makes, whatever its transcript is written to
+abbrev pub HasRecords : List ℕ → List ℕ → List Record → Type 0
+HasRecords fed script records = IsPlayedFrom fed script None None records
+
+-- why there are none: as why it is not played, but that no write fails
+abbrev pub StopsCheck : List ℕ → List ℕ → PlayFault → Type 0
+StopsCheck fed script unplayed.Write = ⊥
+StopsCheck fed script why = StopsBy fed script None None why
+
+-- so many records are a run of the machine; that one is no step of it is never found
+abbrev pub IsFound : List ℕ → List ℕ → Finding → Type 0
+IsFound fed script (Run count) = (records : List Record) × HasRecords fed script records × IsWholeRun records × (count ≡ length records)
+IsFound fed script (Differs place) = ⊥
+
+abbrev pub finding_line : Finding → List ℕ
+finding_line (Run count) = codes "ok " ++ decimal count ++ codes "\n"
+finding_line (Differs place) = codes "differs " ++ decimal place ++ codes "\n"
+
+abbrev pub finding_status : Finding → ℕ
+finding_status (Run count) = 0
+finding_status (Differs place) = 3
+
+-- what was found is told
+pub data EndsTelling (finding : Finding) (out out' err err' : Stream) (status : ℕ) : Type 0 where
+  Told : Appends out.bytes out'.bytes (finding_line finding) → out'.has_failed ≡ false → err' ≡ err → status ≡ finding_status finding → EndsTelling finding out out' err err' status
+  Unwritten : (n : ℕ) → Appends out.bytes out'.bytes (take n (finding_line finding)) → out'.has_failed ≡ true → WritesLine err err' unwritten_line → status ≡ 1 → EndsTelling finding out out' err err' status
+  Untold : out' ≡ out → WritesLine err err' memory_line → status ≡ 1 → EndsTelling finding out out' err err' status
+
+-- a script is played over a FED file, and its records are judged: so many are a run of the machine
+pub data EndsChecking (fed script : List ℕ) (out out' err err' : Stream) (status : ℕ) : Type 0 where
+  Checked : (records : List Record) → HasRecords fed script records → IsWholeRun records → EndsTelling (Run (length records)) out out' err err' status → EndsChecking fed script out out' err err' status
+  CheckStopped : (why : PlayFault) → StopsCheck fed script why → out' ≡ out → Complains err err' (play_stop_line why) → status ≡ 1 → EndsChecking fed script out out' err err' status
+
+-- what is asked for is done with a script over a FED file
+abbrev pub EndsScript : ScriptTask → List ℕ → List ℕ → Stream → Stream → Stream → Stream → ℕ → Type 0
+EndsScript wanted.Play fed script out out' err err' status = EndsPlaying fed script out out' err err' status
+EndsScript wanted.Check fed script out out' err err' status = EndsChecking fed script out out' err err' status
+
 -- a FED file is listed
 pub data EndsListing (fed : List ℕ) (out out' err err' : Stream) (status : ℕ) : Type 0 where
   Listed : IsListed fed out.bytes out'.bytes → out'.has_failed ≡ false → err' ≡ err → status ≡ 0 → EndsListing fed out out' err err' status
@@ -101,15 +146,15 @@ abbrev pub shared_limit : ℕ
 shared_limit = max_fed_file + max_script + 4
 
 -- both files stand in one input, which is told by the name `-`
-pub data EndsPlayingShared (input input' out out' err err' : Stream) (status : ℕ) : Type 0 where
-  SharedRead : (bytes : List ℕ) → IsTaken shared_limit input input' bytes → EndsPlaying (first_part bytes) (second_part bytes) out out' err err' status → EndsPlayingShared input input' out out' err err' status
-  SharedUnread : (why : LoadFault) → LoadStops input input' why → out' ≡ out → Complains err err' (load_stop_line (codes "-") why) → status ≡ 1 → EndsPlayingShared input input' out out' err err' status
+pub data EndsShared (task : ScriptTask) (input input' out out' err err' : Stream) (status : ℕ) : Type 0 where
+  SharedRead : (bytes : List ℕ) → IsTaken shared_limit input input' bytes → EndsScript task (first_part bytes) (second_part bytes) out out' err err' status → EndsShared task input input' out out' err err' status
+  SharedUnread : (why : LoadFault) → LoadStops input input' why → out' ≡ out → Complains err err' (load_stop_line (codes "-") why) → status ≡ 1 → EndsShared task input input' out out' err err' status
 
 -- the FED file is read before the script
-pub data EndsPlayingFiles (fed_name : List ℕ) (fed fed' : Stream) (script_name : List ℕ) (script script' out out' err err' : Stream) (status : ℕ) : Type 0 where
-  FilesRead : (fed_bytes script_bytes : List ℕ) → IsTaken file_limit fed fed' fed_bytes → IsTaken file_limit script script' script_bytes → EndsPlaying fed_bytes script_bytes out out' err err' status → EndsPlayingFiles fed_name fed fed' script_name script script' out out' err err' status
-  FedUnread : (why : LoadFault) → LoadStops fed fed' why → script' ≡ script → out' ≡ out → Complains err err' (load_stop_line fed_name why) → status ≡ 1 → EndsPlayingFiles fed_name fed fed' script_name script script' out out' err err' status
-  ScriptUnread : (fed_bytes : List ℕ) → IsTaken file_limit fed fed' fed_bytes → (why : LoadFault) → LoadStops script script' why → out' ≡ out → Complains err err' (load_stop_line script_name why) → status ≡ 1 → EndsPlayingFiles fed_name fed fed' script_name script script' out out' err err' status
+pub data EndsFiles (task : ScriptTask) (fed_name : List ℕ) (fed fed' : Stream) (script_name : List ℕ) (script script' out out' err err' : Stream) (status : ℕ) : Type 0 where
+  FilesRead : (fed_bytes script_bytes : List ℕ) → IsTaken file_limit fed fed' fed_bytes → IsTaken file_limit script script' script_bytes → EndsScript task fed_bytes script_bytes out out' err err' status → EndsFiles task fed_name fed fed' script_name script script' out out' err err' status
+  FedUnread : (why : LoadFault) → LoadStops fed fed' why → script' ≡ script → out' ≡ out → Complains err err' (load_stop_line fed_name why) → status ≡ 1 → EndsFiles task fed_name fed fed' script_name script script' out out' err err' status
+  ScriptUnread : (fed_bytes : List ℕ) → IsTaken file_limit fed fed' fed_bytes → (why : LoadFault) → LoadStops script script' why → out' ≡ out → Complains err err' (load_stop_line script_name why) → status ≡ 1 → EndsFiles task fed_name fed fed' script_name script script' out out' err err' status
 
 pub data EndsListingFile (name : List ℕ) (file file' out out' err err' : Stream) (status : ℕ) : Type 0 where
   FileRead : (bytes : List ℕ) → IsTaken file_limit file file' bytes → EndsListing bytes out out' err err' status → EndsListingFile name file file' out out' err err' status
@@ -120,10 +165,15 @@ pub data EndsListingFile (name : List ℕ) (file file' out out' err err' : Strea
 abbrev pub opened_stream : Option (List ℕ) → Stream
 opened_stream bytes = record { bytes = bytes; has_failed = false }
 
--- what is asked for is done with the files that it names; `-` is the standard input, which holds both files where both names are `-`
-abbrev pub EndsTask : (List ℕ → Option (List ℕ)) → NamedTask → Stream → Stream → Stream → Stream → ℕ → Type 0
-EndsTask bytes_of (Play fed script) out out' err err' status =
+-- what is asked for is done with a script over a FED file, by their names; `-` is the standard input, which holds both files where both names are `-`
+abbrev pub EndsNamed : (List ℕ → Option (List ℕ)) → ScriptTask → List ℕ → List ℕ → Stream → Stream → Stream → Stream → ℕ → Type 0
+EndsNamed bytes_of task fed script out out' err err' status =
     MatchBool (bytes_eq fed (codes "-") && bytes_eq script (codes "-"))
-    ((input' : Stream) × EndsPlayingShared (opened_stream (bytes_of (codes "-"))) input' out out' err err' status)
-    ((fed' : Stream) × ((script' : Stream) × EndsPlayingFiles fed (opened_stream (bytes_of fed)) fed' script (opened_stream (bytes_of script)) script' out out' err err' status))
+    ((input' : Stream) × EndsShared task (opened_stream (bytes_of (codes "-"))) input' out out' err err' status)
+    ((fed' : Stream) × ((script' : Stream) × EndsFiles task fed (opened_stream (bytes_of fed)) fed' script (opened_stream (bytes_of script)) script' out out' err err' status))
+
+-- what is asked for is done with the files that it names
+abbrev pub EndsTask : (List ℕ → Option (List ℕ)) → NamedTask → Stream → Stream → Stream → Stream → ℕ → Type 0
+EndsTask bytes_of (Play fed script) out out' err err' status = EndsNamed bytes_of wanted.Play fed script out out' err err' status
+EndsTask bytes_of (Check fed script) out out' err err' status = EndsNamed bytes_of wanted.Check fed script out out' err err' status
 EndsTask bytes_of (Listing fed) out out' err err' status = (file' : Stream) × EndsListingFile fed (opened_stream (bytes_of fed)) file' out out' err err' status

@@ -1,6 +1,8 @@
 //! What the program does with the files that its command line names.
 #![tactic(auto)]
 
+mod checking;
+mod finding;
 mod input;
 mod parts;
 mod running;

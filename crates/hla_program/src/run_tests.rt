@@ -117,6 +117,11 @@ const PLAY: Task<'static> = Task::Play {
     script: "b.script",
 };
 
+const CHECK: Task<'static> = Task::Check {
+    fed: "a.fed",
+    script: "b.script",
+};
+
 #[test]
 fn plays_files_by_their_names(rt: HostRuntime) {
     let files: [(&str, &[u8]); 2] = [("a.fed", FED), ("b.script", SCRIPT)];
@@ -161,6 +166,76 @@ fn plays_one_input_that_holds_both(rt: HostRuntime) -> Result<(), Fail> {
     assert_eq!(rt; out.as_slice(), TRANSCRIPT);
     assert_eq!(rt; errors.as_slice(), b"".as_slice());
     Ok(())
+}
+
+#[test]
+fn checks_files_by_their_names(rt: HostRuntime) {
+    for (fed, script, line) in [
+        (FED, SCRIPT, "ok 2\n"),
+        (b"(FED)".as_slice(), b"".as_slice(), "ok 0\n"),
+    ] {
+        let files: [(&str, &[u8]); 2] = [("a.fed", fed), ("b.script", script)];
+        let (status, out, errors) = ends(rt.alloc(), files.as_slice(), CHECK);
+        assert_eq!(rt; status, 0, "at {line}");
+        assert_eq!(rt; out.as_slice(), line.as_bytes(), "at {line}");
+        assert_eq!(rt; errors.as_slice(), b"".as_slice(), "at {line}");
+    }
+}
+
+#[test]
+fn checks_one_input_that_holds_both(rt: HostRuntime) {
+    let files: [(&str, &[u8]); 1] = [("-", b"(FED)\n%%\ncreate\ncreate\n".as_slice())];
+    let task = Task::Check {
+        fed: "-",
+        script: "-",
+    };
+    let (status, out, errors) = ends(rt.alloc(), files.as_slice(), task);
+    assert_eq!(rt; status, 0);
+    assert_eq!(rt; out.as_slice(), b"ok 2\n".as_slice());
+    assert_eq!(rt; errors.as_slice(), b"".as_slice());
+}
+
+#[test]
+fn tells_why_a_script_is_not_checked(rt: HostRuntime) {
+    let bad_script: &[u8] = b"create\n\nA fly\n";
+    for (fed, script, line) in [
+        (SCRIPT, bad_script, "fed line 1: ExpectedOpen\n"),
+        (FED, bad_script, "script line 3: UnknownWord\n"),
+    ] {
+        let files: [(&str, &[u8]); 2] = [("a.fed", fed), ("b.script", script)];
+        let (status, out, errors) = ends(rt.alloc(), files.as_slice(), CHECK);
+        assert_eq!(rt; status, 1, "at {line}");
+        assert_eq!(rt; out.as_slice(), b"".as_slice(), "at {line}");
+        assert_eq!(rt; errors.as_slice(), line.as_bytes(), "at {line}");
+    }
+}
+
+#[test]
+fn tells_that_it_cannot_write_what_it_found(rt: HostRuntime) {
+    let files: [(&str, &[u8]); 2] = [("a.fed", FED), ("b.script", SCRIPT)];
+    let shelf = Shelf {
+        files: files.as_slice(),
+    };
+    for (room, fails_to_flush) in [(100, true), (3, false), (0, false)] {
+        let mut errors = Vec::new(rt.alloc());
+        let mut out = Watched::new(Narrow {
+            room,
+            fails_to_flush,
+        });
+        let ended = do_task(
+            rt.alloc(),
+            &shelf,
+            CHECK,
+            &mut out,
+            &mut Watched::new(&mut errors),
+        );
+        assert_eq!(rt; ended, 1, "with room for {room}");
+        assert_eq!(rt;
+            errors.as_slice(),
+            b"cannot write\n".as_slice(),
+            "with room for {room}"
+        );
+    }
 }
 
 #[test]

@@ -3,14 +3,14 @@
 ghost use Rattle.hla_transcript.specs.Watching.{stream_of};
 ghost use Rattle.std.specs.Prelude.{◌≡◌, ◌&&◌, codes};
 ghost use Rattle.std.specs.Str.{bytes_eq};
-ghost use Rattle.hla_program.specs.Tasks as tasks;
 ghost use Rattle.hla_program.specs.Tasks.{named_task};
-ghost use Rattle.hla_program.specs.Program.{EndsPlaying, EndsListing, EndsPlayingShared, EndsPlayingFiles, EndsListingFile, EndsTask};
+ghost use Rattle.hla_program.specs.Program.{EndsPlaying, EndsListing, EndsScript, EndsShared, EndsFiles, EndsListingFile, EndsNamed, EndsTask};
 
+use crate::checking::check_bytes;
 use crate::input::{FILE_LIMIT, SHARED_LIMIT, load};
 use crate::parts::parts;
 use crate::source::Opener;
-use crate::task::Task;
+use crate::task::{ScriptTask, Task};
 use crate::telling::{DONE, tell_list_stop, tell_load_stop, tell_play_stop};
 use hla_script::{ListFault, PlayFault, Watched, list, play};
 use std::alloc::Global;
@@ -64,32 +64,53 @@ fn list_bytes<W: Write, E: Write>(
     DONE
 }
 
-/// Plays a script over a FED file, both from one input: the FED file is what stands before its first line that is exactly
-/// `%%`, and the script what stands behind it. Answers as `play_bytes` does, and 1 with one line on `errors`, and nothing on
-/// `out`, where the input cannot be read.
-fn play_shared<R: Read, W: Write, E: Write>(
+/// Does with a script over a FED file what is asked for. Answers as `play_bytes` or `check_bytes` does.
+fn do_script<W: Write, E: Write>(
     alloc: Global,
+    task: ScriptTask,
+    fed: &[u8],
+    script: &[u8],
+    out: &mut Watched<W>,
+    errors: &mut Watched<E>,
+) -> u8
+    ensures { EndsScript task fed.now script.now
+        (stream_of W.contents out.old) (stream_of W.contents out.new)
+        (stream_of E.contents errors.old) (stream_of E.contents errors.new) result }
+{
+    match task {
+        ScriptTask::Play => play_bytes(alloc, fed, script, out, errors),
+        ScriptTask::Check => check_bytes(alloc, fed, script, out, errors),
+    }
+}
+
+/// Does what is asked for with a script over a FED file, both from one input: the FED file is what stands before its first line
+/// that is exactly `%%`, and the script what stands behind it. Answers as `do_script` does, and 1 with one line on `errors`, and
+/// nothing on `out`, where the input cannot be read.
+fn do_shared<R: Read, W: Write, E: Write>(
+    alloc: Global,
+    task: ScriptTask,
     input: &mut Watched<R>,
     out: &mut Watched<W>,
     errors: &mut Watched<E>,
 ) -> u8
-    ensures { EndsPlayingShared (stream_of R.remaining input.old) (stream_of R.remaining input.new)
+    ensures { EndsShared task (stream_of R.remaining input.old) (stream_of R.remaining input.new)
         (stream_of W.contents out.old) (stream_of W.contents out.new)
         (stream_of E.contents errors.old) (stream_of E.contents errors.new) result }
 {
     match load(alloc, input, SHARED_LIMIT) {
         Ok(bytes) => {
             let (fed, script) = parts(bytes.as_slice());
-            play_bytes(alloc, fed, script, out, errors)
+            do_script(alloc, task, fed, script, out, errors)
         }
         Err(fault) => tell_load_stop(alloc, errors, "-", fault),
     }
 }
 
-/// Plays a script over a FED file. Both are read before either is tested, the FED file first. Answers as `play_bytes` does,
-/// and 1 with one line on `errors`, and nothing on `out`, where one of them cannot be read.
-fn play_files<R: Read, S: Read, W: Write, E: Write>(
+/// Does what is asked for with a script over a FED file. Both are read before either is tested, the FED file first. Answers as
+/// `do_script` does, and 1 with one line on `errors`, and nothing on `out`, where one of them cannot be read.
+fn do_files<R: Read, S: Read, W: Write, E: Write>(
     alloc: Global,
+    task: ScriptTask,
     fed_name: &str,
     fed: &mut Watched<R>,
     script_name: &str,
@@ -97,7 +118,7 @@ fn play_files<R: Read, S: Read, W: Write, E: Write>(
     out: &mut Watched<W>,
     errors: &mut Watched<E>,
 ) -> u8
-    ensures { EndsPlayingFiles fed_name.now (stream_of R.remaining fed.old) (stream_of R.remaining fed.new)
+    ensures { EndsFiles task fed_name.now (stream_of R.remaining fed.old) (stream_of R.remaining fed.new)
         script_name.now (stream_of S.remaining script.old) (stream_of S.remaining script.new)
         (stream_of W.contents out.old) (stream_of W.contents out.new)
         (stream_of E.contents errors.old) (stream_of E.contents errors.new) result }
@@ -107,7 +128,14 @@ fn play_files<R: Read, S: Read, W: Write, E: Write>(
         Err(fault) => return tell_load_stop(alloc, errors, fed_name, fault),
     };
     match load(alloc, script, FILE_LIMIT) {
-        Ok(bytes) => play_bytes(alloc, fed_bytes.as_slice(), bytes.as_slice(), out, errors),
+        Ok(script_bytes) => do_script(
+            alloc,
+            task,
+            fed_bytes.as_slice(),
+            script_bytes.as_slice(),
+            out,
+            errors,
+        ),
         Err(fault) => tell_load_stop(alloc, errors, script_name, fault),
     }
 }
@@ -138,27 +166,29 @@ fn share_input(fed_name: &str, script_name: &str) -> bool
     fed_name == "-" && script_name == "-"
 }
 
-/// Plays the script of a name over the FED file of a name; both from one input where both names are `-`.
-fn play_named<O: Opener, W: Write, E: Write>(
+/// Does what is asked for with the script of a name over the FED file of a name; both from one input where both names are `-`.
+fn do_named<O: Opener, W: Write, E: Write>(
     alloc: Global,
     opener: &O,
+    task: ScriptTask,
     fed_name: &str,
     script_name: &str,
     out: &mut Watched<W>,
     errors: &mut Watched<E>,
 ) -> u8
-    ensures { EndsTask (O.bytes_of opener.now) (tasks.Play fed_name.now script_name.now)
+    ensures { EndsNamed (O.bytes_of opener.now) task fed_name.now script_name.now
         (stream_of W.contents out.old) (stream_of W.contents out.new)
         (stream_of E.contents errors.old) (stream_of E.contents errors.new) result }
 {
     if share_input(fed_name, script_name) {
         let mut input = opener.open("-");
-        return play_shared(alloc, &mut input, out, errors);
+        return do_shared(alloc, task, &mut input, out, errors);
     }
     let mut fed = opener.open(fed_name);
     let mut script = opener.open(script_name);
-    play_files(
+    do_files(
         alloc,
+        task,
         fed_name,
         &mut fed,
         script_name,
@@ -169,9 +199,9 @@ fn play_named<O: Opener, W: Write, E: Write>(
 }
 
 /// Does what is asked for with the files that it names, and answers the status. 0: what was asked for is on `out`, all of it
-/// handed on, and nothing on `errors`. 1, with one line on `errors`: a FED file or a script is refused, or a file cannot be
-/// read, with nothing on `out`; or a write failed, or memory ran out. What a failed write to `errors` left out is lost, and
-/// the status stays.
+/// handed on, and nothing on `errors`; of a check this is `ok N`, for the N records of the script, which are a run of the
+/// central machine. 1, with one line on `errors`: a FED file or a script is refused, or a file cannot be read, with nothing on
+/// `out`; or a write failed, or memory ran out. What a failed write to `errors` left out is lost, and the status stays.
 pub fn do_task<O: Opener, W: Write, E: Write>(
     alloc: Global,
     opener: &O,
@@ -184,7 +214,12 @@ pub fn do_task<O: Opener, W: Write, E: Write>(
         (stream_of E.contents errors.old) (stream_of E.contents errors.new) result }
 {
     match task {
-        Task::Play { fed, script } => play_named(alloc, opener, fed, script, out, errors),
+        Task::Play { fed, script } => {
+            do_named(alloc, opener, ScriptTask::Play, fed, script, out, errors)
+        }
+        Task::Check { fed, script } => {
+            do_named(alloc, opener, ScriptTask::Check, fed, script, out, errors)
+        }
         Task::List { fed } => {
             let mut file = opener.open(fed);
             list_file(alloc, fed, &mut file, out, errors)

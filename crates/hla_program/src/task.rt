@@ -5,6 +5,17 @@
 pub enum Task<'a> {
     /// A script is played over a FED file; `-` stands for the standard input.
     Play { fed: &'a str, script: &'a str },
+    /// A script is played over a FED file, and its records are judged by the central machine; `-` stands for the standard input.
+    Check { fed: &'a str, script: &'a str },
     /// What a FED file declares is listed; `-` stands for the standard input.
     List { fed: &'a str },
+}
+
+/// What is done with a script over a FED file.
+#[derive(Clone, Copy, Debug, PartialEq, Eq)]
+pub(crate) enum ScriptTask {
+    /// Its transcript is printed.
+    Play,
+    /// Its records are judged.
+    Check,
 }

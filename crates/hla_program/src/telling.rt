@@ -62,6 +62,16 @@ pub fn tell_out_of_memory<E: Write>(errors: &mut Watched<E>) -> u8
     REFUSED
 }
 
+/// Says that a write failed, and answers the status.
+pub(crate) fn tell_unwritten<E: Write>(errors: &mut Watched<E>) -> u8
+    ensures line { WritesLine (stream_of E.contents errors.old) (stream_of E.contents errors.new)
+        unwritten_line }
+    ensures status { result ≡ 1 }
+{
+    tell(errors, "cannot write\n");
+    REFUSED
+}
+
 /// Writes a line if there was memory for it, or else says that memory ran out, and answers the status.
 fn tell_made<E: Write>(errors: &mut Watched<E>, line: Result<String, AllocError>) -> u8
     ensures line { IfOk line (λ line. WritesLine (stream_of E.contents errors.old)
@@ -88,10 +98,7 @@ pub fn tell_play_stop<E: Write>(alloc: Global, errors: &mut Watched<E>, fault: P
     match fault {
         PlayFault::Fed(fault) => tell_made(errors, fed_line(alloc, fault)),
         PlayFault::Script(fault) => tell_made(errors, script_line(alloc, fault)),
-        PlayFault::Write => {
-            tell(errors, "cannot write\n");
-            REFUSED
-        }
+        PlayFault::Write => tell_unwritten(errors),
         PlayFault::Memory => tell_out_of_memory(errors),
     }
 }
@@ -104,10 +111,7 @@ pub fn tell_list_stop<E: Write>(alloc: Global, errors: &mut Watched<E>, fault: L
 {
     match fault {
         ListFault::Fed(fault) => tell_made(errors, fed_line(alloc, fault)),
-        ListFault::Write => {
-            tell(errors, "cannot write\n");
-            REFUSED
-        }
+        ListFault::Write => tell_unwritten(errors),
         ListFault::Memory => tell_out_of_memory(errors),
     }
 }

@@ -1,12 +1,14 @@
 -- What the words of a command line ask for, the program's name in front
-use Rattle.std.specs.Prelude.{◌≡◌, ◌<◌, ◌==◌, ◌&&◌, Bool, true, not, List, [], ◌∷◌, length, Option, Some, None, IfSome, option_and_then, option_map, codes, if◌then◌else◌}
+use Rattle.std.specs.Prelude.{◌≡◌, ◌<◌, ◌==◌, ◌&&◌, Bool, true, false, not, List, [], ◌∷◌, length, Option, Some, None, IfSome, option_and_then, option_map, codes, if◌then◌else◌}
 use Rattle.std.specs.Option.{option_or}
 use Rattle.std.specs.Str.{bytes_eq}
 use Rattle.clap.specs.Kinds.{Kinds}
 use Rattle.clap.specs.Faults.{fault_of}
 use Rattle.clap.specs.Simple.{App, new_app, new_rule, on_top, subcommand_of, with_rule, with_subcommand}
 use Rattle.clap.specs.Walk.{Row, Rule, Text, first_of, is_empty}
-use Rattle.hla_program.specs.Tasks.{NamedTask, Play, Listing}
+use Rattle.clap.specs.declared.builder.command.Command.{Command}
+use Rattle.clap.specs.declared.builder.command.Command.TheViews.{out-Command}
+use Rattle.hla_program.specs.Tasks.{NamedTask, Play, Check, Listing}
 
 -- ---- the plain forms, which are read without clap
 -- a word that clap takes for no option: `-` alone, or one that does not begin with `-` (45)
@@ -18,35 +20,42 @@ is_operand _ = true
 abbrev pub default_task : NamedTask
 default_task = Play (codes "-") (codes "-")
 
--- no words but the program's name; `fed FILE`; `play FED SCRIPT`
+-- no words but the program's name; `fed FILE`; `play FED SCRIPT`; `check FED SCRIPT`
 abbrev pub plain_task : List Text → Option NamedTask
 plain_task [] = Some default_task
 plain_task (program ∷ []) = Some default_task
 plain_task (program ∷ word ∷ fed ∷ []) =
     if bytes_eq word (codes "fed") && is_operand fed then Some (Listing fed) else None
 plain_task (program ∷ word ∷ fed ∷ script ∷ []) =
-    if bytes_eq word (codes "play") && (is_operand fed && is_operand script) then Some (Play fed script) else None
+    if bytes_eq word (codes "play") && (is_operand fed && is_operand script) then Some (Play fed script)
+    else if bytes_eq word (codes "check") && (is_operand fed && is_operand script) then Some (Check fed script)
+    else None
 plain_task _ = None
 
 -- ---- all others, as clap reads them
 abbrev pub file_rule : Text → Rule
 file_rule id = record (new_rule id) { required = true }
 
-abbrev pub play_subcommand : App
-play_subcommand = with_rule (with_rule (new_app (codes "play")) (file_rule (codes "FED"))) (file_rule (codes "SCRIPT"))
+-- a subcommand for a FED file and a script
+abbrev pub script_subcommand : Text → App
+script_subcommand name = with_rule (with_rule (new_app name) (file_rule (codes "FED"))) (file_rule (codes "SCRIPT"))
+
+-- none of its arguments is handed on to subcommands
+abbrev pub IsLocal : Command → Type 0
+IsLocal command = (out-Command command).has_globals ≡ false
 
 abbrev pub fed_subcommand : App
 fed_subcommand = with_rule (new_app (codes "fed")) (file_rule (codes "FILE"))
 
--- the program's command, with its two subcommands
+-- the program's command, with its three subcommands
 unfoldable pub command_line : App
-command_line = with_subcommand (with_subcommand (on_top (λ s. record s { subcommand_required = true }) (new_app (codes "hlaplay"))) play_subcommand.top) fed_subcommand.top
+command_line = with_subcommand (with_subcommand (with_subcommand (on_top (λ s. record s { subcommand_required = true }) (new_app (codes "hlaplay"))) (script_subcommand (codes "play")).top) (script_subcommand (codes "check")).top) fed_subcommand.top
 
 -- what the subcommand of a name asks for, where an argument's value is found by its id
 abbrev pub task_with : (Text → Option Text) → Text → Option NamedTask
 task_with value_of name =
     if bytes_eq name (codes "fed") then option_map Listing (value_of (codes "FILE"))
-    else option_and_then (λ fed. option_map (Play fed) (value_of (codes "SCRIPT"))) (value_of (codes "FED"))
+    else option_and_then (λ fed. option_map (if bytes_eq name (codes "check") then Check fed else Play fed) (value_of (codes "SCRIPT"))) (value_of (codes "FED"))
 
 -- of a subcommand, its name and its matches
 abbrev pub subcommand_task : Option (Text × List Row) → Option NamedTask

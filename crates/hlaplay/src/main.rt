@@ -1,4 +1,4 @@
-//! Plays scripts over FED files, and lists what FED files declare.
+//! Plays and checks scripts over FED files, and lists what FED files declare.
 #![tactic(auto)]
 
 mod running;

@@ -22,6 +22,16 @@ fn reads_the_command_line(rt: HostRuntime) {
     assert!(rt;
         matches!(&parse(alloc, &["hlaplay", "play", "--", "a.fed", "-"]), Ok(task) if *task == named)
     );
+    let checked = Task::Check {
+        fed: "a.fed",
+        script: "-",
+    };
+    assert!(rt;
+        matches!(&parse(alloc, &["hlaplay", "check", "a.fed", "-"]), Ok(task) if *task == checked)
+    );
+    assert!(rt;
+        matches!(&parse(alloc, &["hlaplay", "check", "--", "a.fed", "-"]), Ok(task) if *task == checked)
+    );
     let listed = Task::List { fed: "a.fed" };
     assert!(rt; matches!(&parse(alloc, &["hlaplay", "fed", "a.fed"]), Ok(task) if *task == listed));
     for words in [
@@ -29,6 +39,7 @@ fn reads_the_command_line(rt: HostRuntime) {
         ["hlaplay", "play", "a.fed", "-b"].as_slice(),
         ["hlaplay", "play", "a", "b", "c"].as_slice(),
         ["hlaplay", "--help"].as_slice(),
+        ["hlaplay", "check", "a.fed"].as_slice(),
         ["hlaplay", "fed"].as_slice(),
         ["hlaplay", "fed", "a", "b"].as_slice(),
         ["hlaplay", "play", "--loud", "a", "b"].as_slice(),

@@ -5,7 +5,7 @@ ghost use Rattle.clap.specs.Matches.{first_value, found_of};
 ghost use Rattle.clap.specs.Simple.{app_of};
 ghost use Rattle.clap.specs.Walk.{rule_of, texts};
 ghost use Rattle.hla_program.specs.Tasks.{named_task};
-ghost use Rattle.hlaplay.specs.Words.{is_operand, plain_task, file_rule, command_line, task_with, clap_task, task_of, IsReadAlike};
+ghost use Rattle.hlaplay.specs.Words.{is_operand, plain_task, file_rule, script_subcommand, IsLocal, command_line, task_with, clap_task, task_of, IsReadAlike};
 ghost use Rattle.hlaplay.specs.Refusals.{IsCausedBy, IsFoundIn, RefusesWords};
 
 use clap::error::ErrorKind;
@@ -42,6 +42,9 @@ fn plain_task<'a>(words: &[&'a str]) -> Option<Task<'a>>
         [_, word, fed, script] if *word == "play" && is_operand(fed) && is_operand(script) => {
             Some(Task::Play { fed, script })
         }
+        [_, word, fed, script] if *word == "check" && is_operand(fed) && is_operand(script) => {
+            Some(Task::Check { fed, script })
+        }
         _ => None,
     }
 }
@@ -54,14 +57,35 @@ fn file(alloc: Global, id: &str) -> Arg<'_>
     Arg::new(alloc, id).required(true)
 }
 
+/// A subcommand for a FED file and a script. Fails only for want of memory.
+fn script_command<'a>(
+    alloc: Global,
+    name: &'a str,
+    about: &'a str,
+) -> Result<Command<'a>, AllocError>
+    ensures app { IfOk result (λ command. app_of command ≡ script_subcommand name.entry.now) }
+    ensures local { IfOk result IsLocal }
+{
+    Command::new(alloc, name)
+        .about(about)
+        .arg(file(alloc, "FED"))?
+        .arg(file(alloc, "SCRIPT"))
+}
+
 /// The command line as clap is told of it. Fails only for want of memory.
 fn command<'a>(alloc: Global) -> Result<Command<'a>, AllocError>
     ensures { IfOk result (λ command. app_of command ≡ command_line) }
 {
-    let play = Command::new(alloc, "play")
-        .about("Plays a script over a FED file; - is the standard input")
-        .arg(file(alloc, "FED"))?
-        .arg(file(alloc, "SCRIPT"))?;
+    let play = script_command(
+        alloc,
+        "play",
+        "Plays a script over a FED file; - is the standard input",
+    )?;
+    let check = script_command(
+        alloc,
+        "check",
+        "Plays a script over a FED file and judges its records; - is the standard input",
+    )?;
     let fed = Command::new(alloc, "fed")
         .about("Lists what a FED file declares; - is the standard input")
         .arg(file(alloc, "FILE"))?;
@@ -69,6 +93,7 @@ fn command<'a>(alloc: Global) -> Result<Command<'a>, AllocError>
         .about("Plays scripts over FED files; without arguments as play - -")
         .subcommand_required(true)
         .subcommand(play)?
+        .subcommand(check)?
         .subcommand(fed)
 }
 
@@ -81,10 +106,14 @@ fn task_with<'a>(name: &str, found: &ArgMatches<'a>) -> Option<Task<'a>>
             fed: found.get_str("FILE")?,
         });
     }
-    Some(Task::Play {
-        fed: found.get_str("FED")?,
-        script: found.get_str("SCRIPT")?,
-    })
+    let fed = found.get_str("FED")?;
+    let script = found.get_str("SCRIPT")?;
+    let task = if name == "check" {
+        Task::Check { fed, script }
+    } else {
+        Task::Play { fed, script }
+    };
+    Some(task)
 }
 
 /// Why clap gave no matches.
@@ -117,7 +146,8 @@ fn clap_task<'a>(alloc: Global, words: &'a [&'a str]) -> Result<Task<'a>, WordsF
 }
 
 /// What the words ask for, the program's name in front; without others it is `play - -`. Words of a plain form (no other
-/// words, `fed FILE` or `play FED SCRIPT`, with names that are no options) take no memory and are never refused.
+/// words, `fed FILE`, `play FED SCRIPT` or `check FED SCRIPT`, with names that are no options) take no memory and are never
+/// refused.
 #[tactic(auto, using(crate::proofs::PlainLemmas::read_alike))]
 pub fn parse<'a>(alloc: Global, words: &'a [&'a str]) -> Result<Task<'a>, WordsFault>
     ensures ok { IfOk result (λ task. task_of (texts words.entry.now) ≡ Some (named_task task)) }
