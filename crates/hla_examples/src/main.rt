@@ -1,9 +1,13 @@
-//! Plays each example and says whether its transcript is the expected one.
+//! Plays each example and says whether its transcript is the expected one, and whether the checker of recorded runs takes its
+//! records and tells each that is forged.
 //!
 //! It runs in the folder of the examples: for each name there is a script `NAME.script`, played over `text-f.fed`, and what it
 //! must print, `NAME.expected`.
 #![tactic(auto)]
 
+mod forging;
+
+use crate::forging::are_judged;
 use hla_script::{Watched, play};
 use std::process::ExitCode;
 use std::rt::Runtime;
@@ -42,7 +46,7 @@ const NAMES: [&str; 26] = [
 /// The status where an example differs from what is expected, or could not be read.
 const DIFFERS: u8 = 1;
 
-/// Whether an example prints just what is expected.
+/// Whether an example prints just what is expected, and its records are judged as they should be.
 fn is_as_expected<R: Runtime + AllocGlobal>(rt: &R, name: &str) -> io::Result<bool> {
     let alloc = rt.alloc();
     let fed = fs::read_to_string(rt, "text-f.fed")?;
@@ -57,7 +61,10 @@ fn is_as_expected<R: Runtime + AllocGlobal>(rt: &R, name: &str) -> io::Result<bo
         script.as_bytes(),
         &mut Watched::new(&mut transcript),
     ) {
-        Ok(_) => Ok(transcript.as_slice() == expected.as_bytes()),
+        Ok(records) => {
+            let mut records = records.into_vec();
+            Ok(transcript.as_slice() == expected.as_bytes() && are_judged(alloc, &mut records))
+        }
         Err(_) => Ok(false),
     }
 }

@@ -41,8 +41,6 @@ fn judge_script(alloc: Global, fed: &[u8], script: &[u8]) -> Result<Finding, Pla
     match check_run(alloc, records.as_slice()) {
         Ok(()) => Ok(Finding::Run(records.len())),
         Err(CheckFault::Place(place)) => Ok(Finding::Differs(place)),
-        // To be cut once each kind of record is judged.
-        Err(CheckFault::Open(_)) => Err(PlayFault::Memory),
         Err(CheckFault::Memory) => Err(PlayFault::Memory),
     }
 }
