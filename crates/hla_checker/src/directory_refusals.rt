@@ -12,6 +12,13 @@ use crate::declaring::Declaration;
 use crate::kept::KeptExecution;
 use hla_base::{AttributeNo, ClassNo, Fault, FederateNo};
 
+/// Why what was not declared may not be withdrawn.
+fn fault_unless(is_declared: bool, fault: Fault) -> Option<Fault>
+    ensures { result ≡ first_fault (test_for fault (not is_declared) ∷ []) }
+{
+    if is_declared { None } else { Some(fault) }
+}
+
 impl KeptExecution {
     /// Whether a class lacks one of these attributes.
     fn lacks_attribute(&self, class: ClassNo, attributes: &[AttributeNo]) -> bool
@@ -45,12 +52,9 @@ impl KeptExecution {
         ensures { result ≡ first_fault (no_object_class (directory_of self.now) class ∷ test_for fault (not is_declared) ∷ []) }
     {
         if !self.catalogue.is_object_class(class) {
-            Some(Fault::ObjectClassNotDefined)
-        } else if is_declared {
-            None
-        } else {
-            Some(fault)
+            return Some(Fault::ObjectClassNotDefined);
         }
+        fault_unless(is_declared, fault)
     }
 
     /// Why a number is of no interaction class, if it is of none.
@@ -74,12 +78,9 @@ impl KeptExecution {
         ensures { result ≡ first_fault (no_interaction_class (directory_of self.now) class ∷ test_for fault (not is_declared) ∷ []) }
     {
         if !self.catalogue.is_interaction_class(class) {
-            Some(Fault::InteractionClassNotDefined)
-        } else if is_declared {
-            None
-        } else {
-            Some(fault)
+            return Some(Fault::InteractionClassNotDefined);
         }
+        fault_unless(is_declared, fault)
     }
 
     /// Why a federate may not declare this, if it may not.
