@@ -16,7 +16,7 @@ use Rattle.hla_machine.specs.Refusals.{refusal}
 use Rattle.hla_machine.specs.Machine.{IsChoice, MayAnswer, after_call, central_seen}
 use Rattle.hla_checker.specs.declared.verdict.Verdict.{Verdict}
 use Rattle.hla_checker.specs.declared.verdict.Verdict.TheVariants as verdict
-use Rattle.hla_checker.specs.Calls.{AnswersDone, ChoosesNothing, IsLookUp}
+use Rattle.hla_checker.specs.Calls.{AnswersDone, ChoosesNothing, TestsLookUp}
 use Rattle.hla_checker.proofs.StepVerdicts.{JudgedCentral}
 
 module _ (c : Central) (f : ℕ) (x : Service) (plain : ChoosesNothing x) where
@@ -40,7 +40,7 @@ module _ (c : Central) (f : ℕ) (x : Service) (plain : ChoosesNothing x) where
       (((sym is ∙ ends.0, may), (plain choice.None).1 refl), follows))
 
 -- ---- look-ups
-module _ (c : Central) (f : ℕ) (x : Service) (P : Answer → Type 0) (of : IsLookUp c f x P) where
+module _ (c : Central) (f : ℕ) (x : Service) (P : Answer → Type 0) (of : TestsLookUp c f x P) where
   look_up_by : (a : Answer) (b : Bool) → refusal (central_seen c) (Call f x) ≡ None → Decides b (P a) → JudgedCentral c (Call f x) (outcome.Done a) choice.None c (cond b verdict.Allowed verdict.Wrong)
   look_up_by a true none tests = (((none, (of.answers a).0 (tests.0 refl)), (of.plain choice.None).1 refl), sym of.unchanged)
   look_up_by a false none tests = λ allowed. false≢true (tests.1 ((of.answers a).1 allowed.0.1))

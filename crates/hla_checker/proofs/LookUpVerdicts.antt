@@ -19,7 +19,7 @@ use Rattle.hla_machine.specs.Refusals.{call_tests, is_object_named}
 use Rattle.hla_machine.specs.Machine.{MayAnswer, central_seen}
 use Rattle.hla_accounts.specs.Accounts.{account_at}
 use Rattle.hla_checker.specs.declared.verdict.Verdict.{Verdict}
-use Rattle.hla_checker.specs.Calls.{IsHandleIn, IsLookUp, ToldOf}
+use Rattle.hla_checker.specs.Calls.{IsHandleIn, TestsLookUp, ToldOf}
 use Rattle.hla_checker.specs.Kept.{KeptValue, IsConsistent, JudgedStep, central_of, directory_of}
 use Rattle.hla_checker.proofs.StepVerdicts.{kept_unchanged}
 use Rattle.hla_checker.proofs.ServiceVerdicts.{joined_refusal}
@@ -53,24 +53,24 @@ parameter_answers c f name class (answer.Handle n) = (λ h. h, λ h. h)
 parameter_answers c f name class a = (λ h. h, λ h. h)
 
 module _ (c : Central) (f : ℕ) (name : List ℕ) (found : Option ℕ) where
-  pub object_class_look_up : found ≡ object_class_named c.directory.catalogue name → IsLookUp c f (service.GetObjectClassHandle name) (IsHandleIn found)
-  object_class_look_up is = subst (λ (n : Option ℕ). IsLookUp c f (service.GetObjectClassHandle name) (IsHandleIn n)) (sym is)
+  pub object_class_look_up : found ≡ object_class_named c.directory.catalogue name → TestsLookUp c f (service.GetObjectClassHandle name) (IsHandleIn found)
+  object_class_look_up is = subst (λ (n : Option ℕ). TestsLookUp c f (service.GetObjectClassHandle name) (IsHandleIn n)) (sym is)
       (record { plain = λ o. (λ e. e, λ e. e); answers = object_class_answers c f name; unchanged = refl })
 
-  pub interaction_class_look_up : found ≡ interaction_class_named c.directory.catalogue name → IsLookUp c f (service.GetInteractionClassHandle name) (IsHandleIn found)
-  interaction_class_look_up is = subst (λ (n : Option ℕ). IsLookUp c f (service.GetInteractionClassHandle name) (IsHandleIn n)) (sym is)
+  pub interaction_class_look_up : found ≡ interaction_class_named c.directory.catalogue name → TestsLookUp c f (service.GetInteractionClassHandle name) (IsHandleIn found)
+  interaction_class_look_up is = subst (λ (n : Option ℕ). TestsLookUp c f (service.GetInteractionClassHandle name) (IsHandleIn n)) (sym is)
       (record { plain = λ o. (λ e. e, λ e. e); answers = interaction_class_answers c f name; unchanged = refl })
 
-  pub attribute_look_up : (class : ℕ) → found ≡ attribute_named c.directory.catalogue class name → IsLookUp c f (service.GetAttributeHandle name class) (IsHandleIn found)
-  attribute_look_up class is = subst (λ (n : Option ℕ). IsLookUp c f (service.GetAttributeHandle name class) (IsHandleIn n)) (sym is)
+  pub attribute_look_up : (class : ℕ) → found ≡ attribute_named c.directory.catalogue class name → TestsLookUp c f (service.GetAttributeHandle name class) (IsHandleIn found)
+  attribute_look_up class is = subst (λ (n : Option ℕ). TestsLookUp c f (service.GetAttributeHandle name class) (IsHandleIn n)) (sym is)
       (record { plain = λ o. (λ e. e, λ e. e); answers = attribute_answers c f name class; unchanged = refl })
 
-  pub parameter_look_up : (class : ℕ) → found ≡ parameter_named c.directory.catalogue class name → IsLookUp c f (service.GetParameterHandle name class) (IsHandleIn found)
-  parameter_look_up class is = subst (λ (n : Option ℕ). IsLookUp c f (service.GetParameterHandle name class) (IsHandleIn n)) (sym is)
+  pub parameter_look_up : (class : ℕ) → found ≡ parameter_named c.directory.catalogue class name → TestsLookUp c f (service.GetParameterHandle name class) (IsHandleIn found)
+  parameter_look_up class is = subst (λ (n : Option ℕ). TestsLookUp c f (service.GetParameterHandle name class) (IsHandleIn n)) (sym is)
       (record { plain = λ o. (λ e. e, λ e. e); answers = parameter_answers c f name class; unchanged = refl })
 
 -- ---- objects
-pub object_number_look_up : (c : Central) (f : ℕ) (name : List ℕ) → IsLookUp c f (service.GetObjectInstanceHandle name) (λ a. MayAnswer c f (service.GetObjectInstanceHandle name) a choice.None)
+pub object_number_look_up : (c : Central) (f : ℕ) (name : List ℕ) → TestsLookUp c f (service.GetObjectInstanceHandle name) (λ a. MayAnswer c f (service.GetObjectInstanceHandle name) a choice.None)
 object_number_look_up c f name = record { plain = λ o. (λ e. e, λ e. e); answers = λ a. (λ h. h, λ h. h); unchanged = refl }
 
 name_answers : (c : Central) (f h : ℕ) (a : Answer)
@@ -78,8 +78,8 @@ name_answers : (c : Central) (f h : ℕ) (a : Answer)
 name_answers c f h (answer.Name n) = (λ e. (let same : n ≡ (c.directory.object h).name = cc in same), λ e. ap answer.Name e)
 name_answers c f h a = (λ e. absurd (cc), λ e. absurd e)
 
-pub object_name_look_up : (c : Central) (f h : ℕ) (name : List ℕ) → name ≡ (c.directory.object h).name → IsLookUp c f (service.GetObjectInstanceName h) (λ a. a ≡ answer.Name name)
-object_name_look_up c f h name is = subst (λ (n : List ℕ). IsLookUp c f (service.GetObjectInstanceName h) (λ a. a ≡ answer.Name n)) (sym is)
+pub object_name_look_up : (c : Central) (f h : ℕ) (name : List ℕ) → name ≡ (c.directory.object h).name → TestsLookUp c f (service.GetObjectInstanceName h) (λ a. a ≡ answer.Name name)
+object_name_look_up c f h name is = subst (λ (n : List ℕ). TestsLookUp c f (service.GetObjectInstanceName h) (λ a. a ≡ answer.Name n)) (sym is)
     (record { plain = λ o. (λ e. e, λ e. e); answers = name_answers c f h; unchanged = refl })
 
 -- what is found is there

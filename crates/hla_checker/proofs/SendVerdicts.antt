@@ -26,21 +26,11 @@ use Rattle.hla_accounts.specs.Accounts.{account_at, central_with}
 use Rattle.hla_accounts.specs.Sendings.{item_for, IsCutTo}
 use Rattle.hla_checker.specs.declared.contents.Message.{Message}
 use Rattle.hla_checker.specs.declared.verdict.Verdict.TheVariants as verdict
-use Rattle.hla_checker.specs.Answering.{ChoosesNothing, JudgedUnanswered}
 use Rattle.hla_checker.specs.Answers.{sent_in}
 use Rattle.hla_checker.specs.Kept.{KeptValue, IsConsistent, central_of, directory_of}
 use Rattle.hla_checker.specs.Sending.{body_said, outgoing, AreContents}
 use Rattle.hla_checker.proofs.StepVerdicts.{JudgedCentral}
 use Rattle.hla_checker.proofs.CallVerdicts.{joined_within}
-
--- ---- something was chosen, although nothing is to be
-chosen_nothing : (f : ℕ) (x : Service) → ChoosesNothing x → (out : Outcome) (o : Choice) → IsChoice (Call f x) out o → o ≡ choice.None
-chosen_nothing f x of (outcome.Done a) o is = of o is
-chosen_nothing f x of (outcome.Refused e) o is = is
-chosen_nothing f x of (outcome.Failed k) o is = is
-
-pub chose_wrong : (found : Option Fault) (out : Outcome) (o : Choice) (b : Bool) → Decides b (o ≡ choice.None) → b ≡ false → JudgedUnanswered found out o verdict.Wrong
-chose_wrong found out o b tests is = λ c f x of refused allowed. false≢true (sym is ∙ tests.1 (chosen_nothing f x of out o allowed.1))
 
 -- ---- the contents are those of the message
 content_same : (v : KeptValue) (b : Body) (f : ℕ) → content_for (directory_of v) b f ≡ content_for (central_of v).directory b f
@@ -81,7 +71,7 @@ pub record IsSending (x : Service) (stamp : Option ℕ) (outs : Directory → Li
   pub answers : (c : Central) (f : ℕ) (a : Answer) (o : Choice) → sent_in a ≡ Some (send_answer c f stamp (outs c.directory)) → MayAnswer c f x a o
   pub only : (c : Central) (f : ℕ) (a : Answer) (o : Choice) → MayAnswer c f x a o → sent_in a ≡ Some (send_answer c f stamp (outs c.directory))
   pub plain : (o : Choice) → o ≡ choice.None → IsServiceChoice x o
-  pub chooses : ChoosesNothing x
+  pub chooses : (o : Choice) → IsServiceChoice x o → o ≡ choice.None
   pub after : (c : Central) (f : ℕ) (o : Choice) → after_call c f x o ≡ after_messages c f stamp (outs c.directory)
 
 some_is : (h g : Option EventHandle) → Some h ≡ Some g → h ≡ g

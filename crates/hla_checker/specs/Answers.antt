@@ -25,10 +25,10 @@ abbrev pub time_in : Answer → Option ℕ
 time_in (answer.Time time) = Some time
 time_in a = None
 
-abbrev pub handle_in : Answer → Option ℕ
-handle_in (answer.Handle number) = Some number
-handle_in a = None
+abbrev pub found_handle_in : Answer → Option ℕ
+found_handle_in (answer.Handle number) = Some number
+found_handle_in a = None
 
-abbrev pub name_in : Answer → Option (List ℕ)
-name_in (answer.Name name) = Some name
-name_in a = None
+abbrev pub found_name_in : Answer → Option (List ℕ)
+found_name_in (answer.Name name) = Some name
+found_name_in a = None

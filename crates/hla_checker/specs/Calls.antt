@@ -29,7 +29,7 @@ IsHandleIn found (answer.Handle number) = IsHandle found number
 IsHandleIn found a = ⊥
 
 -- a look-up, and the test of its answers
-pub record IsLookUp (c : Central) (f : ℕ) (x : Service) (P : Answer → Type 0) : Type 0 where
+pub record TestsLookUp (c : Central) (f : ℕ) (x : Service) (P : Answer → Type 0) : Type 0 where
   pub plain : ChoosesNothing x
   pub answers : (a : Answer) → (P a → MayAnswer c f x a choice.None) × (MayAnswer c f x a choice.None → P a)
   pub unchanged : after_call c f x choice.None ≡ c

@@ -18,8 +18,6 @@ pub mod Creating
 pub mod Faults
 -- What services send
 pub mod Sending
--- What is told of a call that chooses nothing, before its answer is looked at
-pub mod Answering
 -- Which calls and callbacks a test is for
 pub mod Kinds
 -- What calls of directory services choose and answer, and what is told of them

@@ -4,7 +4,7 @@ ghost use Rattle.std.specs.Prelude.{◌≡◌, Some};
 ghost use Rattle.std.specs.Bool.{Decides};
 ghost use Rattle.std.specs.Option.{option_copied};
 ghost use Rattle.hla_machine.specs.declared.step.Answer.TheVariants as answers;
-ghost use Rattle.hla_checker.specs.Answers.{announced_in, carried_in, handle_in, joiner_in, name_in, sent_in, time_in};
+ghost use Rattle.hla_checker.specs.Answers.{announced_in, carried_in, found_handle_in, joiner_in, found_name_in, sent_in, time_in};
 ghost use Rattle.hla_checker.specs.Calls.{IsHandleIn};
 
 use hla_base::{EventHandle, FederateNo, List, ObjectNo, Ticks};
@@ -121,8 +121,8 @@ pub(crate) fn time_in(answer: &Answer) -> Option<Ticks>
 }
 
 /// The number of a class, an attribute, a parameter or an object; nothing in the answer to another step.
-pub(crate) fn handle_in(answer: &Answer) -> Option<u32>
-    ensures { result ≡ handle_in answer.now }
+pub(crate) fn found_handle_in(answer: &Answer) -> Option<u32>
+    ensures { result ≡ found_handle_in answer.now }
 {
     match answer {
         Answer::Handle(number) => Some(*number),
@@ -142,15 +142,15 @@ pub(crate) fn handle_in(answer: &Answer) -> Option<u32>
 pub(crate) fn is_handle(answer: &Answer, found: Option<u32>) -> bool
     ensures { Decides result (IsHandleIn found answer.now) }
 {
-    match handle_in(answer) {
+    match found_handle_in(answer) {
         Some(number) => found == Some(number),
         None => false,
     }
 }
 
 /// The name of an object; nothing in the answer to another step.
-pub(crate) fn name_in(answer: &Answer) -> Option<&List<u8>>
-    ensures { option_copied result ≡ name_in answer.now }
+pub(crate) fn found_name_in(answer: &Answer) -> Option<&List<u8>>
+    ensures { option_copied result ≡ found_name_in answer.now }
 {
     match answer {
         Answer::Name(name) => Some(name),
@@ -170,7 +170,7 @@ pub(crate) fn name_in(answer: &Answer) -> Option<&List<u8>>
 pub(crate) fn is_name(answer: &Answer, name: &[u8]) -> bool
     ensures { Decides result (answer.now ≡ answers.Name name.now) }
 {
-    match name_in(answer) {
+    match found_name_in(answer) {
         Some(given) => given.as_slice() == name,
         None => false,
     }

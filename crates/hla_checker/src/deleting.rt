@@ -12,8 +12,8 @@ ghost use Rattle.hla_accounts.specs.Accounts.{account_at};
 ghost use Rattle.hla_checker.specs.Kept.{IsConsistent, JudgedStep, central_of, directory_of};
 ghost use Rattle.hla_checker.specs.Sending.{outgoing};
 
-use crate::answering::answer_to;
 use crate::contents::{Body, Message};
+use crate::endings::answer_to_test;
 use crate::kept::KeptExecution;
 use crate::outcomes::is_done;
 use crate::verdict::Verdict;
@@ -82,7 +82,7 @@ impl KeptExecution {
         ensures err { IfErr result (λ e. e ≡ Fault.OutOfMemory) }
     {
         let fault = self.deletion_fault(federate, object, stamp);
-        match answer_to(fault, outcome, choice) {
+        match answer_to_test(fault, outcome, choice) {
             Err(verdict) => Ok(verdict),
             Ok(answer) => {
                 if !is_done(answer) {

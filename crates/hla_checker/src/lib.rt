@@ -2,7 +2,6 @@
 #![tactic(auto)]
 
 mod announcing;
-mod answering;
 mod answers;
 mod carrying;
 mod checking;

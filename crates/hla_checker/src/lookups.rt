@@ -13,10 +13,10 @@ ghost use Rattle.hla_machine.specs.declared.service.Service.TheVariants as servi
 ghost use Rattle.hla_machine.specs.declared.step.Choice.TheVariants as choices;
 ghost use Rattle.hla_machine.specs.declared.step.Step.TheVariants as steps;
 ghost use Rattle.hla_accounts.specs.Accounts.{account_at};
-ghost use Rattle.hla_checker.specs.Calls.{IsHandleIn, IsLookUp, ToldOf};
+ghost use Rattle.hla_checker.specs.Calls.{IsHandleIn, TestsLookUp, ToldOf};
 ghost use Rattle.hla_checker.specs.Kept.{IsConsistent, JudgedStep, central_of, directory_of};
 
-use crate::answers::{handle_in, is_handle, is_name};
+use crate::answers::{found_handle_in, is_handle, is_name};
 use crate::endings::answer_to_test;
 use crate::kept::KeptExecution;
 use crate::verdict::Verdict;
@@ -40,7 +40,7 @@ fn judge_number(
     outcome: &Outcome,
     choice: &Choice,
 ) -> Verdict
-    ensures { (c : Central) (f : ℕ) (x : Service) → IsLookUp c f x (IsHandleIn found) → ToldOf fault outcome.now choice.now result c f x }
+    ensures { (c : Central) (f : ℕ) (x : Service) → TestsLookUp c f x (IsHandleIn found) → ToldOf fault outcome.now choice.now result c f x }
 {
     match answer_to_test(fault, outcome, choice) {
         Err(verdict) => verdict,
@@ -96,7 +96,7 @@ impl KeptExecution {
     fn is_object_number(&self, federate: FederateNo, name: &[u8], answer: &Answer) -> bool
         ensures { Decides result (MayAnswer (central_of self.now) federate (services.GetObjectInstanceHandle name.now) answer.now choices.None) }
     {
-        match handle_in(answer) {
+        match found_handle_in(answer) {
             Some(object) => {
                 self.registry.is_known(object, federate) && self.registry.name_of(object) == name
             }

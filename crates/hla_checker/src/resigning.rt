@@ -11,8 +11,8 @@ ghost use Rattle.hla_machine.specs.declared.step.Step.TheVariants as steps;
 ghost use Rattle.hla_accounts.specs.Accounts.{account_at};
 ghost use Rattle.hla_checker.specs.Kept.{IsConsistent, JudgedStep, central_of, directory_of};
 
-use crate::answering::answer_to;
 use crate::contents::{Body, Message};
+use crate::endings::answer_to_test;
 use crate::kept::KeptExecution;
 use crate::outcomes::is_done;
 use crate::verdict::Verdict;
@@ -88,7 +88,7 @@ impl KeptExecution {
         ensures err { IfErr result (λ e. e ≡ Fault.OutOfMemory) }
     {
         let fault = self.resign_fault(federate, action);
-        match answer_to(fault, outcome, choice) {
+        match answer_to_test(fault, outcome, choice) {
             Err(verdict) => Ok(verdict),
             // Where it resigns without an action it has no objects.
             Ok(answer) => {

@@ -13,9 +13,9 @@ ghost use Rattle.hla_accounts.specs.Accounts.{account_at};
 ghost use Rattle.hla_checker.specs.Kept.{IsConsistent, JudgedStep, central_of, directory_of};
 ghost use Rattle.hla_checker.specs.Sending.{body_said, outgoing};
 
-use crate::answering::answer_to;
 use crate::answers::is_sent;
 use crate::contents::{Body, Message};
+use crate::endings::answer_to_test;
 use crate::kept::KeptExecution;
 use crate::pairs::by_handle;
 use crate::verdict::Verdict;
@@ -133,7 +133,7 @@ impl KeptExecution {
         ensures err { IfErr result (λ e. e ≡ Fault.OutOfMemory) }
     {
         let fault = self.interaction_fault(federate, class, values.as_slice(), stamp);
-        match answer_to(fault, outcome, choice) {
+        match answer_to_test(fault, outcome, choice) {
             Err(verdict) => Ok(verdict),
             Ok(answer) => {
                 let handle = self.interaction_handle(federate, class, stamp);

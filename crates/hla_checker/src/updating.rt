@@ -11,9 +11,9 @@ ghost use Rattle.hla_machine.specs.declared.step.Step.TheVariants as steps;
 ghost use Rattle.hla_accounts.specs.Accounts.{account_at};
 ghost use Rattle.hla_checker.specs.Kept.{IsConsistent, JudgedStep, central_of, directory_of};
 
-use crate::answering::answer_to;
 use crate::answers::is_sent;
 use crate::contents::{Body, Message};
+use crate::endings::answer_to_test;
 use crate::kept::KeptExecution;
 use crate::pairs::by_handle;
 use crate::verdict::Verdict;
@@ -137,7 +137,7 @@ impl KeptExecution {
         ensures err { IfErr result (λ e. e ≡ Fault.OutOfMemory) }
     {
         let fault = self.update_fault(federate, object, values.as_slice(), stamp);
-        match answer_to(fault, outcome, choice) {
+        match answer_to_test(fault, outcome, choice) {
             Err(verdict) => Ok(verdict),
             Ok(answer) => {
                 let handle = self.update_handle(federate, values.as_slice(), stamp);

@@ -18,7 +18,7 @@ returns-then-not-is_sent-clause-ok c =
     let now = central_of c.args.self.now in
     let x = services.SendInteraction c.args.class c.args.values.now c.args.stamp in
     sending_wrong now c.args.federate x c.args.stamp (λ (d : Directory). interaction_sent d c.args.class c.args.values.now) (interaction_sending c.args.class c.args.values.now c.args.stamp)
-    c.args.outcome.now c.in-Ok.answer.now c.args.choice.now c.interaction_handle-handle.result (c.interaction_handle-handle.ensures c.args.values.now) c.in-Ok.ensures.answered.0
+    c.args.outcome.now c.in-Ok.answer.now c.args.choice.now c.interaction_handle-handle.result (c.interaction_handle-handle.ensures c.args.values.now) c.in-Ok.ensures.answered.1
     now c.is_sent.result c.is_sent.ensures c.if-not-is_sent.true
 
 pub returns-in-Err-clause-ok : goal.returns-in-Err-clause-ok
@@ -29,7 +29,7 @@ returns-in-Err-clause-ok c =
     ∙ ap (λ (vs : List HandleValuePair). first_fault (call_tests (central_seen now) c.args.federate (services.SendInteraction c.args.class vs c.args.stamp))) c.as_slice.ensures
     ∙ joined_refusal now c.args.federate x c.requires.joined in
     kept_unchanged c.args.self.now c.args.self.now (steps.Call c.args.federate x) (steps.Call c.args.federate x) c.args.outcome.now c.args.choice.now c.in-Err.verdict refl refl c.requires.consistent
-    (c.in-Err.ensures.told now c.args.federate x (interaction_sending c.args.class c.args.values.now c.args.stamp).chooses found)
+    (c.in-Err.ensures.told now c.args.federate x (λ o. (λ e. e, λ e. e)) found)
 
 pub returns-in_ok-send_interaction-in-Ok-clause-ok : goal.returns-in_ok-send_interaction-in-Ok-clause-ok
 returns-in_ok-send_interaction-in-Ok-clause-ok c =
@@ -41,6 +41,6 @@ returns-in_ok-send_interaction-in-Ok-clause-ok c =
     let follows = c.in_ok-send_interaction-in-Ok.ensures.sent
     ∙ ap (λ (vs : List HandleValuePair). after_messages now c.args.federate c.args.stamp (interaction_sent (directory_of c.args.self.now) c.args.class vs)) c.as_slice-in-Ok.ensures in
     let done = sending_done now c.args.federate x c.args.stamp (λ (d : Directory). interaction_sent d c.args.class c.args.values.now) (interaction_sending c.args.class c.args.values.now c.args.stamp)
-    c.args.outcome.now c.in-Ok.answer.now c.args.choice.now c.interaction_handle-handle.result (c.interaction_handle-handle.ensures c.args.values.now) c.in-Ok.ensures.answered.0
-    (central_of c.send_interaction.new.self) c.interaction_fault-fault.result found c.in-Ok.ensures.answered.1 (c.is_sent.ensures.0 c.if-not-is_sent.false) c.in-Ok.ensures.answered.2 follows in
+    c.args.outcome.now c.in-Ok.answer.now c.args.choice.now c.interaction_handle-handle.result (c.interaction_handle-handle.ensures c.args.values.now) c.in-Ok.ensures.answered.1
+    (central_of c.send_interaction.new.self) c.interaction_fault-fault.result found c.in-Ok.ensures.answered.0 (c.is_sent.ensures.0 c.if-not-is_sent.false) c.in-Ok.ensures.answered.2 follows in
     (done.0, (done.1, c.in_ok-send_interaction-in-Ok.ensures.consistent))

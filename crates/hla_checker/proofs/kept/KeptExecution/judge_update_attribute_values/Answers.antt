@@ -23,7 +23,7 @@ returns-then-not-is_sent-clause-ok c =
     let handle = c.update_handle-handle.ensures c.args.object
     ∙ ap (λ (vs : List HandleValuePair). send_answer now c.args.federate c.args.stamp (update_sent (directory_of c.args.self.now) c.args.object vs)) c.as_slice-in-Ok.ensures in
     sending_wrong now c.args.federate x c.args.stamp (λ (d : Directory). update_sent d c.args.object c.args.values.now) (update_sending c.args.object c.args.values.now c.args.stamp)
-    c.args.outcome.now c.in-Ok.answer.now c.args.choice.now c.update_handle-handle.result handle c.in-Ok.ensures.answered.0
+    c.args.outcome.now c.in-Ok.answer.now c.args.choice.now c.update_handle-handle.result handle c.in-Ok.ensures.answered.1
     now c.is_sent.result c.is_sent.ensures c.if-not-is_sent.true
 
 pub send_update-requires-clause-room : goal.send_update-requires-clause-room
@@ -32,7 +32,7 @@ send_update-requires-clause-room c =
     let found = c.update_fault-fault.ensures
     ∙ ap (λ (vs : List HandleValuePair). first_fault (call_tests (central_seen now) c.args.federate (services.UpdateAttributeValues c.args.object vs c.args.stamp))) c.as_slice.ensures in
     subst (λ (vs : List HandleValuePair). (account_at c.args.self.now.accounts c.args.federate).next_serial + length (update_sent (directory_of c.args.self.now) c.args.object vs) ≤ max_serial + 1) (sym c.as_slice-in-Ok-2.ensures)
-    (update_room (central_seen now) c.args.federate c.args.object c.args.values.now c.args.stamp (sym found ∙ c.in-Ok.ensures.answered.1))
+    (update_room (central_seen now) c.args.federate c.args.object c.args.values.now c.args.stamp (sym found ∙ c.in-Ok.ensures.answered.0))
 
 pub returns-in-Err-clause-ok : goal.returns-in-Err-clause-ok
 returns-in-Err-clause-ok c =
@@ -42,7 +42,7 @@ returns-in-Err-clause-ok c =
     ∙ ap (λ (vs : List HandleValuePair). first_fault (call_tests (central_seen now) c.args.federate (services.UpdateAttributeValues c.args.object vs c.args.stamp))) c.as_slice.ensures
     ∙ joined_refusal now c.args.federate x c.requires.joined in
     kept_unchanged c.args.self.now c.args.self.now (steps.Call c.args.federate x) (steps.Call c.args.federate x) c.args.outcome.now c.args.choice.now c.in-Err.verdict refl refl c.requires.consistent
-    (c.in-Err.ensures.told now c.args.federate x (update_sending c.args.object c.args.values.now c.args.stamp).chooses found)
+    (c.in-Err.ensures.told now c.args.federate x (λ o. (λ e. e, λ e. e)) found)
 
 pub returns-in_ok-send_update-in-Ok-clause-ok : goal.returns-in_ok-send_update-in-Ok-clause-ok
 returns-in_ok-send_update-in-Ok-clause-ok c =
@@ -56,6 +56,6 @@ returns-in_ok-send_update-in-Ok-clause-ok c =
     let follows = c.in_ok-send_update-in-Ok.ensures.sent
     ∙ ap (λ (vs : List HandleValuePair). after_messages now c.args.federate c.args.stamp (update_sent (directory_of c.args.self.now) c.args.object vs)) c.as_slice-in-Ok-2.ensures in
     let done = sending_done now c.args.federate x c.args.stamp (λ (d : Directory). update_sent d c.args.object c.args.values.now) (update_sending c.args.object c.args.values.now c.args.stamp)
-    c.args.outcome.now c.in-Ok.answer.now c.args.choice.now c.update_handle-handle.result handle c.in-Ok.ensures.answered.0
-    (central_of c.send_update.new.self) c.update_fault-fault.result found c.in-Ok.ensures.answered.1 (c.is_sent.ensures.0 c.if-not-is_sent.false) c.in-Ok.ensures.answered.2 follows in
+    c.args.outcome.now c.in-Ok.answer.now c.args.choice.now c.update_handle-handle.result handle c.in-Ok.ensures.answered.1
+    (central_of c.send_update.new.self) c.update_fault-fault.result found c.in-Ok.ensures.answered.0 (c.is_sent.ensures.0 c.if-not-is_sent.false) c.in-Ok.ensures.answered.2 follows in
     (done.0, (done.1, c.in_ok-send_update-in-Ok.ensures.consistent))
