@@ -15,11 +15,13 @@ pub struct Counts {
     pub queued: u64,
     /// Bytes of FED text that were read.
     pub bytes: u64,
+    /// Records that were judged to be a run.
+    pub judged: u64,
 }
 
 impl Counts {
     /// Each count, under its name.
-    pub fn all(&self) -> [(&'static str, u64); 6] {
+    pub fn all(&self) -> [(&'static str, u64); 7] {
         [
             ("steps", self.steps),
             ("sent", self.sent),
@@ -27,6 +29,7 @@ impl Counts {
             ("grants", self.grants),
             ("queued", self.queued),
             ("bytes", self.bytes),
+            ("judged", self.judged),
         ]
     }
 }

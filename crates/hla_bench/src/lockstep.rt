@@ -4,7 +4,7 @@ use crate::counts::Counts;
 use crate::meter::Meter;
 use crate::reading::catalogue;
 use hla_base::{Fault, FederateNo, Ticks};
-use hla_machine::Service;
+use hla_machine::{Record, Service};
 use std::alloc::Global;
 
 const FED: &[u8] = b"(FED (interactions (class Hit reliable timestamp (parameter Force))))";
@@ -50,11 +50,29 @@ fn round(meter: &mut Meter, federates: u32, events: u32, time: Ticks) -> Result<
 }
 
 /// Plays so many rounds.
+fn play(meter: &mut Meter, federates: u32, events: u32, rounds: u64) -> Result<(), Fault> {
+    begin(meter, federates)?;
+    for time in 1..=rounds {
+        round(meter, federates, events, time)?;
+    }
+    Ok(())
+}
+
+/// Plays so many rounds.
 pub fn run(alloc: Global, federates: u32, events: u32, rounds: u64) -> Result<Counts, Fault> {
     let mut meter = Meter::new(alloc, catalogue(alloc, FED)?);
-    begin(&mut meter, federates)?;
-    for time in 1..=rounds {
-        round(&mut meter, federates, events, time)?;
-    }
+    play(&mut meter, federates, events, rounds)?;
     Ok(meter.counts)
+}
+
+/// The records of so many rounds.
+pub fn records(
+    alloc: Global,
+    federates: u32,
+    events: u32,
+    rounds: u64,
+) -> Result<Vec<Record>, Fault> {
+    let mut meter = Meter::with_history(alloc, catalogue(alloc, FED)?)?;
+    play(&mut meter, federates, events, rounds)?;
+    Ok(meter.into_records())
 }

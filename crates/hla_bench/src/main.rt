@@ -7,6 +7,7 @@
 //!     hla_bench fed BYTES
 //!     hla_bench bare FEDERATES ROUNDS
 //!     hla_bench run THREADS ROUNDS
+//!     hla_bench check FEDERATES EVENTS ROUNDS
 #![tactic(auto)]
 
 mod advancing;
@@ -20,6 +21,9 @@ mod reading;
 
 use crate::counts::Counts;
 use hla_base::Fault;
+use hla_checker::check_run;
+use hla_machine::Record;
+use std::alloc::Global;
 use std::env::Args;
 use std::process::ExitCode;
 use std::rt::{Clock, Runtime};
@@ -56,11 +60,16 @@ enum Benchmark {
         threads: u32,
         rounds: u64,
     },
+    Check {
+        federates: u32,
+        events: u32,
+        rounds: u64,
+    },
 }
 
 const USAGE: &str =
     "usage: hla_bench lockstep FEDERATES EVENTS ROUNDS | phold FEDERATES POPULATION LOOKAHEAD DELIVERED | \
-    queue EVENTS | fed BYTES | bare FEDERATES ROUNDS | run THREADS ROUNDS";
+    queue EVENTS | fed BYTES | bare FEDERATES ROUNDS | run THREADS ROUNDS | check FEDERATES EVENTS ROUNDS";
 
 /// The next word as a number.
 fn number(words: &mut Args) -> Option<u64> {
@@ -102,6 +111,11 @@ fn asked_for(words: &mut Args) -> Option<Benchmark> {
             threads: small(words)?,
             rounds: number(words)?,
         },
+        "check" => Benchmark::Check {
+            federates: small(words)?,
+            events: small(words)?,
+            rounds: number(words)?,
+        },
         _ => return None,
     };
     match words.next() {
@@ -110,10 +124,34 @@ fn asked_for(words: &mut Args) -> Option<Benchmark> {
     }
 }
 
-/// Runs a benchmark.
+/// The records that a benchmark is about; none where it is about other things.
+fn records_for(alloc: Global, asked: Benchmark) -> Result<Vec<Record>, Fault> {
+    match asked {
+        Benchmark::Check {
+            federates,
+            events,
+            rounds,
+        } => lockstep::records(alloc, federates, events, rounds),
+        _ => Ok(Vec::new(alloc)),
+    }
+}
+
+/// Has records judged.
+fn judge(alloc: Global, records: &[Record]) -> Result<Counts, Fault> {
+    match check_run(alloc, records) {
+        Ok(()) => Ok(Counts {
+            judged: records.len() as u64,
+            ..Counts::default()
+        }),
+        Err(_) => Err(Fault::FederateInternalError),
+    }
+}
+
+/// Runs a benchmark over the records that were made for it.
 fn counts_of<R: AllocGlobal + Threads + Wait + Sync>(
     rt: &R,
     asked: Benchmark,
+    records: &[Record],
 ) -> Result<Counts, Fault> {
     let alloc = rt.alloc();
     match asked {
@@ -132,6 +170,7 @@ fn counts_of<R: AllocGlobal + Threads + Wait + Sync>(
         Benchmark::Fed { bytes } => reading::run(alloc, bytes),
         Benchmark::Bare { federates, rounds } => advancing::run_bare(alloc, federates, rounds),
         Benchmark::Run { threads, rounds } => advancing::run(rt, alloc, threads, rounds),
+        Benchmark::Check { .. } => judge(alloc, records),
     }
 }
 
@@ -148,6 +187,12 @@ fn print_rates<R: Runtime>(rt: &R, counts: &Counts, took: Duration) -> io::Resul
     Ok(())
 }
 
+/// Says what stopped a benchmark; the status.
+fn stopped<R: Runtime>(rt: &R, fault: Fault) -> io::Result<u8> {
+    eprintln!(rt; "{fault}")?;
+    Ok(1)
+}
+
 /// Runs a benchmark, and prints its counts and times; the status.
 fn run<R: Runtime + AllocGlobal + Threads + Wait + Sync>(rt: &R) -> io::Result<u8> {
     let mut words = env::args(rt)?;
@@ -155,13 +200,14 @@ fn run<R: Runtime + AllocGlobal + Threads + Wait + Sync>(rt: &R) -> io::Result<u
         eprintln!(rt; "{USAGE}")?;
         return Ok(2);
     };
+    let records = match records_for(rt.alloc(), asked) {
+        Ok(records) => records,
+        Err(fault) => return stopped(rt, fault),
+    };
     let start = Instant::now(rt)?;
-    let counts = match counts_of(rt, asked) {
+    let counts = match counts_of(rt, asked, records.as_slice()) {
         Ok(counts) => counts,
-        Err(fault) => {
-            eprintln!(rt; "{fault}")?;
-            return Ok(1);
-        }
+        Err(fault) => return stopped(rt, fault),
     };
     let took = start.elapsed(rt)?;
     for (name, count) in &counts.all() {

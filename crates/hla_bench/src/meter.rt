@@ -1,11 +1,13 @@
 //! A federation whose steps are counted.
 
 use crate::counts::Counts;
-use hla_base::{ClassNo, Fault, FederateNo, HandleValuePair, List, Ticks, Value};
+use hla_base::{
+    ClassNo, ExecutionName, Fault, FederateNo, HandleValuePair, List, Plain, Ticks, Value,
+};
 use hla_callbacks::Callback;
 use hla_fed_file::Catalogue;
 use hla_federation::Federation;
-use hla_machine::{Answer, Carried, Service, Step};
+use hla_machine::{Act, Answer, Carried, Choice, Outcome, Record, Service, Step};
 use std::alloc::Global;
 
 /// A federation execution, and what its steps have brought.
@@ -14,6 +16,28 @@ pub struct Meter {
     alloc: Global,
     federation: Federation,
     pub counts: Counts,
+    history: Option<History>,
+}
+
+/// The records of an execution's steps.
+#[derive(Drop)]
+struct History {
+    execution: ExecutionName,
+    records: Vec<Record>,
+}
+
+impl History {
+    /// Adds the record of an act.
+    fn add(&mut self, act: Act, outcome: Outcome, choice: Choice) -> Result<(), Fault> {
+        let record = Record {
+            actor: 1,
+            execution: self.execution,
+            act,
+            outcome,
+            choice,
+        };
+        self.records.push(record).map_err(|_| Fault::OutOfMemory)
+    }
 }
 
 /// What a step brought, as far as it is counted.
@@ -48,10 +72,46 @@ impl Meter {
             alloc,
             federation: Federation::new(alloc, catalogue),
             counts: Counts::default(),
+            history: None,
         }
     }
 
+    /// A federation that no federate has joined yet, of whose steps there will be records behind that of its creation.
+    pub fn with_history(alloc: Global, catalogue: Catalogue) -> Result<Meter, Fault> {
+        let mut history = History {
+            execution: ExecutionName::new(b"bench")?,
+            records: Vec::new(alloc),
+        };
+        let act = Act::Create {
+            catalogue: Some(catalogue.copy()?),
+        };
+        history.add(act, Outcome::Done(Answer::Done), Choice::None)?;
+        Ok(Meter {
+            history: Some(history),
+            ..Meter::new(alloc, catalogue)
+        })
+    }
+
+    /// The records, if there are any.
+    pub fn into_records(self) -> Vec<Record> {
+        let Meter { alloc, history, .. } = self;
+        match history {
+            Some(History { records, .. }) => records,
+            None => Vec::new(alloc),
+        }
+    }
+
+    /// Adds the record that the next step will have, if records are kept.
+    fn record(&mut self, step: &Step) -> Result<(), Fault> {
+        let Some(history) = &mut self.history else {
+            return Ok(());
+        };
+        let foreseen = self.federation.foresee(step)?;
+        history.add(Act::Step(step.copy()?), foreseen.outcome, foreseen.choice)
+    }
+
     fn step(&mut self, step: &Step) -> Result<Brought, Fault> {
+        self.record(step)?;
         self.counts.steps = self.counts.steps.wrapping_add(1);
         match self.federation.step(step) {
             Ok(answer) => Ok(brought_by(&answer)),
