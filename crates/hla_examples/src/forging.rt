@@ -1,48 +1,179 @@
-//! Records that are forged, one at a time: the checker tells each at its place.
+//! Records that are forged, one at a time: the checker tells each at its place. Each forgery is undone behind it.
 
-use hla_base::Fault;
+use crate::facts::{
+    asked_entry, given, granted, has_flushed, is_resignation, receipt, retracted, stamp_of,
+    ticking, with_stamp,
+};
+use hla_base::{EventHandle, Fault, Plain};
+use hla_callbacks::Callback;
 use hla_checker::{CheckFault, check_run};
-use hla_machine::{Choice, Outcome, Record};
+use hla_machine::{Answer, Choice, Outcome, Record};
 use std::alloc::Global;
 use std::mem;
 
-/// Whether the checker tells that the record at a place is no step, once it ended otherwise: no step of the machine is refused
-/// for want of memory.
-fn tells_outcome(alloc: Global, records: &mut [Record], place: usize) -> bool {
+/// Whether the checker tells of the record at a place, counted from 0, once another one stands there.
+fn tells(alloc: Global, records: &mut [Record], place: usize, forged: Record) -> bool {
     let Some(record) = records.get_mut(place) else {
         return false;
     };
-    let kept = mem::replace(&mut record.outcome, Outcome::Refused(Fault::OutOfMemory));
+    let kept = mem::replace(record, forged);
     let told = check_run(alloc, records);
     if let Some(record) = records.get_mut(place) {
-        record.outcome = kept;
+        *record = kept;
     }
     told == Err(CheckFault::Place(place))
 }
 
-/// Whether the checker tells that the record at a place is no step, once it chose something where nothing is chosen. A record
-/// that chose something stays.
-fn tells_choice(alloc: Global, records: &mut [Record], place: usize) -> bool {
-    let Some(record) = records.get_mut(place) else {
-        return false;
-    };
+/// The record with another outcome.
+fn ending(record: &Record, outcome: Outcome) -> Result<Record, Fault> {
+    let mut forged = record.copy()?;
+    forged.outcome = outcome;
+    Ok(forged)
+}
+
+/// The record of a tick that gave another callback.
+fn giving(record: &Record, callback: Callback) -> Result<Record, Fault> {
+    ending(record, Outcome::Done(Answer::Ticked(Some(callback))))
+}
+
+/// The record, refused for want of memory, which the machine has always.
+fn other_outcome(record: &Record) -> Result<Option<Record>, Fault> {
+    Ok(Some(ending(record, Outcome::Refused(Fault::OutOfMemory))?))
+}
+
+/// The record with something chosen where nothing is.
+fn other_choice(record: &Record) -> Result<Option<Record>, Fault> {
     if record.choice != Choice::None {
-        return true;
+        return Ok(None);
     }
-    record.choice = Choice::Entry(1);
-    let told = check_run(alloc, records);
-    if let Some(record) = records.get_mut(place) {
-        record.choice = Choice::None;
-    }
-    told == Err(CheckFault::Place(place))
+    let mut forged = record.copy()?;
+    forged.choice = Choice::Entry(1);
+    Ok(Some(forged))
 }
 
-/// Whether the checker takes these records, and tells each that is forged at its place.
-pub fn are_judged(alloc: Global, records: &mut [Record]) -> bool {
-    for place in 0..records.len() {
-        if !tells_outcome(alloc, records, place) || !tells_choice(alloc, records, place) {
-            return false;
+/// The record with an entry one tick below what was asked for.
+fn low_entry(record: &Record) -> Result<Option<Record>, Fault> {
+    let Some(asked) = asked_entry(record) else {
+        return Ok(None);
+    };
+    if asked == 0 {
+        return Ok(None);
+    }
+    let mut forged = record.copy()?;
+    forged.choice = Choice::Entry(asked - 1);
+    Ok(Some(forged))
+}
+
+/// The record of a callback with a stamp that is a tick greater.
+fn other_stamp(record: &Record) -> Result<Option<Record>, Fault> {
+    let Some(callback) = given(record) else {
+        return Ok(None);
+    };
+    match stamp_of(callback) {
+        Some(stamp) => {
+            let other = with_stamp(callback, stamp.saturating_add(1))?;
+            Ok(Some(giving(record, other)?))
+        }
+        None => Ok(None),
+    }
+}
+
+/// The record of a grant one tick earlier, where nobody flushed before its place: a flush is granted any time from the caller's
+/// own up to what it gave.
+fn early_grant(records: &[Record], place: usize, record: &Record) -> Result<Option<Record>, Fault> {
+    if has_flushed(records, place) {
+        return Ok(None);
+    }
+    let Some(callback) = given(record) else {
+        return Ok(None);
+    };
+    match granted(callback) {
+        Some(time) if time > 0 => {
+            let early = Callback::TimeAdvanceGrant { time: time - 1 };
+            Ok(Some(giving(record, early)?))
+        }
+        _ => Ok(None),
+    }
+}
+
+/// The last event that was retracted before a place.
+fn retracted_before(records: &[Record], place: usize) -> Option<EventHandle> {
+    let mut last = None;
+    for record in records.iter().take(place) {
+        if let Some(event) = retracted(record) {
+            last = Some(event);
         }
     }
-    check_run(alloc, records) == Ok(())
+    last
+}
+
+/// What a receiver would be given of an event that was sent before a place, where it is an interaction.
+fn receipt_before(
+    records: &[Record],
+    place: usize,
+    event: EventHandle,
+) -> Result<Option<Callback>, Fault> {
+    for record in records.iter().take(place) {
+        if let Some(callback) = receipt(record, event)? {
+            return Ok(Some(callback));
+        }
+    }
+    Ok(None)
+}
+
+/// The tick at a place, which gives an interaction that was retracted before.
+fn retracted_pick(records: &[Record], place: usize) -> Result<Option<Record>, Fault> {
+    let Some(record) = records.get(place) else {
+        return Ok(None);
+    };
+    if ticking(record).is_none() {
+        return Ok(None);
+    }
+    let Some(event) = retracted_before(records, place) else {
+        return Ok(None);
+    };
+    match receipt_before(records, place, event)? {
+        Some(callback) => Ok(Some(giving(record, callback)?)),
+        None => Ok(None),
+    }
+}
+
+/// The last resignation before a place, once more.
+fn second_resignation(records: &[Record], place: usize) -> Result<Option<Record>, Fault> {
+    let mut last = None;
+    for record in records.iter().take(place) {
+        if is_resignation(record) {
+            last = Some(record.copy()?);
+        }
+    }
+    Ok(last)
+}
+
+/// The forgeries of the record at a place, one of each kind that it has.
+fn forgeries(records: &[Record], place: usize) -> Result<[Option<Record>; 7], Fault> {
+    let Some(record) = records.get(place) else {
+        return Ok([None, None, None, None, None, None, None]);
+    };
+    Ok([
+        other_outcome(record)?,
+        other_choice(record)?,
+        low_entry(record)?,
+        other_stamp(record)?,
+        early_grant(records, place, record)?,
+        retracted_pick(records, place)?,
+        second_resignation(records, place)?,
+    ])
+}
+
+/// Whether the checker tells of each forgery of the record at a place.
+pub fn tells_forgeries(alloc: Global, records: &mut [Record], place: usize) -> Result<bool, Fault> {
+    for forged in forgeries(records, place)? {
+        let Some(forged) = forged else {
+            continue;
+        };
+        if !tells(alloc, records, place, forged) {
+            return Ok(false);
+        }
+    }
+    Ok(true)
 }

@@ -1,14 +1,23 @@
 //! Plays each example and says whether its transcript is the expected one, and whether the checker of recorded runs takes its
-//! records and tells each that is forged.
+//! records and tells each that is forged, at its place: another outcome, a choice where nothing is chosen, an entry too low, another
+//! stamp, a grant too early by one, a retracted interaction, a record of a federate that has resigned, two records exchanged, one
+//! left out.
 //!
 //! It runs in the folder of the examples: for each name there is a script `NAME.script`, played over `text-f.fed`, and what it
 //! must print, `NAME.expected`.
 #![tactic(auto)]
 
+mod facts;
 mod forging;
+mod ordering;
 
-use crate::forging::are_judged;
+use crate::forging::tells_forgeries;
+use crate::ordering::tells_order;
+use hla_base::Fault;
+use hla_checker::check_run;
+use hla_machine::Record;
 use hla_script::{Watched, play};
+use std::alloc::Global;
 use std::process::ExitCode;
 use std::rt::Runtime;
 use std::{fs, io};
@@ -46,8 +55,21 @@ const NAMES: [&str; 26] = [
 /// The status where an example differs from what is expected, or could not be read.
 const DIFFERS: u8 = 1;
 
-/// Whether an example prints just what is expected, and its records are judged as they should be.
-fn is_as_expected<R: Runtime + AllocGlobal>(rt: &R, name: &str) -> io::Result<bool> {
+/// Whether the checker takes these records, and tells each that is forged at its place. `OutOfMemory` where a copy was refused.
+fn are_judged(alloc: Global, records: &mut Vec<Record>) -> Result<bool, Fault> {
+    for place in 0..records.len() {
+        if !tells_forgeries(alloc, records.as_mut_slice(), place)?
+            || !tells_order(alloc, records, place)
+        {
+            return Ok(false);
+        }
+    }
+    Ok(check_run(alloc, records.as_slice()) == Ok(()))
+}
+
+/// How many records an example has; none where it prints something else than what is expected, or its records are not judged as
+/// they should be.
+fn records_as_expected<R: Runtime + AllocGlobal>(rt: &R, name: &str) -> io::Result<Option<usize>> {
     let alloc = rt.alloc();
     let fed = fs::read_to_string(rt, "text-f.fed")?;
     let script_name = format!(in alloc; "{name}.script")?;
@@ -61,22 +83,28 @@ fn is_as_expected<R: Runtime + AllocGlobal>(rt: &R, name: &str) -> io::Result<bo
         script.as_bytes(),
         &mut Watched::new(&mut transcript),
     ) {
-        Ok(records) => {
+        Ok(records) if transcript.as_slice() == expected.as_bytes() => {
             let mut records = records.into_vec();
-            Ok(transcript.as_slice() == expected.as_bytes() && are_judged(alloc, &mut records))
+            match are_judged(alloc, &mut records) {
+                Ok(true) => Ok(Some(records.len())),
+                _ => Ok(None),
+            }
         }
-        Err(_) => Ok(false),
+        _ => Ok(None),
     }
 }
 
-/// Plays all of them, and says of each whether it is as expected.
+/// Plays all of them, and says of each whether it is as expected, and how many records it has.
 fn play_all<R: Runtime + AllocGlobal>(rt: &R) -> io::Result<bool> {
     let mut are_all = true;
     for name in NAMES.iter() {
-        let is = is_as_expected(rt, name)?;
-        are_all = are_all && is;
-        let word = if is { "ok" } else { "differs" };
-        println!(rt; "{name} {word}")?;
+        match records_as_expected(rt, name)? {
+            Some(count) => println!(rt; "{name} ok {count}")?,
+            None => {
+                are_all = false;
+                println!(rt; "{name} differs")?;
+            }
+        }
     }
     Ok(are_all)
 }

@@ -1,0 +1,82 @@
+//! Records in another order, or with one left out: the checker tells where the order breaks. Each is put back behind it.
+
+use crate::facts::{given, granted, has_flushed, stamp_of, ticking};
+use hla_base::Ticks;
+use hla_checker::{CheckFault, check_run};
+use hla_machine::Record;
+use std::alloc::Global;
+
+/// Whether a record and the one behind it are ticks of one federate, the first of which gave an event in time-stamp order, and the
+/// second either a later one, or a grant to a later time.
+fn is_in_order(first: &Record, second: &Record) -> bool {
+    if ticking(first).is_none() || ticking(first) != ticking(second) {
+        return false;
+    }
+    match given(first) {
+        Some(callback) => match stamp_of(callback) {
+            Some(stamp) => is_behind(stamp, second),
+            None => false,
+        },
+        None => false,
+    }
+}
+
+/// Whether a callback was given with a greater stamp, or a grant to a later time, than this, in ticks.
+fn is_behind(stamp: Ticks, second: &Record) -> bool {
+    match given(second) {
+        Some(callback) => match granted(callback) {
+            Some(time) => stamp < time,
+            None => match stamp_of(callback) {
+                Some(other) => stamp < other,
+                None => false,
+            },
+        },
+        None => false,
+    }
+}
+
+/// Whether the order of the record at a place and the one behind it is fixed by their stamps: nobody flushed before.
+fn is_ordered(records: &[Record], place: usize) -> bool {
+    if has_flushed(records, place) {
+        return false;
+    }
+    match (records.get(place), records.get(place.saturating_add(1))) {
+        (Some(first), Some(second)) => is_in_order(first, second),
+        _ => false,
+    }
+}
+
+/// Whether the checker tells of the record at a place once it and the one behind it are exchanged.
+fn tells_exchange(alloc: Global, records: &mut [Record], place: usize) -> bool {
+    if place >= records.len() || records.len() - place < 2 {
+        return false;
+    }
+    records.swap(place, place + 1);
+    let told = check_run(alloc, records);
+    if place < records.len() && records.len() - place >= 2 {
+        records.swap(place, place + 1);
+    }
+    told == Err(CheckFault::Place(place))
+}
+
+/// Whether the checker tells of the record behind the one at a place once that one is left out.
+fn tells_gap(alloc: Global, records: &mut Vec<Record>, place: usize) -> bool {
+    if place >= records.len() {
+        return false;
+    }
+    let left_out = records.remove(place);
+    let told = check_run(alloc, records.as_slice());
+    if place > records.len() || records.insert(place, left_out).is_err() {
+        return false;
+    }
+    told == Err(CheckFault::Place(place))
+}
+
+/// Whether the checker tells of the record at a place, if its stamp fixes that it comes before the one behind it: once they are
+/// exchanged, and once it is left out.
+pub fn tells_order(alloc: Global, records: &mut Vec<Record>, place: usize) -> bool {
+    if !is_ordered(records.as_slice(), place) {
+        return true;
+    }
+    tells_exchange(alloc, records.as_mut_slice(), place) && tells_gap(alloc, records, place)
+}
