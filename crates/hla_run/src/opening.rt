@@ -102,3 +102,22 @@ pub fn destroy<L: Ledger>(
         }
     }
 }
+
+/// Whether a federate has joined under a name.
+fn has_joined<L: Ledger>(lives: &[Life<L>], name: &List<u8>) -> bool {
+    lives.iter().any(|l| l.name.as_slice() == name.as_slice())
+}
+
+/// Notes of the lines of federates that have not joined that they make no step.
+pub fn refuse_strangers<L: Ledger>(lives: &[Life<L>], lines: &[Line], outcomes: &mut Outcomes)
+    ensures { length outcomes.new ≡ length outcomes.old }
+{
+    for (place, line) in lines.iter().enumerate() {
+        if let Command::Federate { name, .. } = &line.command {
+            if !has_joined(lives, name) {
+                let outcome = Outcome::Refused(Fault::FederateNotExecutionMember);
+                outcomes.note(Told { place, outcome });
+            }
+        }
+    }
+}

@@ -6,7 +6,7 @@ ghost use Rattle.hla_run.specs.Running.{IsRunFrom, StopsRun, is_unwritten_run};
 use crate::fault::RunFault;
 use crate::gate::Gate;
 use crate::life::{Life, Stage, live};
-use crate::opening::{destroy, open};
+use crate::opening::{destroy, open, refuse_strangers};
 use crate::outcomes::Outcomes;
 use crate::texts::{Texts, read_texts, write_outcomes};
 use hla_base::{ExecutionName, Fault, MAX_HISTORY};
@@ -80,6 +80,7 @@ fn ran<L: Ledger + Send + Sync, G: Gate + Sync, R: Threads + Wait + Sync>(
 {
     let execution = ExecutionName::new(b"play")?;
     let lives = open(rt, alloc, rti, execution, fed, lines, outcomes)?;
+    refuse_strangers(lives.as_slice(), lines, outcomes);
     let stage = Stage {
         alloc,
         execution,
