@@ -30,10 +30,17 @@ fn gathered<L: Ledger>(
 ) -> Result<(), Fault>
     ensures { length outcomes.new ≡ length outcomes.old }
 {
-    outcomes.note_all(life.told);
-    let is_whole = !life.lacks_memory
-        && lefts.push(life.player.leave()).is_ok()
-        && lefts.push(life.courier.leave()).is_ok();
+    let Life {
+        player,
+        courier,
+        told,
+        lacks_memory,
+        ..
+    } = life;
+    outcomes.note_all(told);
+    let is_whole = !lacks_memory
+        && lefts.push(player.leave()).is_ok()
+        && lefts.push(courier.leave()).is_ok();
     if is_whole {
         Ok(())
     } else {

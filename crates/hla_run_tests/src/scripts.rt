@@ -87,7 +87,7 @@ const ORDERED_TEXT: &[u8] = b"1 ok
 7 ok
 8 ok
 9 ok 1
-10 ok nothing
+10 ok none
 ";
 
 /// The script on threads: what it writes, and a run of the central machine.
