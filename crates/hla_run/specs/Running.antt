@@ -1,5 +1,5 @@
 -- What a run of a script writes
-use Rattle.std.specs.Prelude.{◌≡◌, ◌++◌, ℕ, List, [], length, Option, None, Some, Ok, Err, Bool, true, false, Result, Unit}
+use Rattle.std.specs.Prelude.{◌≡◌, ◌++◌, ℕ, List, [], length, Option, None, Some, Ok, Err, Bool, true, false, Result}
 use Rattle.std.specs.List.{flat_map, zip}
 use Rattle.std.specs.Io.KnownBytes.{Appends}
 use Rattle.hla_fed_file.specs.CatalogueValue.{CatalogueValue}

@@ -37,30 +37,30 @@ impl Model for Outcomes {
 }
 
 /// The outcome of a call that answers this.
-pub fn outcome_of(answer: Result<Answer, Fault>) -> Outcome
-    ensures { answer_given result ≡ answer }
+pub fn outcome_of(given: Result<Answer, Fault>) -> Outcome
+    ensures { answer_given result ≡ given }
 {
-    match answer {
+    match given {
         Ok(answer) => Outcome::Done(answer),
         Err(fault) => Outcome::Refused(fault),
     }
 }
 
 /// The outcome of a call that answers nothing.
-pub fn outcome_of_done(answer: Result<(), Fault>) -> Outcome
-    ensures { answer_given result ≡ said nothing answer }
+pub fn outcome_of_done(given: Result<(), Fault>) -> Outcome
+    ensures { answer_given result ≡ said nothing given }
 {
-    match answer {
+    match given {
         Ok(()) => Outcome::Done(Answer::Done),
         Err(fault) => Outcome::Refused(fault),
     }
 }
 
 /// The outcome of a tick.
-pub fn outcome_of_tick(answer: Result<Option<Callback>, Fault>) -> Outcome
-    ensures { answer_given result ≡ said answer.Ticked answer }
+pub fn outcome_of_tick(given: Result<Option<Callback>, Fault>) -> Outcome
+    ensures { answer_given result ≡ said answer.Ticked given }
 {
-    match answer {
+    match given {
         Ok(callback) => Outcome::Done(Answer::Ticked(callback)),
         Err(fault) => Outcome::Refused(fault),
     }
