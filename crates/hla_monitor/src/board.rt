@@ -1,0 +1,197 @@
+//! What is published of the history, and by whom.
+
+ghost use Rattle.std.specs.Prelude.{◌≡◌, ◌+◌, ◌<◌, ◌++◌, ◌∷◌, [], true, if◌then◌else◌, IfOk, IfErr, OnOk, OnErr, MatchBool, MatchResult};
+ghost use mathlib.Core.List.{IsPrefix};
+ghost use Rattle.left_right.specs.Handles.{published, pending};
+
+use crate::history::{Length, Naming, Opened, Told};
+use crate::monitor::Monitor;
+use hla_base::Fault;
+use hla_machine::Record;
+use left_right::{Absorb, ReadHandle, WriteHandle};
+use std::alloc::{AllocError, Global};
+use std::marker::Model;
+use std::sync::Wait;
+
+/// How many monitors one board hands out in all (a limit of this profile).
+pub const MAX_MONITORS: u32 = 8;
+
+/// How many records one board notes, which is more than a history can hold.
+const MAX_NOTED: u64 = 1 << 61;
+
+impl<J: Naming> Absorb<Told<J>> for Told<J> {
+    // A clause reads an array as a list, of any length.
+    type State = [Record; 0];
+
+    ghost state = { λ t. t };
+
+    ghost applied = { λ rs t. t };
+
+    ghost never_fails = { Unit {0} };
+
+    fn absorb_first(&mut self, operation: &Told<J>, _other: &Told<J>) -> Result<(), AllocError> {
+        *self = operation.again();
+        Ok(())
+    }
+}
+
+/// What shows monitors a beginning of the history.
+pub trait Publisher<J: Naming>: Drop {
+    ghost use Rattle.std.specs.Prelude.{List};
+    ghost use Rattle.hla_machine.specs.declared.step.Record.{Record};
+
+    // The records of the beginning that is shown.
+    ghost posted: { Self → List Record };
+
+    /// Shows another beginning. `OutOfMemory` where a growth was refused; then the one before is shown.
+    fn post(&mut self, told: &Told<J>) -> Result<(), Fault>
+        ensures ok { MatchResult result (λ _. posted self.new ≡ told.now) (λ _. posted self.new ≡ posted self.old) }
+        ensures err { IfErr result (λ e. e ≡ Fault.OutOfMemory) };
+
+    /// The beginning that is shown.
+    fn told(&self) -> Told<J>
+        ensures { result ≡ posted self.now };
+
+    /// A reader. `LimitReached` where none is left.
+    fn reader(&self) -> Result<ReadHandle<Told<J>>, Fault>
+        ensures { IfErr result (λ e. e ≡ Fault.LimitReached) };
+}
+
+impl<J: Naming, R: Wait + Drop> Publisher<J> for WriteHandle<Told<J>, Told<J>, R> {
+    ghost posted = { λ w. published w };
+
+    fn post(&mut self, told: &Told<J>) -> Result<(), Fault> {
+        if self.append(told.again()).is_err() {
+            return Err(Fault::OutOfMemory);
+        }
+        if self.publish().is_err() {
+            return Err(Fault::OutOfMemory);
+        }
+        Ok(())
+    }
+
+    fn told(&self) -> Told<J> {
+        self.published().again()
+    }
+
+    fn reader(&self) -> Result<ReadHandle<Told<J>>, Fault> {
+        self.handle().map_err(|_| Fault::LimitReached)
+    }
+}
+
+/// What lies beside the history under its lock: the beginning of it that is shown, and the publisher to monitors. Contracts
+/// see both, and how many monitors were handed out.
+#[derive(Drop)]
+pub struct Board<J: Naming, W: Publisher<J>> {
+    end: Length<J>,
+    whole: bool,
+    shown: Told<J>,
+    publisher: W,
+    monitors: u32,
+}
+
+impl<J: Naming, W: Publisher<J>> Model for Board<J, W> {
+    ghost use mathlib.Core.List.{IsPrefix};
+    ghost use Rattle.hla_monitor.specs.Posted.{Posted};
+
+    ghost Value = { Posted };
+
+    ghost view = { λ b. record {
+      whole = b.whole;
+      shown = b.shown;
+      published = W.posted b.publisher;
+      monitors = b.monitors;
+    } };
+
+    ghost invariant = { λ b. IsPrefix (W.posted b.publisher) b.shown };
+}
+
+/// The publisher to monitors that are read without a lock. It waits for those that still read what was there before, by the
+/// handle `R`.
+pub type Published<J, R> = WriteHandle<Told<J>, Told<J>, R>;
+
+/// A board for an empty history, with room for the readers of `MAX_MONITORS` monitors. `OutOfMemory` where a growth was
+/// refused.
+pub fn open_board<J: Naming, R: Wait + Drop>(
+    alloc: Global,
+    rt: R,
+    opened: Opened,
+) -> Result<Board<J, Published<J, R>>, Fault>
+    requires { opened.seen.book ≡ J.book }
+    ensures ok { IfOk result (λ b. b ≡ record { whole = true; shown = []; published = []; monitors = 0 }) }
+    ensures err { IfErr result (λ e. e ≡ Fault.OutOfMemory) }
+{
+    let (end, shown) = opened.named::<J>();
+    let Ok(publisher) = WriteHandle::new(
+        alloc,
+        rt,
+        shown.again(),
+        shown.again(),
+        MAX_MONITORS as usize,
+    ) else {
+        return Err(Fault::OutOfMemory);
+    };
+    Ok(Board {
+        end,
+        whole: true,
+        shown,
+        publisher,
+        monitors: 0,
+    })
+}
+
+impl<J: Naming, W: Publisher<J>> Board<J, W> {
+    /// Notes the next record of the history, and shows monitors the counts up to it. `OutOfMemory` where a growth was
+    /// refused: then the counts wait and go with the next record. `LimitReached` where this record or one before could not
+    /// be added to what is shown; then it shows no more. That takes 2^61 records, or another who adds to the same history:
+    /// there is none, as a board alone has its length, but no contract can say so.
+    pub fn note(&mut self, entry: &Record) -> Result<(), Fault>
+        ensures ok { OnOk result ((self.new.shown ≡ self.old.shown ++ entry.now ∷ []) × (self.new.published ≡ self.new.shown)) }
+        ensures waits { OnErr result (self.new.published ≡ self.old.published) }
+        ensures err { IfErr result (λ e. e ≡ (if self.new.whole then Fault.OutOfMemory else Fault.LimitReached)) }
+        ensures shown { MatchBool self.new.whole
+            ((self.old.whole ≡ true) × (self.new.shown ≡ self.old.shown ++ entry.now ∷ []))
+            (self.new.shown ≡ self.old.shown) }
+        ensures monitors { self.new.monitors ≡ self.old.monitors }
+    {
+        if !self.whole || self.shown.status().steps >= MAX_NOTED {
+            self.whole = false;
+            return Err(Fault::LimitReached);
+        }
+        if !self.shown.grow(&self.end, entry) {
+            self.whole = false;
+            return Err(Fault::LimitReached);
+        }
+        self.publisher.post(&self.shown)
+    }
+
+    /// The beginning of the history that is published.
+    pub fn tell(&self) -> Told<J>
+        ensures { result ≡ self.now.published }
+    {
+        self.publisher.told()
+    }
+
+    /// A monitor, which knows what is published. `LimitReached` where `MAX_MONITORS` were handed out, or there is no reader
+    /// for it.
+    pub fn monitor(&mut self) -> Result<Monitor<J>, Fault>
+        ensures knows { IfOk result (λ m. m ≡ self.old.published) }
+        ensures below { OnOk result (self.old.monitors < 8) }
+        ensures err { IfErr result (λ e. e ≡ Fault.LimitReached) }
+        ensures counted { MatchResult result (λ _. self.new.monitors ≡ self.old.monitors + 1)
+            (λ _. self.new.monitors ≡ self.old.monitors) }
+        ensures same { self.new ≡ record {
+          whole = self.old.whole;
+          shown = self.old.shown;
+          published = self.old.published;
+          monitors = self.new.monitors;
+        } }
+    {
+        if self.monitors >= MAX_MONITORS {
+            return Err(Fault::LimitReached);
+        }
+        let handle = self.publisher.reader()?;
+        self.monitors += 1;
+        Ok(Monitor::new(handle, self.publisher.told()))
+    }
+}

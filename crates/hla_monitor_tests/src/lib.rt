@@ -1,0 +1,5 @@
+//! Tests of monitors, by public functions alone.
+#![tactic(auto)]
+
+#[cfg(test)]
+mod board;
