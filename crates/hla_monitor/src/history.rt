@@ -70,6 +70,7 @@ impl Naming for Brand {
 }
 
 /// An empty history, which has no name yet.
+#[derive(Drop)]
 pub struct Opened {
     word: Word<Record, u64, Law>,
     seen: Seen<Record, u64, Law>,

@@ -11,6 +11,7 @@ use crate::seat::{Left, Seat};
 use hla_callbacks::FederateAmbassador;
 use hla_history::Shared;
 use hla_machine::Record;
+use hla_monitor::{Naming, Publisher};
 use std::marker::Model;
 use std::sync::Wait;
 use std::sync::ledger::{Ledger, Share};
@@ -56,8 +57,8 @@ pub enum CloseFault {
 
 /// What `close` gives back where it does not close.
 #[derive(Drop)]
-pub struct NotClosed<L: Ledger, B: FederateAmbassador> {
-    pub rti: Rti<L, B>,
+pub struct NotClosed<L: Ledger + Naming, B: FederateAmbassador, W: Publisher<L>> {
+    pub rti: Rti<L, B, W>,
     pub lefts: Vec<Left<L, B>>,
     pub fault: CloseFault,
 }
@@ -154,11 +155,11 @@ pub fn settle<L: Ledger, B: FederateAmbassador>(
     Ok(Closed { records })
 }
 
-impl<L: Ledger, B: FederateAmbassador> Rti<L, B> {
+impl<L: Ledger + Naming, B: FederateAmbassador, W: Publisher<L>> Rti<L, B, W> {
     /// Takes all callers back, and answers the records of the whole history, where each transcript is just the records of its
     /// caller, in order. Else `Missing` where a caller that was handed out is not in the list, and then `Transcript` with the
     /// place of the first that differs; then the infrastructure and the list come back, and nothing has changed.
-    pub fn close(self, rt: &impl Wait, lefts: Vec<Left<L, B>>) -> Result<Closed, NotClosed<L, B>>
+    pub fn close(self, rt: &impl Wait, lefts: Vec<Left<L, B>>) -> Result<Closed, NotClosed<L, B, W>>
         requires { L.parts ≡ 2049 }
         ensures agree { IfOk result (λ c. AllAgree c lefts.items self.own) }
         ensures here { OnOk result (AllHere self.handed lefts.items) }
@@ -181,7 +182,7 @@ impl<L: Ledger, B: FederateAmbassador> Rti<L, B> {
             shared,
             alloc,
         } = self;
-        let settled = settle(&mut *shared.lock(rt), seat, rest, lefts, handed);
+        let settled = shared.lock(rt).settle(seat, rest, lefts, handed);
         match settled {
             Ok(closed) => Ok(closed),
             Err(

@@ -7,11 +7,12 @@ ghost use Rattle.hla_machine.specs.declared.step.Step.TheVariants as step;
 ghost use Rattle.hla_rti.specs.Callers.{HasAnswered, said};
 
 use crate::answers::{announced_in, carried_in};
+use crate::locked::Locked;
 use crate::seat::{Left, Seat};
 use hla_base::{ExecutionName, Fault, FederateNo, Ticks};
 use hla_callbacks::FederateAmbassador;
-use hla_history::Shared;
 use hla_machine::{Carried, Step};
+use hla_monitor::{Naming, Publisher};
 use std::alloc::Global;
 use std::marker::Model;
 use std::sync::ledger::Ledger;
@@ -20,12 +21,12 @@ use std::sync::{Arc, Mutex, Wait};
 /// A caller that moves what is on the wires between federates (this profile). It may be moved to a thread of its own.
 /// Contracts see the caller with its transcript.
 #[derive(Drop)]
-pub struct Courier<L: Ledger, B: FederateAmbassador> {
+pub struct Courier<L: Ledger + Naming, B: FederateAmbassador, W: Publisher<L>> {
     pub(crate) seat: Seat<L>,
-    pub(crate) shared: Arc<Mutex<Shared<L, B>>, Global>,
+    pub(crate) shared: Arc<Mutex<Locked<L, B, W>>, Global>,
 }
 
-impl<L: Ledger, B: FederateAmbassador> Model for Courier<L, B> {
+impl<L: Ledger + Naming, B: FederateAmbassador, W: Publisher<L>> Model for Courier<L, B, W> {
     ghost use Rattle.hla_rti.specs.Callers.{Caller};
 
     ghost Value = { Caller };
@@ -33,7 +34,7 @@ impl<L: Ledger, B: FederateAmbassador> Model for Courier<L, B> {
     ghost view = { λ c. c.seat };
 }
 
-impl<L: Ledger, B: FederateAmbassador> Courier<L, B> {
+impl<L: Ledger + Naming, B: FederateAmbassador, W: Publisher<L>> Courier<L, B, W> {
     /// Takes the first message off the wire from one federate to another, and hands it to the second (this profile). Answers
     /// what was there. `FederationExecutionDoesNotExist`; `FederateNotExecutionMember` where the second is
     /// not joined, the first never was, or both are one. `HistoryFull` and `OutOfMemory` without a record. A fault has

@@ -12,11 +12,12 @@ ghost use Rattle.hla_rti.specs.Callers.{HasAnswered, HasResigned, IsServed, said
 use crate::answers::{
     Registration, callback_in, done_in, event_in, handle_in, name_in, registration_in, time_in,
 };
+use crate::locked::Locked;
 use crate::seat::{Left, Seat};
 use hla_base::{EventHandle, ExecutionName, Fault, FederateNo, List, Ticks};
 use hla_callbacks::{Callback, FederateAmbassador};
-use hla_history::Shared;
 use hla_machine::{Answer, ResignAction, Service, Step};
+use hla_monitor::{Naming, Publisher};
 use std::alloc::Global;
 use std::marker::Model;
 use std::sync::ledger::Ledger;
@@ -25,14 +26,14 @@ use std::sync::{Arc, Mutex, Wait};
 /// A federate that has joined an execution: its calls are the services of HLA 1.3. It may be moved to a thread of its own.
 /// Contracts see the execution, the number of the federate in it, and the caller with its transcript.
 #[derive(Drop)]
-pub struct Federate<L: Ledger, B: FederateAmbassador> {
+pub struct Federate<L: Ledger + Naming, B: FederateAmbassador, W: Publisher<L>> {
     pub(crate) seat: Seat<L>,
-    pub(crate) shared: Arc<Mutex<Shared<L, B>>, Global>,
+    pub(crate) shared: Arc<Mutex<Locked<L, B, W>>, Global>,
     pub(crate) execution: ExecutionName,
     pub(crate) federate: FederateNo,
 }
 
-impl<L: Ledger, B: FederateAmbassador> Model for Federate<L, B> {
+impl<L: Ledger + Naming, B: FederateAmbassador, W: Publisher<L>> Model for Federate<L, B, W> {
     ghost use Rattle.hla_rti.specs.Callers.{Member};
 
     ghost Value = { Member };
@@ -40,7 +41,7 @@ impl<L: Ledger, B: FederateAmbassador> Model for Federate<L, B> {
     ghost view = { λ f. record { execution = f.execution; federate = f.federate; caller = f.seat } };
 }
 
-impl<L: Ledger, B: FederateAmbassador> Federate<L, B> {
+impl<L: Ledger + Naming, B: FederateAmbassador, W: Publisher<L>> Federate<L, B, W> {
     /// Calls a service that is given as a value, for programs that read from a text what a federate does; each service has
     /// a call of its own name, too. Resign is not called so, since the federate goes then. The faults are those of the service.
     /// `HistoryFull` and `OutOfMemory` without a record. A fault has changed nothing.
@@ -147,7 +148,7 @@ impl<L: Ledger, B: FederateAmbassador> Federate<L, B> {
         mut self,
         rt: &impl Wait,
         action: ResignAction,
-    ) -> Result<Left<L, B>, (Fault, Federate<L, B>)>
+    ) -> Result<Left<L, B>, (Fault, Federate<L, B, W>)>
         ensures resigned { IfOk result (λ l. HasResigned self.caller self.execution
             (act.Step (step.Call self.federate (service.Resign action))) l.caller) }
         ensures ambassador { IfOk result (λ l. is_some l.heard ≡ true) }

@@ -9,13 +9,14 @@ use crate::federate::Federate;
 use hla_base::{AttributeNo, ClassNo, EventHandle, Fault, HandleValuePair, List, ObjectNo, Ticks};
 use hla_callbacks::FederateAmbassador;
 use hla_machine::Service;
+use hla_monitor::{Naming, Publisher};
 use std::sync::Wait;
 use std::sync::ledger::Ledger;
 
 // Besides the faults that are told at each call: `FederationExecutionDoesNotExist` and `FederateNotExecutionMember` come before
 // all others where the execution or the federate is no longer there; `HistoryFull` and `OutOfMemory` come without a record.
 // A call that answers a fault has changed nothing.
-impl<L: Ledger, B: FederateAmbassador> Federate<L, B> {
+impl<L: Ledger + Naming, B: FederateAmbassador, W: Publisher<L>> Federate<L, B, W> {
     /// Publish Object Class (HLA 1.3, declaration management): from now on the federate may register objects of this class
     /// and update these attributes of them, in place of what it published of the class before. `ObjectClassNotDefined`;
     /// `AttributeNotDefined` where an attribute is not available at the class.

@@ -1,6 +1,6 @@
 //! The run-time infrastructure.
 
-ghost use Rattle.std.specs.Prelude.{◌≡◌, ◌+◌, ◌<◌, ◌≤◌, ◌⊎◌, [], IfOk, IfErr, OnOk, MatchResult};
+ghost use Rattle.std.specs.Prelude.{◌≡◌, ◌+◌, ◌<◌, ◌≤◌, ◌⊎◌, [], true, IfOk, IfErr, OnOk, MatchResult};
 ghost use Rattle.hla_machine.specs.declared.step.Act.TheVariants as act;
 ghost use Rattle.hla_machine.specs.declared.step.Answer.TheVariants as answer;
 ghost use Rattle.hla_machine.specs.declared.step.Outcome.TheVariants as outcome;
@@ -11,10 +11,12 @@ ghost use Rattle.hla_rti.specs.Callers.{Caller, new_caller, HasActed, HasNotActe
 use crate::answers::done_in;
 use crate::courier::Courier;
 use crate::federate::Federate;
+use crate::locked::Locked;
 use crate::seat::Seat;
 use hla_base::{ExecutionName, Fault, List};
 use hla_callbacks::FederateAmbassador;
 use hla_history::Shared;
+use hla_monitor::{Board, Monitor, Naming, Opened, Published, Publisher, Told, open_board};
 use std::alloc::Global;
 use std::marker::Model;
 use std::sync::ledger::{Blank, Ledger, Share};
@@ -32,17 +34,17 @@ pub const MAX_HISTORY_LIMIT: usize = 1_048_576;
 /// The run-time infrastructure: executions, their federates' ambassadors and one history behind one lock, and a caller of its
 /// own, which creates and destroys executions. Contracts see how many callers it has handed out, and that caller.
 #[derive(Drop)]
-pub struct Rti<L: Ledger, B: FederateAmbassador> {
+pub struct Rti<L: Ledger + Naming, B: FederateAmbassador, W: Publisher<L>> {
     pub(crate) seat: Seat<L>,
     /// The parts of the ledger for callers to come.
     pub(crate) rest: Share<L>,
     pub(crate) handed: u32,
     pub(crate) couriers: u32,
-    pub(crate) shared: Arc<Mutex<Shared<L, B>>, Global>,
+    pub(crate) shared: Arc<Mutex<Locked<L, B, W>>, Global>,
     pub(crate) alloc: Global,
 }
 
-impl<L: Ledger, B: FederateAmbassador> Model for Rti<L, B> {
+impl<L: Ledger + Naming, B: FederateAmbassador, W: Publisher<L>> Model for Rti<L, B, W> {
     ghost use Rattle.std.specs.Prelude.{◌≡◌, ◌+◌};
     ghost use Rattle.hla_rti.specs.Callers.{Office};
 
@@ -53,14 +55,20 @@ impl<L: Ledger, B: FederateAmbassador> Model for Rti<L, B> {
     ghost invariant = { λ r. (r.rest.parts + r.handed ≡ 2048) × (r.rest.amount ≡ 0) × (r.seat.number ≡ 0) };
 }
 
-impl<L: Ledger, B: FederateAmbassador> Rti<L, B> {
+impl<L: Ledger + Naming, B: FederateAmbassador, W: Publisher<L>> Rti<L, B, W> {
     /// No execution, and room for a history of `history_limit` records. `blank` is a ledger of one part for each caller that
-    /// there may be: the infrastructure itself and `MAX_CALLERS`. `LimitReached` where the limit is above
-    /// `MAX_HISTORY_LIMIT`; `OutOfMemory` where the room was refused.
-    pub fn new(alloc: Global, blank: Blank, history_limit: usize) -> Result<Rti<L, B>, Fault>
+    /// there may be: the infrastructure itself and `MAX_CALLERS`. `board` is what monitors are shown, of an empty history.
+    /// `LimitReached` where the limit is above `MAX_HISTORY_LIMIT`; `OutOfMemory` where the room was refused.
+    pub fn new(
+        alloc: Global,
+        blank: Blank,
+        board: Board<L, W>,
+        history_limit: usize,
+    ) -> Result<Rti<L, B, W>, Fault>
         requires name { blank.name ≡ L.name }
         requires parts { blank.parts ≡ L.parts }
         requires all { blank.parts ≡ 2049 }
+        requires board { board ≡ record { whole = true; shown = []; published = []; monitors = 0 } }
         ensures ok { IfOk result (λ r. r ≡ record { handed = 0; own = new_caller 0 }) }
         ensures limit { OnOk result (history_limit ≤ 1048576) }
         ensures err { IfErr result (λ e. ((e ≡ Fault.LimitReached) × (1048576 < history_limit))
@@ -72,7 +80,7 @@ impl<L: Ledger, B: FederateAmbassador> Rti<L, B> {
         let (book, mut rest) = blank.open::<L>();
         let share = rest.split_off(1, 0);
         let shared = Shared::new(alloc, book, history_limit)?;
-        let Ok(shared) = Arc::new(alloc, Mutex::new(shared)) else {
+        let Ok(shared) = Arc::new(alloc, Mutex::new(Locked::new(shared, board))) else {
             return Err(Fault::OutOfMemory);
         };
         let seat = Seat {
@@ -111,7 +119,7 @@ impl<L: Ledger, B: FederateAmbassador> Rti<L, B> {
 
     /// A courier, which carries messages over the wires between federates. `LimitReached` where `MAX_COURIERS` were handed
     /// out, or `MAX_CALLERS` callers in all; `OutOfMemory` where a growth was refused. A fault has changed nothing.
-    pub fn courier(&mut self) -> Result<Courier<L, B>, Fault>
+    pub fn courier(&mut self) -> Result<Courier<L, B, W>, Fault>
         ensures courier { IfOk result (λ c. c ≡ new_caller self.new.handed) }
         ensures handed { MatchResult result (λ _. self.new.handed ≡ self.old.handed + 1)
             (λ _. self.new.handed ≡ self.old.handed) }
@@ -135,6 +143,23 @@ impl<L: Ledger, B: FederateAmbassador> Rti<L, B> {
         Ok(Courier { seat, shared })
     }
 
+    /// What monitors are shown now, of the history that led here. It makes no step; a monitor that learns it does not fall
+    /// behind it (this profile).
+    pub fn tell(&mut self, rt: &impl Wait) -> Told<L>
+        ensures { self.new ≡ self.old }
+    {
+        self.shared.lock(rt).tell()
+    }
+
+    /// A monitor, which counts what the history holds, and knows what monitors are shown now (this profile). It makes no
+    /// step. `LimitReached` where `hla_monitor::MAX_MONITORS` were handed out, or there is no reader for it.
+    pub fn monitor(&mut self, rt: &impl Wait) -> Result<Monitor<L>, Fault>
+        ensures err { IfErr result (λ e. e ≡ Fault.LimitReached) }
+        ensures same { self.new ≡ self.old }
+    {
+        self.shared.lock(rt).monitor()
+    }
+
     /// Join Federation Execution (HLA 1.3, federation management): a federate of this name joins the execution, with an
     /// ambassador that has heard nothing. `FederationExecutionDoesNotExist`; `FederateAlreadyExecutionMember` where a joined
     /// federate has the name; `LimitReached` where the name has not 1 to 64 bytes, the execution has had 16 joins, or
@@ -146,7 +171,7 @@ impl<L: Ledger, B: FederateAmbassador> Rti<L, B> {
         name: List<u8>,
         execution: ExecutionName,
         ambassador: B,
-    ) -> Result<Federate<L, B>, (Fault, B)>
+    ) -> Result<Federate<L, B, W>, (Fault, B)>
         requires { B.heard ambassador ≡ [] }
         ensures joined { IfOk result (λ f. HasActed self.old.own execution (act.Step (step.Join name))
             (outcome.Done (answer.Federate f.federate)) self.new.own) }
@@ -191,4 +216,26 @@ impl<L: Ledger, B: FederateAmbassador> Rti<L, B> {
             Err(refused) => Err(refused),
         }
     }
+}
+
+/// The infrastructure with monitors that are read without a lock, as `Rti::new` makes it over the board of `open_board`.
+/// Publishing waits by the handle `R`. `LimitReached` where the limit is above `MAX_HISTORY_LIMIT`; `OutOfMemory` where a
+/// growth was refused.
+pub fn open_rti<L: Ledger + Naming, B: FederateAmbassador, R: Wait + Drop>(
+    alloc: Global,
+    rt: R,
+    blank: Blank,
+    opened: Opened,
+    history_limit: usize,
+) -> Result<Rti<L, B, Published<L, R>>, Fault>
+    requires name { blank.name ≡ L.name }
+    requires parts { blank.parts ≡ L.parts }
+    requires all { blank.parts ≡ 2049 }
+    requires book { opened.seen.book ≡ L.book }
+    ensures ok { IfOk result (λ r. r ≡ record { handed = 0; own = new_caller 0 }) }
+    ensures limit { OnOk result (history_limit ≤ 1048576) }
+    ensures err { IfErr result (λ e. ((e ≡ Fault.LimitReached) × (1048576 < history_limit)) ⊎ (e ≡ Fault.OutOfMemory)) }
+{
+    let board = open_board::<L, R>(alloc, rt, opened)?;
+    Rti::new(alloc, blank, board, history_limit)
 }

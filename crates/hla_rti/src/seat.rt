@@ -12,10 +12,12 @@ ghost use Rattle.hla_history.specs.Hosts.{IsPlain};
 ghost use Rattle.hla_rti.specs.Callers.{answer_given, HasActed, HasNotActed, HasAnswered, HasResigned};
 ghost use Rattle.hla_rti.specs.Close.{Agrees};
 
+use crate::locked::Locked;
 use hla_base::{ExecutionName, Fault, FederateNo, List};
 use hla_callbacks::FederateAmbassador;
 use hla_history::{Shared, Stepped};
 use hla_machine::{Answer, Outcome, Record, ResignAction, Step};
+use hla_monitor::{Naming, Publisher};
 use std::marker::Model;
 use std::sync::ledger::{Ledger, Share};
 use std::sync::{Mutex, Wait};
@@ -139,13 +141,13 @@ fn resigned_with<B: FederateAmbassador>(ended: Outcome, back: Option<B>) -> Resu
     }
 }
 
-impl<L: Ledger> Seat<L> {
+impl<L: Ledger + Naming> Seat<L> {
     /// Does a step that is no joining and no resigning, under the lock, and writes it down. It answers what the record says;
     /// `HistoryFull` and `OutOfMemory` come without a record, and then nothing has changed.
-    pub(crate) fn call<B: FederateAmbassador>(
+    pub(crate) fn call<B: FederateAmbassador, W: Publisher<L>>(
         &mut self,
         rt: &impl Wait,
-        shared: &Mutex<Shared<L, B>>,
+        shared: &Mutex<Locked<L, B, W>>,
         execution: ExecutionName,
         step: Step,
     ) -> Result<Answer, Fault>
@@ -165,10 +167,10 @@ impl<L: Ledger> Seat<L> {
     }
 
     /// Creates an execution under the lock, and writes it down.
-    pub(crate) fn create<B: FederateAmbassador>(
+    pub(crate) fn create<B: FederateAmbassador, W: Publisher<L>>(
         &mut self,
         rt: &impl Wait,
-        shared: &Mutex<Shared<L, B>>,
+        shared: &Mutex<Locked<L, B, W>>,
         name: ExecutionName,
         fed: &[u8],
     ) -> Result<Answer, Fault>
@@ -185,10 +187,10 @@ impl<L: Ledger> Seat<L> {
     }
 
     /// Destroys an execution under the lock, and writes it down.
-    pub(crate) fn destroy<B: FederateAmbassador>(
+    pub(crate) fn destroy<B: FederateAmbassador, W: Publisher<L>>(
         &mut self,
         rt: &impl Wait,
-        shared: &Mutex<Shared<L, B>>,
+        shared: &Mutex<Locked<L, B, W>>,
         name: ExecutionName,
     ) -> Result<Answer, Fault>
         ensures answered { HasAnswered self.old name act.Destroy result self.new }
@@ -204,10 +206,10 @@ impl<L: Ledger> Seat<L> {
     }
 
     /// Joins a federate under the lock, and writes it down: its number, or why it is refused, with its ambassador.
-    pub(crate) fn join<B: FederateAmbassador>(
+    pub(crate) fn join<B: FederateAmbassador, W: Publisher<L>>(
         &mut self,
         rt: &impl Wait,
-        shared: &Mutex<Shared<L, B>>,
+        shared: &Mutex<Locked<L, B, W>>,
         execution: ExecutionName,
         name: List<u8>,
         inner: B,
@@ -237,10 +239,10 @@ impl<L: Ledger> Seat<L> {
     }
 
     /// Resigns a federate under the lock, and writes it down: its ambassador, or why it is refused.
-    pub(crate) fn resign<B: FederateAmbassador>(
+    pub(crate) fn resign<B: FederateAmbassador, W: Publisher<L>>(
         &mut self,
         rt: &impl Wait,
-        shared: &Mutex<Shared<L, B>>,
+        shared: &Mutex<Locked<L, B, W>>,
         execution: ExecutionName,
         federate: FederateNo,
         action: ResignAction,
@@ -266,7 +268,9 @@ impl<L: Ledger> Seat<L> {
             Err(fault) => Err(fault),
         }
     }
+}
 
+impl<L: Ledger> Seat<L> {
     /// Whether the transcript is just this caller's records in the history, in order.
     pub(crate) fn agrees_with<B: FederateAmbassador>(&self, shared: &Shared<L, B>) -> bool
         ensures { IsTrue result ↔ Agrees shared.now.history self.now }

@@ -8,13 +8,14 @@ use crate::federate::Federate;
 use hla_base::{AttributeNo, ClassNo, Fault, List, ObjectNo, ParameterNo};
 use hla_callbacks::FederateAmbassador;
 use hla_machine::Service;
+use hla_monitor::{Naming, Publisher};
 use std::sync::Wait;
 use std::sync::ledger::Ledger;
 
 // Besides the faults that are told at each call: `FederationExecutionDoesNotExist` and `FederateNotExecutionMember` come before
 // all others where the execution or the federate is no longer there; `HistoryFull` and `OutOfMemory` come without a record.
 // A call that answers a fault has changed nothing.
-impl<L: Ledger, B: FederateAmbassador> Federate<L, B> {
+impl<L: Ledger + Naming, B: FederateAmbassador, W: Publisher<L>> Federate<L, B, W> {
     /// Get Object Class Handle (HLA 1.3, support services), of a class by its path or by the end of it. Answers its number.
     /// `NameNotFound`.
     pub fn get_object_class_handle(

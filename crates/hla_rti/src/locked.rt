@@ -1,0 +1,286 @@
+//! What lies under the lock: the history with its executions, and the board beside it.
+
+ghost use Rattle.std.specs.Prelude.{◌≡◌, ◌+◌, ◌<◌, ◌⊎◌, ◌↔◌, ◌++◌, ◌∷◌, [], List, length, true, false, None, Some, is_some, Err, IfOk, IfErr, IfSome, OnOk, OnErr, MatchResult, if◌then◌else◌};
+ghost use mathlib.Core.List.{IsPrefix};
+ghost use Rattle.hla_machine.specs.declared.service.Service.TheVariants as service;
+ghost use Rattle.hla_machine.specs.declared.step.Act.TheVariants as act;
+ghost use Rattle.hla_machine.specs.declared.step.Choice.TheVariants as choice;
+ghost use Rattle.hla_machine.specs.declared.step.Record.{Record as Entry};
+ghost use Rattle.hla_machine.specs.declared.step.Step.TheVariants as step;
+ghost use Rattle.hla_history.specs.Creating.{catalogue_from, is_accepted, heard_from};
+ghost use Rattle.hla_history.specs.Forms.{NoAnswer, AFederate, EndsInForm, step_form};
+ghost use Rattle.hla_history.specs.Hosts.{IsPlain, with_record};
+ghost use Rattle.hla_history.specs.Hosting.{held_of};
+ghost use Rattle.hla_rti.specs.Close.{AllHere, AllAgree, DiffersFirst};
+ghost use Rattle.hla_rti.specs.Locked.{IsPosted};
+
+use crate::closing::{Closed, Unsettled, settle};
+use crate::seat::{Left, Seat};
+use hla_base::{ExecutionName, Fault, FederateNo, List};
+use hla_callbacks::FederateAmbassador;
+use hla_history::{Shared, Stepped};
+use hla_machine::{Record, ResignAction, Step};
+use hla_monitor::{Board, Monitor, Naming, Publisher, Told};
+use std::marker::Model;
+use std::sync::ledger::{Ledger, Share};
+
+/// The history with its executions, and the board that shows it to monitors: each record is noted there before the lock is
+/// given back. Contracts see both, and whether the records have gone out, as closing does.
+#[derive(Drop)]
+pub struct Locked<L: Ledger + Naming, B: FederateAmbassador, W: Publisher<L>> {
+    shared: Shared<L, B>,
+    board: Board<L, W>,
+    ended: bool,
+}
+
+impl<L: Ledger + Naming, B: FederateAmbassador, W: Publisher<L>> Model for Locked<L, B, W> {
+    ghost use Rattle.hla_rti.specs.Locked.{LockedValue, IsPostedWhile};
+
+    ghost Value = { LockedValue };
+
+    ghost view = { λ l. record { held = l.shared; posted = l.board; ended = l.ended } };
+
+    ghost invariant = { λ l. IsPostedWhile l.ended l.shared.history l.board };
+}
+
+/// Notes a record of the history on the board. Where memory is refused its counts wait, and no answer changes.
+fn noted<L: Naming, W: Publisher<L>>(board: &mut Board<L, W>, entry: &Record)
+    ensures { (h : List Entry) → IsPosted h board.old → IsPosted (h ++ entry.now ∷ []) board.new }
+{
+    let _ = board.note(entry);
+}
+
+impl<L: Ledger + Naming, B: FederateAmbassador, W: Publisher<L>> Locked<L, B, W> {
+    /// A history that is empty, and its board.
+    pub(crate) fn new(shared: Shared<L, B>, board: Board<L, W>) -> Self
+        requires history { shared.history ≡ [] }
+        requires board { board ≡ record { whole = true; shown = []; published = []; monitors = 0 } }
+        ensures { result ≡ record { held = shared; posted = board; ended = false } }
+    {
+        Locked {
+            shared,
+            board,
+            ended: false,
+        }
+    }
+
+    /// Does a step that is no joining and no resigning, gives its callback to the ambassador of the federate that ticks, and
+    /// records it. `HistoryFull` where the history holds its limit, and `OutOfMemory` where a growth was refused; then
+    /// nothing has changed. Any other fault is the step's answer, and is recorded.
+    pub(crate) fn step(
+        &mut self,
+        actor: u32,
+        execution: ExecutionName,
+        step: Step,
+        mine: &mut Share<L>,
+    ) -> Result<Stepped, Fault>
+        requires part { 0 < mine.old.parts }
+        requires plain { IsPlain step }
+        ensures asked { IfOk result (λ s. s.own ≡ record {
+          actor = actor;
+          execution = execution;
+          act = act.Step step;
+          outcome = s.answer;
+          choice = s.own.choice;
+        }) }
+        ensures form { IfOk result (λ s. EndsInForm (step_form step) s.answer) }
+        ensures recorded { IfOk result (λ s. held_of self.new.held ≡ with_record (held_of self.old.held) s.own) }
+        ensures full { result ≡ Err Fault.HistoryFull ↔ (length self.old.held.history ≡ self.old.held.limit) }
+        ensures refused { IfErr result (λ e. (e ≡ Fault.HistoryFull) ⊎ (e ≡ Fault.OutOfMemory)) }
+        ensures unchanged { OnErr result (self.new ≡ self.old) }
+        ensures share { MatchResult result (λ _. mine.new.amount ≡ mine.old.amount + 1)
+            (λ _. mine.new.amount ≡ mine.old.amount) }
+        ensures parts { mine.new.parts ≡ mine.old.parts }
+    {
+        let stepped = self.shared.step(actor, execution, step, mine)?;
+        noted(&mut self.board, &stepped.own);
+        Ok(stepped)
+    }
+
+    /// Create Federation Execution (HLA 1.3, federation management), with the text of its FED file, and records it.
+    /// `HistoryFull` where the history holds its limit, and `OutOfMemory` where a growth was refused; then nothing has
+    /// changed. Any other fault is the act's answer, and is recorded.
+    pub(crate) fn create(
+        &mut self,
+        actor: u32,
+        name: ExecutionName,
+        fed: &[u8],
+        mine: &mut Share<L>,
+    ) -> Result<Stepped, Fault>
+        requires { 0 < mine.old.parts }
+        ensures asked { IfOk result (λ s. s.own ≡ record {
+          actor = actor;
+          execution = name;
+          act = act.Create (catalogue_from fed.now);
+          outcome = s.answer;
+          choice = choice.None;
+        }) }
+        ensures form { IfOk result (λ s. EndsInForm NoAnswer s.answer) }
+        ensures recorded { IfOk result (λ s. held_of self.new.held ≡ with_record (held_of self.old.held) s.own) }
+        ensures full { result ≡ Err Fault.HistoryFull ↔ (length self.old.held.history ≡ self.old.held.limit) }
+        ensures refused { IfErr result (λ e. (e ≡ Fault.HistoryFull) ⊎ (e ≡ Fault.OutOfMemory)) }
+        ensures unchanged { OnErr result (self.new ≡ self.old) }
+        ensures share { MatchResult result (λ _. mine.new.amount ≡ mine.old.amount + 1)
+            (λ _. mine.new.amount ≡ mine.old.amount) }
+        ensures parts { mine.new.parts ≡ mine.old.parts }
+    {
+        let stepped = self.shared.create(actor, name, fed, mine)?;
+        noted(&mut self.board, &stepped.own);
+        Ok(stepped)
+    }
+
+    /// Destroy Federation Execution (HLA 1.3, federation management), and records it. `HistoryFull` where the history holds
+    /// its limit, and `OutOfMemory` where a growth was refused; then nothing has changed. Any other fault is the act's
+    /// answer, and is recorded.
+    pub(crate) fn destroy(
+        &mut self,
+        actor: u32,
+        name: ExecutionName,
+        mine: &mut Share<L>,
+    ) -> Result<Stepped, Fault>
+        requires { 0 < mine.old.parts }
+        ensures asked { IfOk result (λ s. s.own ≡ record {
+          actor = actor;
+          execution = name;
+          act = act.Destroy;
+          outcome = s.answer;
+          choice = choice.None;
+        }) }
+        ensures form { IfOk result (λ s. EndsInForm NoAnswer s.answer) }
+        ensures recorded { IfOk result (λ s. held_of self.new.held ≡ with_record (held_of self.old.held) s.own) }
+        ensures full { result ≡ Err Fault.HistoryFull ↔ (length self.old.held.history ≡ self.old.held.limit) }
+        ensures refused { IfErr result (λ e. (e ≡ Fault.HistoryFull) ⊎ (e ≡ Fault.OutOfMemory)) }
+        ensures unchanged { OnErr result (self.new ≡ self.old) }
+        ensures share { MatchResult result (λ _. mine.new.amount ≡ mine.old.amount + 1)
+            (λ _. mine.new.amount ≡ mine.old.amount) }
+        ensures parts { mine.new.parts ≡ mine.old.parts }
+    {
+        let stepped = self.shared.destroy(actor, name, mine)?;
+        noted(&mut self.board, &stepped.own);
+        Ok(stepped)
+    }
+
+    /// Join Federation Execution (HLA 1.3, federation management), with an ambassador that has heard nothing, and records it.
+    /// The ambassador comes back beside the answer where the federate is refused. `HistoryFull` where the history holds its
+    /// limit, and `OutOfMemory` where a growth was refused; then nothing has changed, and the ambassador comes back. Any
+    /// other fault is the step's answer, and is recorded.
+    pub(crate) fn join(
+        &mut self,
+        actor: u32,
+        execution: ExecutionName,
+        name: List<u8>,
+        inner: B,
+        mine: &mut Share<L>,
+    ) -> Result<(Stepped, Option<B>), (Fault, B)>
+        requires part { 0 < mine.old.parts }
+        requires fresh { B.heard inner ≡ [] }
+        ensures asked { IfOk result (λ p. p.0.own ≡ record {
+          actor = actor;
+          execution = execution;
+          act = act.Step (step.Join name);
+          outcome = p.0.answer;
+          choice = p.0.own.choice;
+        }) }
+        ensures recorded { IfOk result (λ p. held_of self.new.held ≡ with_record (held_of self.old.held) p.0.own) }
+        ensures form { IfOk result (λ p. EndsInForm AFederate p.0.answer) }
+        ensures back { IfOk result (λ p. p.1 ≡ (if is_accepted p.0.answer then None else Some inner)) }
+        ensures full { result ≡ Err (Fault.HistoryFull, inner) ↔ (length self.old.held.history ≡ self.old.held.limit) }
+        ensures refused { IfErr result (λ e. (e.0 ≡ Fault.HistoryFull) ⊎ (e.0 ≡ Fault.OutOfMemory)) }
+        ensures returned { IfErr result (λ e. e.1 ≡ inner) }
+        ensures unchanged { OnErr result (self.new ≡ self.old) }
+        ensures share { MatchResult result (λ _. mine.new.amount ≡ mine.old.amount + 1)
+            (λ _. mine.new.amount ≡ mine.old.amount) }
+        ensures parts { mine.new.parts ≡ mine.old.parts }
+    {
+        match self.shared.join(actor, execution, name, inner, mine) {
+            Ok(joined) => {
+                noted(&mut self.board, &joined.0.own);
+                Ok(joined)
+            }
+            Err(refused) => Err(refused),
+        }
+    }
+
+    /// Resign Federation Execution (HLA 1.3, federation management), and records it. Where the federate resigned, its
+    /// ambassador comes out beside the answer. `HistoryFull` where the history holds its limit, and `OutOfMemory` where a
+    /// growth was refused; then nothing has changed. Any other fault is the step's answer, and is recorded.
+    pub(crate) fn resign(
+        &mut self,
+        actor: u32,
+        execution: ExecutionName,
+        federate: FederateNo,
+        action: ResignAction,
+        mine: &mut Share<L>,
+    ) -> Result<(Stepped, Option<B>), Fault>
+        requires { 0 < mine.old.parts }
+        ensures asked { IfOk result (λ p. p.0.own ≡ record {
+          actor = actor;
+          execution = execution;
+          act = act.Step (step.Call federate (service.Resign action));
+          outcome = p.0.answer;
+          choice = p.0.own.choice;
+        }) }
+        ensures form { IfOk result (λ p. EndsInForm NoAnswer p.0.answer) }
+        ensures back { IfOk result (λ p. is_some p.1 ≡ is_accepted p.0.answer) }
+        ensures heard { IfOk result (λ p. IfSome p.1 (λ b.
+            heard_from ((held_of self.old.held).hosts.host execution) federate ≡ Some (B.heard b))) }
+        ensures recorded { IfOk result (λ p. held_of self.new.held ≡ with_record (held_of self.old.held) p.0.own) }
+        ensures full { result ≡ Err Fault.HistoryFull ↔ (length self.old.held.history ≡ self.old.held.limit) }
+        ensures refused { IfErr result (λ e. (e ≡ Fault.HistoryFull) ⊎ (e ≡ Fault.OutOfMemory)) }
+        ensures unchanged { OnErr result (self.new ≡ self.old) }
+        ensures share { MatchResult result (λ _. mine.new.amount ≡ mine.old.amount + 1)
+            (λ _. mine.new.amount ≡ mine.old.amount) }
+        ensures parts { mine.new.parts ≡ mine.old.parts }
+    {
+        let resigned = self
+            .shared
+            .resign(actor, execution, federate, action, mine)?;
+        noted(&mut self.board, &resigned.0.own);
+        Ok(resigned)
+    }
+
+    /// The beginning of the history that monitors are shown.
+    pub(crate) fn tell(&self) -> Told<L>
+        ensures told { result ≡ self.now.posted.published }
+        ensures begins { self.now.ended ≡ false → IsPrefix result self.now.held.history }
+    {
+        self.board.tell()
+    }
+
+    /// A monitor, which knows what is shown. `LimitReached` where `MAX_MONITORS` were handed out, or there is no reader for
+    /// it.
+    pub(crate) fn monitor(&mut self) -> Result<Monitor<L>, Fault>
+        ensures knows { IfOk result (λ m. m ≡ self.old.posted.published) }
+        ensures below { OnOk result (self.old.posted.monitors < 8) }
+        ensures err { IfErr result (λ e. e ≡ Fault.LimitReached) }
+        ensures counted { MatchResult result (λ _. self.new.posted.monitors ≡ self.old.posted.monitors + 1)
+            (λ _. self.new.posted.monitors ≡ self.old.posted.monitors) }
+        ensures held { self.new.held ≡ self.old.held }
+    {
+        self.board.monitor()
+    }
+
+    /// Compares all transcripts with the history, and takes the records out where they agree; then it has ended.
+    pub(crate) fn settle(
+        &mut self,
+        seat: Seat<L>,
+        rest: Share<L>,
+        lefts: Vec<Left<L, B>>,
+        handed: u32,
+    ) -> Result<Closed, Unsettled<L, B>>
+        requires parts { L.parts ≡ 2049 }
+        requires rest { rest.parts + handed ≡ 2048 }
+        requires here { AllHere handed lefts.items }
+        ensures records { IfOk result (λ c. c ≡ self.old.held.history) }
+        ensures agree { OnOk result (AllAgree self.old.held.history lefts.items seat) }
+        ensures differs { IfErr result (λ u. DiffersFirst self.old.held.history lefts.items seat u.place) }
+        ensures back { IfErr result (λ u. (u.seat ≡ seat) × (u.rest ≡ rest) × (u.lefts ≡ lefts)) }
+        ensures same { OnErr result (self.new ≡ self.old) }
+    {
+        let settled = settle(&mut self.shared, seat, rest, lefts, handed);
+        if settled.is_ok() {
+            self.ended = true;
+        }
+        settled
+    }
+}
