@@ -12,8 +12,9 @@ use hla_callbacks::Recorder;
 use hla_commands::{Command, Line};
 use hla_fed_file::Catalogue;
 use hla_machine::{Answer, Outcome, Step};
+use hla_monitor::{Naming, Opened, Publisher};
 use hla_requests::{AskFault, Change, Member, Request, note};
-use hla_rti::{Closed, Courier, Federate, Left, Rti};
+use hla_rti::{Closed, Courier, Federate, Left, Rti, open_rti};
 use hla_transcript::Watched;
 use std::alloc::Global;
 use std::io::Write;
@@ -22,18 +23,22 @@ use std::sync::ledger::{Blank, Ledger};
 
 /// All callers of a script on one thread: the federates that are joined, under their names, and what others left behind.
 #[derive(Drop)]
-struct Cast<L: Ledger> {
+struct Cast<L: Ledger + Naming, P: Publisher<L>> {
     alloc: Global,
     execution: ExecutionName,
-    courier: Courier<L, Recorder>,
+    courier: Courier<L, Recorder, P>,
     members: Vec<Member>,
-    joined: Vec<Federate<L, Recorder>>,
+    joined: Vec<Federate<L, Recorder, P>>,
     lefts: Vec<Left<L, Recorder>>,
 }
 
-impl<L: Ledger> Cast<L> {
+impl<L: Ledger + Naming, P: Publisher<L>> Cast<L, P> {
     /// Nobody yet.
-    fn new(alloc: Global, execution: ExecutionName, courier: Courier<L, Recorder>) -> Cast<L> {
+    fn new(
+        alloc: Global,
+        execution: ExecutionName,
+        courier: Courier<L, Recorder, P>,
+    ) -> Cast<L, P> {
         Cast {
             alloc,
             execution,
@@ -48,7 +53,7 @@ impl<L: Ledger> Cast<L> {
     fn join(
         &mut self,
         rt: &impl Wait,
-        rti: &mut Rti<L, Recorder>,
+        rti: &mut Rti<L, Recorder, P>,
         name: List<u8>,
     ) -> Result<Outcome, Fault> {
         match rti.join(rt, name, self.execution, Recorder::new(self.alloc)) {
@@ -84,7 +89,7 @@ impl<L: Ledger> Cast<L> {
     fn step(
         &mut self,
         rt: &impl Wait,
-        rti: &mut Rti<L, Recorder>,
+        rti: &mut Rti<L, Recorder, P>,
         step: Step,
     ) -> Result<Outcome, Fault> {
         match step {
@@ -110,7 +115,7 @@ impl<L: Ledger> Cast<L> {
     fn noted_step(
         &mut self,
         rt: &impl Wait,
-        rti: &mut Rti<L, Recorder>,
+        rti: &mut Rti<L, Recorder, P>,
         step: Step,
     ) -> Result<Outcome, Fault> {
         let change = Change::of(&step)?;
@@ -123,7 +128,7 @@ impl<L: Ledger> Cast<L> {
     }
 
     /// Creates the execution; its federates' names are not known any more where it is created anew.
-    fn create(&mut self, rt: &impl Wait, rti: &mut Rti<L, Recorder>, fed: &[u8]) -> Outcome {
+    fn create(&mut self, rt: &impl Wait, rti: &mut Rti<L, Recorder, P>, fed: &[u8]) -> Outcome {
         let created = rti.create(rt, self.execution, fed);
         if created.is_ok() {
             self.members.clear();
@@ -135,7 +140,7 @@ impl<L: Ledger> Cast<L> {
     fn line(
         &mut self,
         rt: &impl Wait,
-        rti: &mut Rti<L, Recorder>,
+        rti: &mut Rti<L, Recorder, P>,
         fed: &[u8],
         catalogue: &Catalogue,
         command: &Command,
@@ -170,10 +175,10 @@ impl<L: Ledger> Cast<L> {
 }
 
 /// Does the lines of a script one after another. What all leave behind; an error is want of memory outside the steps.
-fn played<L: Ledger>(
+fn played<L: Ledger + Naming, P: Publisher<L>>(
     rt: &impl Wait,
     alloc: Global,
-    rti: &mut Rti<L, Recorder>,
+    rti: &mut Rti<L, Recorder, P>,
     fed: &[u8],
     catalogue: &Catalogue,
     lines: &[Line],
@@ -192,11 +197,12 @@ fn played<L: Ledger>(
 
 /// Plays a script over a FED file behind the lock of a run-time infrastructure, line by line on one thread, in an execution
 /// named `play`: what it asks for is what it asks for of `hla_script::play`. Then it writes how each line came out, and closes.
-/// `blank` is a ledger of 2,049 parts, as `Rti::new` takes it. The faults are those of `run_scripts`.
-pub fn run_in_order<L: Ledger, W: Write>(
-    rt: &impl Wait,
+/// `blank` is a ledger of 2,049 parts and `opened` an empty history, as `open_rti` takes them. The faults are those of `run_scripts`.
+pub fn run_in_order<L: Ledger + Naming, R: Wait, W: Write>(
+    rt: &R,
     alloc: Global,
     blank: Blank,
+    opened: Opened,
     fed: &[u8],
     script: &[u8],
     out: &mut Watched<W>,
@@ -204,6 +210,7 @@ pub fn run_in_order<L: Ledger, W: Write>(
     requires name { blank.name ≡ L.name }
     requires parts { blank.parts ≡ L.parts }
     requires all { blank.parts ≡ 2049 }
+    requires book { opened.seen.book ≡ L.book }
 
     // What was written is an outcome for each line, in the order of the script.
     ensures written { OnOk result (IsRunFrom fed.now script.now (W.contents out.old.inner)
@@ -218,7 +225,7 @@ pub fn run_in_order<L: Ledger, W: Write>(
 {
     let Texts { catalogue, script } = read_texts(alloc, fed, script)?;
     let lines = script.as_slice();
-    let Ok(mut rti) = Rti::<L, Recorder>::new(alloc, blank, MAX_HISTORY) else {
+    let Ok(mut rti) = open_rti::<L, Recorder, &R>(alloc, rt, blank, opened, MAX_HISTORY) else {
         return Err(RunFault::Memory);
     };
     let Ok(mut outcomes) = Outcomes::new(alloc, lines.len()) else {

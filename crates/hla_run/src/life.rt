@@ -8,6 +8,7 @@ use hla_callbacks::Recorder;
 use hla_commands::{Call, Command, Line};
 use hla_fed_file::Catalogue;
 use hla_machine::{Answer, Outcome};
+use hla_monitor::{Naming, Publisher};
 use hla_rti::{Courier, Federate};
 use std::alloc::Global;
 use std::sync::Wait;
@@ -31,11 +32,11 @@ pub struct Stage<'a, G: Gate> {
 
 /// A federate that joined under a name, with a courier that brings all federates what they send each other.
 #[derive(Drop)]
-pub struct Life<L: Ledger> {
+pub struct Life<L: Ledger + Naming, P: Publisher<L>> {
     pub name: List<u8>,
     pub number: FederateNo,
-    pub player: Player<L>,
-    pub courier: Courier<L, Recorder>,
+    pub player: Player<L, P>,
+    pub courier: Courier<L, Recorder, P>,
     /// How its lines came out, those that are done.
     pub told: Vec<Told>,
     /// Whether a growth was refused; then its last lines may not be done.
@@ -43,9 +44,9 @@ pub struct Life<L: Ledger> {
 }
 
 /// Carries each wire that leads from a federate once.
-fn carry_from<L: Ledger>(
+fn carry_from<L: Ledger + Naming, P: Publisher<L>>(
     rt: &impl Wait,
-    courier: &mut Courier<L, Recorder>,
+    courier: &mut Courier<L, Recorder, P>,
     execution: ExecutionName,
     from: FederateNo,
     joined: FederateNo,
@@ -58,9 +59,9 @@ fn carry_from<L: Ledger>(
 }
 
 /// Has each federate announce its promise, and then carries each wire once, by rising numbers. A refusal is in the records.
-fn exchange<L: Ledger>(
+fn exchange<L: Ledger + Naming, P: Publisher<L>>(
     rt: &impl Wait,
-    courier: &mut Courier<L, Recorder>,
+    courier: &mut Courier<L, Recorder, P>,
     execution: ExecutionName,
     joined: FederateNo,
 ) {
@@ -74,10 +75,10 @@ fn exchange<L: Ledger>(
 
 /// Ticks until a callback comes or a tick is refused, at most `MAX_TICKS` times. After a tick with nothing the federates
 /// exchange what they have for each other, and the other threads have their turn.
-fn called_back<L: Ledger>(
+fn called_back<L: Ledger + Naming, P: Publisher<L>>(
     rt: &impl Wait,
-    federate: &mut Federate<L, Recorder>,
-    courier: &mut Courier<L, Recorder>,
+    federate: &mut Federate<L, Recorder, P>,
+    courier: &mut Courier<L, Recorder, P>,
     execution: ExecutionName,
     joined: FederateNo,
 ) -> Outcome {
@@ -94,13 +95,13 @@ fn called_back<L: Ledger>(
 }
 
 /// Does what a line asks of the federate; one that has resigned does nothing any more.
-fn done<L: Ledger, G: Gate>(
+fn done<L: Ledger + Naming, P: Publisher<L>, G: Gate>(
     rt: &impl Wait,
     stage: &Stage<G>,
-    player: Player<L>,
-    courier: &mut Courier<L, Recorder>,
+    player: Player<L, P>,
+    courier: &mut Courier<L, Recorder, P>,
     call: &Call,
-) -> Acted<L> {
+) -> Acted<L, P> {
     let mut federate = match player {
         Player::Joined(federate) => federate,
         Player::Gone(left) => {
@@ -122,7 +123,7 @@ fn done<L: Ledger, G: Gate>(
     }
 }
 
-impl<L: Ledger> Life<L> {
+impl<L: Ledger + Naming, P: Publisher<L>> Life<L, P> {
     /// Does the line at a place of the script, between the two calls of the gate.
     fn next<G: Gate>(
         self,
@@ -131,7 +132,7 @@ impl<L: Ledger> Life<L> {
         place: usize,
         line: usize,
         call: &Call,
-    ) -> Life<L> {
+    ) -> Life<L, P> {
         let Life {
             name,
             number,
@@ -156,7 +157,11 @@ impl<L: Ledger> Life<L> {
 }
 
 /// Does the federate's lines of the script, in order.
-pub fn live<L: Ledger, G: Gate>(rt: &impl Wait, stage: &Stage<G>, mut life: Life<L>) -> Life<L> {
+pub fn live<L: Ledger + Naming, P: Publisher<L>, G: Gate>(
+    rt: &impl Wait,
+    stage: &Stage<G>,
+    mut life: Life<L, P>,
+) -> Life<L, P> {
     for (place, line) in stage.lines.iter().enumerate() {
         if let Command::Federate { name, call } = &line.command {
             if name.as_slice() == life.name.as_slice() {

@@ -9,19 +9,20 @@ use hla_base::{ExecutionName, Fault, List, Plain};
 use hla_callbacks::Recorder;
 use hla_commands::{Command, Line};
 use hla_machine::{Answer, Outcome};
+use hla_monitor::{Naming, Publisher};
 use hla_rti::Rti;
 use std::alloc::Global;
 use std::sync::Wait;
 use std::sync::ledger::Ledger;
 
 /// Joins a federate, and gives it a courier. An error is want of memory outside the steps.
-fn joined<L: Ledger>(
+fn joined<L: Ledger + Naming, P: Publisher<L>>(
     rt: &impl Wait,
     alloc: Global,
-    rti: &mut Rti<L, Recorder>,
+    rti: &mut Rti<L, Recorder, P>,
     execution: ExecutionName,
     name: &List<u8>,
-    lives: &mut Vec<Life<L>>,
+    lives: &mut Vec<Life<L, P>>,
 ) -> Result<Outcome, Fault> {
     let own = name.copy()?;
     let federate = match rti.join(rt, name.copy()?, execution, Recorder::new(alloc)) {
@@ -44,14 +45,14 @@ fn joined<L: Ledger>(
 }
 
 /// Does a line that creates the execution or joins a federate. An error is want of memory outside the steps.
-fn opened<L: Ledger>(
+fn opened<L: Ledger + Naming, P: Publisher<L>>(
     rt: &impl Wait,
     alloc: Global,
-    rti: &mut Rti<L, Recorder>,
+    rti: &mut Rti<L, Recorder, P>,
     execution: ExecutionName,
     fed: &[u8],
     command: &Command,
-    lives: &mut Vec<Life<L>>,
+    lives: &mut Vec<Life<L, P>>,
 ) -> Result<Option<Outcome>, Fault> {
     match command {
         Command::Create => Ok(Some(outcome_of_done(rti.create(rt, execution, fed)))),
@@ -65,15 +66,15 @@ fn opened<L: Ledger>(
 
 /// Does the lines that create and join, in the order of the script: the federates that joined. An error is want of memory
 /// outside the steps.
-pub fn open<L: Ledger>(
+pub fn open<L: Ledger + Naming, P: Publisher<L>>(
     rt: &impl Wait,
     alloc: Global,
-    rti: &mut Rti<L, Recorder>,
+    rti: &mut Rti<L, Recorder, P>,
     execution: ExecutionName,
     fed: &[u8],
     lines: &[Line],
     outcomes: &mut Outcomes,
-) -> Result<Vec<Life<L>>, Fault>
+) -> Result<Vec<Life<L, P>>, Fault>
     ensures { OnOk result (length outcomes.new ≡ length outcomes.old) }
 {
     let mut lives = Vec::new(alloc);
@@ -86,9 +87,9 @@ pub fn open<L: Ledger>(
 }
 
 /// Does the lines that destroy, in the order of the script.
-pub fn destroy<L: Ledger>(
+pub fn destroy<L: Ledger + Naming, P: Publisher<L>>(
     rt: &impl Wait,
-    rti: &mut Rti<L, Recorder>,
+    rti: &mut Rti<L, Recorder, P>,
     execution: ExecutionName,
     lines: &[Line],
     outcomes: &mut Outcomes,
@@ -104,12 +105,16 @@ pub fn destroy<L: Ledger>(
 }
 
 /// Whether a federate has joined under a name.
-fn has_joined<L: Ledger>(lives: &[Life<L>], name: &List<u8>) -> bool {
+fn has_joined<L: Ledger + Naming, P: Publisher<L>>(lives: &[Life<L, P>], name: &List<u8>) -> bool {
     lives.iter().any(|l| l.name.as_slice() == name.as_slice())
 }
 
 /// Notes of the lines of federates that have not joined that they make no step.
-pub fn refuse_strangers<L: Ledger>(lives: &[Life<L>], lines: &[Line], outcomes: &mut Outcomes)
+pub fn refuse_strangers<L: Ledger + Naming, P: Publisher<L>>(
+    lives: &[Life<L, P>],
+    lines: &[Line],
+    outcomes: &mut Outcomes,
+)
     ensures { length outcomes.new ≡ length outcomes.old }
 {
     for (place, line) in lines.iter().enumerate() {

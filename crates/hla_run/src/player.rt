@@ -6,6 +6,7 @@ use hla_callbacks::Recorder;
 use hla_commands::Call;
 use hla_fed_file::Catalogue;
 use hla_machine::{Answer, Outcome, ResignAction, Service};
+use hla_monitor::{Naming, Publisher};
 use hla_requests::{AskFault, service_of};
 use hla_rti::{Federate, Left};
 use std::alloc::Global;
@@ -14,15 +15,15 @@ use std::sync::ledger::Ledger;
 
 /// A federate of a script: joined, or what it left behind when it resigned.
 #[derive(Drop)]
-pub enum Player<L: Ledger> {
-    Joined(Federate<L, Recorder>),
+pub enum Player<L: Ledger + Naming, P: Publisher<L>> {
+    Joined(Federate<L, Recorder, P>),
     Gone(Left<L, Recorder>),
 }
 
 /// A federate of a script, and how the line that it has done came out.
 #[derive(Drop)]
-pub struct Acted<L: Ledger> {
-    pub player: Player<L>,
+pub struct Acted<L: Ledger + Naming, P: Publisher<L>> {
+    pub player: Player<L, P>,
     pub outcome: Outcome,
 }
 
@@ -48,11 +49,11 @@ impl Deed {
 }
 
 /// Resigns: the federate is gone where it is not refused.
-fn resigned<L: Ledger>(
+fn resigned<L: Ledger + Naming, P: Publisher<L>>(
     rt: &impl Wait,
-    federate: Federate<L, Recorder>,
+    federate: Federate<L, Recorder, P>,
     action: ResignAction,
-) -> Acted<L> {
+) -> Acted<L, P> {
     match federate.resign(rt, action) {
         Ok(left) => Acted {
             player: Player::Gone(left),
@@ -66,11 +67,11 @@ fn resigned<L: Ledger>(
 }
 
 /// Calls a service.
-fn served<L: Ledger>(
+fn served<L: Ledger + Naming, P: Publisher<L>>(
     rt: &impl Wait,
-    mut federate: Federate<L, Recorder>,
+    mut federate: Federate<L, Recorder, P>,
     service: Service,
-) -> Acted<L> {
+) -> Acted<L, P> {
     if let Service::Resign { action } = service {
         return resigned(rt, federate, action);
     }
@@ -82,11 +83,11 @@ fn served<L: Ledger>(
 }
 
 /// Does what a line asks of a joined federate; a tick picks up one callback.
-pub fn do_deed<L: Ledger>(
+pub fn do_deed<L: Ledger + Naming, P: Publisher<L>>(
     rt: &impl Wait,
-    mut federate: Federate<L, Recorder>,
+    mut federate: Federate<L, Recorder, P>,
     deed: Deed,
-) -> Acted<L> {
+) -> Acted<L, P> {
     match deed {
         Deed::Tick => {
             let outcome = outcome_of_tick(federate.tick(rt));
@@ -103,7 +104,7 @@ pub fn do_deed<L: Ledger>(
     }
 }
 
-impl<L: Ledger> Player<L> {
+impl<L: Ledger + Naming, P: Publisher<L>> Player<L, P> {
     /// Ends the caller: what it leaves behind. A federate that has not resigned stays joined.
     pub fn leave(self) -> Left<L, Recorder> {
         match self {

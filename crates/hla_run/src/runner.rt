@@ -13,7 +13,8 @@ use hla_base::{ExecutionName, Fault, MAX_HISTORY};
 use hla_callbacks::Recorder;
 use hla_commands::Line;
 use hla_fed_file::Catalogue;
-use hla_rti::{Closed, Left, Rti};
+use hla_monitor::{Naming, Opened, Publisher};
+use hla_rti::{Closed, Left, Rti, open_rti};
 use hla_transcript::Watched;
 use std::alloc::Global;
 use std::io::Write;
@@ -23,8 +24,8 @@ use std::thread;
 use std::thread::Threads;
 
 /// Puts what a federate and its courier leave behind at the end of a list, and notes how its lines came out.
-fn gathered<L: Ledger>(
-    life: Life<L>,
+fn gathered<L: Ledger + Naming, P: Publisher<L>>(
+    life: Life<L, P>,
     lefts: &mut Vec<Left<L, Recorder>>,
     outcomes: &mut Outcomes,
 ) -> Result<(), Fault>
@@ -49,9 +50,9 @@ fn gathered<L: Ledger>(
 }
 
 /// What all leave behind.
-fn gathered_all<L: Ledger>(
+fn gathered_all<L: Ledger + Naming, P: Publisher<L>>(
     alloc: Global,
-    lives: Vec<Life<L>>,
+    lives: Vec<Life<L, P>>,
     outcomes: &mut Outcomes,
 ) -> Result<Vec<Left<L, Recorder>>, Fault>
     ensures { OnOk result (length outcomes.new ≡ length outcomes.old) }
@@ -64,7 +65,7 @@ fn gathered_all<L: Ledger>(
 }
 
 /// The number of federates that have joined; each has the number of its joining.
-fn number_of<L: Ledger>(lives: &[Life<L>]) -> u32 {
+fn number_of<L: Ledger + Naming, P: Publisher<L>>(lives: &[Life<L, P>]) -> u32 {
     match lives.last() {
         Some(life) => life.number,
         None => 0,
@@ -73,10 +74,15 @@ fn number_of<L: Ledger>(lives: &[Life<L>]) -> u32 {
 
 /// Does the lines of a script: those that create and join in their order, then those of the federates, each on a thread of
 /// its own, and then those that destroy. What all leave behind; an error is want of memory outside the steps.
-fn ran<L: Ledger + Send + Sync, G: Gate + Sync, R: Threads + Wait + Sync>(
+fn ran<
+    L: Ledger + Naming + Send + Sync,
+    P: Publisher<L> + Send,
+    G: Gate + Sync,
+    R: Threads + Wait + Sync,
+>(
     rt: &R,
     alloc: Global,
-    rti: &mut Rti<L, Recorder>,
+    rti: &mut Rti<L, Recorder, P>,
     fed: &[u8],
     catalogue: &Catalogue,
     lines: &[Line],
@@ -109,14 +115,20 @@ fn ran<L: Ledger + Send + Sync, G: Gate + Sync, R: Threads + Wait + Sync>(
 /// in their order, and then the lines that destroy it. Lines that carry and announce are not run: a line that ticks does so
 /// until a callback comes, at most 1,000 times, and after a tick with nothing has each federate announce its promise and
 /// carries each wire once. `gate` is called round each line of a thread. Then it writes how the lines came out that were done,
-/// in the order of the script, and closes. `blank` is a ledger of 2,049 parts, as `Rti::new` takes it.
+/// in the order of the script, and closes. `blank` is a ledger of 2,049 parts and `opened` an empty history, as `open_rti` takes them.
 ///
 /// The FED file is tested before the script, and both before anything is done. `Memory` where a growth was refused outside the
 /// steps, `Write` only where the writer has failed, and `Close` where the infrastructure does not close.
-pub fn run_scripts<L: Ledger + Send + Sync, G: Gate + Sync, R: Threads + Wait + Sync, W: Write>(
+pub fn run_scripts<
+    L: Ledger + Naming + Send + Sync,
+    G: Gate + Sync,
+    R: Threads + Wait + Sync,
+    W: Write,
+>(
     rt: &R,
     alloc: Global,
     blank: Blank,
+    opened: Opened,
     fed: &[u8],
     script: &[u8],
     gate: &G,
@@ -125,6 +137,7 @@ pub fn run_scripts<L: Ledger + Send + Sync, G: Gate + Sync, R: Threads + Wait + 
     requires name { blank.name ≡ L.name }
     requires parts { blank.parts ≡ L.parts }
     requires all { blank.parts ≡ 2049 }
+    requires book { opened.seen.book ≡ L.book }
 
     // What was written is an outcome for each line that was done, in the order of the script.
     ensures written { OnOk result (IsRunFrom fed.now script.now (W.contents out.old.inner)
@@ -139,7 +152,7 @@ pub fn run_scripts<L: Ledger + Send + Sync, G: Gate + Sync, R: Threads + Wait + 
 {
     let Texts { catalogue, script } = read_texts(alloc, fed, script)?;
     let lines = script.as_slice();
-    let Ok(mut rti) = Rti::<L, Recorder>::new(alloc, blank, MAX_HISTORY) else {
+    let Ok(mut rti) = open_rti::<L, Recorder, &R>(alloc, rt, blank, opened, MAX_HISTORY) else {
         return Err(RunFault::Memory);
     };
     let Ok(mut outcomes) = Outcomes::new(alloc, lines.len()) else {

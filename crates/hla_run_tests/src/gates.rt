@@ -4,6 +4,7 @@ ghost use Rattle.std.specs.Prelude.{◌≡◌};
 
 use crate::texts::run;
 use hla_base::FederateNo;
+use hla_monitor::{Naming, Opened};
 use hla_run::Gate;
 use std::alloc::Global;
 use std::marker::Brand;
@@ -78,17 +79,19 @@ impl Gate for Holding {
 }
 
 /// Runs the script with one line held until another is done.
-fn held<L: Ledger + Send + Sync, R: Threads + Wait + Abort + Sync>(
+fn held<L: Ledger + Naming + Send + Sync, R: Threads + Wait + Abort + Sync>(
     rt: &R,
     alloc: Global,
     blank: Blank,
+    opened: Opened,
     gate: &Holding,
 ) -> Result<(), Fail>
     requires name { blank.name ≡ L.name }
     requires parts { blank.parts ≡ L.parts }
     requires all { blank.parts ≡ 2049 }
+    requires book { opened.seen.book ≡ L.book }
 {
-    let shown = run::<L, Holding, R>(rt, alloc, blank, SCRIPT, gate)?;
+    let shown = run::<L, Holding, R>(rt, alloc, blank, opened, SCRIPT, gate)?;
     assert!(rt; !gate.has_let_go.load(Ordering::SeqCst));
     assert!(rt; shown.text.as_slice() == TEXT);
     assert_eq!(rt; shown.closed.records().len(), 5);
@@ -97,10 +100,22 @@ fn held<L: Ledger + Send + Sync, R: Threads + Wait + Abort + Sync>(
 
 #[test]
 fn first_waits_for_the_second(rt: HostRuntime) -> Result<(), Fail> {
-    held::<Brand, HostRuntime>(&rt, rt.alloc(), Blank::new(2049), &Holding::new(4, 5))
+    held::<Brand, HostRuntime>(
+        &rt,
+        rt.alloc(),
+        Blank::new(2049),
+        Opened::new(),
+        &Holding::new(4, 5),
+    )
 }
 
 #[test]
 fn second_waits_for_the_first(rt: HostRuntime) -> Result<(), Fail> {
-    held::<Brand, HostRuntime>(&rt, rt.alloc(), Blank::new(2049), &Holding::new(5, 4))
+    held::<Brand, HostRuntime>(
+        &rt,
+        rt.alloc(),
+        Blank::new(2049),
+        Opened::new(),
+        &Holding::new(5, 4),
+    )
 }

@@ -6,6 +6,7 @@ use crate::texts::{FED, Shown, run, run_on_one_thread};
 use hla_callbacks::{Callback, Delivery};
 use hla_checker::check_run;
 use hla_machine::{Answer, Outcome, Record};
+use hla_monitor::{Naming, Opened};
 use hla_run::{OpenGate, RunFault, run_scripts};
 use hla_transcript::Watched;
 use std::alloc::Global;
@@ -91,16 +92,18 @@ const ORDERED_TEXT: &[u8] = b"1 ok
 ";
 
 /// The script on threads: what it writes, and a run of the central machine.
-fn in_lockstep<L: Ledger + Send + Sync, R: Threads + Wait + Abort + Sync>(
+fn in_lockstep<L: Ledger + Naming + Send + Sync, R: Threads + Wait + Abort + Sync>(
     rt: &R,
     alloc: Global,
     blank: Blank,
+    opened: Opened,
 ) -> Result<(), Fail>
     requires name { blank.name ≡ L.name }
     requires parts { blank.parts ≡ L.parts }
     requires all { blank.parts ≡ 2049 }
+    requires book { opened.seen.book ≡ L.book }
 {
-    let shown = run::<L, OpenGate, R>(rt, alloc, blank, LOCKSTEP, &OpenGate)?;
+    let shown = run::<L, OpenGate, R>(rt, alloc, blank, opened, LOCKSTEP, &OpenGate)?;
     assert!(rt; shown.text.as_slice() == LOCKSTEP_TEXT);
     assert!(rt; check_run(alloc, shown.closed.records()) == Ok(()));
     Ok(())
@@ -108,42 +111,50 @@ fn in_lockstep<L: Ledger + Send + Sync, R: Threads + Wait + Abort + Sync>(
 
 #[test]
 fn in_lockstep_at_a_brand(rt: HostRuntime) -> Result<(), Fail> {
-    in_lockstep::<Brand, HostRuntime>(&rt, rt.alloc(), Blank::new(2049))
+    in_lockstep::<Brand, HostRuntime>(&rt, rt.alloc(), Blank::new(2049), Opened::new())
 }
 
 /// The script in order on one thread, with its carries and announcements: nothing lies behind them for the ticks to fetch.
-fn in_order<L: Ledger>(rt: &(impl Wait + Abort), alloc: Global, blank: Blank) -> Result<(), Fail>
+fn in_order<L: Ledger + Naming, R: Wait + Abort>(
+    rt: &R,
+    alloc: Global,
+    blank: Blank,
+    opened: Opened,
+) -> Result<(), Fail>
     requires name { blank.name ≡ L.name }
     requires parts { blank.parts ≡ L.parts }
     requires all { blank.parts ≡ 2049 }
+    requires book { opened.seen.book ≡ L.book }
 {
-    let shown = run_on_one_thread::<L>(rt, alloc, blank, ORDERED)?;
+    let shown = run_on_one_thread::<L, R>(rt, alloc, blank, opened, ORDERED)?;
     assert!(rt; shown.text.as_slice() == ORDERED_TEXT);
     assert!(rt; check_run(alloc, shown.closed.records()) == Ok(()));
-    assert_eq!(rt; shown.closed.records().len(), 9);
+    assert_eq!(rt; shown.closed.records().len(), 8);
     Ok(())
 }
 
 #[test]
 fn in_order_at_a_brand(rt: HostRuntime) -> Result<(), Fail> {
-    in_order::<Brand>(&rt, rt.alloc(), Blank::new(2049))
+    in_order::<Brand, HostRuntime>(&rt, rt.alloc(), Blank::new(2049), Opened::new())
 }
 
 /// What a run of texts at fault answers, with nothing written.
-fn refused<L: Ledger + Send + Sync, R: Threads + Wait + Abort + Sync>(
+fn refused<L: Ledger + Naming + Send + Sync, R: Threads + Wait + Abort + Sync>(
     rt: &R,
     alloc: Global,
     blank: Blank,
+    opened: Opened,
     fed: &[u8],
     script: &[u8],
 ) -> Result<RunFault, Fail>
     requires name { blank.name ≡ L.name }
     requires parts { blank.parts ≡ L.parts }
     requires all { blank.parts ≡ 2049 }
+    requires book { opened.seen.book ≡ L.book }
 {
     let mut out = Watched::new(Vec::new(alloc));
     let ran = run_scripts::<L, OpenGate, R, Vec<u8>>(
-        rt, alloc, blank, fed, script, &OpenGate, &mut out,
+        rt, alloc, blank, opened, fed, script, &OpenGate, &mut out,
     );
     let Err(fault) = ran else {
         panic!(rt; "not refused");
@@ -158,6 +169,7 @@ fn a_fed_file_at_fault(rt: HostRuntime) -> Result<(), Fail> {
         &rt,
         rt.alloc(),
         Blank::new(2049),
+        Opened::new(),
         b"(FED",
         b"leave",
     )?;
@@ -171,6 +183,7 @@ fn a_script_at_fault(rt: HostRuntime) -> Result<(), Fail> {
         &rt,
         rt.alloc(),
         Blank::new(2049),
+        Opened::new(),
         FED,
         b"create\nleave\n",
     )?;

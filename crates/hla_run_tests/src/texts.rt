@@ -2,6 +2,7 @@
 
 ghost use Rattle.std.specs.Prelude.{◌≡◌};
 
+use hla_monitor::{Naming, Opened};
 use hla_rti::Closed;
 use hla_run::{Gate, run_in_order, run_scripts};
 use hla_transcript::Watched;
@@ -31,19 +32,21 @@ pub struct Shown {
 }
 
 /// What a run on threads writes; the script must not be refused.
-pub fn run<L: Ledger + Send + Sync, G: Gate + Sync, R: Threads + Wait + Abort + Sync>(
+pub fn run<L: Ledger + Naming + Send + Sync, G: Gate + Sync, R: Threads + Wait + Abort + Sync>(
     rt: &R,
     alloc: Global,
     blank: Blank,
+    opened: Opened,
     script: &[u8],
     gate: &G,
 ) -> Result<Shown, Fail>
     requires name { blank.name ≡ L.name }
     requires parts { blank.parts ≡ L.parts }
     requires all { blank.parts ≡ 2049 }
+    requires book { opened.seen.book ≡ L.book }
 {
     let mut out = Watched::new(Vec::new(alloc));
-    match run_scripts::<L, G, R, Vec<u8>>(rt, alloc, blank, FED, script, gate, &mut out) {
+    match run_scripts::<L, G, R, Vec<u8>>(rt, alloc, blank, opened, FED, script, gate, &mut out) {
         Ok(closed) => Ok(Shown {
             text: out.into_inner(),
             closed,
@@ -53,18 +56,20 @@ pub fn run<L: Ledger + Send + Sync, G: Gate + Sync, R: Threads + Wait + Abort + 
 }
 
 /// What a script writes that is played in order; it must not be refused.
-pub fn run_on_one_thread<L: Ledger>(
-    rt: &(impl Wait + Abort),
+pub fn run_on_one_thread<L: Ledger + Naming, R: Wait + Abort>(
+    rt: &R,
     alloc: Global,
     blank: Blank,
+    opened: Opened,
     script: &[u8],
 ) -> Result<Shown, Fail>
     requires name { blank.name ≡ L.name }
     requires parts { blank.parts ≡ L.parts }
     requires all { blank.parts ≡ 2049 }
+    requires book { opened.seen.book ≡ L.book }
 {
     let mut out = Watched::new(Vec::new(alloc));
-    match run_in_order::<L, Vec<u8>>(rt, alloc, blank, FED, script, &mut out) {
+    match run_in_order::<L, R, Vec<u8>>(rt, alloc, blank, opened, FED, script, &mut out) {
         Ok(closed) => Ok(Shown {
             text: out.into_inner(),
             closed,
