@@ -1,0 +1,71 @@
+//! A script run on threads, and its records judged by the central machine.
+
+ghost use Rattle.std.specs.Prelude.{◌≡◌};
+ghost use Rattle.hla_transcript.specs.Watching.{stream_of};
+ghost use Rattle.hla_program.specs.Program.{EndsJudging, EndsRunning};
+
+use crate::finding::{finding_of, tell_finding};
+use crate::telling::{tell_out_of_memory, tell_run_stop};
+use hla_machine::Record;
+use hla_run::{OpenGate, run_scripts};
+use hla_script::Watched;
+use std::alloc::Global;
+use std::io::Write;
+use std::sync::Wait;
+use std::sync::ledger::{Blank, Ledger};
+use std::thread::Threads;
+
+/// What a task takes of the run of the program beside its files: what starts threads, memory, and a ledger of 2,049 parts for
+/// the infrastructure that a script runs behind. A task that runs none leaves the ledger as it is.
+#[derive(Drop)]
+pub struct Host<'a, R> {
+    pub rt: &'a R,
+    pub alloc: Global,
+    pub blank: Blank,
+}
+
+/// Has records judged by the central machine, writes its line, and answers the status; or else says that a write failed or that
+/// memory ran out, and answers that status.
+fn judge<W: Write, E: Write>(
+    alloc: Global,
+    records: &[Record],
+    out: &mut Watched<W>,
+    errors: &mut Watched<E>,
+) -> u8
+    ensures { EndsJudging records.now
+        (stream_of W.contents out.old) (stream_of W.contents out.new)
+        (stream_of E.contents errors.old) (stream_of E.contents errors.new) result }
+{
+    match finding_of(alloc, records) {
+        Some(finding) => tell_finding(alloc, finding, out, errors),
+        None => tell_out_of_memory(errors),
+    }
+}
+
+/// Runs a script over a FED file, each federate on a thread of its own, has the records of the history judged, and answers the
+/// status. 0: how its lines came out is on `out` and behind it `ok N`, for N records that are a run of the central machine, and
+/// nothing on `errors`. 3: `differs K` is there instead, for the first record that is no step of it, counted from 0; or one
+/// line on `errors` says that a caller's transcript is not its records of the history. 1 with one line on `errors` for the
+/// first fault of the FED file, or else for that of the script, with nothing on `out`, and for want of memory and a failed write.
+pub(crate) fn run_bytes<L: Ledger + Send + Sync, R: Threads + Wait + Sync, W: Write, E: Write>(
+    host: Host<'_, R>,
+    fed: &[u8],
+    script: &[u8],
+    out: &mut Watched<W>,
+    errors: &mut Watched<E>,
+) -> u8
+    requires name { host.blank.name ≡ L.name }
+    requires parts { host.blank.parts ≡ L.parts }
+    requires all { host.blank.parts ≡ 2049 }
+    ensures { EndsRunning fed.now script.now
+        (stream_of W.contents out.old) (stream_of W.contents out.new)
+        (stream_of E.contents errors.old) (stream_of E.contents errors.new) result }
+{
+    let Host { rt, alloc, blank } = host;
+    let ran = run_scripts::<L, OpenGate, R, W>(rt, alloc, blank, fed, script, &OpenGate, out);
+    let closed = match ran {
+        Ok(closed) => closed,
+        Err(fault) => return tell_run_stop(alloc, errors, fault),
+    };
+    judge(alloc, closed.records(), out, errors)
+}
