@@ -41,8 +41,10 @@ impl<L: Ledger, B: FederateAmbassador> Model for Federate<L, B> {
 }
 
 impl<L: Ledger, B: FederateAmbassador> Federate<L, B> {
-    /// Calls a service but Resign.
-    fn serve(&mut self, rt: &impl Wait, service: Service) -> Result<Answer, Fault>
+    /// Calls a service that is given as a value, for programs that read from a text what a federate does; each service has
+    /// a call of its own name, too. Resign is not called so, since the federate goes then. The faults are those of the service.
+    /// `HistoryFull` and `OutOfMemory` without a record. A fault has changed nothing.
+    pub fn serve(&mut self, rt: &impl Wait, service: Service) -> Result<Answer, Fault>
         requires { IsPlain (step.Call self.old.federate service) }
         ensures served { IsServed self.old service result self.new }
         ensures form { IfOk result (λ a. IsOfForm (service_form service) a) }

@@ -1,0 +1,2 @@
+-- Running a script behind the lock
+pub mod Running

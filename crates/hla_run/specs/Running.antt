@@ -1,0 +1,60 @@
+-- What a run of a script writes
+use Rattle.std.specs.Prelude.{◌≡◌, ◌++◌, ℕ, List, [], length, Option, None, Some, Ok, Err, Bool, true, false, Result, Unit}
+use Rattle.std.specs.List.{flat_map, zip}
+use Rattle.std.specs.Io.KnownBytes.{Appends}
+use Rattle.hla_fed_file.specs.CatalogueValue.{CatalogueValue}
+use Rattle.hla_fed_file.specs.Reading as reading
+use Rattle.hla_fed_file.specs.Grammar.{Describes}
+use Rattle.hla_machine.specs.declared.step.Outcome.{Outcome}
+use Rattle.hla_commands.specs.declared.lines.Line.{Line}
+use Rattle.hla_commands.specs.Script.{script_of, ParsesAs}
+use Rattle.hla_transcript.specs.Printed.{line_text}
+use Rattle.hla_run.specs.declared.fault.RunFault.{RunFault}
+use Rattle.hla_run.specs.declared.fault.RunFault.TheVariants as stop
+
+-- how a line came out, where it was done
+abbrev pub told_line : CatalogueValue → Line → Option Outcome → List ℕ
+told_line c l None = []
+told_line c l (Some o) = line_text c l.number o
+
+-- how the lines came out that were done, in the order of the script
+unfoldable pub told_text : CatalogueValue → List Line → List (Option Outcome) → List ℕ
+told_text c lines outcomes = flat_map (λ p. told_line c p.0 p.1) (zip lines outcomes)
+
+-- the FED file describes a catalogue, the script has these lines, and what was written is how those came out that were done
+pub record IsRunFrom (fed script : List ℕ) (old new : Option (List ℕ)) : Type 0 where
+  pub catalogue : CatalogueValue
+  pub lines : List Line
+  pub outcomes : List (Option Outcome)
+  pub describes : Describes fed catalogue
+  pub says : script_of script ≡ Ok lines
+  pub each : length outcomes ≡ length lines
+  pub writes : Appends old new (told_text catalogue lines outcomes)
+
+-- a text is at fault: the FED file is tested first
+abbrev pub IsUnread : List ℕ → List ℕ → RunFault → Type 0
+IsUnread fed script (stop.Fed e) = reading.ReadsAs (Err e) (reading.reading_of fed)
+IsUnread fed script (stop.Script e) = ((c : CatalogueValue) × Describes fed c) × ParsesAs (Err e) (script_of script)
+IsUnread fed script stop.Write = ⊥
+IsUnread fed script stop.Memory = ⊥
+IsUnread fed script (stop.Close e) = ⊥
+
+-- why a script was not run to its end: a text at fault writes nothing
+abbrev pub StopsRun : List ℕ → List ℕ → Option (List ℕ) → Option (List ℕ) → RunFault → Type 0
+StopsRun fed script old new (stop.Fed e) = IsUnread fed script (stop.Fed e) × Appends old new []
+StopsRun fed script old new (stop.Script e) = IsUnread fed script (stop.Script e) × Appends old new []
+StopsRun fed script old new stop.Write = Unit {0}
+StopsRun fed script old new stop.Memory = Unit {0}
+StopsRun fed script old new (stop.Close e) = Unit {0}
+
+-- a write of the outcomes failed
+abbrev pub is_failed_text : RunFault → Bool
+is_failed_text (stop.Fed e) = false
+is_failed_text (stop.Script e) = false
+is_failed_text stop.Write = true
+is_failed_text stop.Memory = false
+is_failed_text (stop.Close e) = false
+
+abbrev pub is_unwritten_run : {X : Type 0} → Result X RunFault → Bool
+is_unwritten_run (Ok x) = false
+is_unwritten_run (Err e) = is_failed_text e

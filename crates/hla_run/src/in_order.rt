@@ -1,0 +1,235 @@
+//! Playing a script behind the lock, line by line on one thread.
+
+ghost use Rattle.std.specs.Prelude.{◌≡◌, ◌||◌, ◌+◌, ◌≤◌, OnOk, IfErr, length, vec_len, vec_capacity};
+ghost use Rattle.hla_run.specs.Running.{IsRunFrom, StopsRun, is_unwritten_run};
+
+use crate::fault::RunFault;
+use crate::outcomes::{Outcomes, Told, outcome_of_done};
+use crate::player::{Acted, Deed, Player, do_deed};
+use crate::texts::{Texts, read_texts, write_outcomes};
+use hla_base::{ExecutionName, Fault, FederateNo, List, MAX_HISTORY, Plain};
+use hla_callbacks::Recorder;
+use hla_commands::{Command, Line};
+use hla_fed_file::Catalogue;
+use hla_machine::{Answer, Outcome, Step};
+use hla_requests::{AskFault, Change, Member, Request, note};
+use hla_rti::{Closed, Courier, Federate, Left, Rti};
+use hla_transcript::Watched;
+use std::alloc::Global;
+use std::io::Write;
+use std::sync::Wait;
+use std::sync::ledger::{Blank, Ledger};
+
+/// All callers of a script on one thread: the federates that are joined, under their names, and what others left behind.
+#[derive(Drop)]
+struct Cast<L: Ledger> {
+    alloc: Global,
+    execution: ExecutionName,
+    courier: Courier<L, Recorder>,
+    members: Vec<Member>,
+    joined: Vec<Federate<L, Recorder>>,
+    lefts: Vec<Left<L, Recorder>>,
+}
+
+impl<L: Ledger> Cast<L> {
+    /// Nobody yet.
+    fn new(alloc: Global, execution: ExecutionName, courier: Courier<L, Recorder>) -> Cast<L> {
+        Cast {
+            alloc,
+            execution,
+            courier,
+            members: Vec::new(alloc),
+            joined: Vec::new(alloc),
+            lefts: Vec::new(alloc),
+        }
+    }
+
+    /// Joins a federate. An error is want of memory outside the step.
+    fn join(
+        &mut self,
+        rt: &impl Wait,
+        rti: &mut Rti<L, Recorder>,
+        name: List<u8>,
+    ) -> Result<Outcome, Fault> {
+        match rti.join(rt, name, self.execution, Recorder::new(self.alloc)) {
+            Ok(federate) => {
+                let number = federate.number();
+                match self.joined.push(federate) {
+                    Ok(()) => Ok(Outcome::Done(Answer::Federate(number))),
+                    Err(_) => Err(Fault::OutOfMemory),
+                }
+            }
+            Err((fault, _)) => Ok(Outcome::Refused(fault)),
+        }
+    }
+
+    /// Has the joined federate of a number do something. An error is want of memory outside the step.
+    fn act(&mut self, rt: &impl Wait, number: FederateNo, deed: Deed) -> Result<Outcome, Fault> {
+        let Some(place) = self.joined.iter().position(|f| f.number() == number) else {
+            return Ok(Outcome::Refused(Fault::FederateNotExecutionMember));
+        };
+        let Acted { player, outcome } = do_deed(rt, self.joined.swap_remove(place), deed);
+        let kept = match player {
+            Player::Joined(federate) => self.joined.push(federate).is_ok(),
+            Player::Gone(left) => self.lefts.push(left).is_ok(),
+        };
+        if kept {
+            Ok(outcome)
+        } else {
+            Err(Fault::OutOfMemory)
+        }
+    }
+
+    /// Does a step. An error is want of memory outside the step.
+    fn step(
+        &mut self,
+        rt: &impl Wait,
+        rti: &mut Rti<L, Recorder>,
+        step: Step,
+    ) -> Result<Outcome, Fault> {
+        match step {
+            Step::Join { name } => self.join(rt, rti, name),
+            Step::Call { federate, service } => self.act(rt, federate, Deed::Serve(service)),
+            Step::Tick { federate } => self.act(rt, federate, Deed::Tick),
+            Step::Carry { from, to } => {
+                Ok(match self.courier.carry(rt, self.execution, from, to) {
+                    Ok(what) => Outcome::Done(Answer::Carried(what)),
+                    Err(fault) => Outcome::Refused(fault),
+                })
+            }
+            Step::Announce { federate } => {
+                Ok(match self.courier.announce(rt, self.execution, federate) {
+                    Ok(promise) => Outcome::Done(Answer::Announced(promise)),
+                    Err(fault) => Outcome::Refused(fault),
+                })
+            }
+        }
+    }
+
+    /// Does a step, and notes who has joined or resigned by it. An error is want of memory outside the step.
+    fn noted_step(
+        &mut self,
+        rt: &impl Wait,
+        rti: &mut Rti<L, Recorder>,
+        step: Step,
+    ) -> Result<Outcome, Fault> {
+        let change = Change::of(&step)?;
+        let outcome = self.step(rt, rti, step)?;
+        if self.members.reserve(1).is_err() {
+            return Err(Fault::OutOfMemory);
+        }
+        note(&mut self.members, change, &outcome);
+        Ok(outcome)
+    }
+
+    /// Creates the execution; its federates' names are not known any more where it is created anew.
+    fn create(&mut self, rt: &impl Wait, rti: &mut Rti<L, Recorder>, fed: &[u8]) -> Outcome {
+        let created = rti.create(rt, self.execution, fed);
+        if created.is_ok() {
+            self.members.clear();
+        }
+        outcome_of_done(created)
+    }
+
+    /// Does what a line asks for. An error is want of memory outside the step.
+    fn line(
+        &mut self,
+        rt: &impl Wait,
+        rti: &mut Rti<L, Recorder>,
+        fed: &[u8],
+        catalogue: &Catalogue,
+        command: &Command,
+    ) -> Result<Outcome, Fault> {
+        match Request::of(self.alloc, catalogue, self.members.as_slice(), command) {
+            Ok(Request::Create) => Ok(self.create(rt, rti, fed)),
+            Ok(Request::Destroy) => Ok(outcome_of_done(rti.destroy(rt, self.execution))),
+            Ok(Request::Step(step)) => self.noted_step(rt, rti, step),
+            Err(AskFault::Refused(fault)) => Ok(Outcome::Refused(fault)),
+            Err(AskFault::Memory) => Ok(Outcome::Refused(Fault::OutOfMemory)),
+        }
+    }
+
+    /// Ends all callers: what they leave behind. Federates that have not resigned stay joined.
+    fn leave(self) -> Result<Vec<Left<L, Recorder>>, Fault> {
+        let Cast {
+            courier,
+            joined,
+            mut lefts,
+            ..
+        } = self;
+        for federate in joined {
+            if lefts.push(federate.leave()).is_err() {
+                return Err(Fault::OutOfMemory);
+            }
+        }
+        match lefts.push(courier.leave()) {
+            Ok(()) => Ok(lefts),
+            Err(_) => Err(Fault::OutOfMemory),
+        }
+    }
+}
+
+/// Does the lines of a script one after another. What all leave behind; an error is want of memory outside the steps.
+fn played<L: Ledger>(
+    rt: &impl Wait,
+    alloc: Global,
+    rti: &mut Rti<L, Recorder>,
+    fed: &[u8],
+    catalogue: &Catalogue,
+    lines: &[Line],
+    outcomes: &mut Outcomes,
+) -> Result<Vec<Left<L, Recorder>>, Fault>
+    ensures { OnOk result (length outcomes.new ≡ length outcomes.old) }
+{
+    let execution = ExecutionName::new(b"play")?;
+    let mut cast = Cast::new(alloc, execution, rti.courier()?);
+    for (place, line) in lines.iter().enumerate() {
+        let outcome = cast.line(rt, rti, fed, catalogue, &line.command)?;
+        outcomes.note(Told { place, outcome });
+    }
+    cast.leave()
+}
+
+/// Plays a script over a FED file behind the lock of a run-time infrastructure, line by line on one thread, in an execution
+/// named `play`: what it asks for is what it asks for of `hla_script::play`. Then it writes how each line came out, and closes.
+/// `blank` is a ledger of 2,049 parts, as `Rti::new` takes it. The faults are those of `run_scripts`.
+pub fn run_in_order<L: Ledger, W: Write>(
+    rt: &impl Wait,
+    alloc: Global,
+    blank: Blank,
+    fed: &[u8],
+    script: &[u8],
+    out: &mut Watched<W>,
+) -> Result<Closed, RunFault>
+    requires name { blank.name ≡ L.name }
+    requires parts { blank.parts ≡ L.parts }
+    requires all { blank.parts ≡ 2049 }
+
+    // What was written is an outcome for each line, in the order of the script.
+    ensures written { OnOk result (IsRunFrom fed.now script.now (W.contents out.old.inner)
+        (W.contents out.new.inner)) }
+
+    // The first fault of the FED file, or else that of the script, with nothing written.
+    ensures stopped { IfErr result (StopsRun fed.now script.now (W.contents out.old.inner)
+        (W.contents out.new.inner)) }
+
+    // A write has failed where that is answered, and nowhere else.
+    ensures failure { out.new.has_failed ≡ (out.old.has_failed || is_unwritten_run result) }
+{
+    let Texts { catalogue, script } = read_texts(alloc, fed, script)?;
+    let lines = script.as_slice();
+    let Ok(mut rti) = Rti::<L, Recorder>::new(alloc, blank, MAX_HISTORY) else {
+        return Err(RunFault::Memory);
+    };
+    let Ok(mut outcomes) = Outcomes::new(alloc, lines.len()) else {
+        return Err(RunFault::Memory);
+    };
+    let Ok(lefts) = played(rt, alloc, &mut rti, fed, &catalogue, lines, &mut outcomes) else {
+        return Err(RunFault::Memory);
+    };
+    write_outcomes(alloc, &catalogue, lines, &outcomes, out)?;
+    match rti.close(rt, lefts) {
+        Ok(closed) => Ok(closed),
+        Err(not_closed) => Err(RunFault::Close(not_closed.fault)),
+    }
+}

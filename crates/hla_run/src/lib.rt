@@ -1,0 +1,17 @@
+//! Scripts played behind the lock of the run-time infrastructure: each federate on a thread of its own, or all on one.
+#![tactic(auto)]
+
+mod fault;
+mod gate;
+mod in_order;
+mod life;
+mod opening;
+mod outcomes;
+mod player;
+mod runner;
+mod texts;
+
+pub use fault::RunFault;
+pub use gate::{Gate, OpenGate};
+pub use in_order::run_in_order;
+pub use runner::run_scripts;

@@ -1,0 +1,168 @@
+//! A federate's life on its thread.
+
+use crate::gate::Gate;
+use crate::outcomes::{Told, outcome_of_tick};
+use crate::player::{Acted, Deed, Player, do_deed};
+use hla_base::{ExecutionName, Fault, FederateNo, List};
+use hla_callbacks::Recorder;
+use hla_commands::{Call, Command, Line};
+use hla_fed_file::Catalogue;
+use hla_machine::{Answer, Outcome};
+use hla_rti::{Courier, Federate};
+use std::alloc::Global;
+use std::sync::Wait;
+use std::sync::ledger::Ledger;
+use std::thread;
+
+/// How often a line that ticks does so at most until a callback comes.
+const MAX_TICKS: u32 = 1_000;
+
+/// What all threads of a run share.
+#[derive(Drop)]
+pub struct Stage<'a, G: Gate> {
+    pub alloc: Global,
+    pub execution: ExecutionName,
+    pub catalogue: &'a Catalogue,
+    pub lines: &'a [Line],
+    pub gate: &'a G,
+    /// How many federates have joined.
+    pub joined: FederateNo,
+}
+
+/// A federate that joined under a name, with a courier that brings all federates what they send each other.
+#[derive(Drop)]
+pub struct Life<L: Ledger> {
+    pub name: List<u8>,
+    pub number: FederateNo,
+    pub player: Player<L>,
+    pub courier: Courier<L, Recorder>,
+    /// How its lines came out, those that are done.
+    pub told: Vec<Told>,
+    /// Whether a growth was refused; then its last lines may not be done.
+    pub lacks_memory: bool,
+}
+
+/// Carries each wire that leads from a federate once.
+fn carry_from<L: Ledger>(
+    rt: &impl Wait,
+    courier: &mut Courier<L, Recorder>,
+    execution: ExecutionName,
+    from: FederateNo,
+    joined: FederateNo,
+) {
+    for to in 1..=joined {
+        if to != from {
+            let _ = courier.carry(rt, execution, from, to);
+        }
+    }
+}
+
+/// Has each federate announce its promise, and then carries each wire once, by rising numbers. A refusal is in the records.
+fn exchange<L: Ledger>(
+    rt: &impl Wait,
+    courier: &mut Courier<L, Recorder>,
+    execution: ExecutionName,
+    joined: FederateNo,
+) {
+    for federate in 1..=joined {
+        let _ = courier.announce(rt, execution, federate);
+    }
+    for from in 1..=joined {
+        carry_from(rt, courier, execution, from, joined);
+    }
+}
+
+/// Ticks until a callback comes or a tick is refused, at most `MAX_TICKS` times. After a tick with nothing the federates
+/// exchange what they have for each other, and the other threads have their turn.
+fn called_back<L: Ledger>(
+    rt: &impl Wait,
+    federate: &mut Federate<L, Recorder>,
+    courier: &mut Courier<L, Recorder>,
+    execution: ExecutionName,
+    joined: FederateNo,
+) -> Outcome {
+    for _ in 0..MAX_TICKS {
+        match outcome_of_tick(federate.tick(rt)) {
+            Outcome::Done(Answer::Ticked(None)) => {
+                exchange(rt, courier, execution, joined);
+                thread::yield_now();
+            }
+            ended => return ended,
+        }
+    }
+    Outcome::Done(Answer::Ticked(None))
+}
+
+/// Does what a line asks of the federate; one that has resigned does nothing any more.
+fn done<L: Ledger, G: Gate>(
+    rt: &impl Wait,
+    stage: &Stage<G>,
+    player: Player<L>,
+    courier: &mut Courier<L, Recorder>,
+    call: &Call,
+) -> Acted<L> {
+    let mut federate = match player {
+        Player::Joined(federate) => federate,
+        Player::Gone(left) => {
+            return Acted {
+                player: Player::Gone(left),
+                outcome: Outcome::Refused(Fault::FederateNotExecutionMember),
+            };
+        }
+    };
+    match Deed::of(stage.alloc, stage.catalogue, call) {
+        Deed::Tick => {
+            let outcome = called_back(rt, &mut federate, courier, stage.execution, stage.joined);
+            Acted {
+                player: Player::Joined(federate),
+                outcome,
+            }
+        }
+        deed => do_deed(rt, federate, deed),
+    }
+}
+
+impl<L: Ledger> Life<L> {
+    /// Does the line at a place of the script, between the two calls of the gate.
+    fn next<G: Gate>(
+        self,
+        rt: &impl Wait,
+        stage: &Stage<G>,
+        place: usize,
+        line: usize,
+        call: &Call,
+    ) -> Life<L> {
+        let Life {
+            name,
+            number,
+            player,
+            mut courier,
+            mut told,
+            lacks_memory,
+        } = self;
+        stage.gate.before(number, line);
+        let Acted { player, outcome } = done(rt, stage, player, &mut courier, call);
+        stage.gate.after(number, line);
+        let is_kept = told.push(Told { place, outcome }).is_ok();
+        Life {
+            name,
+            number,
+            player,
+            courier,
+            told,
+            lacks_memory: lacks_memory || !is_kept,
+        }
+    }
+}
+
+/// Does the federate's lines of the script, in order.
+pub fn live<L: Ledger, G: Gate>(rt: &impl Wait, stage: &Stage<G>, mut life: Life<L>) -> Life<L> {
+    for (place, line) in stage.lines.iter().enumerate() {
+        if let Command::Federate { name, call } = &line.command {
+            if name.as_slice() == life.name.as_slice() {
+                life = life.next(rt, stage, place, line.number, call);
+            }
+        }
+    }
+    life
+}

@@ -1,0 +1,123 @@
+//! What is done before the federates' threads begin, and after they have ended.
+
+ghost use Rattle.std.specs.Prelude.{◌≡◌, length, OnOk};
+
+use crate::life::Life;
+use crate::outcomes::{Outcomes, Told, outcome_of_done};
+use crate::player::Player;
+use hla_base::{ExecutionName, Fault, List, Plain};
+use hla_callbacks::Recorder;
+use hla_commands::{Command, Line};
+use hla_machine::{Answer, Outcome};
+use hla_rti::Rti;
+use std::alloc::Global;
+use std::sync::Wait;
+use std::sync::ledger::Ledger;
+
+/// Joins a federate, and gives it a courier. An error is want of memory outside the steps.
+fn joined<L: Ledger>(
+    rt: &impl Wait,
+    alloc: Global,
+    rti: &mut Rti<L, Recorder>,
+    execution: ExecutionName,
+    name: &List<u8>,
+    lives: &mut Vec<Life<L>>,
+) -> Result<Outcome, Fault> {
+    let own = name.copy()?;
+    let federate = match rti.join(rt, name.copy()?, execution, Recorder::new(alloc)) {
+        Ok(federate) => federate,
+        Err((fault, _)) => return Ok(Outcome::Refused(fault)),
+    };
+    let number = federate.number();
+    let courier = rti.courier()?;
+    let Ok(()) = lives.push(Life {
+        name: own,
+        number,
+        player: Player::Joined(federate),
+        courier,
+        told: Vec::new(alloc),
+        lacks_memory: false,
+    }) else {
+        return Err(Fault::OutOfMemory);
+    };
+    Ok(Outcome::Done(Answer::Federate(number)))
+}
+
+/// Does a line that creates the execution or joins a federate. An error is want of memory outside the steps.
+fn opened<L: Ledger>(
+    rt: &impl Wait,
+    alloc: Global,
+    rti: &mut Rti<L, Recorder>,
+    execution: ExecutionName,
+    fed: &[u8],
+    command: &Command,
+    lives: &mut Vec<Life<L>>,
+) -> Result<Option<Outcome>, Fault> {
+    match command {
+        Command::Create => Ok(Some(outcome_of_done(rti.create(rt, execution, fed)))),
+        Command::Join { name } => match joined(rt, alloc, rti, execution, name, lives) {
+            Ok(outcome) => Ok(Some(outcome)),
+            Err(fault) => Err(fault),
+        },
+        _ => Ok(None),
+    }
+}
+
+/// Does the lines that create and join, in the order of the script: the federates that joined. An error is want of memory
+/// outside the steps.
+pub fn open<L: Ledger>(
+    rt: &impl Wait,
+    alloc: Global,
+    rti: &mut Rti<L, Recorder>,
+    execution: ExecutionName,
+    fed: &[u8],
+    lines: &[Line],
+    outcomes: &mut Outcomes,
+) -> Result<Vec<Life<L>>, Fault>
+    ensures { OnOk result (length outcomes.new ≡ length outcomes.old) }
+{
+    let mut lives = Vec::new(alloc);
+    for (place, line) in lines.iter().enumerate() {
+        if let Some(outcome) = opened(rt, alloc, rti, execution, fed, &line.command, &mut lives)? {
+            outcomes.note(Told { place, outcome });
+        }
+    }
+    Ok(lives)
+}
+
+/// Does the lines that destroy, in the order of the script.
+pub fn destroy<L: Ledger>(
+    rt: &impl Wait,
+    rti: &mut Rti<L, Recorder>,
+    execution: ExecutionName,
+    lines: &[Line],
+    outcomes: &mut Outcomes,
+)
+    ensures { length outcomes.new ≡ length outcomes.old }
+{
+    for (place, line) in lines.iter().enumerate() {
+        if let Command::Destroy = &line.command {
+            let outcome = outcome_of_done(rti.destroy(rt, execution));
+            outcomes.note(Told { place, outcome });
+        }
+    }
+}
+
+/// Whether a federate has joined under a name.
+fn has_joined<L: Ledger>(lives: &[Life<L>], name: &List<u8>) -> bool {
+    lives.iter().any(|l| l.name.as_slice() == name.as_slice())
+}
+
+/// Notes of the lines of federates that have not joined that they make no step.
+pub fn refuse_strangers<L: Ledger>(lives: &[Life<L>], lines: &[Line], outcomes: &mut Outcomes)
+    ensures { length outcomes.new ≡ length outcomes.old }
+{
+    for (place, line) in lines.iter().enumerate() {
+        if let Command::Federate { name, .. } = &line.command {
+            if !has_joined(lives, name) {
+                let outcome = Outcome::Refused(Fault::FederateNotExecutionMember);
+                outcomes.note(Told { place, outcome });
+            }
+        }
+    }
+}

@@ -1,0 +1,127 @@
+//! How the lines of a script came out.
+
+ghost use Rattle.std.specs.Prelude.{◌≡◌, ◌++◌, OnOk, IfOk, IfErr, length, ℕ};
+ghost use Rattle.hla_machine.specs.declared.step.Answer.TheVariants as answer;
+ghost use Rattle.hla_rti.specs.Callers.{answer_given, said, nothing};
+ghost use Rattle.hla_run.specs.Running.{told_line, told_text};
+
+use hla_base::{Fault, List};
+use hla_callbacks::Callback;
+use hla_commands::Line;
+use hla_fed_file::Catalogue;
+use hla_machine::{Answer, Outcome};
+use hla_transcript::{Text, print_line};
+use std::alloc::Global;
+use std::marker::Model;
+
+/// How the line at a place of a script, counted from 0, came out.
+#[derive(Drop)]
+pub struct Told {
+    pub place: usize,
+    pub outcome: Outcome,
+}
+
+/// An outcome for each line of a script that was done; contracts see the list of them.
+#[derive(Drop)]
+pub struct Outcomes {
+    by_place: Vec<Option<Outcome>>,
+}
+
+impl Model for Outcomes {
+    ghost use Rattle.std.specs.Prelude.{List, Option};
+    ghost use Rattle.hla_machine.specs.declared.step.Outcome.{Outcome};
+
+    ghost Value = { List (Option Outcome) };
+
+    ghost view = { λ o. o.by_place.items };
+}
+
+/// The outcome of a call that answers this.
+pub fn outcome_of(answer: Result<Answer, Fault>) -> Outcome
+    ensures { answer_given result ≡ answer }
+{
+    match answer {
+        Ok(answer) => Outcome::Done(answer),
+        Err(fault) => Outcome::Refused(fault),
+    }
+}
+
+/// The outcome of a call that answers nothing.
+pub fn outcome_of_done(answer: Result<(), Fault>) -> Outcome
+    ensures { answer_given result ≡ said nothing answer }
+{
+    match answer {
+        Ok(()) => Outcome::Done(Answer::Done),
+        Err(fault) => Outcome::Refused(fault),
+    }
+}
+
+/// The outcome of a tick.
+pub fn outcome_of_tick(answer: Result<Option<Callback>, Fault>) -> Outcome
+    ensures { answer_given result ≡ said answer.Ticked answer }
+{
+    match answer {
+        Ok(callback) => Outcome::Done(Answer::Ticked(callback)),
+        Err(fault) => Outcome::Refused(fault),
+    }
+}
+
+/// Adds how a line came out, where it was done.
+fn print_told(
+    text: &mut Text,
+    catalogue: &Catalogue,
+    line: &Line,
+    outcome: &Option<Outcome>,
+) -> Result<(), Fault>
+    ensures { OnOk result (text.new ≡ text.old ++ told_line catalogue.now line.now outcome.now) }
+{
+    match outcome {
+        Some(outcome) => print_line(text, catalogue, line.number as u64, outcome),
+        None => Ok(()),
+    }
+}
+
+impl Outcomes {
+    /// No outcome for each of so many lines; `OutOfMemory` where the room was refused.
+    pub fn new(alloc: Global, lines: usize) -> Result<Outcomes, Fault>
+        ensures { IfOk result (λ o. length o ≡ lines) }
+    {
+        let Ok(mut by_place) = Vec::with_capacity(alloc, lines) else {
+            return Err(Fault::OutOfMemory);
+        };
+        for _ in 0..lines {
+            let Ok(()) = by_place.push(None) else {
+                return Err(Fault::OutOfMemory);
+            };
+        }
+        Ok(Outcomes { by_place })
+    }
+
+    /// Notes how the line at a place came out.
+    pub fn note(&mut self, told: Told)
+        ensures { length self.new ≡ length self.old }
+    {
+        if let Some(slot) = self.by_place.get_mut(told.place) {
+            *slot = Some(told.outcome);
+        }
+    }
+
+    /// Notes how lines came out.
+    pub fn note_all(&mut self, all: Vec<Told>)
+        ensures { length self.new ≡ length self.old }
+    {
+        for told in all {
+            self.note(told);
+        }
+    }
+
+    /// Adds how those lines came out that were done, in the order of the script; an error is want of memory for the text.
+    pub fn print(&self, text: &mut Text, catalogue: &Catalogue, lines: &[Line]) -> Result<(), Fault>
+        ensures { OnOk result (text.new ≡ text.old ++ told_text catalogue.now lines.now self.now) }
+    {
+        for (line, outcome) in lines.iter().zip(self.by_place.iter()) {
+            print_told(text, catalogue, line, outcome)?;
+        }
+        Ok(())
+    }
+}

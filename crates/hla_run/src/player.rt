@@ -1,0 +1,114 @@
+//! A federate of a script, and what its lines have it do.
+
+use crate::outcomes::{outcome_of, outcome_of_tick};
+use hla_base::Fault;
+use hla_callbacks::Recorder;
+use hla_commands::Call;
+use hla_fed_file::Catalogue;
+use hla_machine::{Answer, Outcome, ResignAction, Service};
+use hla_requests::{AskFault, service_of};
+use hla_rti::{Federate, Left};
+use std::alloc::Global;
+use std::sync::Wait;
+use std::sync::ledger::Ledger;
+
+/// A federate of a script: joined, or what it left behind when it resigned.
+#[derive(Drop)]
+pub enum Player<L: Ledger> {
+    Joined(Federate<L, Recorder>),
+    Gone(Left<L, Recorder>),
+}
+
+/// A federate of a script, and how the line that it has done came out.
+#[derive(Drop)]
+pub struct Acted<L: Ledger> {
+    pub player: Player<L>,
+    pub outcome: Outcome,
+}
+
+/// What a line has a federate do.
+#[derive(Drop)]
+pub enum Deed {
+    Tick,
+    Serve(Service),
+    /// Nothing: the line makes no step.
+    Refused(Fault),
+}
+
+impl Deed {
+    /// What a call of a script asks of a federate, by the names of a catalogue.
+    pub fn of(alloc: Global, catalogue: &Catalogue, call: &Call) -> Deed {
+        match service_of(alloc, catalogue, call) {
+            Ok(None) => Deed::Tick,
+            Ok(Some(service)) => Deed::Serve(service),
+            Err(AskFault::Refused(fault)) => Deed::Refused(fault),
+            Err(AskFault::Memory) => Deed::Refused(Fault::OutOfMemory),
+        }
+    }
+}
+
+/// Resigns: the federate is gone where it is not refused.
+fn resigned<L: Ledger>(
+    rt: &impl Wait,
+    federate: Federate<L, Recorder>,
+    action: ResignAction,
+) -> Acted<L> {
+    match federate.resign(rt, action) {
+        Ok(left) => Acted {
+            player: Player::Gone(left),
+            outcome: Outcome::Done(Answer::Done),
+        },
+        Err((fault, federate)) => Acted {
+            player: Player::Joined(federate),
+            outcome: Outcome::Refused(fault),
+        },
+    }
+}
+
+/// Calls a service.
+fn served<L: Ledger>(
+    rt: &impl Wait,
+    mut federate: Federate<L, Recorder>,
+    service: Service,
+) -> Acted<L> {
+    if let Service::Resign { action } = service {
+        return resigned(rt, federate, action);
+    }
+    let outcome = outcome_of(federate.serve(rt, service));
+    Acted {
+        player: Player::Joined(federate),
+        outcome,
+    }
+}
+
+/// Does what a line asks of a joined federate; a tick picks up one callback.
+pub fn do_deed<L: Ledger>(
+    rt: &impl Wait,
+    mut federate: Federate<L, Recorder>,
+    deed: Deed,
+) -> Acted<L> {
+    match deed {
+        Deed::Tick => {
+            let outcome = outcome_of_tick(federate.tick(rt));
+            Acted {
+                player: Player::Joined(federate),
+                outcome,
+            }
+        }
+        Deed::Serve(service) => served(rt, federate, service),
+        Deed::Refused(fault) => Acted {
+            player: Player::Joined(federate),
+            outcome: Outcome::Refused(fault),
+        },
+    }
+}
+
+impl<L: Ledger> Player<L> {
+    /// Ends the caller: what it leaves behind. A federate that has not resigned stays joined.
+    pub fn leave(self) -> Left<L, Recorder> {
+        match self {
+            Player::Joined(federate) => federate.leave(),
+            Player::Gone(left) => left,
+        }
+    }
+}

@@ -1,0 +1,166 @@
+//! Running a script, each federate on a thread of its own.
+
+ghost use Rattle.std.specs.Prelude.{◌≡◌, ◌||◌, OnOk, IfErr, length, vec_len};
+ghost use Rattle.hla_run.specs.Running.{IsRunFrom, StopsRun, is_unwritten_run};
+
+use crate::fault::RunFault;
+use crate::gate::Gate;
+use crate::life::{Life, Stage, live};
+use crate::opening::{destroy, open, refuse_strangers};
+use crate::outcomes::Outcomes;
+use crate::texts::{Texts, read_texts, write_outcomes};
+use hla_base::{ExecutionName, Fault, MAX_HISTORY};
+use hla_callbacks::Recorder;
+use hla_commands::Line;
+use hla_fed_file::Catalogue;
+use hla_rti::{Closed, Left, Rti};
+use hla_transcript::Watched;
+use std::alloc::Global;
+use std::io::Write;
+use std::sync::Wait;
+use std::sync::ledger::{Blank, Ledger};
+use std::thread;
+use std::thread::Threads;
+
+/// Puts what a federate and its courier leave behind at the end of a list, and notes how its lines came out.
+fn gathered<L: Ledger>(
+    life: Life<L>,
+    lefts: &mut Vec<Left<L, Recorder>>,
+    outcomes: &mut Outcomes,
+) -> Result<(), Fault>
+    ensures { length outcomes.new ≡ length outcomes.old }
+{
+    let Life {
+        player,
+        courier,
+        told,
+        lacks_memory,
+        ..
+    } = life;
+    outcomes.note_all(told);
+    let is_whole = !lacks_memory
+        && lefts.push(player.leave()).is_ok()
+        && lefts.push(courier.leave()).is_ok();
+    if is_whole {
+        Ok(())
+    } else {
+        Err(Fault::OutOfMemory)
+    }
+}
+
+/// What all leave behind.
+fn gathered_all<L: Ledger>(
+    alloc: Global,
+    lives: Vec<Life<L>>,
+    outcomes: &mut Outcomes,
+) -> Result<Vec<Left<L, Recorder>>, Fault>
+    ensures { OnOk result (length outcomes.new ≡ length outcomes.old) }
+{
+    let mut lefts = Vec::new(alloc);
+    for life in lives {
+        gathered(life, &mut lefts, outcomes)?;
+    }
+    Ok(lefts)
+}
+
+/// The number of federates that have joined; each has the number of its joining.
+fn number_of<L: Ledger>(lives: &[Life<L>]) -> u32 {
+    match lives.last() {
+        Some(life) => life.number,
+        None => 0,
+    }
+}
+
+/// Does the lines of a script: those that create and join in their order, then those of the federates, each on a thread of
+/// its own, and then those that destroy. What all leave behind; an error is want of memory outside the steps.
+fn ran<L: Ledger + Send + Sync, G: Gate + Sync, R: Threads + Wait + Sync>(
+    rt: &R,
+    alloc: Global,
+    rti: &mut Rti<L, Recorder>,
+    fed: &[u8],
+    catalogue: &Catalogue,
+    lines: &[Line],
+    gate: &G,
+    outcomes: &mut Outcomes,
+) -> Result<Vec<Left<L, Recorder>>, Fault>
+    ensures { OnOk result (length outcomes.new ≡ length outcomes.old) }
+{
+    let execution = ExecutionName::new(b"play")?;
+    let lives = open(rt, alloc, rti, execution, fed, lines, outcomes)?;
+    refuse_strangers(lives.as_slice(), lines, outcomes);
+    let stage = Stage {
+        alloc,
+        execution,
+        catalogue,
+        lines,
+        gate,
+        joined: number_of(lives.as_slice()),
+    };
+    let Ok(lives) = thread::map_vec(rt, lives, &|life| live(rt, &stage, life)) else {
+        return Err(Fault::OutOfMemory);
+    };
+    let lefts = gathered_all(alloc, lives, outcomes)?;
+    destroy(rt, rti, execution, lines, outcomes);
+    Ok(lefts)
+}
+
+/// Runs a script over a FED file in an execution named `play`, behind the lock of a run-time infrastructure: first the lines
+/// that create it and join federates, in the order of the script, then the lines of each federate, on a thread of its own and
+/// in their order, and then the lines that destroy it. Lines that carry and announce are not run: a line that ticks does so
+/// until a callback comes, at most 1,000 times, and after a tick with nothing has each federate announce its promise and
+/// carries each wire once. `gate` is called round each line of a thread. Then it writes how the lines came out that were done,
+/// in the order of the script, and closes. `blank` is a ledger of 2,049 parts, as `Rti::new` takes it.
+///
+/// The FED file is tested before the script, and both before anything is done. `Memory` where a growth was refused outside the
+/// steps, `Write` only where the writer has failed, and `Close` where the infrastructure does not close.
+pub fn run_scripts<L: Ledger + Send + Sync, G: Gate + Sync, R: Threads + Wait + Sync, W: Write>(
+    rt: &R,
+    alloc: Global,
+    blank: Blank,
+    fed: &[u8],
+    script: &[u8],
+    gate: &G,
+    out: &mut Watched<W>,
+) -> Result<Closed, RunFault>
+    requires name { blank.name ≡ L.name }
+    requires parts { blank.parts ≡ L.parts }
+    requires all { blank.parts ≡ 2049 }
+
+    // What was written is an outcome for each line that was done, in the order of the script.
+    ensures written { OnOk result (IsRunFrom fed.now script.now (W.contents out.old.inner)
+        (W.contents out.new.inner)) }
+
+    // The first fault of the FED file, or else that of the script, with nothing written.
+    ensures stopped { IfErr result (StopsRun fed.now script.now (W.contents out.old.inner)
+        (W.contents out.new.inner)) }
+
+    // A write has failed where that is answered, and nowhere else.
+    ensures failure { out.new.has_failed ≡ (out.old.has_failed || is_unwritten_run result) }
+{
+    let Texts { catalogue, script } = read_texts(alloc, fed, script)?;
+    let lines = script.as_slice();
+    let Ok(mut rti) = Rti::<L, Recorder>::new(alloc, blank, MAX_HISTORY) else {
+        return Err(RunFault::Memory);
+    };
+    let Ok(mut outcomes) = Outcomes::new(alloc, lines.len()) else {
+        return Err(RunFault::Memory);
+    };
+    let ran = ran(
+        rt,
+        alloc,
+        &mut rti,
+        fed,
+        &catalogue,
+        lines,
+        gate,
+        &mut outcomes,
+    );
+    let Ok(lefts) = ran else {
+        return Err(RunFault::Memory);
+    };
+    write_outcomes(alloc, &catalogue, lines, &outcomes, out)?;
+    match rti.close(rt, lefts) {
+        Ok(closed) => Ok(closed),
+        Err(not_closed) => Err(RunFault::Close(not_closed.fault)),
+    }
+}

@@ -1,0 +1,62 @@
+//! The texts of a run: read before anything is done, and written at its end.
+
+ghost use Rattle.std.specs.Prelude.{◌≡◌, ◌||◌, ◌⊎◌, Ok, OnOk, IfOk, IfErr};
+ghost use Rattle.std.specs.Io.KnownBytes.{Appends};
+ghost use Rattle.hla_fed_file.specs.Grammar.{Describes};
+ghost use Rattle.hla_commands.specs.Script.{script_of};
+ghost use Rattle.hla_run.specs.Running.{IsUnread, told_text, is_unwritten_run};
+
+use crate::fault::RunFault;
+use crate::outcomes::Outcomes;
+use hla_base::Fault;
+use hla_commands::{Line, Script, parse};
+use hla_fed_file::{Catalogue, read};
+use hla_transcript::{Text, Watched, write_whole};
+use std::alloc::Global;
+use std::io::Write;
+
+/// A FED file and a script, read.
+#[derive(Drop)]
+pub struct Texts {
+    pub catalogue: Catalogue,
+    pub script: Script,
+}
+
+/// Reads the FED file, and then the script.
+pub fn read_texts(alloc: Global, fed: &[u8], script: &[u8]) -> Result<Texts, RunFault>
+    ensures describes { IfOk result (λ t. Describes fed.now t.catalogue) }
+    ensures says { IfOk result (λ t. script_of script.now ≡ Ok t.script) }
+    ensures stopped { IfErr result (IsUnread fed.now script.now) }
+{
+    let catalogue = match read(alloc, fed) {
+        Ok(catalogue) => catalogue,
+        Err(fault) => return Err(RunFault::Fed(fault)),
+    };
+    match parse(alloc, script) {
+        Ok(script) => Ok(Texts { catalogue, script }),
+        Err(fault) => Err(RunFault::Script(fault)),
+    }
+}
+
+/// Writes how those lines came out that were done.
+pub fn write_outcomes<W: Write>(
+    alloc: Global,
+    catalogue: &Catalogue,
+    lines: &[Line],
+    outcomes: &Outcomes,
+    out: &mut Watched<W>,
+) -> Result<(), RunFault>
+    ensures ok { OnOk result (Appends (W.contents out.old.inner) (W.contents out.new.inner)
+        (told_text catalogue.now lines.now outcomes.now)) }
+    ensures err { IfErr result (λ e. (e ≡ RunFault.Write) ⊎ (e ≡ RunFault.Memory)) }
+    ensures failure { out.new.has_failed ≡ (out.old.has_failed || is_unwritten_run result) }
+{
+    let mut text = Text::new(alloc);
+    let Ok(()) = outcomes.print(&mut text, catalogue, lines) else {
+        return Err(RunFault::Memory);
+    };
+    match write_whole(out, text.as_slice()) {
+        Ok(()) => Ok(()),
+        Err(_) => Err(RunFault::Write),
+    }
+}

@@ -1,0 +1,106 @@
+//! Federates run on threads of their own: a line of one waits for a line of the other, and the other way round.
+
+ghost use Rattle.std.specs.Prelude.{◌≡◌};
+
+use crate::texts::run;
+use hla_base::FederateNo;
+use hla_run::Gate;
+use std::alloc::Global;
+use std::marker::Brand;
+use std::process::Abort;
+use std::sync::Wait;
+use std::sync::atomic::{AtomicBool, Ordering};
+use std::sync::ledger::{Blank, Ledger};
+use std::test::Fail;
+use std::thread;
+use std::thread::Threads;
+
+/// Two federates that join, and a line of each.
+const SCRIPT: &[u8] = b"create
+join A
+join B
+A publishInteraction Hit
+B subscribeInteraction Hit
+";
+
+/// What the script writes.
+const TEXT: &[u8] = b"1 ok
+2 ok 1
+3 ok 2
+4 ok
+5 ok
+";
+
+/// How many turns a line is held at most.
+const MAX_TURNS: u32 = 20_000_000;
+
+/// Holds one line until another is done.
+#[derive(Drop)]
+struct Holding {
+    held: usize,
+    awaited: usize,
+    is_done: AtomicBool,
+    /// Whether the line was let go before the other was done.
+    has_let_go: AtomicBool,
+}
+
+impl Holding {
+    /// Holds the first of two lines until the second is done.
+    fn new(held: usize, awaited: usize) -> Holding {
+        Holding {
+            held,
+            awaited,
+            is_done: AtomicBool::new(false),
+            has_let_go: AtomicBool::new(false),
+        }
+    }
+}
+
+impl Gate for Holding {
+    fn before(&self, _federate: FederateNo, line: usize) {
+        if line != self.held {
+            return;
+        }
+        for _ in 0..MAX_TURNS {
+            if self.is_done.load(Ordering::SeqCst) {
+                return;
+            }
+            thread::yield_now();
+        }
+        self.has_let_go.store(true, Ordering::SeqCst);
+    }
+
+    fn after(&self, _federate: FederateNo, line: usize) {
+        if line == self.awaited {
+            self.is_done.store(true, Ordering::SeqCst);
+        }
+    }
+}
+
+/// Runs the script with one line held until another is done.
+fn held<L: Ledger + Send + Sync, R: Threads + Wait + Abort + Sync>(
+    rt: &R,
+    alloc: Global,
+    blank: Blank,
+    gate: &Holding,
+) -> Result<(), Fail>
+    requires name { blank.name ≡ L.name }
+    requires parts { blank.parts ≡ L.parts }
+    requires all { blank.parts ≡ 2049 }
+{
+    let shown = run::<L, Holding, R>(rt, alloc, blank, SCRIPT, gate)?;
+    assert!(rt; !gate.has_let_go.load(Ordering::SeqCst));
+    assert!(rt; shown.text.as_slice() == TEXT);
+    assert_eq!(rt; shown.closed.records().len(), 5);
+    Ok(())
+}
+
+#[test]
+fn first_waits_for_the_second(rt: HostRuntime) -> Result<(), Fail> {
+    held::<Brand, HostRuntime>(&rt, rt.alloc(), Blank::new(2049), &Holding::new(4, 5))
+}
+
+#[test]
+fn second_waits_for_the_first(rt: HostRuntime) -> Result<(), Fail> {
+    held::<Brand, HostRuntime>(&rt, rt.alloc(), Blank::new(2049), &Holding::new(5, 4))
+}

@@ -1,0 +1,74 @@
+//! What the tests share: a FED text, scripts, and runs of them.
+
+ghost use Rattle.std.specs.Prelude.{◌≡◌};
+
+use hla_rti::Closed;
+use hla_run::{Gate, run_in_order, run_scripts};
+use hla_transcript::Watched;
+use std::alloc::Global;
+use std::process::Abort;
+use std::sync::Wait;
+use std::sync::ledger::{Blank, Ledger};
+use std::test::Fail;
+use std::thread::Threads;
+
+/// An interaction class in time-stamp order.
+pub const FED: &[u8] = b"(FED
+ (Federation Demo)
+ (FEDversion v1.3)
+ (spaces)
+ (objects)
+ (interactions
+  (class InteractionRoot reliable receive
+   (class Hit reliable timestamp))))
+";
+
+/// What a run wrote, and its records.
+#[derive(Drop)]
+pub struct Shown {
+    pub text: Vec<u8>,
+    pub closed: Closed,
+}
+
+/// What a run on threads writes; the script must not be refused.
+pub fn run<L: Ledger + Send + Sync, G: Gate + Sync, R: Threads + Wait + Abort + Sync>(
+    rt: &R,
+    alloc: Global,
+    blank: Blank,
+    script: &[u8],
+    gate: &G,
+) -> Result<Shown, Fail>
+    requires name { blank.name ≡ L.name }
+    requires parts { blank.parts ≡ L.parts }
+    requires all { blank.parts ≡ 2049 }
+{
+    let mut out = Watched::new(Vec::new(alloc));
+    match run_scripts::<L, G, R, Vec<u8>>(rt, alloc, blank, FED, script, gate, &mut out) {
+        Ok(closed) => Ok(Shown {
+            text: out.into_inner(),
+            closed,
+        }),
+        Err(_) => panic!(rt; "the run was stopped"),
+    }
+}
+
+/// What a script writes that is played in order; it must not be refused.
+pub fn run_on_one_thread<L: Ledger>(
+    rt: &(impl Wait + Abort),
+    alloc: Global,
+    blank: Blank,
+    script: &[u8],
+) -> Result<Shown, Fail>
+    requires name { blank.name ≡ L.name }
+    requires parts { blank.parts ≡ L.parts }
+    requires all { blank.parts ≡ 2049 }
+{
+    let mut out = Watched::new(Vec::new(alloc));
+    match run_in_order::<L, Vec<u8>>(rt, alloc, blank, FED, script, &mut out) {
+        Ok(closed) => Ok(Shown {
+            text: out.into_inner(),
+            closed,
+        }),
+        Err(_) => panic!(rt; "the run was stopped"),
+    }
+}
