@@ -24,7 +24,8 @@ import run
 RUNS = 50
 # federates and rounds
 SCRIPTS = [(2, 20), (4, 8), (8, 3), (16, 2)]
-SECONDS = 60
+# the most that a run may take; beside busy processes each turn that a thread gives away costs milliseconds
+SECONDS = 300
 # ends with its parent, however that ends
 BUSY = [sys.executable, "-c", "import os\nparent = os.getppid()\nwhile os.getppid() == parent: pass"]
 FED = """(FED
