@@ -1,7 +1,8 @@
 //! Plays each example and says whether its transcript is the expected one, and whether the checker of recorded runs takes its
 //! records and tells each that is forged, at its place: another outcome, a choice where nothing is chosen, an entry too low, another
 //! stamp, a grant too early by one, a retracted interaction, a record of a federate that has resigned, two records exchanged, one
-//! left out.
+//! left out. Each is played behind the lock, too, line by line, with the same transcript; some run with a thread for each federate,
+//! and end with records that the checker takes.
 //!
 //! It runs in the folder of the examples: for each name there is a script `NAME.script`, played over `text-f.fed`, and what it
 //! must print, `NAME.expected`.
@@ -9,9 +10,11 @@
 
 mod facts;
 mod forging;
+mod locking;
 mod ordering;
 
 use crate::forging::tells_forgeries;
+use crate::locking::{Example, is_run_on_threads, is_same_behind_the_lock};
 use crate::ordering::tells_order;
 use hla_base::Fault;
 use hla_checker::check_run;
@@ -20,6 +23,8 @@ use hla_script::{Watched, play};
 use std::alloc::Global;
 use std::process::ExitCode;
 use std::rt::Runtime;
+use std::sync::Wait;
+use std::thread::Threads;
 use std::{fs, io};
 
 /// The examples, by name.
@@ -52,6 +57,18 @@ const NAMES: [&str; 26] = [
     "bar_above_entry",
 ];
 
+/// Those that run on threads, too. A tick that no callback answers there is repeated a thousand times, with what its federate has
+/// all announce and carries; in these few ticks are.
+const ON_THREADS: [&str; 7] = [
+    "ancestor",
+    "refusals",
+    "lockstep",
+    "boundary",
+    "floor",
+    "largest_time",
+    "newcomer",
+];
+
 /// The status where an example differs from what is expected, or could not be read.
 const DIFFERS: u8 = 1;
 
@@ -67,38 +84,81 @@ fn are_judged(alloc: Global, records: &mut Vec<Record>) -> Result<bool, Fault> {
     Ok(check_run(alloc, records.as_slice()) == Ok(()))
 }
 
+/// What the files of an example have in them.
+#[derive(Drop)]
+struct Files {
+    fed: String,
+    script: String,
+    expected: String,
+}
+
+impl Files {
+    /// Reads the files of the example of this name.
+    fn read<R: Runtime + AllocGlobal>(rt: &R, name: &str) -> io::Result<Files> {
+        let alloc = rt.alloc();
+        let fed = fs::read_to_string(rt, "text-f.fed")?;
+        let script_name = format!(in alloc; "{name}.script")?;
+        let script = fs::read_to_string(rt, script_name.as_str())?;
+        let expected_name = format!(in alloc; "{name}.expected")?;
+        let expected = fs::read_to_string(rt, expected_name.as_str())?;
+        Ok(Files {
+            fed,
+            script,
+            expected,
+        })
+    }
+
+    /// The example.
+    fn example(&self) -> Example {
+        Example {
+            fed: self.fed.as_bytes(),
+            script: self.script.as_bytes(),
+            expected: self.expected.as_bytes(),
+        }
+    }
+}
+
 /// How many records an example has; none where it prints something else than what is expected, or its records are not judged as
 /// they should be.
-fn records_as_expected<R: Runtime + AllocGlobal>(rt: &R, name: &str) -> io::Result<Option<usize>> {
-    let alloc = rt.alloc();
-    let fed = fs::read_to_string(rt, "text-f.fed")?;
-    let script_name = format!(in alloc; "{name}.script")?;
-    let script = fs::read_to_string(rt, script_name.as_str())?;
-    let expected_name = format!(in alloc; "{name}.expected")?;
-    let expected = fs::read_to_string(rt, expected_name.as_str())?;
+fn records_as_expected(alloc: Global, example: Example) -> Option<usize> {
     let mut transcript = Vec::new(alloc);
     match play(
         alloc,
-        fed.as_bytes(),
-        script.as_bytes(),
+        example.fed,
+        example.script,
         &mut Watched::new(&mut transcript),
     ) {
-        Ok(records) if transcript.as_slice() == expected.as_bytes() => {
+        Ok(records) if transcript.as_slice() == example.expected => {
             let mut records = records.into_vec();
             match are_judged(alloc, &mut records) {
-                Ok(true) => Ok(Some(records.len())),
-                _ => Ok(None),
+                Ok(true) => Some(records.len()),
+                _ => None,
             }
         }
+        _ => None,
+    }
+}
+
+/// How many records an example has; none where something is not as it should be, without a lock or behind one.
+fn records_both_ways<R: Runtime + AllocGlobal + Wait>(
+    rt: &R,
+    name: &str,
+) -> io::Result<Option<usize>> {
+    let alloc = rt.alloc();
+    let files = Files::read(rt, name)?;
+    match records_as_expected(alloc, files.example()) {
+        Some(count) if is_same_behind_the_lock(rt, alloc, files.example(), count) => Ok(Some(
+            count,
+        )),
         _ => Ok(None),
     }
 }
 
 /// Plays all of them, and says of each whether it is as expected, and how many records it has.
-fn play_all<R: Runtime + AllocGlobal>(rt: &R) -> io::Result<bool> {
+fn play_all<R: Runtime + AllocGlobal + Wait>(rt: &R) -> io::Result<bool> {
     let mut are_all = true;
     for name in NAMES.iter() {
-        match records_as_expected(rt, name)? {
+        match records_both_ways(rt, name)? {
             Some(count) => println!(rt; "{name} ok {count}")?,
             None => {
                 are_all = false;
@@ -109,9 +169,24 @@ fn play_all<R: Runtime + AllocGlobal>(rt: &R) -> io::Result<bool> {
     Ok(are_all)
 }
 
+/// Runs some of them on threads, and says of each whether it ends as it should.
+fn run_some<R: Runtime + AllocGlobal + Threads + Wait + Sync>(rt: &R) -> io::Result<bool> {
+    let mut are_all = true;
+    for name in ON_THREADS.iter() {
+        let files = Files::read(rt, name)?;
+        if is_run_on_threads(rt, rt.alloc(), files.example()) {
+            println!(rt; "{name} on threads ok")?;
+        } else {
+            are_all = false;
+            println!(rt; "{name} on threads differs")?;
+        }
+    }
+    Ok(are_all)
+}
+
 fn main(rt: HostRuntime) -> ExitCode {
-    match play_all(&rt) {
-        Ok(true) => ExitCode::SUCCESS,
+    match (play_all(&rt), run_some(&rt)) {
+        (Ok(true), Ok(true)) => ExitCode::SUCCESS,
         _ => ExitCode::from(DIFFERS),
     }
 }

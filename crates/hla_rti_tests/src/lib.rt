@@ -4,3 +4,5 @@
 
 #[cfg(test)]
 mod runs;
+#[cfg(test)]
+mod threads;

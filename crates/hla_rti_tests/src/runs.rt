@@ -11,7 +11,7 @@ use std::sync::Wait;
 use std::sync::ledger::{Blank, Ledger};
 use std::test::Fail;
 
-const FED: &[u8] = b"(FED
+pub const FED: &[u8] = b"(FED
  (Federation Demo)
  (FEDversion v1.3)
  (spaces)
@@ -23,7 +23,7 @@ const FED: &[u8] = b"(FED
 ";
 
 /// A federate that joined; it must not be refused.
-fn joined<L: Ledger>(
+pub fn joined<L: Ledger>(
     rt: &(impl Wait + Abort),
     rti: &mut Rti<L, Recorder>,
     name: List<u8>,
@@ -39,14 +39,14 @@ fn joined<L: Ledger>(
 }
 
 /// A name of one letter.
-fn letter(alloc: Global, letter: u8) -> Result<List<u8>, Fail> {
+pub fn letter(alloc: Global, letter: u8) -> Result<List<u8>, Fail> {
     let mut name = List::new(alloc);
     name.push(letter)?;
     Ok(name)
 }
 
 /// The records of a run whose callers have all come back.
-fn closed<L: Ledger>(
+pub fn closed<L: Ledger>(
     rt: &(impl Wait + Abort),
     rti: Rti<L, Recorder>,
     lefts: Vec<Left<L, Recorder>>,
@@ -125,7 +125,8 @@ fn failing_ambassador_at_a_brand(rt: HostRuntime) -> Result<(), Fail> {
     failing_ambassador::<Brand>(&rt, rt.alloc(), Blank::new(2049))
 }
 
-/// A creation from a FED file that is refused answers ErrorReadingFED, and is recorded.
+/// A creation from the text of a FED file that is cut off answers ErrorReadingFED, is recorded and has changed nothing: the
+/// execution is created from the whole text afterwards.
 fn refused_fed_file<L: Ledger>(
     rt: &(impl Wait + Abort),
     alloc: Global,
@@ -137,9 +138,19 @@ fn refused_fed_file<L: Ledger>(
 {
     let play = ExecutionName::new(b"play")?;
     let mut rti = Rti::<L, Recorder>::new(alloc, blank, 100)?;
-    assert!(rt; rti.create(rt, play, b"(FED") == Err(Fault::ErrorReadingFED));
+    let Some(cut_off) = FED.strip_suffix(b")\n") else {
+        panic!(rt; "no last parenthesis");
+    };
+    assert!(rt; rti.create(rt, play, cut_off) == Err(Fault::ErrorReadingFED));
+    assert_eq!(rt; Fault::ErrorReadingFED.number(), 4);
     assert!(rt; rti.destroy(rt, play) == Err(Fault::FederationExecutionDoesNotExist));
-    assert_eq!(rt; closed(rt, rti, Vec::new(alloc)).records().len(), 2);
+    assert!(rt; rti.create(rt, play, FED) == Ok(()));
+    let closed = closed(rt, rti, Vec::new(alloc));
+    assert_eq!(rt; closed.records().len(), 3);
+    match closed.records().first() {
+        Some(record) => assert!(rt; record.outcome == Outcome::Refused(Fault::ErrorReadingFED)),
+        None => panic!(rt; "no record"),
+    }
     Ok(())
 }
 

@@ -1,0 +1,200 @@
+//! Tests of callers that are each on a thread of its own.
+
+ghost use Rattle.std.specs.Prelude.{◌≡◌};
+
+use crate::runs::{FED, closed, joined, letter};
+use hla_base::{ExecutionName, Fault, Ticks};
+use hla_callbacks::{Callback, Recorder};
+use hla_rti::{Courier, Federate, Rti};
+use std::alloc::Global;
+use std::marker::Brand;
+use std::process::Abort;
+use std::sync::Wait;
+use std::sync::ledger::{Blank, Ledger};
+use std::test::Fail;
+use std::thread::{self, Threads};
+
+/// The last time that each federate asks for, in ticks.
+const LAST: Ticks = 100;
+
+/// How often a federate ticks at most until it is granted a time: so the test fails rather than hangs.
+const MAX_TURNS: u32 = 10_000;
+
+/// How often a thread lets others run after a tick that gave nothing: fewer records, and the history lasts.
+const PATIENCE: u32 = 32;
+
+/// How many records the history may hold.
+const HISTORY_LIMIT: usize = 262_144;
+
+/// A federate, and a courier of its own.
+#[derive(Drop)]
+struct Pair<L: Ledger> {
+    federate: Federate<L, Recorder>,
+    courier: Courier<L, Recorder>,
+}
+
+/// A pair that has come back from its thread, and why it stopped before the end, if it did.
+#[derive(Drop)]
+struct Returned<L: Ledger> {
+    pair: Pair<L>,
+    stop: Option<Stop>,
+}
+
+/// Why a federate stopped before the end.
+#[derive(Clone, Copy, Debug, PartialEq, Eq)]
+enum Stop {
+    /// A call answered this fault.
+    Refused(Fault),
+    /// A tick gave what was not asked for.
+    NotAsked,
+    /// The ticks gave no grant.
+    NoGrant,
+    /// It asked for the first time, and was granted or told the second.
+    AnotherTime(Ticks, Ticks),
+}
+
+impl From<Fault> for Stop {
+    fn from(fault: Fault) -> Stop {
+        Stop::Refused(fault)
+    }
+}
+
+/// What a tick gave to a federate that waits for a grant.
+#[derive(Clone, Copy, Debug, PartialEq, Eq)]
+enum Given {
+    Nothing,
+    Grant(Ticks),
+    Another,
+}
+
+/// What a tick's callback is to a federate that waits for a grant.
+fn given_by(callback: Option<Callback>) -> Given {
+    match callback {
+        None => Given::Nothing,
+        Some(Callback::TimeAdvanceGrant { time }) => Given::Grant(time),
+        Some(_) => Given::Another,
+    }
+}
+
+/// Has both federates announce, and carries the next message of each to the other.
+fn exchange<L: Ledger>(
+    rt: &impl Wait,
+    courier: &mut Courier<L, Recorder>,
+    play: ExecutionName,
+) -> Result<(), Fault> {
+    courier.announce(rt, play, 1)?;
+    courier.announce(rt, play, 2)?;
+    courier.carry(rt, play, 1, 2)?;
+    courier.carry(rt, play, 2, 1)?;
+    Ok(())
+}
+
+/// Lets others run.
+fn stand_back() {
+    for _ in 0..PATIENCE {
+        thread::yield_now();
+    }
+}
+
+/// Ticks until a time is granted: the time.
+fn granted<L: Ledger>(
+    rt: &impl Wait,
+    pair: &mut Pair<L>,
+    play: ExecutionName,
+) -> Result<Ticks, Stop> {
+    for _ in 0..MAX_TURNS {
+        match given_by(pair.federate.tick(rt)?) {
+            Given::Grant(time) => return Ok(time),
+            Given::Another => return Err(Stop::NotAsked),
+            Given::Nothing => {
+                exchange(rt, &mut pair.courier, play)?;
+                stand_back();
+            }
+        }
+    }
+    Err(Stop::NoGrant)
+}
+
+/// Whether the time is the one that was asked for.
+fn expect(asked: Ticks, time: Ticks) -> Result<(), Stop> {
+    if time == asked {
+        Ok(())
+    } else {
+        Err(Stop::AnotherTime(asked, time))
+    }
+}
+
+/// Asks for each time in turn, up to the last.
+fn advance<L: Ledger>(rt: &impl Wait, pair: &mut Pair<L>, play: ExecutionName) -> Result<(), Stop> {
+    for time in 1..=LAST {
+        pair.federate.time_advance_request(rt, time)?;
+        expect(time, granted(rt, pair, play)?)?;
+        expect(time, pair.federate.query_federate_time(rt)?)?;
+    }
+    Ok(())
+}
+
+/// What a pair does on its thread.
+fn live<L: Ledger>(rt: &impl Wait, mut pair: Pair<L>, play: ExecutionName) -> Returned<L> {
+    let stop = advance(rt, &mut pair, play).err();
+    Returned { pair, stop }
+}
+
+/// A federate that regulates from time 0 on, with lookahead 1, and a courier.
+fn regulating<L: Ledger>(
+    rt: &(impl Wait + Abort),
+    alloc: Global,
+    rti: &mut Rti<L, Recorder>,
+    name: u8,
+    play: ExecutionName,
+) -> Result<Pair<L>, Fail> {
+    let name = letter(alloc, name)?;
+    let mut federate = joined(rt, rti, name, play, Recorder::new(alloc));
+    assert!(rt; federate.enable_time_regulation(rt, 0, 1) == Ok(()));
+    assert!(rt; federate.tick(rt) == Ok(Some(Callback::TimeRegulationEnabled { time: 0 })));
+    let courier = rti.courier()?;
+    Ok(Pair { federate, courier })
+}
+
+/// Makes it constrained, too.
+fn constrain<L: Ledger>(rt: &(impl Wait + Abort), federate: &mut Federate<L, Recorder>) {
+    assert!(rt; federate.enable_time_constrained(rt) == Ok(()));
+    assert!(rt; federate.tick(rt) == Ok(Some(Callback::TimeConstrainedEnabled { time: 0 })));
+}
+
+/// Two federates that regulate and are constrained, each on a thread, are granted each time that they ask for.
+fn two_threads<L: Ledger + Send + Sync, R: Threads + Wait + Abort + Sync>(
+    rt: &R,
+    alloc: Global,
+    blank: Blank,
+) -> Result<(), Fail>
+    requires name { blank.name ≡ L.name }
+    requires parts { blank.parts ≡ L.parts }
+    requires all { blank.parts ≡ 2049 }
+{
+    let play = ExecutionName::new(b"play")?;
+    let mut rti = Rti::<L, Recorder>::new(alloc, blank, HISTORY_LIMIT)?;
+    assert!(rt; rti.create(rt, play, FED) == Ok(()));
+    let mut a = regulating(rt, alloc, &mut rti, b'A', play)?;
+    let mut b = regulating(rt, alloc, &mut rti, b'B', play)?;
+    exchange(rt, &mut a.courier, play)?;
+    constrain(rt, &mut a.federate);
+    constrain(rt, &mut b.federate);
+    let mut pairs = Vec::new(alloc);
+    pairs.push(a)?;
+    pairs.push(b)?;
+    let returned = thread::map_vec(rt, pairs, &|pair| live(rt, pair, play))?;
+    let mut lefts = Vec::new(alloc);
+    for Returned { pair, stop } in returned {
+        assert!(rt; stop == None);
+        lefts.push(pair.federate.leave())?;
+        lefts.push(pair.courier.leave())?;
+    }
+    let _ = closed(rt, rti, lefts);
+    Ok(())
+}
+
+#[test]
+fn two_threads_at_a_brand(rt: HostRuntime) -> Result<(), Fail> {
+    two_threads::<Brand, HostRuntime>(&rt, rt.alloc(), Blank::new(2049))
+}
