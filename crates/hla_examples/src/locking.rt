@@ -3,6 +3,7 @@
 ghost use Rattle.std.specs.Prelude.{◌≡◌};
 
 use hla_checker::check_run;
+use hla_monitor::{Naming, Opened};
 use hla_run::{OpenGate, run_in_order, run_scripts};
 use hla_script::Watched;
 use std::alloc::Global;
@@ -21,22 +22,25 @@ pub struct Example<'a> {
 
 /// Whether an example prints what is expected, line by line behind the lock that `blank` is for, and closes with so many
 /// records, which the checker takes.
-fn prints_expected<L: Ledger>(
-    rt: &impl Wait,
+fn prints_expected<L: Ledger + Naming, R: Wait>(
+    rt: &R,
     alloc: Global,
     blank: Blank,
+    opened: Opened,
     example: Example,
     records: usize,
 ) -> bool
     requires name { blank.name ≡ L.name }
     requires parts { blank.parts ≡ L.parts }
     requires all { blank.parts ≡ 2049 }
+    requires book { opened.seen.book ≡ L.book }
 {
     let mut transcript = Vec::new(alloc);
-    let ran = run_in_order::<L, &mut Vec<u8>>(
+    let ran = run_in_order::<L, R, &mut Vec<u8>>(
         rt,
         alloc,
         blank,
+        opened,
         example.fed,
         example.script,
         &mut Watched::new(&mut transcript),
@@ -53,31 +57,34 @@ fn prints_expected<L: Ledger>(
 
 /// Whether an example prints what is expected behind a lock, too, line by line, and closes with so many records, which the
 /// checker takes.
-pub fn is_same_behind_the_lock(
-    rt: &impl Wait,
+pub fn is_same_behind_the_lock<R: Wait>(
+    rt: &R,
     alloc: Global,
     example: Example,
     records: usize,
 ) -> bool {
-    prints_expected::<Brand>(rt, alloc, Blank::new(2049), example, records)
+    prints_expected::<Brand, R>(rt, alloc, Blank::new(2049), Opened::new(), example, records)
 }
 
 /// Whether a script ends on threads, behind the lock that `blank` is for, and closes with records that the checker takes.
-fn ends_on_threads<L: Ledger + Send + Sync, R: Threads + Wait + Sync>(
+fn ends_on_threads<L: Ledger + Naming + Send + Sync, R: Threads + Wait + Sync>(
     rt: &R,
     alloc: Global,
     blank: Blank,
+    opened: Opened,
     example: Example,
 ) -> bool
     requires name { blank.name ≡ L.name }
     requires parts { blank.parts ≡ L.parts }
     requires all { blank.parts ≡ 2049 }
+    requires book { opened.seen.book ≡ L.book }
 {
     let mut transcript = Vec::new(alloc);
     let ran = run_scripts::<L, OpenGate, R, &mut Vec<u8>>(
         rt,
         alloc,
         blank,
+        opened,
         example.fed,
         example.script,
         &OpenGate,
@@ -96,5 +103,5 @@ pub fn is_run_on_threads<R: Threads + Wait + Sync>(
     alloc: Global,
     example: Example,
 ) -> bool {
-    ends_on_threads::<Brand, R>(rt, alloc, Blank::new(2049), example)
+    ends_on_threads::<Brand, R>(rt, alloc, Blank::new(2049), Opened::new(), example)
 }

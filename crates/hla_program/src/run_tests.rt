@@ -3,7 +3,8 @@ ghost use Rattle.std.specs.Prelude.{◌≡◌, None};
 use crate::running::do_task;
 use crate::source::{Opener, System};
 use crate::task::Task;
-use crate::threads::Host;
+use crate::threads::Resources;
+use hla_monitor::Opened;
 use hla_script::Watched;
 use std::alloc::Global;
 use std::io;
@@ -111,9 +112,13 @@ fn status_of<R: Threads + Wait + Sync, O: Opener, W: Write, E: Write>(
     out: &mut Watched<W>,
     errors: &mut Watched<E>,
 ) -> u8 {
-    let blank = Blank::new(2049);
-    let host = Host { rt, alloc, blank };
-    do_task::<Brand, R, O, W, E>(host, opener, task, out, errors)
+    let resources = Resources {
+        rt,
+        alloc,
+        blank: Blank::new(2049),
+        opened: Opened::new(),
+    };
+    do_task::<Brand, R, O, W, E>(resources, opener, task, out, errors)
 }
 
 /// The status of a task on these files, and what is on the standard output and on the standard error.

@@ -7,6 +7,7 @@ ghost use Rattle.hla_program.specs.Program.{EndsJudging, EndsRunning};
 use crate::finding::{finding_of, tell_finding};
 use crate::telling::{tell_out_of_memory, tell_run_stop};
 use hla_machine::Record;
+use hla_monitor::{Naming, Opened};
 use hla_run::{OpenGate, run_scripts};
 use hla_script::Watched;
 use std::alloc::Global;
@@ -15,13 +16,14 @@ use std::sync::Wait;
 use std::sync::ledger::{Blank, Ledger};
 use std::thread::Threads;
 
-/// What a task takes of the run of the program beside its files: what starts threads, memory, and a ledger of 2,049 parts for
-/// the infrastructure that a script runs behind. A task that runs none leaves the ledger as it is.
+/// What a task takes of the run of the program beside its files: what starts threads, memory, and for the infrastructure that a
+/// script runs behind a ledger of 2,049 parts and an empty history. A task that runs none leaves these as they are.
 #[derive(Drop)]
-pub struct Host<'a, R> {
+pub struct Resources<'a, R> {
     pub rt: &'a R,
     pub alloc: Global,
     pub blank: Blank,
+    pub opened: Opened,
 }
 
 /// Has records judged by the central machine, writes its line, and answers the status; or else says that a write failed or that
@@ -47,22 +49,28 @@ fn judge<W: Write, E: Write>(
 /// nothing on `errors`. 3: `differs K` is there instead, for the first record that is no step of it, counted from 0; or one
 /// line on `errors` says that a caller's transcript is not its records of the history. 1 with one line on `errors` for the
 /// first fault of the FED file, or else for that of the script, with nothing on `out`, and for want of memory and a failed write.
-pub(crate) fn run_bytes<L: Ledger + Send + Sync, R: Threads + Wait + Sync, W: Write, E: Write>(
-    host: Host<'_, R>,
+pub(crate) fn run_bytes<L: Ledger + Naming + Send + Sync, R: Threads + Wait + Sync, W: Write, E: Write>(
+    resources: Resources<'_, R>,
     fed: &[u8],
     script: &[u8],
     out: &mut Watched<W>,
     errors: &mut Watched<E>,
 ) -> u8
-    requires name { host.blank.name ≡ L.name }
-    requires parts { host.blank.parts ≡ L.parts }
-    requires all { host.blank.parts ≡ 2049 }
+    requires name { resources.blank.name ≡ L.name }
+    requires parts { resources.blank.parts ≡ L.parts }
+    requires all { resources.blank.parts ≡ 2049 }
+    requires book { resources.opened.seen.book ≡ L.book }
     ensures { EndsRunning fed.now script.now
         (stream_of W.contents out.old) (stream_of W.contents out.new)
         (stream_of E.contents errors.old) (stream_of E.contents errors.new) result }
 {
-    let Host { rt, alloc, blank } = host;
-    let ran = run_scripts::<L, OpenGate, R, W>(rt, alloc, blank, fed, script, &OpenGate, out);
+    let Resources {
+        rt,
+        alloc,
+        blank,
+        opened,
+    } = resources;
+    let ran = run_scripts::<L, OpenGate, R, W>(rt, alloc, blank, opened, fed, script, &OpenGate, out);
     let closed = match ran {
         Ok(closed) => closed,
         Err(fault) => return tell_run_stop(alloc, errors, fault),

@@ -5,7 +5,8 @@ ghost use Rattle.std.specs.Prelude.{◌≡◌};
 use crate::runs::{FED, closed, joined, letter};
 use hla_base::{ExecutionName, Fault, Ticks};
 use hla_callbacks::{Callback, Recorder};
-use hla_rti::{Courier, Federate, Rti};
+use hla_monitor::{Naming, Opened, Publisher};
+use hla_rti::{Courier, Federate, Rti, open_rti};
 use std::alloc::Global;
 use std::marker::Brand;
 use std::process::Abort;
@@ -28,15 +29,15 @@ const HISTORY_LIMIT: usize = 262_144;
 
 /// A federate, and a courier of its own.
 #[derive(Drop)]
-struct Pair<L: Ledger> {
-    federate: Federate<L, Recorder>,
-    courier: Courier<L, Recorder>,
+struct Pair<L: Ledger + Naming, W: Publisher<L>> {
+    federate: Federate<L, Recorder, W>,
+    courier: Courier<L, Recorder, W>,
 }
 
 /// A pair that has come back from its thread, and why it stopped before the end, if it did.
 #[derive(Drop)]
-struct Returned<L: Ledger> {
-    pair: Pair<L>,
+struct Returned<L: Ledger + Naming, W: Publisher<L>> {
+    pair: Pair<L, W>,
     stop: Option<Stop>,
 }
 
@@ -77,9 +78,9 @@ fn given_by(callback: Option<Callback>) -> Given {
 }
 
 /// Has both federates announce, and carries the next message of each to the other.
-fn exchange<L: Ledger>(
+fn exchange<L: Ledger + Naming, W: Publisher<L>>(
     rt: &impl Wait,
-    courier: &mut Courier<L, Recorder>,
+    courier: &mut Courier<L, Recorder, W>,
     play: ExecutionName,
 ) -> Result<(), Fault> {
     courier.announce(rt, play, 1)?;
@@ -97,9 +98,9 @@ fn stand_back() {
 }
 
 /// Ticks until a time is granted: the time.
-fn granted<L: Ledger>(
+fn granted<L: Ledger + Naming, W: Publisher<L>>(
     rt: &impl Wait,
-    pair: &mut Pair<L>,
+    pair: &mut Pair<L, W>,
     play: ExecutionName,
 ) -> Result<Ticks, Stop> {
     for _ in 0..MAX_TURNS {
@@ -125,7 +126,7 @@ fn expect(asked: Ticks, time: Ticks) -> Result<(), Stop> {
 }
 
 /// Asks for each time in turn, up to the last.
-fn advance<L: Ledger>(rt: &impl Wait, pair: &mut Pair<L>, play: ExecutionName) -> Result<(), Stop> {
+fn advance<L: Ledger + Naming, W: Publisher<L>>(rt: &impl Wait, pair: &mut Pair<L, W>, play: ExecutionName) -> Result<(), Stop> {
     for time in 1..=LAST {
         pair.federate.time_advance_request(rt, time)?;
         expect(time, granted(rt, pair, play)?)?;
@@ -135,19 +136,19 @@ fn advance<L: Ledger>(rt: &impl Wait, pair: &mut Pair<L>, play: ExecutionName) -
 }
 
 /// What a pair does on its thread.
-fn live<L: Ledger>(rt: &impl Wait, mut pair: Pair<L>, play: ExecutionName) -> Returned<L> {
+fn live<L: Ledger + Naming, W: Publisher<L>>(rt: &impl Wait, mut pair: Pair<L, W>, play: ExecutionName) -> Returned<L, W> {
     let stop = advance(rt, &mut pair, play).err();
     Returned { pair, stop }
 }
 
 /// A federate that regulates from time 0 on, with lookahead 1, and a courier.
-fn regulating<L: Ledger>(
+fn regulating<L: Ledger + Naming, W: Publisher<L>>(
     rt: &(impl Wait + Abort),
     alloc: Global,
-    rti: &mut Rti<L, Recorder>,
+    rti: &mut Rti<L, Recorder, W>,
     name: u8,
     play: ExecutionName,
-) -> Result<Pair<L>, Fail> {
+) -> Result<Pair<L, W>, Fail> {
     let name = letter(alloc, name)?;
     let mut federate = joined(rt, rti, name, play, Recorder::new(alloc));
     assert!(rt; federate.enable_time_regulation(rt, 0, 1) == Ok(()));
@@ -157,23 +158,25 @@ fn regulating<L: Ledger>(
 }
 
 /// Makes it constrained, too.
-fn constrain<L: Ledger>(rt: &(impl Wait + Abort), federate: &mut Federate<L, Recorder>) {
+fn constrain<L: Ledger + Naming, W: Publisher<L>>(rt: &(impl Wait + Abort), federate: &mut Federate<L, Recorder, W>) {
     assert!(rt; federate.enable_time_constrained(rt) == Ok(()));
     assert!(rt; federate.tick(rt) == Ok(Some(Callback::TimeConstrainedEnabled { time: 0 })));
 }
 
 /// Two federates that regulate and are constrained, each on a thread, are granted each time that they ask for.
-fn two_threads<L: Ledger + Send + Sync, R: Threads + Wait + Abort + Sync>(
+fn two_threads<L: Ledger + Naming + Send + Sync, R: Threads + Wait + Abort + Sync>(
     rt: &R,
     alloc: Global,
     blank: Blank,
+    opened: Opened,
 ) -> Result<(), Fail>
     requires name { blank.name ≡ L.name }
     requires parts { blank.parts ≡ L.parts }
     requires all { blank.parts ≡ 2049 }
+    requires book { opened.seen.book ≡ L.book }
 {
     let play = ExecutionName::new(b"play")?;
-    let mut rti = Rti::<L, Recorder>::new(alloc, blank, HISTORY_LIMIT)?;
+    let mut rti = open_rti::<L, Recorder, &R>(alloc, rt, blank, opened, HISTORY_LIMIT)?;
     assert!(rt; rti.create(rt, play, FED) == Ok(()));
     let mut a = regulating(rt, alloc, &mut rti, b'A', play)?;
     let mut b = regulating(rt, alloc, &mut rti, b'B', play)?;
@@ -196,5 +199,5 @@ fn two_threads<L: Ledger + Send + Sync, R: Threads + Wait + Abort + Sync>(
 
 #[test]
 fn two_threads_at_a_brand(rt: HostRuntime) -> Result<(), Fail> {
-    two_threads::<Brand, HostRuntime>(&rt, rt.alloc(), Blank::new(2049))
+    two_threads::<Brand, HostRuntime>(&rt, rt.alloc(), Blank::new(2049), Opened::new())
 }

@@ -18,6 +18,9 @@ use std::thread;
 /// How often a line that ticks does so at most until a callback comes.
 const MAX_TICKS: u32 = 1_000;
 
+/// How often a thread gives its turn away after a tick with nothing: the others get on meanwhile, and the history lasts.
+const PATIENCE: u32 = 32;
+
 /// What all threads of a run share.
 #[derive(Drop)]
 pub struct Stage<'a, G: Gate> {
@@ -73,6 +76,13 @@ fn exchange<L: Ledger + Naming, P: Publisher<L>>(
     }
 }
 
+/// Gives the thread's turn away.
+fn stand_back() {
+    for _ in 0..PATIENCE {
+        thread::yield_now();
+    }
+}
+
 /// Ticks until a callback comes or a tick is refused, at most `MAX_TICKS` times. After a tick with nothing the federates
 /// exchange what they have for each other, and the other threads have their turn.
 fn called_back<L: Ledger + Naming, P: Publisher<L>>(
@@ -86,7 +96,7 @@ fn called_back<L: Ledger + Naming, P: Publisher<L>>(
         match outcome_of_tick(federate.tick(rt)) {
             Outcome::Done(Answer::Ticked(None)) => {
                 exchange(rt, courier, execution, joined);
-                thread::yield_now();
+                stand_back();
             }
             ended => return ended,
         }

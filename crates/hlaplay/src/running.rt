@@ -7,7 +7,8 @@ ghost use Rattle.hlaplay.specs.Run.{EndsMisuse, EndsRun};
 
 use crate::words::{WordsFault, parse};
 use clap::Error;
-use hla_program::{Host, Opener, do_task, tell, tell_out_of_memory};
+use hla_monitor::Naming;
+use hla_program::{Resources, Opener, do_task, tell, tell_out_of_memory};
 use hla_transcript::Watched;
 use std::alloc::Global;
 use std::io::Write;
@@ -34,23 +35,24 @@ fn tell_refusal<E: Write>(alloc: Global, errors: &mut Watched<E>, error: Error) 
 /// Does what the words of the command line ask for, the program's name in front, as `do_task` does it. Words of a plain form are
 /// always done. Where others ask for nothing that there is, or for help, the status is 2, with a text on `errors` and nothing on
 /// `out`.
-pub fn do_words<L: Ledger + Send + Sync, R: Threads + Wait + Sync, O: Opener, W: Write, E: Write>(
-    host: Host<'_, R>,
+pub fn do_words<L: Ledger + Naming + Send + Sync, R: Threads + Wait + Sync, O: Opener, W: Write, E: Write>(
+    resources: Resources<'_, R>,
     opener: &O,
     words: &[&str],
     out: &mut Watched<W>,
     errors: &mut Watched<E>,
 ) -> u8
-    requires name { host.blank.name ≡ L.name }
-    requires parts { host.blank.parts ≡ L.parts }
-    requires all { host.blank.parts ≡ 2049 }
+    requires name { resources.blank.name ≡ L.name }
+    requires parts { resources.blank.parts ≡ L.parts }
+    requires all { resources.blank.parts ≡ 2049 }
+    requires book { resources.opened.seen.book ≡ L.book }
     ensures { EndsRun (texts words.now) (O.bytes_of opener.now)
         (stream_of W.contents out.old) (stream_of W.contents out.new)
         (stream_of E.contents errors.old) (stream_of E.contents errors.new) result }
 {
-    let alloc = host.alloc;
+    let alloc = resources.alloc;
     match parse(alloc, words) {
-        Ok(task) => do_task::<L, R, O, W, E>(host, opener, task, out, errors),
+        Ok(task) => do_task::<L, R, O, W, E>(resources, opener, task, out, errors),
         Err(WordsFault::Refused(error)) => tell_refusal(alloc, errors, error),
         Err(WordsFault::Memory) => tell_out_of_memory(errors),
     }
