@@ -3,4 +3,6 @@
 #![tactic(auto)]
 
 #[cfg(test)]
+mod monitor;
+#[cfg(test)]
 mod runs;
