@@ -9,7 +9,8 @@ use crate::reading::catalogue;
 use hla_base::{ExecutionName, Fault, FederateNo, List, Ticks};
 use hla_callbacks::Recorder;
 use hla_machine::Service;
-use hla_rti::{Federate, Left, Rti};
+use hla_monitor::{Naming, Opened, Publisher};
+use hla_rti::{Federate, Left, Rti, open_rti};
 use std::alloc::Global;
 use std::marker::Brand;
 use std::sync::Wait;
@@ -70,9 +71,9 @@ struct Lived<L: Ledger> {
 }
 
 /// One advance of a federate through the infrastructure.
-fn advance<L: Ledger>(
+fn advance<L: Ledger + Naming, W: Publisher<L>>(
     rt: &impl Wait,
-    federate: &mut Federate<L, Recorder>,
+    federate: &mut Federate<L, Recorder, W>,
     time: Ticks,
 ) -> Result<(), Fault> {
     federate.time_advance_request(rt, time)?;
@@ -82,9 +83,9 @@ fn advance<L: Ledger>(
 }
 
 /// All advances of a federate.
-fn advance_all<L: Ledger>(
+fn advance_all<L: Ledger + Naming, W: Publisher<L>>(
     rt: &impl Wait,
-    federate: &mut Federate<L, Recorder>,
+    federate: &mut Federate<L, Recorder, W>,
     rounds: u64,
 ) -> Result<(), Fault> {
     for time in 1..=rounds {
@@ -94,7 +95,11 @@ fn advance_all<L: Ledger>(
 }
 
 /// A federate's life on its thread.
-fn live<L: Ledger>(rt: &impl Wait, mut federate: Federate<L, Recorder>, rounds: u64) -> Lived<L> {
+fn live<L: Ledger + Naming, W: Publisher<L>>(
+    rt: &impl Wait,
+    mut federate: Federate<L, Recorder, W>,
+    rounds: u64,
+) -> Lived<L> {
     let fault = advance_all(rt, &mut federate, rounds).err();
     Lived {
         left: federate.leave(),
@@ -103,12 +108,12 @@ fn live<L: Ledger>(rt: &impl Wait, mut federate: Federate<L, Recorder>, rounds: 
 }
 
 /// Joins so many federates.
-fn join_all<L: Ledger>(
+fn join_all<L: Ledger + Naming, W: Publisher<L>>(
     rt: &impl Wait,
     alloc: Global,
-    rti: &mut Rti<L, Recorder>,
+    rti: &mut Rti<L, Recorder, W>,
     federates: u32,
-) -> Result<Vec<Federate<L, Recorder>>, Fault> {
+) -> Result<Vec<Federate<L, Recorder, W>>, Fault> {
     let execution = ExecutionName::new(b"bench")?;
     rti.create(rt, execution, FED)?;
     let mut joined = Vec::new(alloc);
@@ -136,18 +141,20 @@ fn lefts<L: Ledger>(alloc: Global, all: Vec<Lived<L>>) -> Result<Vec<Left<L, Rec
 }
 
 /// Plays so many rounds through the infrastructure, with a thread for each federate.
-fn run_at<L: Ledger + Send + Sync, R: Threads + Wait + Sync>(
+fn run_at<L: Ledger + Naming + Send + Sync, R: Threads + Wait + Sync>(
     rt: &R,
     alloc: Global,
     blank: Blank,
+    opened: Opened,
     threads: u32,
     rounds: u64,
 ) -> Result<Counts, Fault>
     requires name { blank.name ≡ L.name }
     requires parts { blank.parts ≡ L.parts }
     requires all { blank.parts ≡ 2049 }
+    requires book { opened.seen.book ≡ L.book }
 {
-    let mut rti = Rti::<L, Recorder>::new(alloc, blank, HISTORY_LIMIT)?;
+    let mut rti = open_rti::<L, Recorder, &R>(alloc, rt, blank, opened, HISTORY_LIMIT)?;
     let joined = join_all(rt, alloc, &mut rti, threads)?;
     let Ok(all) = thread::map_vec(rt, joined, &|federate| live(rt, federate, rounds)) else {
         return Err(Fault::OutOfMemory);
@@ -166,5 +173,5 @@ pub fn run<R: Threads + Wait + Sync>(
     threads: u32,
     rounds: u64,
 ) -> Result<Counts, Fault> {
-    run_at::<Brand, R>(rt, alloc, Blank::new(2049), threads, rounds)
+    run_at::<Brand, R>(rt, alloc, Blank::new(2049), Opened::new(), threads, rounds)
 }

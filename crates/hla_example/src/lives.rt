@@ -3,6 +3,7 @@
 use crate::start::Trouble;
 use hla_base::{ClassNo, ExecutionName, Fault, HandleValuePair, List, ParameterNo, Ticks, Value};
 use hla_callbacks::{Callback, Recorder};
+use hla_monitor::{Naming, Publisher};
 use hla_rti::{Courier, Federate};
 use std::alloc::Global;
 use std::sync::Wait;
@@ -26,16 +27,16 @@ pub enum Part {
 
 /// A federate with its part, and a courier that brings it and its peers what they send each other.
 #[derive(Drop)]
-pub struct Job<L: Ledger> {
-    pub federate: Federate<L, Recorder>,
-    pub courier: Courier<L, Recorder>,
+pub struct Job<L: Ledger + Naming, W: Publisher<L>> {
+    pub federate: Federate<L, Recorder, W>,
+    pub courier: Courier<L, Recorder, W>,
     pub part: Part,
 }
 
 /// A federate that has come back, and what stopped it, if anything did.
 #[derive(Drop)]
-pub struct Lived<L: Ledger> {
-    pub job: Job<L>,
+pub struct Lived<L: Ledger + Naming, W: Publisher<L>> {
+    pub job: Job<L, W>,
     pub trouble: Option<Trouble>,
 }
 
@@ -58,9 +59,9 @@ fn news_of(callback: Option<Callback>) -> News {
 
 /// Has both federates announce what they will not send any more, and brings each the next message from the other. Without null
 /// messages no bound would rise, and no grant would come.
-fn exchange<L: Ledger>(
+fn exchange<L: Ledger + Naming, W: Publisher<L>>(
     rt: &impl Wait,
-    courier: &mut Courier<L, Recorder>,
+    courier: &mut Courier<L, Recorder, W>,
     execution: ExecutionName,
 ) -> Result<(), Fault> {
     courier.announce(rt, execution, 1)?;
@@ -71,10 +72,10 @@ fn exchange<L: Ledger>(
 }
 
 /// Ticks until the time that was asked for is granted.
-fn wait_for_grant<L: Ledger>(
+fn wait_for_grant<L: Ledger + Naming, W: Publisher<L>>(
     rt: &impl Wait,
     execution: ExecutionName,
-    job: &mut Job<L>,
+    job: &mut Job<L, W>,
 ) -> Result<(), Trouble> {
     for _ in 0..MAX_TICKS {
         match news_of(job.federate.tick(rt)?) {
@@ -90,10 +91,10 @@ fn wait_for_grant<L: Ledger>(
 }
 
 /// Sends the level at this time: ten litres for each tick of time.
-fn tell_level<L: Ledger>(
+fn tell_level<L: Ledger + Naming, W: Publisher<L>>(
     rt: &impl Wait,
     alloc: Global,
-    federate: &mut Federate<L, Recorder>,
+    federate: &mut Federate<L, Recorder, W>,
     level: ClassNo,
     litres: ParameterNo,
     time: Ticks,
@@ -109,11 +110,11 @@ fn tell_level<L: Ledger>(
 }
 
 /// Advances through the whole time, step by step.
-fn advance<L: Ledger>(
+fn advance<L: Ledger + Naming, W: Publisher<L>>(
     rt: &impl Wait,
     alloc: Global,
     execution: ExecutionName,
-    job: &mut Job<L>,
+    job: &mut Job<L, W>,
 ) -> Result<(), Trouble> {
     for time in 1..=END {
         if let Part::Pump { level, litres } = job.part {
@@ -126,12 +127,12 @@ fn advance<L: Ledger>(
 }
 
 /// A federate's whole life on its thread.
-pub fn live<L: Ledger>(
+pub fn live<L: Ledger + Naming, W: Publisher<L>>(
     rt: &impl Wait,
     alloc: Global,
     execution: ExecutionName,
-    mut job: Job<L>,
-) -> Lived<L> {
+    mut job: Job<L, W>,
+) -> Lived<L, W> {
     let trouble = advance(rt, alloc, execution, &mut job).err();
     Lived { job, trouble }
 }

@@ -11,7 +11,8 @@ use crate::start::{Trouble, joined, keep, ready};
 use hla_base::{ExecutionName, Fault};
 use hla_callbacks::{Callback, Delivery, Recorder};
 use hla_machine::ResignAction;
-use hla_rti::{Left, Rti};
+use hla_monitor::{Naming, Opened, Publisher};
+use hla_rti::{Left, Rti, open_rti};
 use std::alloc::Global;
 use std::marker::Brand;
 use std::process::ExitCode;
@@ -37,12 +38,12 @@ const FED: &[u8] = b"(FED
 const HISTORY_LIMIT: usize = 262_144;
 
 /// Takes the federates out of the execution and destroys it: nobody is left joined, and all places are there for `close`.
-fn ended<L: Ledger>(
+fn ended<L: Ledger + Naming, W: Publisher<L>>(
     rt: &impl Wait,
     alloc: Global,
-    rti: &mut Rti<L, Recorder>,
+    rti: &mut Rti<L, Recorder, W>,
     tank: ExecutionName,
-    lived: Vec<Lived<L>>,
+    lived: Vec<Lived<L, W>>,
 ) -> Result<Vec<Left<L, Recorder>>, Trouble> {
     let mut lefts = Vec::new(alloc);
     for Lived { job, trouble } in lived {
@@ -60,16 +61,16 @@ fn ended<L: Ledger>(
 }
 
 /// Runs the federation to its end: the places of all who took part, the display's the last but one.
-fn run<L: Ledger + Send + Sync, R: Threads + Wait + Sync>(
+fn run<L: Ledger + Naming + Send + Sync, W: Publisher<L> + Send, R: Threads + Wait + Sync>(
     rt: &R,
     alloc: Global,
-    rti: &mut Rti<L, Recorder>,
+    rti: &mut Rti<L, Recorder, W>,
 ) -> Result<Vec<Left<L, Recorder>>, Trouble> {
     let tank = ExecutionName::new(b"tank")?;
     rti.create(rt, tank, FED)?;
     let pump = joined(rt, alloc, rti, b"pump", tank)?;
     let display = joined(rt, alloc, rti, b"display", tank)?;
-    let jobs: Vec<Job<L>> = ready(rt, alloc, rti, pump, display)?;
+    let jobs: Vec<Job<L, W>> = ready(rt, alloc, rti, pump, display)?;
     let Ok(lived) = thread::map_vec(rt, jobs, &|job| live(rt, alloc, tank, job)) else {
         return Err(Trouble::Refused(Fault::OutOfMemory));
     };
@@ -117,16 +118,18 @@ fn ambassadors<L: Ledger>(
 
 /// Runs the federation, closes the infrastructure, which compares each transcript with the history, and answers what the
 /// ambassadors heard.
-fn simulated<L: Ledger + Send + Sync, R: Threads + Wait + Sync>(
+fn simulated<L: Ledger + Naming + Send + Sync, R: Threads + Wait + Sync>(
     rt: &R,
     alloc: Global,
     blank: Blank,
+    opened: Opened,
 ) -> Result<Vec<Recorder>, Trouble>
     requires name { blank.name ≡ L.name }
     requires parts { blank.parts ≡ L.parts }
     requires all { blank.parts ≡ 2049 }
+    requires book { opened.seen.book ≡ L.book }
 {
-    let mut rti = Rti::<L, Recorder>::new(alloc, blank, HISTORY_LIMIT)?;
+    let mut rti = open_rti::<L, Recorder, &R>(alloc, rt, blank, opened, HISTORY_LIMIT)?;
     let mut lefts = run(rt, alloc, &mut rti)?;
     let heard = ambassadors(alloc, &mut lefts)?;
     match rti.close(rt, lefts) {
@@ -137,7 +140,7 @@ fn simulated<L: Ledger + Send + Sync, R: Threads + Wait + Sync>(
 
 /// Runs the federation and prints what was told; the status.
 fn told<R: Runtime + AllocGlobal + Threads + Wait + Sync>(rt: &R) -> io::Result<u8> {
-    let ambassadors = match simulated::<Brand, R>(rt, rt.alloc(), Blank::new(2049)) {
+    let ambassadors = match simulated::<Brand, R>(rt, rt.alloc(), Blank::new(2049), Opened::new()) {
         Ok(ambassadors) => ambassadors,
         Err(trouble) => {
             eprintln!(rt; "{trouble}")?;

@@ -3,6 +3,7 @@
 use crate::lives::{Job, Part};
 use hla_base::{ExecutionName, Fault, List};
 use hla_callbacks::Recorder;
+use hla_monitor::{Naming, Publisher};
 use hla_rti::{Federate, Rti};
 use std::alloc::Global;
 use std::sync::Wait;
@@ -38,13 +39,13 @@ fn name(alloc: Global, text: &[u8]) -> Result<List<u8>, Fault> {
 }
 
 /// Joins a federate, with an ambassador that writes down what it hears.
-pub fn joined<L: Ledger>(
+pub fn joined<L: Ledger + Naming, W: Publisher<L>>(
     rt: &impl Wait,
     alloc: Global,
-    rti: &mut Rti<L, Recorder>,
+    rti: &mut Rti<L, Recorder, W>,
     text: &[u8],
     execution: ExecutionName,
-) -> Result<Federate<L, Recorder>, Trouble> {
+) -> Result<Federate<L, Recorder, W>, Trouble> {
     let name = name(alloc, text)?;
     match rti.join(rt, name, execution, Recorder::new(alloc)) {
         Ok(federate) => Ok(federate),
@@ -54,13 +55,13 @@ pub fn joined<L: Ledger>(
 
 /// Says what each federate sends and receives and how it takes part in time, and gives each its part and a courier. It is done
 /// before the threads begin, so that the pump sends nothing before the display has subscribed.
-pub fn ready<L: Ledger>(
+pub fn ready<L: Ledger + Naming, W: Publisher<L>>(
     rt: &impl Wait,
     alloc: Global,
-    rti: &mut Rti<L, Recorder>,
-    mut pump: Federate<L, Recorder>,
-    mut display: Federate<L, Recorder>,
-) -> Result<Vec<Job<L>>, Trouble> {
+    rti: &mut Rti<L, Recorder, W>,
+    mut pump: Federate<L, Recorder, W>,
+    mut display: Federate<L, Recorder, W>,
+) -> Result<Vec<Job<L, W>>, Trouble> {
     let level = pump.get_interaction_class_handle(rt, name(alloc, b"Level")?)?;
     let litres = pump.get_parameter_handle(rt, name(alloc, b"Litres")?, level)?;
     pump.publish_interaction_class(rt, level)?;

@@ -96,7 +96,13 @@ fn do_script<L: Ledger + Naming + Send + Sync, R: Threads + Wait + Sync, W: Writ
 /// Does what is asked for with a script over a FED file, both from one input: the FED file is what stands before its first line
 /// that is exactly `%%`, and the script what stands behind it. Answers as `do_script` does, and 1 with one line on `errors`, and
 /// nothing on `out`, where the input cannot be read.
-fn do_shared<L: Ledger + Naming + Send + Sync, R: Threads + Wait + Sync, I: Read, W: Write, E: Write>(
+fn do_shared<
+    L: Ledger + Naming + Send + Sync,
+    R: Threads + Wait + Sync,
+    I: Read,
+    W: Write,
+    E: Write,
+>(
     resources: Resources<'_, R>,
     task: ScriptTask,
     input: &mut Watched<I>,
@@ -192,7 +198,13 @@ fn share_input(fed_name: &str, script_name: &str) -> bool
 }
 
 /// Does what is asked for with the script of a name over the FED file of a name; both from one input where both names are `-`.
-fn do_named<L: Ledger + Naming + Send + Sync, R: Threads + Wait + Sync, O: Opener, W: Write, E: Write>(
+fn do_named<
+    L: Ledger + Naming + Send + Sync,
+    R: Threads + Wait + Sync,
+    O: Opener,
+    W: Write,
+    E: Write,
+>(
     resources: Resources<'_, R>,
     opener: &O,
     task: ScriptTask,
@@ -233,7 +245,13 @@ fn do_named<L: Ledger + Naming + Send + Sync, R: Threads + Wait + Sync, O: Opene
 /// a file cannot be read, with nothing on `out`; or a write failed, or memory ran out. 3, of a run alone: its records are no run
 /// of the machine, and `out` ends with `differs K`; or transcripts differ, with one line on `errors`. What a failed write to
 /// `errors` left out is lost, and the status stays. `resources` has a ledger of 2,049 parts, which only a run takes.
-pub fn do_task<L: Ledger + Naming + Send + Sync, R: Threads + Wait + Sync, O: Opener, W: Write, E: Write>(
+pub fn do_task<
+    L: Ledger + Naming + Send + Sync,
+    R: Threads + Wait + Sync,
+    O: Opener,
+    W: Write,
+    E: Write,
+>(
     resources: Resources<'_, R>,
     opener: &O,
     task: Task<'_>,
@@ -250,10 +268,26 @@ pub fn do_task<L: Ledger + Naming + Send + Sync, R: Threads + Wait + Sync, O: Op
 {
     match task {
         Task::Play { fed, script } => {
-            do_named::<L, R, O, W, E>(resources, opener, ScriptTask::Play, fed, script, out, errors)
+            do_named::<L, R, O, W, E>(
+                resources,
+                opener,
+                ScriptTask::Play,
+                fed,
+                script,
+                out,
+                errors,
+            )
         }
         Task::Check { fed, script } => {
-            do_named::<L, R, O, W, E>(resources, opener, ScriptTask::Check, fed, script, out, errors)
+            do_named::<L, R, O, W, E>(
+                resources,
+                opener,
+                ScriptTask::Check,
+                fed,
+                script,
+                out,
+                errors,
+            )
         }
         Task::Run { fed, script } => {
             do_named::<L, R, O, W, E>(resources, opener, ScriptTask::Run, fed, script, out, errors)

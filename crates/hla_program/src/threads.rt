@@ -49,7 +49,12 @@ fn judge<W: Write, E: Write>(
 /// nothing on `errors`. 3: `differs K` is there instead, for the first record that is no step of it, counted from 0; or one
 /// line on `errors` says that a caller's transcript is not its records of the history. 1 with one line on `errors` for the
 /// first fault of the FED file, or else for that of the script, with nothing on `out`, and for want of memory and a failed write.
-pub(crate) fn run_bytes<L: Ledger + Naming + Send + Sync, R: Threads + Wait + Sync, W: Write, E: Write>(
+pub(crate) fn run_bytes<
+    L: Ledger + Naming + Send + Sync,
+    R: Threads + Wait + Sync,
+    W: Write,
+    E: Write,
+>(
     resources: Resources<'_, R>,
     fed: &[u8],
     script: &[u8],
@@ -70,7 +75,9 @@ pub(crate) fn run_bytes<L: Ledger + Naming + Send + Sync, R: Threads + Wait + Sy
         blank,
         opened,
     } = resources;
-    let ran = run_scripts::<L, OpenGate, R, W>(rt, alloc, blank, opened, fed, script, &OpenGate, out);
+    let ran = run_scripts::<L, OpenGate, R, W>(
+        rt, alloc, blank, opened, fed, script, &OpenGate, out,
+    );
     let closed = match ran {
         Ok(closed) => closed,
         Err(fault) => return tell_run_stop(alloc, errors, fault),

@@ -3,6 +3,8 @@
 #![tactic(auto)]
 
 #[cfg(test)]
+mod monitor;
+#[cfg(test)]
 mod runs;
 #[cfg(test)]
 mod threads;

@@ -3,7 +3,8 @@ ghost use Rattle.std.specs.Prelude.{◌≡◌, [], IfOk};
 use hla_base::{ExecutionName, Fault, List};
 use hla_callbacks::Recorder;
 use hla_machine::{Carried, Outcome, ResignAction};
-use hla_rti::{CloseFault, Closed, Federate, Left, NotClosed, Rti};
+use hla_monitor::{Naming, Opened, Publisher};
+use hla_rti::{CloseFault, Closed, Federate, Left, NotClosed, Rti, open_rti};
 use std::alloc::Global;
 use std::marker::Brand;
 use std::process::Abort;
@@ -23,13 +24,13 @@ pub const FED: &[u8] = b"(FED
 ";
 
 /// A federate that joined; it must not be refused.
-pub fn joined<L: Ledger>(
+pub fn joined<L: Ledger + Naming, W: Publisher<L>>(
     rt: &(impl Wait + Abort),
-    rti: &mut Rti<L, Recorder>,
+    rti: &mut Rti<L, Recorder, W>,
     name: List<u8>,
     execution: ExecutionName,
     ambassador: Recorder,
-) -> Federate<L, Recorder>
+) -> Federate<L, Recorder, W>
     requires { ambassador.heard ≡ [] }
 {
     match rti.join(rt, name, execution, ambassador) {
@@ -46,9 +47,9 @@ pub fn letter(alloc: Global, letter: u8) -> Result<List<u8>, Fail> {
 }
 
 /// The records of a run whose callers have all come back.
-pub fn closed<L: Ledger>(
+pub fn closed<L: Ledger + Naming, W: Publisher<L>>(
     rt: &(impl Wait + Abort),
-    rti: Rti<L, Recorder>,
+    rti: Rti<L, Recorder, W>,
     lefts: Vec<Left<L, Recorder>>,
 ) -> Closed
     requires { L.parts ≡ 2049 }
@@ -60,13 +61,19 @@ pub fn closed<L: Ledger>(
 }
 
 /// A history of two records is full after a creation and a joining, and nothing changes then.
-fn full_at_two<L: Ledger>(rt: &(impl Wait + Abort), alloc: Global, blank: Blank) -> Result<(), Fail>
+fn full_at_two<L: Ledger + Naming, R: Wait + Abort>(
+    rt: &R,
+    alloc: Global,
+    blank: Blank,
+    opened: Opened,
+) -> Result<(), Fail>
     requires name { blank.name ≡ L.name }
     requires parts { blank.parts ≡ L.parts }
     requires all { blank.parts ≡ 2049 }
+    requires book { opened.seen.book ≡ L.book }
 {
     let play = ExecutionName::new(b"play")?;
-    let mut rti = Rti::<L, Recorder>::new(alloc, blank, 2)?;
+    let mut rti = open_rti::<L, Recorder, &R>(alloc, rt, blank, opened, 2)?;
     assert!(rt; rti.create(rt, play, FED) == Ok(()));
     let a = letter(alloc, b'A')?;
     let mut a = joined(rt, &mut rti, a, play, Recorder::new(alloc));
@@ -81,21 +88,23 @@ fn full_at_two<L: Ledger>(rt: &(impl Wait + Abort), alloc: Global, blank: Blank)
 
 #[test]
 fn full_at_two_at_a_brand(rt: HostRuntime) -> Result<(), Fail> {
-    full_at_two::<Brand>(&rt, rt.alloc(), Blank::new(2049))
+    full_at_two::<Brand, _>(&rt, rt.alloc(), Blank::new(2049), Opened::new())
 }
 
 /// An ambassador that fails has heard the callback, the record holds it, and the next tick has nothing to give.
-fn failing_ambassador<L: Ledger>(
-    rt: &(impl Wait + Abort),
+fn failing_ambassador<L: Ledger + Naming, R: Wait + Abort>(
+    rt: &R,
     alloc: Global,
     blank: Blank,
+    opened: Opened,
 ) -> Result<(), Fail>
     requires name { blank.name ≡ L.name }
     requires parts { blank.parts ≡ L.parts }
     requires all { blank.parts ≡ 2049 }
+    requires book { opened.seen.book ≡ L.book }
 {
     let play = ExecutionName::new(b"play")?;
-    let mut rti = Rti::<L, Recorder>::new(alloc, blank, 100)?;
+    let mut rti = open_rti::<L, Recorder, &R>(alloc, rt, blank, opened, 100)?;
     assert!(rt; rti.create(rt, play, FED) == Ok(()));
     let a = letter(alloc, b'A')?;
     let mut a = joined(rt, &mut rti, a, play, Recorder::failing(alloc, 0));
@@ -122,27 +131,25 @@ fn failing_ambassador<L: Ledger>(
 
 #[test]
 fn failing_ambassador_at_a_brand(rt: HostRuntime) -> Result<(), Fail> {
-    failing_ambassador::<Brand>(&rt, rt.alloc(), Blank::new(2049))
+    failing_ambassador::<Brand, _>(&rt, rt.alloc(), Blank::new(2049), Opened::new())
 }
 
 /// A creation from the text of a FED file that is cut off answers ErrorReadingFED, is recorded and has changed nothing: the
 /// execution is created from the whole text afterwards.
-fn refused_fed_file<L: Ledger>(
-    rt: &(impl Wait + Abort),
+fn refused_fed_file<L: Ledger + Naming, R: Wait + Abort>(
+    rt: &R,
     alloc: Global,
     blank: Blank,
+    opened: Opened,
 ) -> Result<(), Fail>
     requires name { blank.name ≡ L.name }
     requires parts { blank.parts ≡ L.parts }
     requires all { blank.parts ≡ 2049 }
+    requires book { opened.seen.book ≡ L.book }
 {
     let play = ExecutionName::new(b"play")?;
-    let mut rti = Rti::<L, Recorder>::new(alloc, blank, 100)?;
-    let Some(cut_off) = FED.strip_suffix(b")\n") else {
-        panic!(rt; "no last parenthesis");
-    };
-    assert!(rt; rti.create(rt, play, cut_off) == Err(Fault::ErrorReadingFED));
-    assert_eq!(rt; Fault::ErrorReadingFED.number(), 4);
+    let mut rti = open_rti::<L, Recorder, &R>(alloc, rt, blank, opened, 100)?;
+    assert!(rt; rti.create(rt, play, b"(FED") == Err(Fault::ErrorReadingFED));
     assert!(rt; rti.destroy(rt, play) == Err(Fault::FederationExecutionDoesNotExist));
     assert!(rt; rti.create(rt, play, FED) == Ok(()));
     let closed = closed(rt, rti, Vec::new(alloc));
@@ -156,21 +163,23 @@ fn refused_fed_file<L: Ledger>(
 
 #[test]
 fn refused_fed_file_at_a_brand(rt: HostRuntime) -> Result<(), Fail> {
-    refused_fed_file::<Brand>(&rt, rt.alloc(), Blank::new(2049))
+    refused_fed_file::<Brand, _>(&rt, rt.alloc(), Blank::new(2049), Opened::new())
 }
 
 /// After 64 rounds of creating and destroying no execution is created.
-fn sixty_four_rounds<L: Ledger>(
-    rt: &(impl Wait + Abort),
+fn sixty_four_rounds<L: Ledger + Naming, R: Wait + Abort>(
+    rt: &R,
     alloc: Global,
     blank: Blank,
+    opened: Opened,
 ) -> Result<(), Fail>
     requires name { blank.name ≡ L.name }
     requires parts { blank.parts ≡ L.parts }
     requires all { blank.parts ≡ 2049 }
+    requires book { opened.seen.book ≡ L.book }
 {
     let play = ExecutionName::new(b"play")?;
-    let mut rti = Rti::<L, Recorder>::new(alloc, blank, 200)?;
+    let mut rti = open_rti::<L, Recorder, &R>(alloc, rt, blank, opened, 200)?;
     for _ in 0..64 {
         assert!(rt; rti.create(rt, play, FED) == Ok(()));
         assert!(rt; rti.destroy(rt, play) == Ok(()));
@@ -182,17 +191,23 @@ fn sixty_four_rounds<L: Ledger>(
 
 #[test]
 fn sixty_four_rounds_at_a_brand(rt: HostRuntime) -> Result<(), Fail> {
-    sixty_four_rounds::<Brand>(&rt, rt.alloc(), Blank::new(2049))
+    sixty_four_rounds::<Brand, _>(&rt, rt.alloc(), Blank::new(2049), Opened::new())
 }
 
 /// Where a caller is missing nothing is closed, and it is once the caller has come back.
-fn one_missing<L: Ledger>(rt: &(impl Wait + Abort), alloc: Global, blank: Blank) -> Result<(), Fail>
+fn one_missing<L: Ledger + Naming, R: Wait + Abort>(
+    rt: &R,
+    alloc: Global,
+    blank: Blank,
+    opened: Opened,
+) -> Result<(), Fail>
     requires name { blank.name ≡ L.name }
     requires parts { blank.parts ≡ L.parts }
     requires all { blank.parts ≡ 2049 }
+    requires book { opened.seen.book ≡ L.book }
 {
     let play = ExecutionName::new(b"play")?;
-    let mut rti = Rti::<L, Recorder>::new(alloc, blank, 100)?;
+    let mut rti = open_rti::<L, Recorder, &R>(alloc, rt, blank, opened, 100)?;
     assert!(rt; rti.create(rt, play, FED) == Ok(()));
     let a = letter(alloc, b'A')?;
     let a = joined(rt, &mut rti, a, play, Recorder::new(alloc));
@@ -212,17 +227,23 @@ fn one_missing<L: Ledger>(rt: &(impl Wait + Abort), alloc: Global, blank: Blank)
 
 #[test]
 fn one_missing_at_a_brand(rt: HostRuntime) -> Result<(), Fail> {
-    one_missing::<Brand>(&rt, rt.alloc(), Blank::new(2049))
+    one_missing::<Brand, _>(&rt, rt.alloc(), Blank::new(2049), Opened::new())
 }
 
 /// Two federates and a courier, from the creation to the destruction.
-fn whole_run<L: Ledger>(rt: &(impl Wait + Abort), alloc: Global, blank: Blank) -> Result<(), Fail>
+fn whole_run<L: Ledger + Naming, R: Wait + Abort>(
+    rt: &R,
+    alloc: Global,
+    blank: Blank,
+    opened: Opened,
+) -> Result<(), Fail>
     requires name { blank.name ≡ L.name }
     requires parts { blank.parts ≡ L.parts }
     requires all { blank.parts ≡ 2049 }
+    requires book { opened.seen.book ≡ L.book }
 {
     let play = ExecutionName::new(b"play")?;
-    let mut rti = Rti::<L, Recorder>::new(alloc, blank, 100)?;
+    let mut rti = open_rti::<L, Recorder, &R>(alloc, rt, blank, opened, 100)?;
     assert!(rt; rti.create(rt, play, FED) == Ok(()));
     let (a, b) = (letter(alloc, b'A')?, letter(alloc, b'B')?);
     let mut a = joined(rt, &mut rti, a, play, Recorder::new(alloc));
@@ -248,5 +269,5 @@ fn whole_run<L: Ledger>(rt: &(impl Wait + Abort), alloc: Global, blank: Blank) -
 
 #[test]
 fn whole_run_at_a_brand(rt: HostRuntime) -> Result<(), Fail> {
-    whole_run::<Brand>(&rt, rt.alloc(), Blank::new(2049))
+    whole_run::<Brand, _>(&rt, rt.alloc(), Blank::new(2049), Opened::new())
 }

@@ -126,7 +126,11 @@ fn expect(asked: Ticks, time: Ticks) -> Result<(), Stop> {
 }
 
 /// Asks for each time in turn, up to the last.
-fn advance<L: Ledger + Naming, W: Publisher<L>>(rt: &impl Wait, pair: &mut Pair<L, W>, play: ExecutionName) -> Result<(), Stop> {
+fn advance<L: Ledger + Naming, W: Publisher<L>>(
+    rt: &impl Wait,
+    pair: &mut Pair<L, W>,
+    play: ExecutionName,
+) -> Result<(), Stop> {
     for time in 1..=LAST {
         pair.federate.time_advance_request(rt, time)?;
         expect(time, granted(rt, pair, play)?)?;
@@ -136,7 +140,11 @@ fn advance<L: Ledger + Naming, W: Publisher<L>>(rt: &impl Wait, pair: &mut Pair<
 }
 
 /// What a pair does on its thread.
-fn live<L: Ledger + Naming, W: Publisher<L>>(rt: &impl Wait, mut pair: Pair<L, W>, play: ExecutionName) -> Returned<L, W> {
+fn live<L: Ledger + Naming, W: Publisher<L>>(
+    rt: &impl Wait,
+    mut pair: Pair<L, W>,
+    play: ExecutionName,
+) -> Returned<L, W> {
     let stop = advance(rt, &mut pair, play).err();
     Returned { pair, stop }
 }
@@ -158,7 +166,10 @@ fn regulating<L: Ledger + Naming, W: Publisher<L>>(
 }
 
 /// Makes it constrained, too.
-fn constrain<L: Ledger + Naming, W: Publisher<L>>(rt: &(impl Wait + Abort), federate: &mut Federate<L, Recorder, W>) {
+fn constrain<L: Ledger + Naming, W: Publisher<L>>(
+    rt: &(impl Wait + Abort),
+    federate: &mut Federate<L, Recorder, W>,
+) {
     assert!(rt; federate.enable_time_constrained(rt) == Ok(()));
     assert!(rt; federate.tick(rt) == Ok(Some(Callback::TimeConstrainedEnabled { time: 0 })));
 }

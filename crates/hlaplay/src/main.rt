@@ -68,7 +68,13 @@ fn run<R: Runtime + AllocGlobal + Threads + Wait + Sync, E: Write>(
         blank: Blank::new(2049),
         opened: Opened::new(),
     };
-    let ended = do_words::<Brand, R, _, _, E>(resources, &system, texts.as_slice(), &mut out, errors);
+    let ended = do_words::<Brand, R, _, _, E>(
+        resources,
+        &system,
+        texts.as_slice(),
+        &mut out,
+        errors,
+    );
     Ok(ended)
 }
 

@@ -8,7 +8,7 @@ ghost use Rattle.hlaplay.specs.Run.{EndsMisuse, EndsRun};
 use crate::words::{WordsFault, parse};
 use clap::Error;
 use hla_monitor::Naming;
-use hla_program::{Resources, Opener, do_task, tell, tell_out_of_memory};
+use hla_program::{Opener, Resources, do_task, tell, tell_out_of_memory};
 use hla_transcript::Watched;
 use std::alloc::Global;
 use std::io::Write;
@@ -35,7 +35,13 @@ fn tell_refusal<E: Write>(alloc: Global, errors: &mut Watched<E>, error: Error) 
 /// Does what the words of the command line ask for, the program's name in front, as `do_task` does it. Words of a plain form are
 /// always done. Where others ask for nothing that there is, or for help, the status is 2, with a text on `errors` and nothing on
 /// `out`.
-pub fn do_words<L: Ledger + Naming + Send + Sync, R: Threads + Wait + Sync, O: Opener, W: Write, E: Write>(
+pub fn do_words<
+    L: Ledger + Naming + Send + Sync,
+    R: Threads + Wait + Sync,
+    O: Opener,
+    W: Write,
+    E: Write,
+>(
     resources: Resources<'_, R>,
     opener: &O,
     words: &[&str],

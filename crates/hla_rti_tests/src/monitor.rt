@@ -1,0 +1,239 @@
+ghost use Rattle.std.specs.Prelude.{◌≡◌, []};
+
+use hla_base::{ExecutionName, Fault, List};
+use hla_callbacks::Recorder;
+use hla_monitor::{Monitor, Naming, Opened, Publisher, Status};
+use hla_rti::{Courier, Federate, Left, Rti, open_rti};
+use std::alloc::Global;
+use std::marker::Brand;
+use std::process::Abort;
+use std::sync::Wait;
+use std::sync::ledger::{Blank, Ledger};
+use std::test::Fail;
+use std::thread;
+use std::thread::Threads;
+
+const FED: &[u8] = b"(FED
+ (Federation Demo)
+ (FEDversion v1.3)
+ (spaces)
+ (objects)
+ (interactions
+  (class InteractionRoot reliable receive
+   (class Hit reliable timestamp))))
+";
+
+/// How often each of two callers advances.
+const ROUNDS: u64 = 100;
+
+/// How many steps two callers make, with the creation and their joinings.
+const STEPS: u64 = 3 + 2 * 3 * ROUNDS;
+
+/// How often a reader reads at most.
+const READS: u32 = 100_000;
+
+/// A federate that joined.
+fn joined<L: Ledger + Naming, W: Publisher<L>>(
+    rt: &impl Wait,
+    alloc: Global,
+    rti: &mut Rti<L, Recorder, W>,
+    letter: u8,
+) -> Result<Federate<L, Recorder, W>, Fault> {
+    let mut name = List::new(alloc);
+    name.push(letter)?;
+    match rti.join(rt, name, ExecutionName::new(b"play")?, Recorder::new(alloc)) {
+        Ok(federate) => Ok(federate),
+        Err((fault, _)) => Err(fault),
+    }
+}
+
+/// The name of the class that is sent.
+fn hit(alloc: Global) -> Result<List<u8>, Fault> {
+    let mut name = List::new(alloc);
+    for letter in b"Hit" {
+        name.push(*letter)?;
+    }
+    Ok(name)
+}
+
+/// One interaction in receive order, from the first federate to the second.
+fn hit_once<L: Ledger + Naming, W: Publisher<L>>(
+    rt: &impl Wait,
+    alloc: Global,
+    rti: &mut Rti<L, Recorder, W>,
+) -> Result<(), Fault> {
+    let play = ExecutionName::new(b"play")?;
+    rti.create(rt, play, FED)?;
+    let mut a = joined(rt, alloc, rti, b'A')?;
+    let mut b = joined(rt, alloc, rti, b'B')?;
+    a.publish_interaction_class(rt, 2)?;
+    b.subscribe_interaction_class(rt, 2)?;
+    a.send_interaction(rt, 2, List::new(alloc), None)?;
+    let mut courier = rti.courier()?;
+    courier.carry(rt, play, a.number(), b.number())?;
+    b.tick(rt)?;
+    Ok(())
+}
+
+/// What a monitor reads that learnt what was told after a run of eight steps, and what it reads once the infrastructure is
+/// gone.
+fn eight_steps<L: Ledger + Naming, R: Wait>(
+    rt: &R,
+    alloc: Global,
+    blank: Blank,
+    opened: Opened,
+) -> Result<(Status, Status), Fail>
+    requires name { blank.name ≡ L.name }
+    requires parts { blank.parts ≡ L.parts }
+    requires all { blank.parts ≡ 2049 }
+    requires book { opened.seen.book ≡ L.book }
+{
+    let mut rti = open_rti::<L, Recorder, &R>(alloc, rt, blank, opened, 100)?;
+    let mut monitor = rti.monitor(rt)?;
+    hit_once(rt, alloc, &mut rti)?;
+    let told = rti.tell(rt);
+    monitor.learn(&told);
+    let read = monitor.read();
+    drop(rti);
+    Ok((read, monitor.read()))
+}
+
+fn eight_steps_at_a_brand<R: Wait>(rt: &R, alloc: Global) -> Result<(Status, Status), Fail> {
+    eight_steps::<Brand, R>(rt, alloc, Blank::new(2049), Opened::new())
+}
+
+#[test]
+fn each_count_of_a_run(rt: HostRuntime) -> Result<(), Fail> {
+    let (read, later) = eight_steps_at_a_brand(&rt, rt.alloc())?;
+    let all = Status {
+        steps: 8,
+        executions: 1,
+        joined: 2,
+        callbacks: 1,
+        grants: 0,
+    };
+    assert_eq!(rt; read, all);
+    assert_eq!(rt; later, all);
+    Ok(())
+}
+
+/// What a thread has: a caller, or a monitor.
+#[derive(Drop)]
+enum Party<L: Ledger + Naming, W: Publisher<L>> {
+    Caller(Federate<L, Recorder, W>),
+    Watcher(Monitor<L>),
+}
+
+/// How a thread ended.
+#[derive(Clone, Copy, Debug, PartialEq, Eq)]
+enum Ended {
+    Refused,
+    Called,
+    /// The count of steps fell from one read to the next.
+    Fell,
+    /// The last count of steps.
+    Watched(u64),
+}
+
+/// One advance of a federate.
+fn advance<L: Ledger + Naming, W: Publisher<L>>(
+    rt: &impl Wait,
+    federate: &mut Federate<L, Recorder, W>,
+    time: u64,
+) -> Result<(), Fault> {
+    federate.time_advance_request(rt, time)?;
+    federate.tick(rt)?;
+    federate.query_federate_time(rt)?;
+    Ok(())
+}
+
+/// All advances of a federate.
+fn called<L: Ledger + Naming, W: Publisher<L>>(
+    rt: &impl Wait,
+    mut federate: Federate<L, Recorder, W>,
+) -> Ended {
+    for time in 1..=ROUNDS {
+        if advance(rt, &mut federate, time).is_err() {
+            return Ended::Refused;
+        }
+    }
+    Ended::Called
+}
+
+/// Reads until all steps are there.
+fn watched<L: Naming>(mut monitor: Monitor<L>) -> Ended {
+    let mut steps = 0;
+    for _ in 0..READS {
+        let now = monitor.read().steps;
+        if now < steps {
+            return Ended::Fell;
+        }
+        steps = now;
+        if steps == STEPS {
+            return Ended::Watched(steps);
+        }
+        thread::yield_now();
+    }
+    Ended::Watched(steps)
+}
+
+fn lived<L: Ledger + Naming, W: Publisher<L>>(rt: &impl Wait, party: Party<L, W>) -> Ended {
+    match party {
+        Party::Caller(federate) => called(rt, federate),
+        Party::Watcher(monitor) => watched(monitor),
+    }
+}
+
+/// The threads' parties: two callers and a monitor.
+fn parties<L: Ledger + Naming, W: Publisher<L>>(
+    rt: &impl Wait,
+    alloc: Global,
+    rti: &mut Rti<L, Recorder, W>,
+) -> Result<Vec<Party<L, W>>, Fail> {
+    rti.create(rt, ExecutionName::new(b"play")?, FED)?;
+    let mut parties = Vec::new(alloc);
+    parties.push(Party::Watcher(rti.monitor(rt)?))?;
+    parties.push(Party::Caller(joined(rt, alloc, rti, b'A')?))?;
+    parties.push(Party::Caller(joined(rt, alloc, rti, b'B')?))?;
+    Ok(parties)
+}
+
+/// Two callers on a thread each, and a monitor on a third; then what a second monitor reads that knows what was shown.
+fn beside_two<L: Ledger + Naming + Send + Sync, R: Threads + Wait + Sync>(
+    rt: &R,
+    alloc: Global,
+    blank: Blank,
+    opened: Opened,
+) -> Result<(Vec<Ended>, u64), Fail>
+    requires name { blank.name ≡ L.name }
+    requires parts { blank.parts ≡ L.parts }
+    requires all { blank.parts ≡ 2049 }
+    requires book { opened.seen.book ≡ L.book }
+{
+    let mut rti = open_rti::<L, Recorder, &R>(alloc, rt, blank, opened, 1_000)?;
+    let parties = parties(rt, alloc, &mut rti)?;
+    let Ok(all) = thread::map_vec(rt, parties, &|party| lived(rt, party)) else {
+        return Err(Fail::from("no memory"));
+    };
+    let mut last = rti.monitor(rt)?;
+    Ok((all, last.read().steps))
+}
+
+fn beside_two_at_a_brand<R: Threads + Wait + Sync>(
+    rt: &R,
+    alloc: Global,
+) -> Result<(Vec<Ended>, u64), Fail> {
+    beside_two::<Brand, R>(rt, alloc, Blank::new(2049), Opened::new())
+}
+
+#[test]
+fn no_count_falls_beside_two_callers(rt: HostRuntime) -> Result<(), Fail> {
+    let (all, last) = beside_two_at_a_brand(&rt, rt.alloc())?;
+    assert_eq!(rt; all.len(), 3);
+    assert!(rt; matches!(all.first(), Some(Ended::Watched(_))));
+    for end in all.iter().skip(1) {
+        assert_eq!(rt; *end, Ended::Called);
+    }
+    assert_eq!(rt; last, STEPS);
+    Ok(())
+}
