@@ -15,7 +15,7 @@ pub use running::do_task;
 pub use source::{Opener, Source, System};
 pub use task::Task;
 pub use telling::{tell, tell_out_of_memory};
-pub use threads::Resources;
+pub use threads::Means;
 
 #[cfg(test)]
 mod run_tests;

@@ -3,7 +3,7 @@ ghost use Rattle.std.specs.Prelude.{◌≡◌, None};
 use crate::running::do_task;
 use crate::source::{Opener, System};
 use crate::task::Task;
-use crate::threads::Resources;
+use crate::threads::Means;
 use hla_monitor::Opened;
 use hla_script::Watched;
 use std::alloc::Global;
@@ -112,13 +112,13 @@ fn status_of<R: Threads + Wait + Sync, O: Opener, W: Write, E: Write>(
     out: &mut Watched<W>,
     errors: &mut Watched<E>,
 ) -> u8 {
-    let resources = Resources {
+    let means = Means {
         rt,
         alloc,
         blank: Blank::new(2049),
         opened: Opened::new(),
     };
-    do_task::<Brand, R, O, W, E>(resources, opener, task, out, errors)
+    do_task::<Brand, R, O, W, E>(means, opener, task, out, errors)
 }
 
 /// The status of a task on these files, and what is on the standard output and on the standard error.

@@ -12,7 +12,7 @@ use crate::parts::parts;
 use crate::source::Opener;
 use crate::task::{ScriptTask, Task};
 use crate::telling::{DONE, tell_list_stop, tell_load_stop, tell_play_stop};
-use crate::threads::{Resources, run_bytes};
+use crate::threads::{Means, run_bytes};
 use hla_monitor::Naming;
 use hla_script::{ListFault, PlayFault, Watched, list, play};
 use std::alloc::Global;
@@ -71,25 +71,25 @@ fn list_bytes<W: Write, E: Write>(
 
 /// Does with a script over a FED file what is asked for. Answers as `play_bytes`, `check_bytes` or `run_bytes` does.
 fn do_script<L: Ledger + Naming + Send + Sync, R: Threads + Wait + Sync, W: Write, E: Write>(
-    resources: Resources<'_, R>,
+    means: Means<'_, R>,
     task: ScriptTask,
     fed: &[u8],
     script: &[u8],
     out: &mut Watched<W>,
     errors: &mut Watched<E>,
 ) -> u8
-    requires name { resources.blank.name ≡ L.name }
-    requires parts { resources.blank.parts ≡ L.parts }
-    requires all { resources.blank.parts ≡ 2049 }
-    requires book { resources.opened.seen.book ≡ L.book }
+    requires name { means.blank.name ≡ L.name }
+    requires parts { means.blank.parts ≡ L.parts }
+    requires all { means.blank.parts ≡ 2049 }
+    requires book { means.opened.seen.book ≡ L.book }
     ensures { EndsScript task fed.now script.now
         (stream_of W.contents out.old) (stream_of W.contents out.new)
         (stream_of E.contents errors.old) (stream_of E.contents errors.new) result }
 {
     match task {
-        ScriptTask::Play => play_bytes(resources.alloc, fed, script, out, errors),
-        ScriptTask::Check => check_bytes(resources.alloc, fed, script, out, errors),
-        ScriptTask::Run => run_bytes::<L, R, W, E>(resources, fed, script, out, errors),
+        ScriptTask::Play => play_bytes(means.alloc, fed, script, out, errors),
+        ScriptTask::Check => check_bytes(means.alloc, fed, script, out, errors),
+        ScriptTask::Run => run_bytes::<L, R, W, E>(means, fed, script, out, errors),
     }
 }
 
@@ -103,26 +103,26 @@ fn do_shared<
     W: Write,
     E: Write,
 >(
-    resources: Resources<'_, R>,
+    means: Means<'_, R>,
     task: ScriptTask,
     input: &mut Watched<I>,
     out: &mut Watched<W>,
     errors: &mut Watched<E>,
 ) -> u8
-    requires name { resources.blank.name ≡ L.name }
-    requires parts { resources.blank.parts ≡ L.parts }
-    requires all { resources.blank.parts ≡ 2049 }
-    requires book { resources.opened.seen.book ≡ L.book }
+    requires name { means.blank.name ≡ L.name }
+    requires parts { means.blank.parts ≡ L.parts }
+    requires all { means.blank.parts ≡ 2049 }
+    requires book { means.opened.seen.book ≡ L.book }
     ensures { EndsShared task (stream_of I.remaining input.old) (stream_of I.remaining input.new)
         (stream_of W.contents out.old) (stream_of W.contents out.new)
         (stream_of E.contents errors.old) (stream_of E.contents errors.new) result }
 {
-    match load(resources.alloc, input, SHARED_LIMIT) {
+    match load(means.alloc, input, SHARED_LIMIT) {
         Ok(bytes) => {
             let (fed, script) = parts(bytes.as_slice());
-            do_script::<L, R, W, E>(resources, task, fed, script, out, errors)
+            do_script::<L, R, W, E>(means, task, fed, script, out, errors)
         }
-        Err(fault) => tell_load_stop(resources.alloc, errors, "-", fault),
+        Err(fault) => tell_load_stop(means.alloc, errors, "-", fault),
     }
 }
 
@@ -136,7 +136,7 @@ fn do_files<
     W: Write,
     E: Write,
 >(
-    resources: Resources<'_, R>,
+    means: Means<'_, R>,
     task: ScriptTask,
     fed_name: &str,
     fed: &mut Watched<I>,
@@ -145,29 +145,29 @@ fn do_files<
     out: &mut Watched<W>,
     errors: &mut Watched<E>,
 ) -> u8
-    requires name { resources.blank.name ≡ L.name }
-    requires parts { resources.blank.parts ≡ L.parts }
-    requires all { resources.blank.parts ≡ 2049 }
-    requires book { resources.opened.seen.book ≡ L.book }
+    requires name { means.blank.name ≡ L.name }
+    requires parts { means.blank.parts ≡ L.parts }
+    requires all { means.blank.parts ≡ 2049 }
+    requires book { means.opened.seen.book ≡ L.book }
     ensures { EndsFiles task fed_name.now (stream_of I.remaining fed.old) (stream_of I.remaining fed.new)
         script_name.now (stream_of S.remaining script.old) (stream_of S.remaining script.new)
         (stream_of W.contents out.old) (stream_of W.contents out.new)
         (stream_of E.contents errors.old) (stream_of E.contents errors.new) result }
 {
-    let fed_bytes = match load(resources.alloc, fed, FILE_LIMIT) {
+    let fed_bytes = match load(means.alloc, fed, FILE_LIMIT) {
         Ok(bytes) => bytes,
-        Err(fault) => return tell_load_stop(resources.alloc, errors, fed_name, fault),
+        Err(fault) => return tell_load_stop(means.alloc, errors, fed_name, fault),
     };
-    match load(resources.alloc, script, FILE_LIMIT) {
+    match load(means.alloc, script, FILE_LIMIT) {
         Ok(script_bytes) => do_script::<L, R, W, E>(
-            resources,
+            means,
             task,
             fed_bytes.as_slice(),
             script_bytes.as_slice(),
             out,
             errors,
         ),
-        Err(fault) => tell_load_stop(resources.alloc, errors, script_name, fault),
+        Err(fault) => tell_load_stop(means.alloc, errors, script_name, fault),
     }
 }
 
@@ -205,7 +205,7 @@ fn do_named<
     W: Write,
     E: Write,
 >(
-    resources: Resources<'_, R>,
+    means: Means<'_, R>,
     opener: &O,
     task: ScriptTask,
     fed_name: &str,
@@ -213,22 +213,22 @@ fn do_named<
     out: &mut Watched<W>,
     errors: &mut Watched<E>,
 ) -> u8
-    requires name { resources.blank.name ≡ L.name }
-    requires parts { resources.blank.parts ≡ L.parts }
-    requires all { resources.blank.parts ≡ 2049 }
-    requires book { resources.opened.seen.book ≡ L.book }
+    requires name { means.blank.name ≡ L.name }
+    requires parts { means.blank.parts ≡ L.parts }
+    requires all { means.blank.parts ≡ 2049 }
+    requires book { means.opened.seen.book ≡ L.book }
     ensures { EndsNamed (O.bytes_of opener.now) task fed_name.now script_name.now
         (stream_of W.contents out.old) (stream_of W.contents out.new)
         (stream_of E.contents errors.old) (stream_of E.contents errors.new) result }
 {
     if share_input(fed_name, script_name) {
         let mut input = opener.open("-");
-        return do_shared::<L, R, O::Input, W, E>(resources, task, &mut input, out, errors);
+        return do_shared::<L, R, O::Input, W, E>(means, task, &mut input, out, errors);
     }
     let mut fed = opener.open(fed_name);
     let mut script = opener.open(script_name);
     do_files::<L, R, O::Input, O::Input, W, E>(
-        resources,
+        means,
         task,
         fed_name,
         &mut fed,
@@ -244,7 +244,7 @@ fn do_named<
 /// central machine, and with `ok N` ends what a run writes. 1, with one line on `errors`: a FED file or a script is refused, or
 /// a file cannot be read, with nothing on `out`; or a write failed, or memory ran out. 3, of a run alone: its records are no run
 /// of the machine, and `out` ends with `differs K`; or transcripts differ, with one line on `errors`. What a failed write to
-/// `errors` left out is lost, and the status stays. `resources` has a ledger of 2,049 parts, which only a run takes.
+/// `errors` left out is lost, and the status stays. `means` has a ledger of 2,049 parts, which only a run takes.
 pub fn do_task<
     L: Ledger + Naming + Send + Sync,
     R: Threads + Wait + Sync,
@@ -252,49 +252,33 @@ pub fn do_task<
     W: Write,
     E: Write,
 >(
-    resources: Resources<'_, R>,
+    means: Means<'_, R>,
     opener: &O,
     task: Task<'_>,
     out: &mut Watched<W>,
     errors: &mut Watched<E>,
 ) -> u8
-    requires name { resources.blank.name ≡ L.name }
-    requires parts { resources.blank.parts ≡ L.parts }
-    requires all { resources.blank.parts ≡ 2049 }
-    requires book { resources.opened.seen.book ≡ L.book }
+    requires name { means.blank.name ≡ L.name }
+    requires parts { means.blank.parts ≡ L.parts }
+    requires all { means.blank.parts ≡ 2049 }
+    requires book { means.opened.seen.book ≡ L.book }
     ensures { EndsTask (O.bytes_of opener.now) (named_task task.entry)
         (stream_of W.contents out.old) (stream_of W.contents out.new)
         (stream_of E.contents errors.old) (stream_of E.contents errors.new) result }
 {
     match task {
         Task::Play { fed, script } => {
-            do_named::<L, R, O, W, E>(
-                resources,
-                opener,
-                ScriptTask::Play,
-                fed,
-                script,
-                out,
-                errors,
-            )
+            do_named::<L, R, O, W, E>(means, opener, ScriptTask::Play, fed, script, out, errors)
         }
         Task::Check { fed, script } => {
-            do_named::<L, R, O, W, E>(
-                resources,
-                opener,
-                ScriptTask::Check,
-                fed,
-                script,
-                out,
-                errors,
-            )
+            do_named::<L, R, O, W, E>(means, opener, ScriptTask::Check, fed, script, out, errors)
         }
         Task::Run { fed, script } => {
-            do_named::<L, R, O, W, E>(resources, opener, ScriptTask::Run, fed, script, out, errors)
+            do_named::<L, R, O, W, E>(means, opener, ScriptTask::Run, fed, script, out, errors)
         }
         Task::List { fed } => {
             let mut file = opener.open(fed);
-            list_file(resources.alloc, fed, &mut file, out, errors)
+            list_file(means.alloc, fed, &mut file, out, errors)
         }
     }
 }

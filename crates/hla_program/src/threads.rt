@@ -19,7 +19,7 @@ use std::thread::Threads;
 /// What a task takes of the run of the program beside its files: what starts threads, memory, and for the infrastructure that a
 /// script runs behind a ledger of 2,049 parts and an empty history. A task that runs none leaves these as they are.
 #[derive(Drop)]
-pub struct Resources<'a, R> {
+pub struct Means<'a, R> {
     pub rt: &'a R,
     pub alloc: Global,
     pub blank: Blank,
@@ -55,26 +55,26 @@ pub(crate) fn run_bytes<
     W: Write,
     E: Write,
 >(
-    resources: Resources<'_, R>,
+    means: Means<'_, R>,
     fed: &[u8],
     script: &[u8],
     out: &mut Watched<W>,
     errors: &mut Watched<E>,
 ) -> u8
-    requires name { resources.blank.name ≡ L.name }
-    requires parts { resources.blank.parts ≡ L.parts }
-    requires all { resources.blank.parts ≡ 2049 }
-    requires book { resources.opened.seen.book ≡ L.book }
+    requires name { means.blank.name ≡ L.name }
+    requires parts { means.blank.parts ≡ L.parts }
+    requires all { means.blank.parts ≡ 2049 }
+    requires book { means.opened.seen.book ≡ L.book }
     ensures { EndsRunning fed.now script.now
         (stream_of W.contents out.old) (stream_of W.contents out.new)
         (stream_of E.contents errors.old) (stream_of E.contents errors.new) result }
 {
-    let Resources {
+    let Means {
         rt,
         alloc,
         blank,
         opened,
-    } = resources;
+    } = means;
     let ran = run_scripts::<L, OpenGate, R, W>(
         rt, alloc, blank, opened, fed, script, &OpenGate, out,
     );

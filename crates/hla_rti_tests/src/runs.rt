@@ -149,7 +149,11 @@ fn refused_fed_file<L: Ledger + Naming, R: Wait + Abort>(
 {
     let play = ExecutionName::new(b"play")?;
     let mut rti = open_rti::<L, Recorder, &R>(alloc, rt, blank, opened, 100)?;
-    assert!(rt; rti.create(rt, play, b"(FED") == Err(Fault::ErrorReadingFED));
+    let Some(cut_off) = FED.strip_suffix(b")\n") else {
+        panic!(rt; "no last parenthesis");
+    };
+    assert!(rt; rti.create(rt, play, cut_off) == Err(Fault::ErrorReadingFED));
+    assert_eq!(rt; Fault::ErrorReadingFED.number(), 4);
     assert!(rt; rti.destroy(rt, play) == Err(Fault::FederationExecutionDoesNotExist));
     assert!(rt; rti.create(rt, play, FED) == Ok(()));
     let closed = closed(rt, rti, Vec::new(alloc));

@@ -12,7 +12,7 @@ ghost use Rattle.hlaplay.specs.Run.{EndsMisuse, EndsSomeRun};
 
 use crate::running::{MISUSED, do_words};
 use hla_monitor::Opened;
-use hla_program::{Resources, System, tell, tell_out_of_memory};
+use hla_program::{Means, System, tell, tell_out_of_memory};
 use hla_transcript::Watched;
 use std::alloc::{AllocError, Global};
 use std::env::Args;
@@ -62,19 +62,13 @@ fn run<R: Runtime + AllocGlobal + Threads + Wait + Sync, E: Write>(
     let texts = texts_of(alloc, words.as_slice())?;
     let mut out = Watched::new(BufWriter::new(alloc, io::writer(rt))?);
     let system = System::new(rt);
-    let resources = Resources {
+    let means = Means {
         rt,
         alloc,
         blank: Blank::new(2049),
         opened: Opened::new(),
     };
-    let ended = do_words::<Brand, R, _, _, E>(
-        resources,
-        &system,
-        texts.as_slice(),
-        &mut out,
-        errors,
-    );
+    let ended = do_words::<Brand, R, _, _, E>(means, &system, texts.as_slice(), &mut out, errors);
     Ok(ended)
 }
 

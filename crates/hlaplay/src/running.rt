@@ -8,7 +8,7 @@ ghost use Rattle.hlaplay.specs.Run.{EndsMisuse, EndsRun};
 use crate::words::{WordsFault, parse};
 use clap::Error;
 use hla_monitor::Naming;
-use hla_program::{Opener, Resources, do_task, tell, tell_out_of_memory};
+use hla_program::{Means, Opener, do_task, tell, tell_out_of_memory};
 use hla_transcript::Watched;
 use std::alloc::Global;
 use std::io::Write;
@@ -42,23 +42,23 @@ pub fn do_words<
     W: Write,
     E: Write,
 >(
-    resources: Resources<'_, R>,
+    means: Means<'_, R>,
     opener: &O,
     words: &[&str],
     out: &mut Watched<W>,
     errors: &mut Watched<E>,
 ) -> u8
-    requires name { resources.blank.name ≡ L.name }
-    requires parts { resources.blank.parts ≡ L.parts }
-    requires all { resources.blank.parts ≡ 2049 }
-    requires book { resources.opened.seen.book ≡ L.book }
+    requires name { means.blank.name ≡ L.name }
+    requires parts { means.blank.parts ≡ L.parts }
+    requires all { means.blank.parts ≡ 2049 }
+    requires book { means.opened.seen.book ≡ L.book }
     ensures { EndsRun (texts words.now) (O.bytes_of opener.now)
         (stream_of W.contents out.old) (stream_of W.contents out.new)
         (stream_of E.contents errors.old) (stream_of E.contents errors.new) result }
 {
-    let alloc = resources.alloc;
+    let alloc = means.alloc;
     match parse(alloc, words) {
-        Ok(task) => do_task::<L, R, O, W, E>(resources, opener, task, out, errors),
+        Ok(task) => do_task::<L, R, O, W, E>(means, opener, task, out, errors),
         Err(WordsFault::Refused(error)) => tell_refusal(alloc, errors, error),
         Err(WordsFault::Memory) => tell_out_of_memory(errors),
     }
