@@ -29,7 +29,7 @@ never_differs rs place run stops = stops.4 (runs_on no_executions rs place stops
 
 -- of records that are a run the machine says just that
 pub found_of : (fed script : List ℕ) (records : List Record) (finding : Finding) → HasRecords fed script records → IsWholeRun records → IsVerdict records finding → IsFound fed script finding
-found_of fed script records (Run count) has run verdict = (records, (has, (verdict.0, verdict.1)))
+found_of fed script records (Run count) has run verdict = (records, has, verdict.0, verdict.1)
 found_of fed script records (Differs place) has run verdict = absurd (never_differs records place run verdict)
 
 -- where no write failed

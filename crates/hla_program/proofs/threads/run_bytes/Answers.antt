@@ -8,4 +8,4 @@ pub returns-in-Err : goal.returns-in-Err
 returns-in-Err g c = RunStopped c.in-Err.fault c.in-Err.ensures.stopped (run_cause c.in-Err.fault _ _ c.in-Err.ensures.failure) c.tell_run_stop.ensures.line c.tell_run_stop.ensures.status
 
 pub returns : goal.returns
-returns g c = Ran (stream_of g.W.Write.contents c.run_scripts.new.out) c.in-Ok.ensures.written (c.in-Ok.ensures.failure ∙ or-false _) c.records.result.now c.judge.ensures
+returns g c = Ran (stream_of g.W.Write.contents c.run_scripts-ran.new.out) c.in-Ok.ensures.written (c.in-Ok.ensures.failure ∙ or-false _) c.records.result.now c.judge.ensures
