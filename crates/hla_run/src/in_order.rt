@@ -184,7 +184,7 @@ fn played<L: Ledger + Naming, P: Publisher<L>>(
     lines: &[Line],
     outcomes: &mut Outcomes,
 ) -> Result<Vec<Left<L, Recorder>>, Fault>
-    ensures { OnOk result (length outcomes.new ≡ length outcomes.old) }
+    ensures { length outcomes.new ≡ length outcomes.old }
 {
     let execution = ExecutionName::new(b"play")?;
     let mut cast = Cast::new(alloc, execution, rti.courier()?);
