@@ -140,6 +140,18 @@ fn lefts<L: Ledger>(alloc: Global, all: Vec<Lived<L>>) -> Result<Vec<Left<L, Rec
     Ok(lefts)
 }
 
+/// The lives of all, each on a thread of its own.
+fn all_lives<L: Ledger + Naming + Send + Sync, W: Publisher<L> + Send, R: Threads + Wait + Sync>(
+    rt: &R,
+    joined: Vec<Federate<L, Recorder, W>>,
+    rounds: u64,
+) -> Result<Vec<Lived<L>>, Fault> {
+    let Ok(all) = thread::map_vec(rt, joined, &|federate| live(rt, federate, rounds)) else {
+        return Err(Fault::OutOfMemory);
+    };
+    Ok(all)
+}
+
 /// Plays so many rounds through the infrastructure, with a thread for each federate.
 fn run_at<L: Ledger + Naming + Send + Sync, R: Threads + Wait + Sync>(
     rt: &R,
@@ -156,9 +168,7 @@ fn run_at<L: Ledger + Naming + Send + Sync, R: Threads + Wait + Sync>(
 {
     let mut rti = open_rti::<L, Recorder, &R>(alloc, rt, blank, opened, HISTORY_LIMIT)?;
     let joined = join_all(rt, alloc, &mut rti, threads)?;
-    let Ok(all) = thread::map_vec(rt, joined, &|federate| live(rt, federate, rounds)) else {
-        return Err(Fault::OutOfMemory);
-    };
+    let all = all_lives(rt, joined, rounds)?;
     let lefts = lefts(alloc, all)?;
     match rti.close(rt, lefts) {
         Ok(_) => Ok(counted(threads, rounds)),

@@ -198,6 +198,17 @@ fn parties<L: Ledger + Naming, W: Publisher<L>>(
     Ok(parties)
 }
 
+/// Each party on a thread of its own.
+fn all_lived<L: Ledger + Naming + Send + Sync, W: Publisher<L> + Send, R: Threads + Wait + Sync>(
+    rt: &R,
+    parties: Vec<Party<L, W>>,
+) -> Result<Vec<Ended>, Fault> {
+    let Ok(all) = thread::map_vec(rt, parties, &|party| lived(rt, party)) else {
+        return Err(Fault::OutOfMemory);
+    };
+    Ok(all)
+}
+
 /// Two callers on a thread each, and a monitor on a third; then what a second monitor reads that knows what was shown.
 fn beside_two<L: Ledger + Naming + Send + Sync, R: Threads + Wait + Sync>(
     rt: &R,
@@ -212,9 +223,7 @@ fn beside_two<L: Ledger + Naming + Send + Sync, R: Threads + Wait + Sync>(
 {
     let mut rti = open_rti::<L, Recorder, &R>(alloc, rt, blank, opened, 1_000)?;
     let parties = parties(rt, alloc, &mut rti)?;
-    let Ok(all) = thread::map_vec(rt, parties, &|party| lived(rt, party)) else {
-        return Err(Fail::from("no memory"));
-    };
+    let all = all_lived(rt, parties)?;
     let mut last = rti.monitor(rt)?;
     Ok((all, last.read().steps))
 }

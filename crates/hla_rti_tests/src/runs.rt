@@ -39,6 +39,17 @@ pub fn joined<L: Ledger + Naming, W: Publisher<L>>(
     }
 }
 
+/// What a federate leaves behind that resigns; it must not be refused.
+fn resigned<L: Ledger + Naming, W: Publisher<L>>(
+    rt: &(impl Wait + Abort),
+    federate: Federate<L, Recorder, W>,
+) -> Left<L, Recorder> {
+    match federate.resign(rt, ResignAction::NoAction) {
+        Ok(left) => left,
+        Err((fault, _)) => panic!(rt; "not resigned: {fault}"),
+    }
+}
+
 /// A name of one letter.
 pub fn letter(alloc: Global, letter: u8) -> Result<List<u8>, Fail> {
     let mut name = List::new(alloc);
@@ -259,12 +270,8 @@ fn whole_run<L: Ledger + Naming, R: Wait + Abort>(
     assert!(rt; courier.announce(rt, play, a.number()) == Ok(None));
     assert!(rt; courier.carry(rt, play, a.number(), b.number()) == Ok(Carried::Null { bound: 1 }));
     let mut lefts = Vec::new(alloc);
-    for federate in [a, b] {
-        match federate.resign(rt, ResignAction::NoAction) {
-            Ok(left) => lefts.push(left)?,
-            Err((fault, _)) => panic!(rt; "not resigned: {fault}"),
-        }
-    }
+    lefts.push(resigned(rt, a))?;
+    lefts.push(resigned(rt, b))?;
     lefts.push(courier.leave())?;
     assert!(rt; rti.destroy(rt, play) == Ok(()));
     assert_eq!(rt; closed(rt, rti, lefts).records().len(), 11);
