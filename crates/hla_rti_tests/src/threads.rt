@@ -6,7 +6,7 @@ use crate::runs::{FED, closed, joined, letter};
 use hla_base::{ExecutionName, Fault, Ticks};
 use hla_callbacks::{Callback, Recorder};
 use hla_monitor::{Naming, Opened, Publisher};
-use hla_rti::{Courier, Federate, Rti, open_rti};
+use hla_rti::{Courier, Federate, Left, Rti, open_rti};
 use std::alloc::Global;
 use std::marker::Brand;
 use std::process::Abort;
@@ -174,23 +174,17 @@ fn constrain<L: Ledger + Naming, W: Publisher<L>>(
     assert!(rt; federate.tick(rt) == Ok(Some(Callback::TimeConstrainedEnabled { time: 0 })));
 }
 
-/// Two federates that regulate and are constrained, each on a thread, are granted each time that they ask for.
-fn two_threads<L: Ledger + Naming + Send + Sync, R: Threads + Wait + Abort + Sync>(
-    rt: &R,
-    alloc: Global,
-    blank: Blank,
-    opened: Opened,
-) -> Result<(), Fail>
-    requires name { blank.name ≡ L.name }
-    requires parts { blank.parts ≡ L.parts }
-    requires all { blank.parts ≡ 2049 }
-    requires book { opened.seen.book ≡ L.book }
-{
+/// Two federates that regulate and are constrained, each on a thread, are granted each time that they ask for. What all leave
+/// behind.
+fn both_granted<
+    L: Ledger + Naming + Send + Sync,
+    W: Publisher<L> + Send,
+    R: Threads + Wait + Abort + Sync,
+>(rt: &R, alloc: Global, rti: &mut Rti<L, Recorder, W>) -> Result<Vec<Left<L, Recorder>>, Fail> {
     let play = ExecutionName::new(b"play")?;
-    let mut rti = open_rti::<L, Recorder, &R>(alloc, rt, blank, opened, HISTORY_LIMIT)?;
     assert!(rt; rti.create(rt, play, FED) == Ok(()));
-    let mut a = regulating(rt, alloc, &mut rti, b'A', play)?;
-    let mut b = regulating(rt, alloc, &mut rti, b'B', play)?;
+    let mut a = regulating(rt, alloc, rti, b'A', play)?;
+    let mut b = regulating(rt, alloc, rti, b'B', play)?;
     exchange(rt, &mut a.courier, play)?;
     constrain(rt, &mut a.federate);
     constrain(rt, &mut b.federate);
@@ -204,6 +198,23 @@ fn two_threads<L: Ledger + Naming + Send + Sync, R: Threads + Wait + Abort + Syn
         lefts.push(pair.federate.leave())?;
         lefts.push(pair.courier.leave())?;
     }
+    Ok(lefts)
+}
+
+/// Two callers on threads, from the opening to the close.
+fn two_threads<L: Ledger + Naming + Send + Sync, R: Threads + Wait + Abort + Sync>(
+    rt: &R,
+    alloc: Global,
+    blank: Blank,
+    opened: Opened,
+) -> Result<(), Fail>
+    requires name { blank.name ≡ L.name }
+    requires parts { blank.parts ≡ L.parts }
+    requires all { blank.parts ≡ 2049 }
+    requires book { opened.seen.book ≡ L.book }
+{
+    let mut rti = open_rti::<L, Recorder, &R>(alloc, rt, blank, opened, HISTORY_LIMIT)?;
+    let lefts = both_granted(rt, alloc, &mut rti)?;
     let _ = closed(rt, rti, lefts);
     Ok(())
 }
