@@ -1,6 +1,6 @@
 -- What a run of a script writes
-use Rattle.std.specs.Prelude.{◌≡◌, ◌++◌, ℕ, List, [], length, Option, None, Some, Ok, Err, Bool, true, false, Result}
-use Rattle.std.specs.List.{flat_map, zip}
+use Rattle.std.specs.Prelude.{◌≡◌, ◌++◌, ℕ, List, [], length, Option, None, Some, Ok, Err, Bool, true, false, Result, slice_index_or}
+use Rattle.std.specs.List.{flat_map, enumerate_from}
 use Rattle.std.specs.Io.KnownBytes.{Appends}
 use Rattle.hla_fed_file.specs.CatalogueValue.{CatalogueValue}
 use Rattle.hla_fed_file.specs.Reading as reading
@@ -17,9 +17,13 @@ abbrev pub told_line : CatalogueValue → Line → Option Outcome → List ℕ
 told_line c l None = []
 told_line c l (Some o) = line_text c l.number o
 
+-- how the line at a place came out, by the outcomes of all places
+abbrev pub told_at : CatalogueValue → List (Option Outcome) → ℕ → Line → List ℕ
+told_at c outcomes place l = told_line c l (slice_index_or outcomes place None)
+
 -- how the lines came out that were done, in the order of the script
 unfoldable pub told_text : CatalogueValue → List Line → List (Option Outcome) → List ℕ
-told_text c lines outcomes = flat_map (λ p. told_line c p.0 p.1) (zip lines outcomes)
+told_text c lines outcomes = flat_map (λ p. told_at c outcomes p.0 p.1) (enumerate_from 0 lines)
 
 -- the FED file describes a catalogue, the script has these lines, and what was written is how those came out that were done
 pub record IsRunFrom (fed script : List ℕ) (old new : Option (List ℕ)) : Type 0 where

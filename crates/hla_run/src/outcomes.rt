@@ -3,7 +3,7 @@
 ghost use Rattle.std.specs.Prelude.{◌≡◌, ◌++◌, OnOk, IfOk, IfErr, length, ℕ};
 ghost use Rattle.hla_machine.specs.declared.step.Answer.TheVariants as answer;
 ghost use Rattle.hla_rti.specs.Callers.{answer_given, said, nothing};
-ghost use Rattle.hla_run.specs.Running.{told_line, told_text};
+ghost use Rattle.hla_run.specs.Running.{told_at, told_text};
 
 use hla_base::{Fault, List};
 use hla_callbacks::Callback;
@@ -66,18 +66,19 @@ pub fn outcome_of_tick(given: Result<Option<Callback>, Fault>) -> Outcome
     }
 }
 
-/// Adds how a line came out, where it was done.
+/// Adds how the line at a place came out, where it was done.
 fn print_told(
     text: &mut Text,
     catalogue: &Catalogue,
+    outcomes: &[Option<Outcome>],
+    place: usize,
     line: &Line,
-    outcome: &Option<Outcome>,
 ) -> Result<(), Fault>
-    ensures { OnOk result (text.new ≡ text.old ++ told_line catalogue.now line.now outcome.now) }
+    ensures { OnOk result (text.new ≡ text.old ++ told_at catalogue.now outcomes.now place line.now) }
 {
-    match outcome {
-        Some(outcome) => print_line(text, catalogue, line.number as u64, outcome),
-        None => Ok(()),
+    match outcomes.get(place) {
+        Some(Some(outcome)) => print_line(text, catalogue, line.number as u64, outcome),
+        _ => Ok(()),
     }
 }
 
@@ -119,8 +120,8 @@ impl Outcomes {
     pub fn print(&self, text: &mut Text, catalogue: &Catalogue, lines: &[Line]) -> Result<(), Fault>
         ensures { OnOk result (text.new ≡ text.old ++ told_text catalogue.now lines.now self.now) }
     {
-        for (line, outcome) in lines.iter().zip(self.by_place.iter()) {
-            print_told(text, catalogue, line, outcome)?;
+        for (place, line) in lines.iter().enumerate() {
+            print_told(text, catalogue, self.by_place.as_slice(), place, line)?;
         }
         Ok(())
     }
