@@ -22,7 +22,7 @@ abbrev pub told_at : CatalogueValue → List (Option Outcome) → ℕ → Line �
 told_at c outcomes place l = told_line c l (slice_index_or outcomes place None)
 
 -- how the lines came out that were done, in the order of the script
-unfoldable pub told_text : CatalogueValue → List Line → List (Option Outcome) → List ℕ
+abbrev pub told_text : CatalogueValue → List Line → List (Option Outcome) → List ℕ
 told_text c lines outcomes = flat_map (λ p. told_at c outcomes p.0 p.1) (enumerate_from 0 lines)
 
 -- the FED file describes a catalogue, the script has these lines, and what was written is how those came out that were done

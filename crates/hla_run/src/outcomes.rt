@@ -82,6 +82,21 @@ fn print_told(
     }
 }
 
+/// Adds how those lines came out that were done, in their order.
+fn print_all(
+    text: &mut Text,
+    catalogue: &Catalogue,
+    outcomes: &[Option<Outcome>],
+    lines: &[Line],
+) -> Result<(), Fault>
+    ensures { OnOk result (text.new ≡ text.old ++ told_text catalogue.now lines.now outcomes.now) }
+{
+    for (place, line) in lines.iter().enumerate() {
+        print_told(text, catalogue, outcomes, place, line)?;
+    }
+    Ok(())
+}
+
 impl Outcomes {
     /// No outcome for each of so many lines; `OutOfMemory` where the room was refused.
     pub fn new(alloc: Global, lines: usize) -> Result<Outcomes, Fault>
@@ -120,9 +135,6 @@ impl Outcomes {
     pub fn print(&self, text: &mut Text, catalogue: &Catalogue, lines: &[Line]) -> Result<(), Fault>
         ensures { OnOk result (text.new ≡ text.old ++ told_text catalogue.now lines.now self.now) }
     {
-        for (place, line) in lines.iter().enumerate() {
-            print_told(text, catalogue, self.by_place.as_slice(), place, line)?;
-        }
-        Ok(())
+        print_all(text, catalogue, self.by_place.as_slice(), lines)
     }
 }

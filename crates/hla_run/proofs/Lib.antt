@@ -1,0 +1,2 @@
+-- Texts of lines, one after another
+pub mod TextLemmas
