@@ -77,6 +77,21 @@ fn hit_once<L: Ledger + Naming, W: Publisher<L>>(
 
 /// What a monitor reads that learnt what was told after a run of eight steps, and what it reads once the infrastructure is
 /// gone.
+fn watched<L: Ledger + Naming, W: Publisher<L>>(
+    rt: &impl Wait,
+    alloc: Global,
+    mut rti: Rti<L, Recorder, W>,
+) -> Result<(Status, Status), Fail> {
+    let mut monitor = rti.monitor(rt)?;
+    hit_once(rt, alloc, &mut rti)?;
+    let told = rti.tell(rt);
+    monitor.learn(&told);
+    let read = monitor.read();
+    drop(rti);
+    Ok((read, monitor.read()))
+}
+
+/// A run of eight steps that is watched.
 fn eight_steps<L: Ledger + Naming, R: Wait>(
     rt: &R,
     alloc: Global,
@@ -88,14 +103,8 @@ fn eight_steps<L: Ledger + Naming, R: Wait>(
     requires all { blank.parts ≡ 2049 }
     requires book { opened.seen.book ≡ L.book }
 {
-    let mut rti = open_rti::<L, Recorder, &R>(alloc, rt, blank, opened, 100)?;
-    let mut monitor = rti.monitor(rt)?;
-    hit_once(rt, alloc, &mut rti)?;
-    let told = rti.tell(rt);
-    monitor.learn(&told);
-    let read = monitor.read();
-    drop(rti);
-    Ok((read, monitor.read()))
+    let rti = open_rti::<L, Recorder, &R>(alloc, rt, blank, opened, 100)?;
+    watched(rt, alloc, rti)
 }
 
 fn eight_steps_at_a_brand<R: Wait>(rt: &R, alloc: Global) -> Result<(Status, Status), Fail> {
