@@ -77,7 +77,7 @@ fn hit_once<L: Ledger + Naming, W: Publisher<L>>(
 
 /// What a monitor reads that learnt what was told after a run of eight steps, and what it reads once the infrastructure is
 /// gone.
-fn watched<L: Ledger + Naming, W: Publisher<L>>(
+fn counted_run<L: Ledger + Naming, W: Publisher<L>>(
     rt: &impl Wait,
     alloc: Global,
     mut rti: Rti<L, Recorder, W>,
@@ -104,7 +104,7 @@ fn eight_steps<L: Ledger + Naming, R: Wait>(
     requires book { opened.seen.book ≡ L.book }
 {
     let rti = open_rti::<L, Recorder, &R>(alloc, rt, blank, opened, 100)?;
-    watched(rt, alloc, rti)
+    counted_run(rt, alloc, rti)
 }
 
 fn eight_steps_at_a_brand<R: Wait>(rt: &R, alloc: Global) -> Result<(Status, Status), Fail> {
