@@ -37,7 +37,7 @@ const MAX_TURNS: u32 = 20_000_000;
 
 /// Holds one line until another is done.
 #[derive(Drop)]
-struct Holding {
+pub struct Holding {
     held: usize,
     awaited: usize,
     is_done: AtomicBool,
@@ -47,7 +47,7 @@ struct Holding {
 
 impl Holding {
     /// Holds the first of two lines until the second is done.
-    fn new(held: usize, awaited: usize) -> Holding {
+    pub fn new(held: usize, awaited: usize) -> Holding {
         Holding {
             held,
             awaited,
@@ -75,6 +75,25 @@ impl Gate for Holding {
         if line == self.awaited {
             self.is_done.store(true, Ordering::SeqCst);
         }
+    }
+}
+
+/// Two gates, one behind the other.
+#[derive(Drop)]
+pub struct Both {
+    pub first: Holding,
+    pub second: Holding,
+}
+
+impl Gate for Both {
+    fn before(&self, federate: FederateNo, line: usize) {
+        self.first.before(federate, line);
+        self.second.before(federate, line);
+    }
+
+    fn after(&self, federate: FederateNo, line: usize) {
+        self.first.after(federate, line);
+        self.second.after(federate, line);
     }
 }
 

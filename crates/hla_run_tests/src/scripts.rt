@@ -2,6 +2,7 @@
 
 ghost use Rattle.std.specs.Prelude.{◌≡◌};
 
+use crate::gates::{Both, Holding};
 use crate::texts::{FED, Shown, run, run_on_one_thread};
 use hla_callbacks::{Callback, Delivery};
 use hla_checker::check_run;
@@ -17,7 +18,8 @@ use std::sync::ledger::{Blank, Ledger};
 use std::test::Fail;
 use std::thread::Threads;
 
-/// Two federates, one behind the other in time: B is told what A sends, with its stamp.
+/// Two federates, one behind the other in time: B is told what A sends, with its stamp. B becomes constrained once A regulates, and
+/// A sends once B is constrained.
 const LOCKSTEP: &[u8] = b"create
 join A
 join B
@@ -103,7 +105,11 @@ fn in_lockstep<L: Ledger + Naming + Send + Sync, R: Threads + Wait + Abort + Syn
     requires all { blank.parts ≡ 2049 }
     requires book { opened.seen.book ≡ L.book }
 {
-    let shown = run::<L, OpenGate, R>(rt, alloc, blank, opened, LOCKSTEP, &OpenGate)?;
+    let gate = Both {
+        first: Holding::new(8, 7),
+        second: Holding::new(12, 9),
+    };
+    let shown = run::<L, Both, R>(rt, alloc, blank, opened, LOCKSTEP, &gate)?;
     assert!(rt; shown.text.as_slice() == LOCKSTEP_TEXT);
     assert!(rt; check_run(alloc, shown.closed.records()) == Ok(()));
     Ok(())
