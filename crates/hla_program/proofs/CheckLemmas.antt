@@ -1,5 +1,5 @@
 -- Records that are a run never differ from it, and what was found is told.
-use Rattle.std.proofs.Common.{◌≡◌, ℕ, zero, suc, Bool, true, false, ◌||◌, List, [], ◌∷◌, length, take, Some, None, refl, sym, subst, ◌∙◌, arith}
+use Rattle.std.proofs.Common.{◌≡◌, ◌<◌, ℕ, zero, suc, Bool, true, false, ◌||◌, List, [], ◌∷◌, length, take, Some, None, refl, sym, ap, subst, ◌∙◌, arith}
 use Rattle.std.specs.Prelude.{slice_get}
 use Rattle.std.specs.Io.KnownBytes.{Appends, Keeps}
 use Rattle.std.proofs.lemmas.List.{take_all}
@@ -13,7 +13,7 @@ use Rattle.hla_script.specs.Playing.{StopsBy}
 use Rattle.hla_transcript.specs.Watching.{Stream}
 use Rattle.hla_program.specs.declared.finding.Finding.{Finding}
 use Rattle.hla_program.specs.declared.finding.Finding.TheVariants.{Run, Differs}
-use Rattle.hla_program.specs.Program.{WritesLine, Whole, Cut, EndsTelling, StopsCheck, IsFound, IsVerdict, HasRecords, EndsChecking, Checked}
+use Rattle.hla_program.specs.Program.{WritesLine, Whole, Cut, EndsTelling, StopsCheck, IsFound, EndsChecking, Checked}
 use Rattle.hla_program.proofs.EndLemmas.{appends_kept}
 
 -- in a run each record is a step after those before it
@@ -26,11 +26,6 @@ runs_on x (q ∷ qs) (suc k) y z r run before at = runs_on (after_act x q.execut
 
 pub never_differs : (rs : List Record) (place : ℕ) → IsWholeRun rs → IsRunUpTo rs place IsNoStep → ⊥
 never_differs rs place run stops = stops.4 (runs_on no_executions rs place stops.0 run.0 stops.1 run.1 stops.2 stops.3)
-
--- of records that are a run the machine says just that
-pub found_of : (fed script : List ℕ) (records : List Record) (finding : Finding) → HasRecords fed script records → IsWholeRun records → IsVerdict records finding → IsFound fed script finding
-found_of fed script records (Run count) has run verdict = (records, has, verdict.0, verdict.1)
-found_of fed script records (Differs place) has run verdict = absurd (never_differs records place run verdict)
 
 -- where no write failed
 pub stops_check : (fed script : List ℕ) (why : PlayFault) → StopsBy fed script None None why → (why ≡ unplayed.Write → ⊥) → StopsCheck fed script why

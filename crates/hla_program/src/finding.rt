@@ -1,15 +1,16 @@
 //! What the central machine says of a script's records, and the line that tells it.
 
-ghost use Rattle.std.specs.Prelude.{◌≡◌, IfOk, IfSome, string_bytes};
+ghost use Rattle.std.specs.Prelude.{◌≡◌, IfOk, string_bytes};
 ghost use Rattle.hla_transcript.specs.Watching.{stream_of};
-ghost use Rattle.hla_program.specs.Program.{EndsTelling, IsVerdict, finding_line, finding_status};
+ghost use Rattle.hla_program.specs.Program.{EndsTelling, finding_line, finding_status};
 
-use crate::telling::{DIFFERS, DONE, tell, tell_out_of_memory, tell_unwritten};
-use hla_checker::{CheckFault, check_run};
-use hla_machine::Record;
+use crate::telling::{DONE, tell, tell_out_of_memory, tell_unwritten};
 use hla_script::Watched;
 use std::alloc::{AllocError, Global};
 use std::io::Write;
+
+/// The status of a script whose records are no run of the central machine.
+pub const DIFFERS: u8 = 3;
 
 /// What the central machine says of a script's records.
 #[derive(Clone, Copy, Debug, PartialEq, Eq)]
@@ -18,17 +19,6 @@ pub(crate) enum Finding {
     Run(usize),
     /// The record at this place, counted from 0, is the first that is no step of it.
     Differs(usize),
-}
-
-/// What the central machine says of records; `None` where memory ran out.
-pub(crate) fn finding_of(alloc: Global, records: &[Record]) -> Option<Finding>
-    ensures { IfSome result (IsVerdict records.now) }
-{
-    match check_run(alloc, records) {
-        Ok(()) => Some(Finding::Run(records.len())),
-        Err(CheckFault::Place(place)) => Some(Finding::Differs(place)),
-        Err(CheckFault::Memory) => None,
-    }
 }
 
 /// The line of what was found.

@@ -7,9 +7,6 @@ pub enum Task<'a> {
     Play { fed: &'a str, script: &'a str },
     /// A script is played over a FED file, and its records are judged by the central machine; `-` stands for the standard input.
     Check { fed: &'a str, script: &'a str },
-    /// A script is run over a FED file, each federate on a thread of its own, its outcomes are printed, and its records are judged
-    /// by the central machine; `-` stands for the standard input.
-    Run { fed: &'a str, script: &'a str },
     /// What a FED file declares is listed; `-` stands for the standard input.
     List { fed: &'a str },
 }
@@ -21,6 +18,4 @@ pub(crate) enum ScriptTask {
     Play,
     /// Its records are judged.
     Check,
-    /// Its federates run on threads, its outcomes are printed, and its records are judged.
-    Run,
 }

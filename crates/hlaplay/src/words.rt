@@ -45,9 +45,6 @@ fn plain_task<'a>(words: &[&'a str]) -> Option<Task<'a>>
         [_, word, fed, script] if *word == "check" && is_operand(fed) && is_operand(script) => {
             Some(Task::Check { fed, script })
         }
-        [_, word, fed, script] if *word == "run" && is_operand(fed) && is_operand(script) => {
-            Some(Task::Run { fed, script })
-        }
         _ => None,
     }
 }
@@ -89,20 +86,14 @@ fn command<'a>(alloc: Global) -> Result<Command<'a>, AllocError>
         "check",
         "Plays a script over a FED file and judges its records; - is the standard input",
     )?;
-    let run = script_command(
-        alloc,
-        "run",
-        "Runs a script over a FED file, a thread for each federate; - is the standard input",
-    )?;
     let fed = Command::new(alloc, "fed")
         .about("Lists what a FED file declares; - is the standard input")
         .arg(file(alloc, "FILE"))?;
     Command::new(alloc, "hlaplay")
-        .about("Plays and runs scripts over FED files; without arguments as play - -")
+        .about("Plays scripts over FED files; without arguments as play - -")
         .subcommand_required(true)
         .subcommand(play)?
         .subcommand(check)?
-        .subcommand(run)?
         .subcommand(fed)
 }
 
@@ -119,8 +110,6 @@ fn task_with<'a>(name: &str, found: &ArgMatches<'a>) -> Option<Task<'a>>
     let script = found.get_str("SCRIPT")?;
     let task = if name == "check" {
         Task::Check { fed, script }
-    } else if name == "run" {
-        Task::Run { fed, script }
     } else {
         Task::Play { fed, script }
     };
@@ -157,8 +146,8 @@ fn clap_task<'a>(alloc: Global, words: &'a [&'a str]) -> Result<Task<'a>, WordsF
 }
 
 /// What the words ask for, the program's name in front; without others it is `play - -`. Words of a plain form (no other
-/// words, `fed FILE`, `play FED SCRIPT`, `check FED SCRIPT` or `run FED SCRIPT`, with names that are no options) take no memory
-/// and are never refused.
+/// words, `fed FILE`, `play FED SCRIPT` or `check FED SCRIPT`, with names that are no options) take no memory and are never
+/// refused.
 #[tactic(auto, using(crate::proofs::PlainLemmas::read_alike))]
 pub fn parse<'a>(alloc: Global, words: &'a [&'a str]) -> Result<Task<'a>, WordsFault>
     ensures ok { IfOk result (λ task. task_of (texts words.entry.now) ≡ Some (named_task task)) }
