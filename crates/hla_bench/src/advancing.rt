@@ -1,5 +1,6 @@
-//! Federates that advance, each by itself: on a bare federation, or through the infrastructure with a thread for each. The steps are
-//! the same: each federate asks in turn for the times 1, 2, .., ticks for its grant, and queries its time.
+//! Federates that advance, each by itself: on a bare federation, or through the infrastructure with a thread for each, perhaps with
+//! a monitor that is read on a thread of its own all the while. The steps are the same: each federate asks in turn for the times 1,
+//! 2, .., ticks for its grant, and queries its time.
 
 ghost use Rattle.std.specs.Prelude.{◌≡◌};
 
@@ -9,25 +10,27 @@ use crate::reading::catalogue;
 use hla_base::{ExecutionName, Fault, FederateNo, List, Ticks};
 use hla_callbacks::Recorder;
 use hla_machine::Service;
-use hla_monitor::{Naming, Opened, Publisher};
+use hla_monitor::{Monitor, Naming, Opened, Publisher};
 use hla_rti::{Federate, Left, Rti, open_rti};
 use std::alloc::Global;
 use std::marker::Brand;
 use std::sync::Wait;
+use std::sync::atomic::{AtomicU32, Ordering};
 use std::sync::ledger::{Blank, Ledger};
 use std::thread;
 use std::thread::Threads;
 
-const FED: &[u8] = b"(FED)";
+/// The FED file.
+pub const FED: &[u8] = b"(FED)";
 
 /// The steps of one advance: the request, the tick that brings the grant, and the query.
 const STEPS: u64 = 3;
 
 /// How many records the history may hold.
-const HISTORY_LIMIT: usize = 1_048_576;
+pub const HISTORY_LIMIT: usize = 1_048_576;
 
 /// What so many federates do in so many rounds, besides joining.
-fn counted(federates: u32, rounds: u64) -> Counts {
+pub fn counted(federates: u32, rounds: u64) -> Counts {
     let grants = u64::from(federates).wrapping_mul(rounds);
     Counts {
         steps: grants.wrapping_mul(STEPS),
@@ -63,11 +66,37 @@ pub fn run_bare(alloc: Global, federates: u32, rounds: u64) -> Result<Counts, Fa
     Ok(counted(federates, rounds))
 }
 
-/// A federate on its thread, and what stopped it, if anything did.
+/// What a thread has: a federate, or a monitor.
 #[derive(Drop)]
-struct Lived<L: Ledger> {
-    left: Left<L, Recorder>,
-    fault: Option<Fault>,
+enum Party<L: Ledger + Naming, W: Publisher<L>> {
+    Caller(Federate<L, Recorder, W>),
+    Watcher(Monitor<L>),
+}
+
+/// How a thread ended.
+#[derive(Drop)]
+enum Lived<L: Ledger> {
+    /// What a federate left behind, and what stopped it, if anything did.
+    Called {
+        left: Left<L, Recorder>,
+        fault: Option<Fault>,
+    },
+    /// How often a monitor was read.
+    Watched { reads: u64 },
+}
+
+/// What all threads leave behind.
+#[derive(Drop)]
+struct Rest<L: Ledger> {
+    lefts: Vec<Left<L, Recorder>>,
+    reads: u64,
+}
+
+/// How many callers there are, and how many have ended.
+#[derive(Drop)]
+struct Callers {
+    count: u32,
+    ended: AtomicU32,
 }
 
 /// One advance of a federate through the infrastructure.
@@ -99,12 +128,47 @@ fn live<L: Ledger + Naming, W: Publisher<L>>(
     rt: &impl Wait,
     mut federate: Federate<L, Recorder, W>,
     rounds: u64,
+    callers: &Callers,
 ) -> Lived<L> {
     let fault = advance_all(rt, &mut federate, rounds).err();
-    Lived {
+    callers.ended.fetch_add(1, Ordering::SeqCst);
+    Lived::Called {
         left: federate.leave(),
         fault,
     }
+}
+
+/// Reads a monitor until all callers have ended.
+fn watch<L: Ledger + Naming>(mut monitor: Monitor<L>, callers: &Callers) -> Lived<L> {
+    let mut reads = 0u64;
+    for _ in 0..u64::MAX {
+        let _status = monitor.read();
+        reads = reads.wrapping_add(1);
+        if callers.ended.load(Ordering::SeqCst) >= callers.count {
+            break;
+        }
+    }
+    Lived::Watched { reads }
+}
+
+/// What a thread does.
+fn lived<L: Ledger + Naming, W: Publisher<L>>(
+    rt: &impl Wait,
+    party: Party<L, W>,
+    rounds: u64,
+    callers: &Callers,
+) -> Lived<L> {
+    match party {
+        Party::Caller(federate) => live(rt, federate, rounds, callers),
+        Party::Watcher(monitor) => watch(monitor, callers),
+    }
+}
+
+/// The name of the federate of a number: the letter that has it.
+pub fn name_of(alloc: Global, federate: FederateNo) -> Result<List<u8>, Fault> {
+    let mut name = List::new(alloc);
+    name.push(b'@'.wrapping_add(federate.to_le_bytes()[0]))?;
+    Ok(name)
 }
 
 /// Joins so many federates.
@@ -113,40 +177,66 @@ fn join_all<L: Ledger + Naming, W: Publisher<L>>(
     alloc: Global,
     rti: &mut Rti<L, Recorder, W>,
     federates: u32,
-) -> Result<Vec<Federate<L, Recorder, W>>, Fault> {
+) -> Result<Vec<Party<L, W>>, Fault> {
     let execution = ExecutionName::new(b"bench")?;
     rti.create(rt, execution, FED)?;
     let mut joined = Vec::new(alloc);
     for federate in 1..=federates {
-        let mut name = List::new(alloc);
-        name.push(b'@'.wrapping_add(federate.to_le_bytes()[0]))?;
+        let name = name_of(alloc, federate)?;
         match rti.join(rt, name, execution, Recorder::new(alloc)) {
-            Ok(federate) => joined.push(federate).map_err(|_| Fault::OutOfMemory)?,
+            Ok(federate) => joined
+                .push(Party::Caller(federate))
+                .map_err(|_| Fault::OutOfMemory)?,
             Err((fault, _)) => return Err(fault),
         }
     }
     Ok(joined)
 }
 
-/// The places of those who have lived, or what stopped one.
-fn lefts<L: Ledger>(alloc: Global, all: Vec<Lived<L>>) -> Result<Vec<Left<L, Recorder>>, Fault> {
-    let mut lefts = Vec::new(alloc);
-    for Lived { left, fault } in all {
-        match fault {
-            Some(fault) => return Err(fault),
-            None => lefts.push(left).map_err(|_| Fault::OutOfMemory)?,
+/// Adds a monitor to the parties, where one is to watch.
+fn add_watcher<L: Ledger + Naming, W: Publisher<L>>(
+    rt: &impl Wait,
+    rti: &mut Rti<L, Recorder, W>,
+    is_watched: bool,
+    parties: &mut Vec<Party<L, W>>,
+) -> Result<(), Fault> {
+    if is_watched {
+        let monitor = rti.monitor(rt)?;
+        parties
+            .push(Party::Watcher(monitor))
+            .map_err(|_| Fault::OutOfMemory)?;
+    }
+    Ok(())
+}
+
+/// What those who have lived leave behind, or what stopped one.
+fn rest_of<L: Ledger>(alloc: Global, all: Vec<Lived<L>>) -> Result<Rest<L>, Fault> {
+    let mut rest = Rest {
+        lefts: Vec::new(alloc),
+        reads: 0,
+    };
+    for lived in all {
+        match lived {
+            Lived::Called {
+                fault: Some(fault), ..
+            } => return Err(fault),
+            Lived::Called { left, fault: None } => {
+                rest.lefts.push(left).map_err(|_| Fault::OutOfMemory)?
+            }
+            Lived::Watched { reads } => rest.reads = reads,
         }
     }
-    Ok(lefts)
+    Ok(rest)
 }
 
 /// The lives of all, each on a thread of its own.
 fn all_lives<L: Ledger + Naming + Send + Sync, W: Publisher<L> + Send, R: Threads + Wait + Sync>(
     rt: &R,
-    joined: Vec<Federate<L, Recorder, W>>,
+    parties: Vec<Party<L, W>>,
     rounds: u64,
+    callers: &Callers,
 ) -> Result<Vec<Lived<L>>, Fault> {
-    let Ok(all) = thread::map_vec(rt, joined, &|federate| live(rt, federate, rounds)) else {
+    let Ok(all) = thread::map_vec(rt, parties, &|party| lived(rt, party, rounds, callers)) else {
         return Err(Fault::OutOfMemory);
     };
     Ok(all)
@@ -160,6 +250,7 @@ fn run_at<L: Ledger + Naming + Send + Sync, R: Threads + Wait + Sync>(
     opened: Opened,
     threads: u32,
     rounds: u64,
+    is_watched: bool,
 ) -> Result<Counts, Fault>
     requires name { blank.name ≡ L.name }
     requires parts { blank.parts ≡ L.parts }
@@ -167,11 +258,19 @@ fn run_at<L: Ledger + Naming + Send + Sync, R: Threads + Wait + Sync>(
     requires book { opened.seen.book ≡ L.book }
 {
     let mut rti = open_rti::<L, Recorder, &R>(alloc, rt, blank, opened, HISTORY_LIMIT)?;
-    let joined = join_all(rt, alloc, &mut rti, threads)?;
-    let all = all_lives(rt, joined, rounds)?;
-    let lefts = lefts(alloc, all)?;
+    let mut parties = join_all(rt, alloc, &mut rti, threads)?;
+    add_watcher(rt, &mut rti, is_watched, &mut parties)?;
+    let callers = Callers {
+        count: threads,
+        ended: AtomicU32::new(0),
+    };
+    let all = all_lives(rt, parties, rounds, &callers)?;
+    let Rest { lefts, reads } = rest_of(alloc, all)?;
     match rti.close(rt, lefts) {
-        Ok(_) => Ok(counted(threads, rounds)),
+        Ok(_) => Ok(Counts {
+            reads,
+            ..counted(threads, rounds)
+        }),
         Err(_) => Err(Fault::FederateInternalError),
     }
 }
@@ -182,6 +281,15 @@ pub fn run<R: Threads + Wait + Sync>(
     alloc: Global,
     threads: u32,
     rounds: u64,
+    is_watched: bool,
 ) -> Result<Counts, Fault> {
-    run_at::<Brand, R>(rt, alloc, Blank::new(2049), Opened::new(), threads, rounds)
+    run_at::<Brand, R>(
+        rt,
+        alloc,
+        Blank::new(2049),
+        Opened::new(),
+        threads,
+        rounds,
+        is_watched,
+    )
 }

@@ -17,11 +17,13 @@ pub struct Counts {
     pub bytes: u64,
     /// Records that were judged to be a run.
     pub judged: u64,
+    /// Reads of a monitor, as many as there is time for.
+    pub reads: u64,
 }
 
 impl Counts {
-    /// Each count, under its name.
-    pub fn all(&self) -> [(&'static str, u64); 7] {
+    /// Each count that is the same at each run, under its name.
+    pub fn fixed(&self) -> [(&'static str, u64); 7] {
         [
             ("steps", self.steps),
             ("sent", self.sent),

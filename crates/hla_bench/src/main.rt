@@ -6,7 +6,10 @@
 //!     hla_bench queue EVENTS
 //!     hla_bench fed BYTES
 //!     hla_bench bare FEDERATES ROUNDS
+//!     hla_bench lent FEDERATES ROUNDS
+//!     hla_bench locked FEDERATES ROUNDS
 //!     hla_bench run THREADS ROUNDS
+//!     hla_bench watch THREADS ROUNDS
 //!     hla_bench check FEDERATES EVENTS ROUNDS
 #![tactic(auto)]
 
@@ -18,6 +21,7 @@ mod meter;
 mod phold;
 mod random;
 mod reading;
+mod sharing;
 
 use crate::counts::Counts;
 use hla_base::Fault;
@@ -56,9 +60,18 @@ enum Benchmark {
         federates: u32,
         rounds: u64,
     },
+    Lent {
+        federates: u32,
+        rounds: u64,
+    },
+    Locked {
+        federates: u32,
+        rounds: u64,
+    },
     Run {
         threads: u32,
         rounds: u64,
+        is_watched: bool,
     },
     Check {
         federates: u32,
@@ -69,7 +82,8 @@ enum Benchmark {
 
 const USAGE: &str =
     "usage: hla_bench lockstep FEDERATES EVENTS ROUNDS | phold FEDERATES POPULATION LOOKAHEAD DELIVERED | \
-    queue EVENTS | fed BYTES | bare FEDERATES ROUNDS | run THREADS ROUNDS | check FEDERATES EVENTS ROUNDS";
+    queue EVENTS | fed BYTES | bare FEDERATES ROUNDS | lent FEDERATES ROUNDS | locked FEDERATES ROUNDS | \
+    run THREADS ROUNDS | watch THREADS ROUNDS | check FEDERATES EVENTS ROUNDS";
 
 /// The next word as a number.
 fn number(words: &mut Args) -> Option<u64> {
@@ -107,9 +121,23 @@ fn asked_for(words: &mut Args) -> Option<Benchmark> {
             federates: small(words)?,
             rounds: number(words)?,
         },
+        "lent" => Benchmark::Lent {
+            federates: small(words)?,
+            rounds: number(words)?,
+        },
+        "locked" => Benchmark::Locked {
+            federates: small(words)?,
+            rounds: number(words)?,
+        },
         "run" => Benchmark::Run {
             threads: small(words)?,
             rounds: number(words)?,
+            is_watched: false,
+        },
+        "watch" => Benchmark::Run {
+            threads: small(words)?,
+            rounds: number(words)?,
+            is_watched: true,
         },
         "check" => Benchmark::Check {
             federates: small(words)?,
@@ -169,7 +197,15 @@ fn counts_of<R: AllocGlobal + Threads + Wait + Sync>(
         Benchmark::Queue { events } => holding::run(alloc, events),
         Benchmark::Fed { bytes } => reading::run(alloc, bytes),
         Benchmark::Bare { federates, rounds } => advancing::run_bare(alloc, federates, rounds),
-        Benchmark::Run { threads, rounds } => advancing::run(rt, alloc, threads, rounds),
+        Benchmark::Lent { federates, rounds } => sharing::run_lent(alloc, federates, rounds),
+        Benchmark::Locked { federates, rounds } => {
+            sharing::run_locked(rt, alloc, federates, rounds)
+        }
+        Benchmark::Run {
+            threads,
+            rounds,
+            is_watched,
+        } => advancing::run(rt, alloc, threads, rounds, is_watched),
         Benchmark::Check { .. } => judge(alloc, records),
     }
 }
@@ -178,7 +214,7 @@ fn counts_of<R: AllocGlobal + Threads + Wait + Sync>(
 fn print_rates<R: Runtime>(rt: &R, counts: &Counts, took: Duration) -> io::Result<()> {
     let micros = took.as_micros();
     eprintln!(rt; "microseconds {micros}")?;
-    for (name, count) in &counts.all() {
+    for (name, count) in counts.fixed().iter().chain(&[("reads", counts.reads)]) {
         if *count > 0 {
             let rate = u128::from(*count) * 1_000_000 / micros.max(1);
             eprintln!(rt; "{name} per second {rate}")?;
@@ -210,7 +246,7 @@ fn run<R: Runtime + AllocGlobal + Threads + Wait + Sync>(rt: &R) -> io::Result<u
         Err(fault) => return stopped(rt, fault),
     };
     let took = start.elapsed(rt)?;
-    for (name, count) in &counts.all() {
+    for (name, count) in &counts.fixed() {
         if *count > 0 {
             println!(rt; "{name} {count}")?;
         }

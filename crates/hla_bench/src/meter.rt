@@ -1,5 +1,6 @@
 //! A federation whose steps are counted.
 
+use crate::advancing::name_of;
 use crate::counts::Counts;
 use hla_base::{
     ClassNo, ExecutionName, Fault, FederateNo, HandleValuePair, List, Plain, Ticks, Value,
@@ -127,8 +128,7 @@ impl Meter {
 
     /// A federate joins, under the letter that has its number.
     pub fn join(&mut self, federate: FederateNo) -> Result<(), Fault> {
-        let mut name = List::new(self.alloc);
-        name.push(b'@'.wrapping_add(federate.to_le_bytes()[0]))?;
+        let name = name_of(self.alloc, federate)?;
         let _brought = self.step(&Step::Join { name })?;
         Ok(())
     }

@@ -4,7 +4,7 @@ ghost use Rattle.std.specs.Prelude.{◌≡◌};
 
 use hla_checker::check_run;
 use hla_monitor::{Naming, Opened};
-use hla_run::{OpenGate, run_in_order, run_scripts};
+use hla_run::{OpenGate, Ran, run_in_order, run_scripts};
 use hla_script::Watched;
 use std::alloc::Global;
 use std::marker::Brand;
@@ -66,7 +66,16 @@ pub fn is_same_behind_the_lock<R: Wait>(
     prints_expected::<Brand, R>(rt, alloc, Blank::new(2049), Opened::new(), example, records)
 }
 
-/// Whether a script ends on threads, behind the lock that `blank` is for, and closes with records that the checker takes.
+/// Whether the monitor of a run read the counts of all its records.
+fn has_seen_all(ran: &Ran) -> bool {
+    match &ran.seen {
+        Some(seen) => seen.steps == ran.closed.records().len() as u64,
+        None => false,
+    }
+}
+
+/// Whether a script ends on threads, behind the lock that `blank` is for, and closes with records that the checker takes, and
+/// whose number a monitor has read.
 fn ends_on_threads<L: Ledger + Naming + Send + Sync, R: Threads + Wait + Sync>(
     rt: &R,
     alloc: Global,
@@ -88,10 +97,11 @@ fn ends_on_threads<L: Ledger + Naming + Send + Sync, R: Threads + Wait + Sync>(
         example.fed,
         example.script,
         &OpenGate,
+        true,
         &mut Watched::new(&mut transcript),
     );
     match ran {
-        Ok(closed) => check_run(alloc, closed.records()) == Ok(()),
+        Ok(ran) => has_seen_all(&ran) && check_run(alloc, ran.closed.records()) == Ok(()),
         Err(_) => false,
     }
 }

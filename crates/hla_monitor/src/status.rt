@@ -1,6 +1,6 @@
 //! What a monitor shows.
 
-ghost use Rattle.std.specs.Prelude.{◌≡◌, ◌<◌, ◌^◌, []};
+ghost use Rattle.std.specs.Prelude.{◌≡◌, ◌<◌, ◌^◌, ◌↔◌, [], length, IsTrue};
 ghost use Rattle.hla_monitor.specs.Counts.{status_of, status_after, count_after, IsBelow, is_done_outcome, is_creation, is_destruction, is_joining, is_resigning, is_tick, has_callback, is_grant, has_grant};
 
 use hla_callbacks::Callback;
@@ -118,6 +118,9 @@ fn has_grant_in(outcome: &Outcome) -> bool
     }
 }
 
+/// The most records of which it is told whether counts are theirs, which is more than a history can hold.
+const MAX_COUNTED: usize = 1 << 61;
+
 /// A count that one happening raises and another lowers.
 fn counted(count: u64, up: bool, down: bool) -> u64
     requires { count < 2 ^ 62 }
@@ -144,6 +147,20 @@ impl Status {
             callbacks: 0,
             grants: 0,
         }
+    }
+
+    /// Whether these are the counts of these records. Of more than 2^61 it is not told.
+    pub fn is_of(self, entries: &[Record]) -> bool
+        ensures { IsTrue result ↔ ((length entries.now < 2 ^ 61) × (self ≡ status_of entries.now)) }
+    {
+        if entries.len() >= MAX_COUNTED {
+            return false;
+        }
+        let mut counted = Status::none();
+        for entry in entries {
+            counted = counted.with(entry);
+        }
+        counted == self
     }
 
     /// The counts with one record more.

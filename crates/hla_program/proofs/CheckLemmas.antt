@@ -1,5 +1,5 @@
 -- Records that are a run never differ from it, and what was found is told.
-use Rattle.std.proofs.Common.{◌≡◌, ◌<◌, ℕ, zero, suc, Bool, true, false, ◌||◌, List, [], ◌∷◌, length, take, Some, None, refl, sym, ap, subst, ◌∙◌, arith}
+use Rattle.std.proofs.Common.{◌≡◌, ℕ, zero, suc, Bool, true, false, ◌||◌, List, [], ◌∷◌, length, take, Option, Some, None, IfSome, refl, sym, ap, subst, ◌∙◌, arith}
 use Rattle.std.specs.Prelude.{slice_get}
 use Rattle.std.specs.Io.KnownBytes.{Appends, Keeps}
 use Rattle.std.proofs.lemmas.List.{take_all}
@@ -13,7 +13,7 @@ use Rattle.hla_script.specs.Playing.{StopsBy}
 use Rattle.hla_transcript.specs.Watching.{Stream}
 use Rattle.hla_program.specs.declared.finding.Finding.{Finding}
 use Rattle.hla_program.specs.declared.finding.Finding.TheVariants.{Run, Differs}
-use Rattle.hla_program.specs.Program.{WritesLine, Whole, Cut, EndsTelling, StopsCheck, IsFound, EndsChecking, Checked}
+use Rattle.hla_program.specs.Program.{WritesLine, Whole, Cut, EndsTelling, StopsCheck, IsFound, IsVerdict, HasRecords, EndsChecking, Checked, finding_line, finding_text, finding_status}
 use Rattle.hla_program.proofs.EndLemmas.{appends_kept}
 
 -- in a run each record is a step after those before it
@@ -26,6 +26,20 @@ runs_on x (q ∷ qs) (suc k) y z r run before at = runs_on (after_act x q.execut
 
 pub never_differs : (rs : List Record) (place : ℕ) → IsWholeRun rs → IsRunUpTo rs place IsNoStep → ⊥
 never_differs rs place run stops = stops.4 (runs_on no_executions rs place stops.0 run.0 stops.1 run.1 stops.2 stops.3)
+
+-- of records that are a run the machine says just that
+pub found_of : (fed script : List ℕ) (records : List Record) (finding : Finding) → HasRecords fed script records → IsWholeRun records → IsVerdict records finding → IsFound fed script finding
+found_of fed script records (Run count) has run verdict = (records, has, verdict.0, verdict.1)
+found_of fed script records (Differs place) has run verdict = absurd (never_differs records place run verdict)
+
+-- and so of a history
+pub history_found : (records : List Record) (finding : Finding) → IsWholeRun records → IsVerdict records finding → finding ≡ Run (length records)
+history_found records (Run count) run verdict = ap Run verdict.1
+history_found records (Differs place) run verdict = absurd (never_differs records place run verdict)
+
+pub histories_found : (lent records : List Record) (found : Option Finding) → lent ≡ records → IsWholeRun records → IfSome found (IsVerdict lent) → IfSome found (λ finding. finding ≡ Run (length records))
+histories_found lent records None same run verdict = tt
+histories_found lent records (Some finding) same run verdict = history_found records finding run (subst (λ (rs : List Record). IsVerdict rs finding) same verdict)
 
 -- where no write failed
 pub stops_check : (fed script : List ℕ) (why : PlayFault) → StopsBy fed script None None why → (why ≡ unplayed.Write → ⊥) → StopsCheck fed script why
@@ -51,7 +65,7 @@ line_cut old mid new line (Whole grown sound) kept =
 line_cut old mid new line (Cut n grown failed) kept = (n, appends_kept old.bytes mid.bytes new.bytes (take n line) grown kept)
 
 -- what was found is that the records are a run
-pub checked : (fed script : List ℕ) (finding : Finding) (out out' err err' : Stream) (status : ℕ) → IsFound fed script finding → EndsTelling finding out out' err err' status → EndsChecking fed script out out' err err' status
+pub checked : (fed script : List ℕ) (finding : Finding) (out out' err err' : Stream) (status : ℕ) → IsFound fed script finding → EndsTelling (finding_text finding None) (finding_status finding) out out' err err' status → EndsChecking fed script out out' err err' status
 checked fed script (Run count) out out' err err' status found told =
-    Checked found.0 found.1 found.2 (subst (λ (n : ℕ). EndsTelling (Run n) out out' err err' status) found.3 told)
+    Checked found.0 found.1 found.2 (subst (λ (n : ℕ). EndsTelling (finding_line (Run n)) 0 out out' err err' status) found.3 told)
 checked fed script (Differs place) out out' err err' status found told = absurd found

@@ -8,9 +8,12 @@ use Rattle.hla_script.specs.declared.player.PlayFault.{PlayFault}
 use Rattle.hla_script.specs.declared.player.PlayFault.TheVariants as unplayed
 use Rattle.hla_script.specs.Playing.{IsPlayedFrom, is_failed_transcript}
 use Rattle.hla_transcript.specs.Watching.{Stream}
-use Rattle.hla_program.specs.Program.{WritesLine, Whole, Cut, Complains, PlayCause, ListCause, memory_line}
+use Rattle.hla_run.specs.Running.{is_failed_text}
+use Rattle.hla_run.specs.declared.fault.RunFault.{RunFault}
+use Rattle.hla_run.specs.declared.fault.RunFault.TheVariants as unran
+use Rattle.hla_program.specs.Program.{WritesLine, Whole, Cut, Complains, PlayCause, RunCause, ListCause, memory_line}
 
-or-false : (b : Bool) → (b || false) ≡ b
+pub or-false : (b : Bool) → (b || false) ≡ b
 or-false true = refl
 or-false false = refl
 
@@ -50,12 +53,20 @@ pub same_text : {S F : Type 0} (text : S → List ℕ) (made : Result S F) (x y 
 same_text text (Ok s) x y same is = is ∙ same
 same_text text (Err e) x y same is = tt
 
--- where a write failed while playing or listing
+-- where a write failed while playing, running or listing
 pub play_cause : (why : PlayFault) (old : Bool) (new : Stream) → new.has_failed ≡ (old || is_failed_transcript why) → PlayCause why new
 play_cause (unplayed.Fed e) old new failure = tt
 play_cause (unplayed.Script e) old new failure = tt
 play_cause unplayed.Write old new failure = failure ∙ or-true old
 play_cause unplayed.Memory old new failure = tt
+
+pub run_cause : (why : RunFault) (old : Bool) (new : Stream) → new.has_failed ≡ (old || is_failed_text why) → RunCause why new
+run_cause (unran.Fed e) old new failure = tt
+run_cause (unran.Script e) old new failure = tt
+run_cause unran.Write old new failure = failure ∙ or-true old
+run_cause unran.Memory old new failure = tt
+run_cause (unran.Close e) old new failure = tt
+run_cause unran.Monitor old new failure = tt
 
 pub list_cause : (why : ListFault) (old : Bool) (new : Stream) → new.has_failed ≡ (old || is_failed_listing why) → ListCause why new
 list_cause (unlisted.Fed e) old new failure = tt

@@ -1,5 +1,5 @@
 -- How a task ends
-use Rattle.std.specs.Prelude.{◌≡◌, ◌+◌, ℕ, true, false, ◌&&◌, ◌⊎◌, List, ◌++◌, length, take, Option, None, MatchBool, codes, decimal}
+use Rattle.std.specs.Prelude.{◌≡◌, ◌+◌, ℕ, Bool, true, false, ◌&&◌, ◌⊎◌, List, ◌++◌, length, take, Option, None, Some, MatchBool, codes, decimal}
 use Rattle.std.specs.Str.{bytes_eq}
 use Rattle.std.specs.Io.KnownBytes.{Appends}
 use Rattle.hla_base.specs.Limits.{max_fed_file, max_script}
@@ -10,12 +10,16 @@ use Rattle.hla_transcript.specs.Listed.{IsListed, StopsListing}
 use Rattle.hla_script.specs.Playing.{IsPlayedFrom, StopsBy}
 use Rattle.hla_commands.specs.declared.lines.ScriptFault.{ScriptFault}
 use Rattle.hla_machine.specs.declared.step.Record.{Record}
-use Rattle.hla_checker.specs.Faults.{IsWholeRun}
+use Rattle.hla_checker.specs.Faults.{IsWholeRun, IsRunUpTo, IsNoStep}
+use Rattle.hla_monitor.specs.declared.status.Status.{Status}
 use Rattle.hla_transcript.specs.declared.listing.ListFault.{ListFault}
 use Rattle.hla_transcript.specs.declared.listing.ListFault.TheVariants as unlisted
 use Rattle.hla_script.specs.declared.player.PlayFault.{PlayFault}
 use Rattle.hla_script.specs.declared.player.PlayFault.TheVariants as unplayed
-use Rattle.hla_program.specs.Tasks.{NamedTask, Play, Check, Listing}
+use Rattle.hla_run.specs.Running.{IsRunFrom, IsSeen, StopsRun}
+use Rattle.hla_run.specs.declared.fault.RunFault.{RunFault}
+use Rattle.hla_run.specs.declared.fault.RunFault.TheVariants as unran
+use Rattle.hla_program.specs.Tasks.{NamedTask, Play, Check, Running, Listing}
 use Rattle.hla_program.specs.declared.task.ScriptTask.{ScriptTask}
 use Rattle.hla_program.specs.declared.task.ScriptTask.TheVariants as wanted
 use Rattle.hla_program.specs.declared.finding.Finding.{Finding}
@@ -52,6 +56,21 @@ play_stop_line (unplayed.Script e) = script_line e
 play_stop_line unplayed.Write = unwritten_line
 play_stop_line unplayed.Memory = memory_line
 
+abbrev pub transcripts_line : List ℕ
+transcripts_line = codes "transcripts differ\n"
+
+abbrev pub monitor_line : List ℕ
+monitor_line = codes "monitor differs\n"
+
+-- why a script was not run to its end
+abbrev pub run_stop_line : RunFault → List ℕ
+run_stop_line (unran.Fed e) = fed_line e
+run_stop_line (unran.Script e) = script_line e
+run_stop_line unran.Write = unwritten_line
+run_stop_line unran.Memory = memory_line
+run_stop_line (unran.Close e) = transcripts_line
+run_stop_line unran.Monitor = monitor_line
+
 -- why a FED file was not listed
 abbrev pub list_stop_line : ListFault → List ℕ
 list_stop_line (unlisted.Fed e) = fed_line e
@@ -78,6 +97,14 @@ PlayCause (unplayed.Fed e) out = Unit {0}
 PlayCause (unplayed.Script e) out = Unit {0}
 PlayCause unplayed.Write out = out.has_failed ≡ true
 PlayCause unplayed.Memory out = Unit {0}
+
+abbrev pub RunCause : RunFault → Stream → Type 0
+RunCause (unran.Fed e) out = Unit {0}
+RunCause (unran.Script e) out = Unit {0}
+RunCause unran.Write out = out.has_failed ≡ true
+RunCause unran.Memory out = Unit {0}
+RunCause (unran.Close e) out = Unit {0}
+RunCause unran.Monitor out = Unit {0}
 
 abbrev pub ListCause : ListFault → Stream → Type 0
 ListCause (unlisted.Fed e) out = Unit {0}
@@ -107,6 +134,11 @@ abbrev pub IsFound : List ℕ → List ℕ → Finding → Type 0
 IsFound fed script (Run count) = (records : List Record) × HasRecords fed script records × IsWholeRun records × (count ≡ length records)
 IsFound fed script (Differs place) = ⊥
 
+-- of any records: so many are a run of the machine, or the first at this place is no step of it
+abbrev pub IsVerdict : List Record → Finding → Type 0
+IsVerdict records (Run count) = IsWholeRun records × (count ≡ length records)
+IsVerdict records (Differs place) = IsRunUpTo records place IsNoStep
+
 abbrev pub finding_line : Finding → List ℕ
 finding_line (Run count) = codes "ok " ++ decimal count ++ codes "\n"
 finding_line (Differs place) = codes "differs " ++ decimal place ++ codes "\n"
@@ -115,21 +147,48 @@ abbrev pub finding_status : Finding → ℕ
 finding_status (Run count) = 0
 finding_status (Differs place) = 3
 
--- what was found is told
-pub data EndsTelling (finding : Finding) (out out' err err' : Stream) (status : ℕ) : Type 0 where
-  Told : Appends out.bytes out'.bytes (finding_line finding) → out'.has_failed ≡ false → err' ≡ err → status ≡ finding_status finding → EndsTelling finding out out' err err' status
-  Unwritten : (n : ℕ) → Appends out.bytes out'.bytes (take n (finding_line finding)) → out'.has_failed ≡ true → WritesLine err err' unwritten_line → status ≡ 1 → EndsTelling finding out out' err err' status
-  Untold : out' ≡ out → WritesLine err err' memory_line → status ≡ 1 → EndsTelling finding out out' err err' status
+-- what was found, and behind it the steps and the grants that a monitor read last, where one watched
+abbrev pub finding_text : Finding → Option Status → List ℕ
+finding_text finding None = finding_line finding
+finding_text finding (Some s) = finding_line finding ++ codes "monitor " ++ decimal s.steps ++ codes " " ++ decimal s.grants ++ codes "\n"
+
+-- a text is told, and then the status is the wanted one
+pub data EndsTelling (text : List ℕ) (wanted : ℕ) (out out' err err' : Stream) (status : ℕ) : Type 0 where
+  Told : Appends out.bytes out'.bytes text → out'.has_failed ≡ false → err' ≡ err → status ≡ wanted → EndsTelling text wanted out out' err err' status
+  Unwritten : (n : ℕ) → Appends out.bytes out'.bytes (take n text) → out'.has_failed ≡ true → WritesLine err err' unwritten_line → status ≡ 1 → EndsTelling text wanted out out' err err' status
+  Untold : out' ≡ out → WritesLine err err' memory_line → status ≡ 1 → EndsTelling text wanted out out' err err' status
 
 -- a script is played over a FED file, and its records are judged: so many are a run of the machine
 pub data EndsChecking (fed script : List ℕ) (out out' err err' : Stream) (status : ℕ) : Type 0 where
-  Checked : (records : List Record) → HasRecords fed script records → IsWholeRun records → EndsTelling (Run (length records)) out out' err err' status → EndsChecking fed script out out' err err' status
+  Checked : (records : List Record) → HasRecords fed script records → IsWholeRun records → EndsTelling (finding_line (Run (length records))) 0 out out' err err' status → EndsChecking fed script out out' err err' status
   CheckStopped : (why : PlayFault) → StopsCheck fed script why → out' ≡ out → Complains err err' (play_stop_line why) → status ≡ 1 → EndsChecking fed script out out' err err' status
+
+-- the status of a script that was not run to its end: transcripts or counts that differ have their own
+abbrev pub run_stop_status : RunFault → ℕ
+run_stop_status (unran.Fed e) = 1
+run_stop_status (unran.Script e) = 1
+run_stop_status unran.Write = 1
+run_stop_status unran.Memory = 1
+run_stop_status (unran.Close e) = 3
+run_stop_status unran.Monitor = 3
+
+-- that so many records are a run of the machine is told, and what a monitor read last; or there was no memory to judge them
+pub data EndsJudging (count : ℕ) (seen : Option Status) (out out' err err' : Stream) (status : ℕ) : Type 0 where
+  Judged : EndsTelling (finding_text (Run count) seen) 0 out out' err err' status → EndsJudging count seen out out' err err' status
+  Unjudged : out' ≡ out → WritesLine err err' memory_line → status ≡ 1 → EndsJudging count seen out out' err err' status
+
+-- a script is run over a FED file, each federate on a thread: how its lines came out is written, and behind it the number of the
+-- records, which are a run of the machine, and what a monitor read last
+pub data EndsRunning (is_watched : Bool) (fed script : List ℕ) (out out' err err' : Stream) (status : ℕ) : Type 0 where
+  Ran : (told : Stream) → IsRunFrom fed script out.bytes told.bytes → told.has_failed ≡ out.has_failed → (records : List Record) → IsWholeRun records → (seen : Option Status) → IsSeen is_watched records seen
+    → EndsJudging (length records) seen told out' err err' status → EndsRunning is_watched fed script out out' err err' status
+  RunStopped : (why : RunFault) → StopsRun fed script out.bytes out'.bytes why → RunCause why out' → Complains err err' (run_stop_line why) → status ≡ run_stop_status why → EndsRunning is_watched fed script out out' err err' status
 
 -- what is asked for is done with a script over a FED file
 abbrev pub EndsScript : ScriptTask → List ℕ → List ℕ → Stream → Stream → Stream → Stream → ℕ → Type 0
 EndsScript wanted.Play fed script out out' err err' status = EndsPlaying fed script out out' err err' status
 EndsScript wanted.Check fed script out out' err err' status = EndsChecking fed script out out' err err' status
+EndsScript (wanted.Run is_watched) fed script out out' err err' status = EndsRunning is_watched fed script out out' err err' status
 
 -- a FED file is listed
 pub data EndsListing (fed : List ℕ) (out out' err err' : Stream) (status : ℕ) : Type 0 where
@@ -176,4 +235,5 @@ EndsNamed bytes_of task fed script out out' err err' status =
 abbrev pub EndsTask : (List ℕ → Option (List ℕ)) → NamedTask → Stream → Stream → Stream → Stream → ℕ → Type 0
 EndsTask bytes_of (Play fed script) out out' err err' status = EndsNamed bytes_of wanted.Play fed script out out' err err' status
 EndsTask bytes_of (Check fed script) out out' err err' status = EndsNamed bytes_of wanted.Check fed script out out' err err' status
+EndsTask bytes_of (Running fed script is_watched) out out' err err' status = EndsNamed bytes_of (wanted.Run is_watched) fed script out out' err err' status
 EndsTask bytes_of (Listing fed) out out' err err' status = (file' : Stream) × EndsListingFile fed (opened_stream (bytes_of fed)) file' out out' err err' status

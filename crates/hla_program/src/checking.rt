@@ -5,10 +5,9 @@ ghost use Rattle.hla_transcript.specs.Watching.{stream_of};
 ghost use Rattle.hla_checker.specs.Faults.{IsWholeRun};
 ghost use Rattle.hla_program.specs.Program.{HasRecords, StopsCheck, IsFound, EndsChecking};
 
-use crate::finding::{Finding, tell_finding};
+use crate::finding::{Finding, finding_of, tell_finding};
 use crate::telling::tell_play_stop;
 use hla_base::List;
-use hla_checker::{CheckFault, check_run};
 use hla_machine::Record;
 use hla_script::{PlayFault, Watched, play};
 use std::alloc::Global;
@@ -38,10 +37,9 @@ fn judge_script(alloc: Global, fed: &[u8], script: &[u8]) -> Result<Finding, Pla
         Ok(records) => records,
         Err(fault) => return Err(fault),
     };
-    match check_run(alloc, records.as_slice()) {
-        Ok(()) => Ok(Finding::Run(records.len())),
-        Err(CheckFault::Place(place)) => Ok(Finding::Differs(place)),
-        Err(CheckFault::Memory) => Err(PlayFault::Memory),
+    match finding_of(alloc, records.as_slice()) {
+        Some(finding) => Ok(finding),
+        None => Err(PlayFault::Memory),
     }
 }
 
@@ -61,7 +59,7 @@ pub(crate) fn check_bytes<W: Write, E: Write>(
         (stream_of E.contents errors.old) (stream_of E.contents errors.new) result }
 {
     match judge_script(alloc, fed, script) {
-        Ok(finding) => tell_finding(alloc, finding, out, errors),
+        Ok(finding) => tell_finding(alloc, finding, None, out, errors),
         Err(fault) => tell_play_stop(alloc, errors, fault),
     }
 }

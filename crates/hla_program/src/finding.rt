@@ -1,16 +1,16 @@
 //! What the central machine says of a script's records, and the line that tells it.
 
-ghost use Rattle.std.specs.Prelude.{◌≡◌, IfOk, string_bytes};
+ghost use Rattle.std.specs.Prelude.{◌≡◌, IfOk, IfSome, string_bytes};
 ghost use Rattle.hla_transcript.specs.Watching.{stream_of};
-ghost use Rattle.hla_program.specs.Program.{EndsTelling, finding_line, finding_status};
+ghost use Rattle.hla_program.specs.Program.{EndsTelling, IsVerdict, finding_line, finding_text, finding_status};
 
-use crate::telling::{DONE, tell, tell_out_of_memory, tell_unwritten};
+use crate::telling::{DIFFERS, DONE, tell, tell_out_of_memory, tell_unwritten};
+use hla_checker::{CheckFault, check_run};
+use hla_machine::Record;
+use hla_monitor::Status;
 use hla_script::Watched;
 use std::alloc::{AllocError, Global};
 use std::io::Write;
-
-/// The status of a script whose records are no run of the central machine.
-pub const DIFFERS: u8 = 3;
 
 /// What the central machine says of a script's records.
 #[derive(Clone, Copy, Debug, PartialEq, Eq)]
@@ -21,6 +21,17 @@ pub(crate) enum Finding {
     Differs(usize),
 }
 
+/// What the central machine says of records; `None` where memory ran out.
+pub(crate) fn finding_of(alloc: Global, records: &[Record]) -> Option<Finding>
+    ensures { IfSome result (IsVerdict records.now) }
+{
+    match check_run(alloc, records) {
+        Ok(()) => Some(Finding::Run(records.len())),
+        Err(CheckFault::Place(place)) => Some(Finding::Differs(place)),
+        Err(CheckFault::Memory) => None,
+    }
+}
+
 /// The line of what was found.
 fn finding_line(alloc: Global, finding: Finding) -> Result<String, AllocError>
     ensures { IfOk result (λ text. string_bytes text ≡ finding_line finding) }
@@ -28,6 +39,23 @@ fn finding_line(alloc: Global, finding: Finding) -> Result<String, AllocError>
     match finding {
         Finding::Run(count) => format!(in alloc; "ok {count}\n"),
         Finding::Differs(place) => format!(in alloc; "differs {place}\n"),
+    }
+}
+
+/// The line of what was found, and behind it one of what a monitor read last, if one watched.
+fn finding_text(
+    alloc: Global,
+    finding: Finding,
+    seen: Option<Status>,
+) -> Result<String, AllocError>
+    ensures { IfOk result (λ text. string_bytes text ≡ finding_text finding seen) }
+{
+    let line = finding_line(alloc, finding)?;
+    match seen {
+        None => Ok(line),
+        Some(Status { steps, grants, .. }) => {
+            format!(in alloc; "{line}monitor {steps} {grants}\n")
+        }
     }
 }
 
@@ -41,22 +69,23 @@ fn finding_status(finding: Finding) -> u8
     }
 }
 
-/// Writes the line of what was found, hands it on, and answers the status of what was found; or else says that a write failed
-/// or that memory ran out, and answers that status.
+/// Writes the text of what was found and of what a monitor read last, hands it on, and answers the status of what was found; or
+/// else says that a write failed or that memory ran out, and answers that status.
 pub(crate) fn tell_finding<W: Write, E: Write>(
     alloc: Global,
     finding: Finding,
+    seen: Option<Status>,
     out: &mut Watched<W>,
     errors: &mut Watched<E>,
 ) -> u8
-    ensures { EndsTelling finding
+    ensures { EndsTelling (finding_text finding seen) (finding_status finding)
         (stream_of W.contents out.old) (stream_of W.contents out.new)
         (stream_of E.contents errors.old) (stream_of E.contents errors.new) result }
 {
-    let Ok(line) = finding_line(alloc, finding) else {
+    let Ok(text) = finding_text(alloc, finding, seen) else {
         return tell_out_of_memory(errors);
     };
-    tell(out, line.as_str());
+    tell(out, text.as_str());
     let _ = out.flush();
     if out.has_failed() {
         return tell_unwritten(errors);

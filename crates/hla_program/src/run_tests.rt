@@ -1,13 +1,19 @@
-ghost use Rattle.std.specs.Prelude.{None};
+ghost use Rattle.std.specs.Prelude.{◌≡◌, None};
 
 use crate::running::do_task;
 use crate::source::{Opener, System};
 use crate::task::Task;
+use crate::threads::Means;
+use hla_monitor::Opened;
 use hla_script::Watched;
 use std::alloc::Global;
 use std::io;
 use std::io::{Read, Write};
+use std::marker::Brand;
+use std::sync::Wait;
+use std::sync::ledger::Blank;
 use std::test::Fail;
+use std::thread::Threads;
 
 const FED: &[u8] = b"(FED
  (Federation Demo)
@@ -97,12 +103,36 @@ impl Write for Narrow {
     }
 }
 
+/// The status of a task.
+fn status_of<R: Threads + Wait + Sync, O: Opener, W: Write, E: Write>(
+    rt: &R,
+    alloc: Global,
+    opener: &O,
+    task: Task<'_>,
+    out: &mut Watched<W>,
+    errors: &mut Watched<E>,
+) -> u8 {
+    let means = Means {
+        rt,
+        alloc,
+        blank: Blank::new(2049),
+        opened: Opened::new(),
+    };
+    do_task::<Brand, R, O, W, E>(means, opener, task, out, errors)
+}
+
 /// The status of a task on these files, and what is on the standard output and on the standard error.
-fn ends(alloc: Global, files: &[(&str, &[u8])], task: Task<'_>) -> (u8, Vec<u8>, Vec<u8>) {
+fn ends<R: Threads + Wait + Sync>(
+    rt: &R,
+    alloc: Global,
+    files: &[(&str, &[u8])],
+    task: Task<'_>,
+) -> (u8, Vec<u8>, Vec<u8>) {
     let mut out = Vec::new(alloc);
     let mut errors = Vec::new(alloc);
     let shelf = Shelf { files };
-    let status = do_task(
+    let status = status_of(
+        rt,
         alloc,
         &shelf,
         task,
@@ -122,10 +152,54 @@ const CHECK: Task<'static> = Task::Check {
     script: "b.script",
 };
 
+const RUN: Task<'static> = Task::Run {
+    fed: "a.fed",
+    script: "b.script",
+    is_watched: false,
+};
+
+const WATCHED_RUN: Task<'static> = Task::Run {
+    fed: "a.fed",
+    script: "b.script",
+    is_watched: true,
+};
+
+/// Two federates, neither of whose lines waits for one of the other's.
+const TWO_FEDERATES: &[u8] = b"create
+join A
+join B
+A publishInteraction InteractionRoot
+carry A B
+B subscribeInteraction InteractionRoot
+A regulate 0 1
+A tick
+B time
+C tick
+A resign NO_ACTION
+B resign NO_ACTION
+destroy
+";
+
+/// What a run of it writes whatever the threads do: the line that carries is not run, and no record is made for C.
+const TWO_OUTCOMES: &[u8] = b"1 ok
+2 ok 1
+3 ok 2
+4 ok
+6 ok
+7 ok
+8 ok regulationEnabled 0
+9 ok 0
+10 error 6 FederateNotExecutionMember
+11 ok
+12 ok
+13 ok
+ok 11
+";
+
 #[test]
 fn plays_files_by_their_names(rt: HostRuntime) {
     let files: [(&str, &[u8]); 2] = [("a.fed", FED), ("b.script", SCRIPT)];
-    let (status, out, errors) = ends(rt.alloc(), files.as_slice(), PLAY);
+    let (status, out, errors) = ends(&rt, rt.alloc(), files.as_slice(), PLAY);
     assert_eq!(rt; status, 0);
     assert_eq!(rt; out.as_slice(), TRANSCRIPT);
     assert_eq!(rt; errors.as_slice(), b"".as_slice());
@@ -135,7 +209,7 @@ fn plays_files_by_their_names(rt: HostRuntime) {
 fn lists_a_file_by_its_name(rt: HostRuntime) {
     let files: [(&str, &[u8]); 2] = [("b.fed", SCRIPT), ("a.fed", FED)];
     let task = Task::List { fed: "a.fed" };
-    let (status, out, errors) = ends(rt.alloc(), files.as_slice(), task);
+    let (status, out, errors) = ends(&rt, rt.alloc(), files.as_slice(), task);
     assert_eq!(rt; status, 0);
     assert_eq!(rt;
         out.as_slice(),
@@ -161,7 +235,7 @@ fn plays_one_input_that_holds_both(rt: HostRuntime) -> Result<(), Fail> {
         fed: "-",
         script: "-",
     };
-    let (status, out, errors) = ends(alloc, files.as_slice(), task);
+    let (status, out, errors) = ends(&rt, alloc, files.as_slice(), task);
     assert_eq!(rt; status, 0);
     assert_eq!(rt; out.as_slice(), TRANSCRIPT);
     assert_eq!(rt; errors.as_slice(), b"".as_slice());
@@ -175,7 +249,7 @@ fn checks_files_by_their_names(rt: HostRuntime) {
         (b"(FED)".as_slice(), b"".as_slice(), "ok 0\n"),
     ] {
         let files: [(&str, &[u8]); 2] = [("a.fed", fed), ("b.script", script)];
-        let (status, out, errors) = ends(rt.alloc(), files.as_slice(), CHECK);
+        let (status, out, errors) = ends(&rt, rt.alloc(), files.as_slice(), CHECK);
         assert_eq!(rt; status, 0, "at {line}");
         assert_eq!(rt; out.as_slice(), line.as_bytes(), "at {line}");
         assert_eq!(rt; errors.as_slice(), b"".as_slice(), "at {line}");
@@ -189,10 +263,46 @@ fn checks_one_input_that_holds_both(rt: HostRuntime) {
         fed: "-",
         script: "-",
     };
-    let (status, out, errors) = ends(rt.alloc(), files.as_slice(), task);
+    let (status, out, errors) = ends(&rt, rt.alloc(), files.as_slice(), task);
     assert_eq!(rt; status, 0);
     assert_eq!(rt; out.as_slice(), b"ok 2\n".as_slice());
     assert_eq!(rt; errors.as_slice(), b"".as_slice());
+}
+
+#[test]
+fn runs_files_by_their_names(rt: HostRuntime) {
+    let files: [(&str, &[u8]); 2] = [("a.fed", FED), ("b.script", TWO_FEDERATES)];
+    let (status, out, errors) = ends(&rt, rt.alloc(), files.as_slice(), RUN);
+    assert_eq!(rt; status, 0);
+    assert_eq!(rt; out.as_slice(), TWO_OUTCOMES);
+    assert_eq!(rt; errors.as_slice(), b"".as_slice());
+}
+
+#[test]
+fn runs_files_beside_a_monitor(rt: HostRuntime) -> Result<(), Fail> {
+    let files: [(&str, &[u8]); 2] = [("a.fed", FED), ("b.script", TWO_FEDERATES)];
+    let (status, out, errors) = ends(&rt, rt.alloc(), files.as_slice(), WATCHED_RUN);
+    let mut expected = TWO_OUTCOMES.to_vec(rt.alloc())?;
+    expected.extend_from_slice(b"monitor 11 0\n")?;
+    assert_eq!(rt; status, 0);
+    assert_eq!(rt; out.as_slice(), expected.as_slice());
+    assert_eq!(rt; errors.as_slice(), b"".as_slice());
+    Ok(())
+}
+
+#[test]
+fn tells_why_a_script_is_not_run(rt: HostRuntime) {
+    let bad_script: &[u8] = b"create\n\nA fly\n";
+    for (fed, script, line) in [
+        (SCRIPT, bad_script, "fed line 1: ExpectedOpen\n"),
+        (FED, bad_script, "script line 3: UnknownWord\n"),
+    ] {
+        let files: [(&str, &[u8]); 2] = [("a.fed", fed), ("b.script", script)];
+        let (status, out, errors) = ends(&rt, rt.alloc(), files.as_slice(), RUN);
+        assert_eq!(rt; status, 1, "at {line}");
+        assert_eq!(rt; out.as_slice(), b"".as_slice(), "at {line}");
+        assert_eq!(rt; errors.as_slice(), line.as_bytes(), "at {line}");
+    }
 }
 
 #[test]
@@ -203,7 +313,7 @@ fn tells_why_a_script_is_not_checked(rt: HostRuntime) {
         (FED, bad_script, "script line 3: UnknownWord\n"),
     ] {
         let files: [(&str, &[u8]); 2] = [("a.fed", fed), ("b.script", script)];
-        let (status, out, errors) = ends(rt.alloc(), files.as_slice(), CHECK);
+        let (status, out, errors) = ends(&rt, rt.alloc(), files.as_slice(), CHECK);
         assert_eq!(rt; status, 1, "at {line}");
         assert_eq!(rt; out.as_slice(), b"".as_slice(), "at {line}");
         assert_eq!(rt; errors.as_slice(), line.as_bytes(), "at {line}");
@@ -222,7 +332,8 @@ fn tells_that_it_cannot_write_what_it_found(rt: HostRuntime) {
             room,
             fails_to_flush,
         });
-        let ended = do_task(
+        let ended = status_of(
+            &rt,
             rt.alloc(),
             &shelf,
             CHECK,
@@ -249,7 +360,7 @@ fn tells_refused_input_in_one_line(rt: HostRuntime) {
         (FED, bad_script, "script line 3: UnknownWord\n"),
     ] {
         let files: [(&str, &[u8]); 2] = [("a.fed", fed), ("b.script", script)];
-        let (status, out, errors) = ends(rt.alloc(), files.as_slice(), PLAY);
+        let (status, out, errors) = ends(&rt, rt.alloc(), files.as_slice(), PLAY);
         assert_eq!(rt; status, 1, "at {line}");
         assert_eq!(rt; out.as_slice(), b"".as_slice(), "at {line}");
         assert_eq!(rt; errors.as_slice(), line.as_bytes(), "at {line}");
@@ -262,7 +373,7 @@ fn tells_a_file_that_is_too_large(rt: HostRuntime) -> Result<(), Fail> {
     let large = vec![in alloc; b' '; 1_048_577]?;
     let files: [(&str, &[u8]); 1] = [("a.fed", large.as_slice())];
     let task = Task::List { fed: "a.fed" };
-    let (status, out, errors) = ends(alloc, files.as_slice(), task);
+    let (status, out, errors) = ends(&rt, alloc, files.as_slice(), task);
     assert_eq!(rt; status, 1);
     assert_eq!(rt; out.as_slice(), b"".as_slice());
     assert_eq!(rt; errors.as_slice(), b"fed line 1: TooLarge\n".as_slice());
@@ -277,7 +388,7 @@ fn tells_which_file_cannot_be_read(rt: HostRuntime) {
         (&both[1..], "cannot read a.fed\n"),
         (&both[..0], "cannot read a.fed\n"),
     ] {
-        let (status, out, errors) = ends(rt.alloc(), files, PLAY);
+        let (status, out, errors) = ends(&rt, rt.alloc(), files, PLAY);
         assert_eq!(rt; status, 1, "at {line}");
         assert_eq!(rt; out.as_slice(), b"".as_slice(), "at {line}");
         assert_eq!(rt; errors.as_slice(), line.as_bytes(), "at {line}");
@@ -286,7 +397,7 @@ fn tells_which_file_cannot_be_read(rt: HostRuntime) {
         fed: "-",
         script: "-",
     };
-    let (status, _, errors) = ends(rt.alloc(), both.as_slice(), task);
+    let (status, _, errors) = ends(&rt, rt.alloc(), both.as_slice(), task);
     assert_eq!(rt; status, 1);
     assert_eq!(rt; errors.as_slice(), b"cannot read -\n".as_slice());
 }
@@ -308,7 +419,8 @@ fn tells_that_it_cannot_write(rt: HostRuntime) {
             room,
             fails_to_flush,
         });
-        let ended = do_task(
+        let ended = status_of(
+            &rt,
             rt.alloc(),
             &shelf,
             PLAY,
@@ -329,7 +441,7 @@ fn keeps_the_status_where_standard_error_fails(rt: HostRuntime) {
     });
     let shelf = Shelf { files: &[] };
     let mut watched_out = Watched::new(&mut out);
-    let status = do_task(rt.alloc(), &shelf, PLAY, &mut watched_out, &mut errors);
+    let status = status_of(&rt, rt.alloc(), &shelf, PLAY, &mut watched_out, &mut errors);
     assert_eq!(rt; status, 1);
     assert!(rt; errors.has_failed());
 }
@@ -338,7 +450,8 @@ fn keeps_the_status_where_standard_error_fails(rt: HostRuntime) {
 fn tells_that_a_file_is_not_there(rt: HostRuntime) {
     let mut out = Vec::new(rt.alloc());
     let mut errors = Vec::new(rt.alloc());
-    let status = do_task(
+    let status = status_of(
+        &rt,
         rt.alloc(),
         &System::new(&rt),
         Task::List {

@@ -2,10 +2,11 @@
 
 ghost use Rattle.std.specs.Prelude.{◌≡◌, IfOk, OnErr, string_bytes};
 ghost use Rattle.hla_transcript.specs.Watching.{stream_of};
-ghost use Rattle.hla_program.specs.Program.{WritesLine, Complains, fault_line, fed_line, script_line, unread_line, memory_line, unwritten_line, play_stop_line, list_stop_line, load_stop_line};
+ghost use Rattle.hla_program.specs.Program.{WritesLine, Complains, fault_line, fed_line, script_line, unread_line, memory_line, unwritten_line, transcripts_line, monitor_line, play_stop_line, run_stop_line, run_stop_status, list_stop_line, load_stop_line};
 
 use crate::input::LoadFault;
 use hla_fed_file::FedFault;
+use hla_run::RunFault;
 use hla_script::{ListFault, PlayFault, ScriptFault, Watched};
 use hla_transcript::write_whole;
 use std::alloc::{AllocError, Global};
@@ -16,6 +17,9 @@ pub const DONE: u8 = 0;
 
 /// The status of input that is refused or cannot be read, of output that cannot be written, and of want of memory.
 pub const REFUSED: u8 = 1;
+
+/// The status of records that are no run of the central machine, and of transcripts that are not the history's.
+pub const DIFFERS: u8 = 3;
 
 /// The line of a fault in a file.
 fn fault_line(alloc: Global, file: &str, line: usize, kind: &str) -> Result<String, AllocError>
@@ -100,6 +104,42 @@ pub fn tell_play_stop<E: Write>(alloc: Global, errors: &mut Watched<E>, fault: P
         PlayFault::Script(fault) => tell_made(errors, script_line(alloc, fault)),
         PlayFault::Write => tell_unwritten(errors),
         PlayFault::Memory => tell_out_of_memory(errors),
+    }
+}
+
+/// Says that the transcript of a caller is not its records of the history, and answers the status.
+fn tell_differing<E: Write>(errors: &mut Watched<E>) -> u8
+    ensures line { WritesLine (stream_of E.contents errors.old) (stream_of E.contents errors.new)
+        transcripts_line }
+    ensures status { result ≡ 3 }
+{
+    tell(errors, "transcripts differ\n");
+    DIFFERS
+}
+
+/// Says that what a monitor read last are not the counts of a beginning of the history, and answers the status.
+fn tell_miscounted<E: Write>(errors: &mut Watched<E>) -> u8
+    ensures line { WritesLine (stream_of E.contents errors.old) (stream_of E.contents errors.new)
+        monitor_line }
+    ensures status { result ≡ 3 }
+{
+    tell(errors, "monitor differs\n");
+    DIFFERS
+}
+
+/// Says why a script was not run to its end, and answers the status.
+pub fn tell_run_stop<E: Write>(alloc: Global, errors: &mut Watched<E>, fault: RunFault) -> u8
+    ensures line { Complains (stream_of E.contents errors.old) (stream_of E.contents errors.new)
+        (run_stop_line fault) }
+    ensures status { result ≡ run_stop_status fault }
+{
+    match fault {
+        RunFault::Fed(fault) => tell_made(errors, fed_line(alloc, fault)),
+        RunFault::Script(fault) => tell_made(errors, script_line(alloc, fault)),
+        RunFault::Write => tell_unwritten(errors),
+        RunFault::Memory => tell_out_of_memory(errors),
+        RunFault::Close(_) => tell_differing(errors),
+        RunFault::Monitor => tell_miscounted(errors),
     }
 }
 

@@ -3,6 +3,7 @@
 ghost use Rattle.std.specs.Prelude.{◌≡◌, ◌≢◌, ◌+◌, ◌≤◌, ◌↔◌, ◌==◌, vec_len, IsTrue, IfOk, IfErr, OnOk, OnErr, IfSome, IfNone};
 ghost use Rattle.std.specs.List.{list_any};
 ghost use Rattle.hla_history.specs.Closing.{Replays};
+ghost use Rattle.hla_machine.specs.Runs.{Executions, no_executions, AreRun};
 ghost use Rattle.hla_rti.specs.Callers.{Leaver};
 ghost use Rattle.hla_rti.specs.Close.{AllHere, AllAgree, DiffersFirst};
 
@@ -17,7 +18,7 @@ use std::sync::Wait;
 use std::sync::ledger::{Ledger, Share};
 
 /// The records of a whole history, in order. They replay: from no executions the outcome and the choice of each are those
-/// of the definitions' next-state function. Contracts see the records.
+/// of the definitions' next-state function; so they are a run of the central machine. Contracts see the records.
 #[derive(Drop)]
 pub struct Closed {
     records: Vec<Record>,
@@ -37,9 +38,11 @@ impl Model for Closed {
 
 impl Closed {
     /// The records.
+    #[tactic(auto, using(crate::proofs::RunLaws::replayed_run))]
     pub fn records(&self) -> &[Record]
         ensures records { result.now ≡ self.now }
         ensures replays { Replays self.now }
+        ensures run { (y : Executions) × AreRun no_executions self.now y }
     {
         self.records.as_slice()
     }

@@ -1,11 +1,14 @@
 -- What a run of a script writes
-use Rattle.std.specs.Prelude.{◌≡◌, ◌++◌, ℕ, List, [], length, Option, None, Some, Ok, Err, Bool, true, false, Result, slice_index_or}
+use Rattle.std.specs.Prelude.{◌≡◌, ◌≤◌, ◌++◌, ℕ, List, [], length, take, Option, None, Some, Ok, Err, Bool, true, false, Result, slice_index_or}
 use Rattle.std.specs.List.{flat_map, enumerate_from}
 use Rattle.std.specs.Io.KnownBytes.{Appends}
 use Rattle.hla_fed_file.specs.CatalogueValue.{CatalogueValue}
 use Rattle.hla_fed_file.specs.Reading as reading
 use Rattle.hla_fed_file.specs.Grammar.{Describes}
 use Rattle.hla_machine.specs.declared.step.Outcome.{Outcome}
+use Rattle.hla_machine.specs.declared.step.Record.{Record}
+use Rattle.hla_monitor.specs.Counts.{status_of}
+use Rattle.hla_monitor.specs.declared.status.Status.{Status}
 use Rattle.hla_commands.specs.declared.lines.Line.{Line}
 use Rattle.hla_commands.specs.Script.{script_of, ParsesAs}
 use Rattle.hla_transcript.specs.Printed.{line_text}
@@ -35,6 +38,15 @@ pub record IsRunFrom (fed script : List ℕ) (old new : Option (List ℕ)) : Typ
   pub each : length outcomes ≡ length lines
   pub writes : Appends old new (told_text catalogue lines outcomes)
 
+-- what a monitor counts in a beginning of these records
+abbrev pub CountsBeginning : List Record → Status → Type 0
+CountsBeginning records s = (s.steps ≤ length records) × (s ≡ status_of (take s.steps records))
+
+-- a monitor has watched where one was to, and what it read last it counts in a beginning of the records
+abbrev pub IsSeen : Bool → List Record → Option Status → Type 0
+IsSeen is_watched records None = is_watched ≡ false
+IsSeen is_watched records (Some s) = (is_watched ≡ true) × CountsBeginning records s
+
 -- a text is at fault: the FED file is tested first
 abbrev pub IsUnread : List ℕ → List ℕ → RunFault → Type 0
 IsUnread fed script (stop.Fed e) = reading.ReadsAs (Err e) (reading.reading_of fed)
@@ -42,6 +54,7 @@ IsUnread fed script (stop.Script e) = ((c : CatalogueValue) × Describes fed c) 
 IsUnread fed script stop.Write = ⊥
 IsUnread fed script stop.Memory = ⊥
 IsUnread fed script (stop.Close e) = ⊥
+IsUnread fed script stop.Monitor = ⊥
 
 -- why a script was not run to its end: a text at fault writes nothing
 abbrev pub StopsRun : List ℕ → List ℕ → Option (List ℕ) → Option (List ℕ) → RunFault → Type 0
@@ -50,6 +63,7 @@ StopsRun fed script old new (stop.Script e) = IsUnread fed script (stop.Script e
 StopsRun fed script old new stop.Write = Unit {0}
 StopsRun fed script old new stop.Memory = Unit {0}
 StopsRun fed script old new (stop.Close e) = Unit {0}
+StopsRun fed script old new stop.Monitor = Unit {0}
 
 -- a write of the outcomes failed
 abbrev pub is_failed_text : RunFault → Bool
@@ -58,6 +72,7 @@ is_failed_text (stop.Script e) = false
 is_failed_text stop.Write = true
 is_failed_text stop.Memory = false
 is_failed_text (stop.Close e) = false
+is_failed_text stop.Monitor = false
 
 abbrev pub is_unwritten_run : {X : Type 0} → Result X RunFault → Bool
 is_unwritten_run (Ok x) = false

@@ -17,4 +17,6 @@ pub enum RunFault {
     Memory,
     /// The infrastructure did not close: a caller is missing, or its transcript is not its records of the history.
     Close(CloseFault),
+    /// What a monitor read last are not the counts of a beginning of the history.
+    Monitor,
 }

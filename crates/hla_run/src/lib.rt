@@ -10,8 +10,10 @@ mod outcomes;
 mod player;
 mod runner;
 mod texts;
+mod watching;
 
 pub use fault::RunFault;
 pub use gate::{Gate, OpenGate};
 pub use in_order::run_in_order;
 pub use runner::run_scripts;
+pub use watching::Ran;

@@ -1,7 +1,7 @@
 //! Running a script, each federate on a thread of its own.
 
-ghost use Rattle.std.specs.Prelude.{◌≡◌, ◌||◌, OnOk, IfErr, length, vec_len};
-ghost use Rattle.hla_run.specs.Running.{IsRunFrom, StopsRun, is_unwritten_run};
+ghost use Rattle.std.specs.Prelude.{◌≡◌, ◌||◌, IfOk, OnOk, IfErr, length, vec_len};
+ghost use Rattle.hla_run.specs.Running.{IsRunFrom, IsSeen, StopsRun, is_unwritten_run};
 
 use crate::fault::RunFault;
 use crate::gate::Gate;
@@ -9,12 +9,13 @@ use crate::life::{Life, Stage, live};
 use crate::opening::{destroy, open, refuse_strangers};
 use crate::outcomes::Outcomes;
 use crate::texts::{Texts, read_texts, write_outcomes};
+use crate::watching::{Ran, last_read, to_the_end, watcher};
 use hla_base::{ExecutionName, Fault, MAX_HISTORY};
 use hla_callbacks::Recorder;
 use hla_commands::Line;
 use hla_fed_file::Catalogue;
 use hla_monitor::{Naming, Opened, Publisher};
-use hla_rti::{Closed, Left, Rti, open_rti};
+use hla_rti::{Left, Rti, open_rti};
 use hla_transcript::Watched;
 use std::alloc::Global;
 use std::io::Write;
@@ -115,10 +116,12 @@ fn ran<
 /// in their order, and then the lines that destroy it. Lines that carry and announce are not run: a line that ticks does so
 /// until a callback comes, at most 1,000 times, and after a tick with nothing has each federate announce its promise and
 /// carries each wire once. `gate` is called round each line of a thread. Then it writes how the lines came out that were done,
-/// in the order of the script, and closes. `blank` is a ledger of 2,049 parts and `opened` an empty history, as `open_rti` takes them.
+/// in the order of the script, and closes. Where `is_watched`, a monitor is there from before the first step on, and reads the
+/// counts once all is done. `blank` is a ledger of 2,049 parts and `opened` an empty history, as `open_rti` takes them.
 ///
 /// The FED file is tested before the script, and both before anything is done. `Memory` where a growth was refused outside the
-/// steps, `Write` only where the writer has failed, and `Close` where the infrastructure does not close.
+/// steps, or the monitor before any step; `Write` only where the writer has failed; `Close` where the infrastructure does not
+/// close; and `Monitor` where what the monitor read are not the counts of a beginning of the history.
 pub fn run_scripts<
     L: Ledger + Naming + Send + Sync,
     G: Gate + Sync,
@@ -132,8 +135,9 @@ pub fn run_scripts<
     fed: &[u8],
     script: &[u8],
     gate: &G,
+    is_watched: bool,
     out: &mut Watched<W>,
-) -> Result<Closed, RunFault>
+) -> Result<Ran, RunFault>
     requires name { blank.name ≡ L.name }
     requires parts { blank.parts ≡ L.parts }
     requires all { blank.parts ≡ 2049 }
@@ -142,6 +146,9 @@ pub fn run_scripts<
     // What was written is an outcome for each line that was done, in the order of the script.
     ensures written { OnOk result (IsRunFrom fed.now script.now (W.contents out.old.inner)
         (W.contents out.new.inner)) }
+
+    // What a monitor read last, where one was to watch, are the counts of a beginning of the records.
+    ensures seen { IfOk result (λ r. IsSeen is_watched r.closed r.seen) }
 
     // The first fault of the FED file, or else that of the script, with nothing written.
     ensures stopped { IfErr result (StopsRun fed.now script.now (W.contents out.old.inner)
@@ -158,6 +165,9 @@ pub fn run_scripts<
     let Ok(mut outcomes) = Outcomes::new(alloc, lines.len()) else {
         return Err(RunFault::Memory);
     };
+    let Ok(monitor) = watcher(rt, &mut rti, is_watched) else {
+        return Err(RunFault::Memory);
+    };
     let ran = ran(
         rt,
         alloc,
@@ -171,9 +181,10 @@ pub fn run_scripts<
     let Ok(lefts) = ran else {
         return Err(RunFault::Memory);
     };
+    let seen = last_read(monitor);
     write_outcomes(alloc, &catalogue, lines, &outcomes, out)?;
     match rti.close(rt, lefts) {
-        Ok(closed) => Ok(closed),
+        Ok(closed) => to_the_end(closed, seen),
         Err(not_closed) => Err(RunFault::Close(not_closed.fault)),
     }
 }

@@ -112,6 +112,13 @@ fn in_lockstep<L: Ledger + Naming + Send + Sync, R: Threads + Wait + Abort + Syn
     let shown = run::<L, Both, R>(rt, alloc, blank, opened, LOCKSTEP, &gate)?;
     assert!(rt; shown.text.as_slice() == LOCKSTEP_TEXT);
     assert!(rt; check_run(alloc, shown.closed.records()) == Ok(()));
+    let Some(seen) = shown.seen else {
+        panic!(rt; "nobody watched");
+    };
+    assert_eq!(rt; seen.steps, shown.closed.records().len() as u64);
+    assert_eq!(rt; seen.grants, 2);
+    assert_eq!(rt; seen.executions, 0);
+    assert_eq!(rt; seen.joined, 0);
     Ok(())
 }
 
@@ -160,7 +167,7 @@ fn refused<L: Ledger + Naming + Send + Sync, R: Threads + Wait + Abort + Sync>(
 {
     let mut out = Watched::new(Vec::new(alloc));
     let ran = run_scripts::<L, OpenGate, R, Vec<u8>>(
-        rt, alloc, blank, opened, fed, script, &OpenGate, &mut out,
+        rt, alloc, blank, opened, fed, script, &OpenGate, false, &mut out,
     );
     let Err(fault) = ran else {
         panic!(rt; "not refused");

@@ -2,7 +2,7 @@
 
 ghost use Rattle.std.specs.Prelude.{◌≡◌};
 
-use hla_monitor::{Naming, Opened};
+use hla_monitor::{Naming, Opened, Status};
 use hla_rti::Closed;
 use hla_run::{Gate, run_in_order, run_scripts};
 use hla_transcript::Watched;
@@ -24,14 +24,15 @@ pub const FED: &[u8] = b"(FED
    (class Hit reliable timestamp))))
 ";
 
-/// What a run wrote, and its records.
+/// What a run wrote, its records, and what a monitor read last, where one watched.
 #[derive(Drop)]
 pub struct Shown {
     pub text: Vec<u8>,
     pub closed: Closed,
+    pub seen: Option<Status>,
 }
 
-/// What a run on threads writes; the script must not be refused.
+/// What a watched run on threads writes; the script must not be refused.
 pub fn run<L: Ledger + Naming + Send + Sync, G: Gate + Sync, R: Threads + Wait + Abort + Sync>(
     rt: &R,
     alloc: Global,
@@ -46,10 +47,14 @@ pub fn run<L: Ledger + Naming + Send + Sync, G: Gate + Sync, R: Threads + Wait +
     requires book { opened.seen.book ≡ L.book }
 {
     let mut out = Watched::new(Vec::new(alloc));
-    match run_scripts::<L, G, R, Vec<u8>>(rt, alloc, blank, opened, FED, script, gate, &mut out) {
-        Ok(closed) => Ok(Shown {
+    let ran = run_scripts::<L, G, R, Vec<u8>>(
+        rt, alloc, blank, opened, FED, script, gate, true, &mut out,
+    );
+    match ran {
+        Ok(ran) => Ok(Shown {
             text: out.into_inner(),
-            closed,
+            closed: ran.closed,
+            seen: ran.seen,
         }),
         Err(_) => panic!(rt; "the run was stopped"),
     }
@@ -73,6 +78,7 @@ pub fn run_on_one_thread<L: Ledger + Naming, R: Wait + Abort>(
         Ok(closed) => Ok(Shown {
             text: out.into_inner(),
             closed,
+            seen: None,
         }),
         Err(_) => panic!(rt; "the run was stopped"),
     }

@@ -7,7 +7,7 @@ use Rattle.clap.specs.Faults.{fault_of}
 use Rattle.clap.specs.Simple.{subcommand_of}
 use Rattle.clap.specs.Walk.{Text, Rule, Held, word_met, idle, value}
 use Rattle.clap.proofs.OnLiterals.{clap_on_literals}
-use Rattle.hla_program.specs.Tasks.{NamedTask, Play, Check, Listing}
+use Rattle.hla_program.specs.Tasks.{NamedTask, Play, Check, Running, Listing}
 use Rattle.hlaplay.specs.Words.{command_line, is_operand, subcommand_task, faults_in, clap_task, IsReadAlike}
 use Rattle.clap.proofs.WalkLemmas.{both}
 
@@ -61,6 +61,14 @@ check_task : (program fed script : Text) → IsValue fed → IsValue script → 
 unfolding clap_on_literals command_line
 check_task program fed script f s = rw (f.ends_no_options, f.no_long, f.no_short, s.ends_no_options, s.no_long, s.no_short) refl
 
+run_faults : (program fed script : Text) → IsValue fed → IsValue script → fault_of command_line (program ∷ codes "run" ∷ fed ∷ script ∷ []) ≡ []
+unfolding clap_on_literals command_line
+run_faults program fed script f s = rw (f.ends_no_options, f.no_long, f.no_short, s.ends_no_options, s.no_long, s.no_short) refl
+
+run_task : (program fed script : Text) → IsValue fed → IsValue script → subcommand_task (subcommand_of command_line (program ∷ codes "run" ∷ fed ∷ script ∷ [])) ≡ Some (Running fed script false)
+unfolding clap_on_literals command_line
+run_task program fed script f s = rw (f.ends_no_options, f.no_long, f.no_short, s.ends_no_options, s.no_long, s.no_short) refl
+
 read_task : (words : List Text) (task : NamedTask) → fault_of command_line words ≡ [] → subcommand_task (subcommand_of command_line words) ≡ Some task → clap_task words ≡ Some task
 unfolding faults_in clap_task
 read_task words task none asks = rw none asks
@@ -73,9 +81,20 @@ fed_alike program word fed true is =
     let value = plain_value fed parts.1 in
     rw same (read_task _ (Listing fed) (fed_faults program fed value) (fed_task program fed value))
 
-check_alike : (program word fed script : Text) (b : Bool) → (bytes_eq word (codes "check") && (is_operand fed && is_operand script)) ≡ b → IfSome (if b then Some (Check fed script) else None) (λ task. clap_task (program ∷ word ∷ fed ∷ script ∷ []) ≡ Some task)
-check_alike program word fed script false is = tt
-check_alike program word fed script true is =
+run_alike : (program word fed script : Text) (b : Bool) → (bytes_eq word (codes "run") && (is_operand fed && is_operand script)) ≡ b → IfSome (if b then Some (Running fed script false) else None) (λ task. clap_task (program ∷ word ∷ fed ∷ script ∷ []) ≡ Some task)
+run_alike program word fed script false is = tt
+run_alike program word fed script true is =
+    let parts = both (bytes_eq word (codes "run")) (is_operand fed && is_operand script) is in
+    let names = both (is_operand fed) (is_operand script) parts.1 in
+    let same : word ≡ codes "run" = (bytes_eq-Decides word (codes "run")).0 parts.0 in
+    let f = plain_value fed names.0 in
+    let s = plain_value script names.1 in
+    rw same (read_task _ (Running fed script false) (run_faults program fed script f s) (run_task program fed script f s))
+
+check_alike : (program word fed script : Text) (other : Option NamedTask) (b : Bool) → (bytes_eq word (codes "check") && (is_operand fed && is_operand script)) ≡ b → IfSome other (λ task. clap_task (program ∷ word ∷ fed ∷ script ∷ []) ≡ Some task)
+    → IfSome (if b then Some (Check fed script) else other) (λ task. clap_task (program ∷ word ∷ fed ∷ script ∷ []) ≡ Some task)
+check_alike program word fed script other false is alike = alike
+check_alike program word fed script other true is alike =
     let parts = both (bytes_eq word (codes "check")) (is_operand fed && is_operand script) is in
     let names = both (is_operand fed) (is_operand script) parts.1 in
     let same : word ≡ codes "check" = (bytes_eq-Decides word (codes "check")).0 parts.0 in
@@ -104,5 +123,5 @@ read_alike [] = λ more. absurd (omega (arith, more))
 read_alike (program ∷ []) = λ more. absurd (omega (arith, more))
 read_alike (program ∷ word ∷ []) = tt
 read_alike (program ∷ word ∷ fed ∷ []) = if_task _ _ _ (fed_alike program word fed _ refl)
-read_alike (program ∷ word ∷ fed ∷ script ∷ []) = if_task _ _ _ (play_alike program word fed script _ _ refl (check_alike program word fed script _ refl))
+read_alike (program ∷ word ∷ fed ∷ script ∷ []) = if_task _ _ _ (play_alike program word fed script _ _ refl (check_alike program word fed script _ _ refl (run_alike program word fed script _ refl)))
 read_alike (program ∷ word ∷ fed ∷ script ∷ more ∷ rest) = tt

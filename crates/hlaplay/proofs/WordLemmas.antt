@@ -35,7 +35,7 @@ line_is_free = refl
 
 -- the value of an argument stands in its row
 pub with_rows : (found : Found) (name : Text) → task_with (first_value found) name ≡ task_with (λ id. first_of id (rows_of found)) name
-with_rows found name = rw (first_value-rows found (codes "FILE"), first_value-rows found (codes "FED"), first_value-rows found (codes "SCRIPT")) refl
+with_rows found name = rw (first_value-rows found (codes "FILE"), first_value-rows found (codes "FED"), first_value-rows found (codes "SCRIPT"), first_value-rows found (codes "monitor")) refl
 
 -- a refusal is for what clap found
 pub refusal_found : (words : List Text) (error : Error) (fault : WordsFault) → HasKind (fault_of command_line words) error → IsCausedBy error fault → IsFoundIn words fault

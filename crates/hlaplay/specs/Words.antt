@@ -6,9 +6,10 @@ use Rattle.clap.specs.Kinds.{Kinds}
 use Rattle.clap.specs.Faults.{fault_of}
 use Rattle.clap.specs.Simple.{App, new_app, new_rule, on_top, subcommand_of, with_rule, with_subcommand}
 use Rattle.clap.specs.Walk.{Row, Rule, Text, first_of, is_empty}
+use Rattle.clap.specs.declared.builder.action.ArgAction.TheVariants.{SetTrue}
 use Rattle.clap.specs.declared.builder.command.Command.{Command}
 use Rattle.clap.specs.declared.builder.command.Command.TheViews.{out-Command}
-use Rattle.hla_program.specs.Tasks.{NamedTask, Play, Check, Listing}
+use Rattle.hla_program.specs.Tasks.{NamedTask, Play, Check, Running, Listing}
 
 -- ---- the plain forms, which are read without clap
 -- a word that clap takes for no option: `-` alone, or one that does not begin with `-` (45)
@@ -20,7 +21,7 @@ is_operand _ = true
 abbrev pub default_task : NamedTask
 default_task = Play (codes "-") (codes "-")
 
--- no words but the program's name; `fed FILE`; `play FED SCRIPT`; `check FED SCRIPT`
+-- no words but the program's name; `fed FILE`; `play FED SCRIPT`; `check FED SCRIPT`; `run FED SCRIPT`
 abbrev pub plain_task : List Text → Option NamedTask
 plain_task [] = Some default_task
 plain_task (program ∷ []) = Some default_task
@@ -29,6 +30,7 @@ plain_task (program ∷ word ∷ fed ∷ []) =
 plain_task (program ∷ word ∷ fed ∷ script ∷ []) =
     if bytes_eq word (codes "play") && (is_operand fed && is_operand script) then Some (Play fed script)
     else if bytes_eq word (codes "check") && (is_operand fed && is_operand script) then Some (Check fed script)
+    else if bytes_eq word (codes "run") && (is_operand fed && is_operand script) then Some (Running fed script false)
     else None
 plain_task _ = None
 
@@ -40,6 +42,10 @@ file_rule id = record (new_rule id) { required = true }
 abbrev pub script_subcommand : Text → App
 script_subcommand name = with_rule (with_rule (new_app name) (file_rule (codes "FED"))) (file_rule (codes "SCRIPT"))
 
+-- the flag `--monitor`
+abbrev pub monitor_rule : Rule
+monitor_rule = record (new_rule (codes "monitor")) { long = Some (codes "monitor"); action = Some SetTrue }
+
 -- none of its arguments is handed on to subcommands
 abbrev pub IsLocal : Command → Type 0
 IsLocal command = (out-Command command).has_globals ≡ false
@@ -47,15 +53,27 @@ IsLocal command = (out-Command command).has_globals ≡ false
 abbrev pub fed_subcommand : App
 fed_subcommand = with_rule (new_app (codes "fed")) (file_rule (codes "FILE"))
 
--- the program's command, with its three subcommands
+-- the program's command, with its four subcommands
 unfoldable pub command_line : App
-command_line = with_subcommand (with_subcommand (with_subcommand (on_top (λ s. record s { subcommand_required = true }) (new_app (codes "hlaplay"))) (script_subcommand (codes "play")).top) (script_subcommand (codes "check")).top) fed_subcommand.top
+command_line = with_subcommand (with_subcommand (with_subcommand (with_subcommand (on_top (λ s. record s { subcommand_required = true }) (new_app (codes "hlaplay"))) (script_subcommand (codes "play")).top) (script_subcommand (codes "check")).top) (with_rule (script_subcommand (codes "run")) monitor_rule).top) fed_subcommand.top
+
+-- the value of a flag that was given
+abbrev pub is_set : Option Text → Bool
+is_set None = false
+is_set (Some value) = bytes_eq value (codes "true")
+
+-- what the subcommand of a name asks for with a script over a FED file
+abbrev pub script_task : Text → Text → Text → Option Text → NamedTask
+script_task name fed script watched =
+    if bytes_eq name (codes "check") then Check fed script
+    else if bytes_eq name (codes "run") then Running fed script (is_set watched)
+    else Play fed script
 
 -- what the subcommand of a name asks for, where an argument's value is found by its id
 abbrev pub task_with : (Text → Option Text) → Text → Option NamedTask
 task_with value_of name =
     if bytes_eq name (codes "fed") then option_map Listing (value_of (codes "FILE"))
-    else option_and_then (λ fed. option_map (if bytes_eq name (codes "check") then Check fed else Play fed) (value_of (codes "SCRIPT"))) (value_of (codes "FED"))
+    else option_and_then (λ fed. option_map (λ script. script_task name fed script (value_of (codes "monitor"))) (value_of (codes "SCRIPT"))) (value_of (codes "FED"))
 
 -- of a subcommand, its name and its matches
 abbrev pub subcommand_task : Option (Text × List Row) → Option NamedTask

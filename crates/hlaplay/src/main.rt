@@ -1,4 +1,4 @@
-//! Plays and checks scripts over FED files, and lists what FED files declare.
+//! Plays, checks and runs scripts over FED files, and lists what FED files declare.
 #![tactic(auto)]
 
 mod running;
@@ -11,13 +11,18 @@ ghost use Rattle.hla_transcript.specs.Watching.{stream_of};
 ghost use Rattle.hlaplay.specs.Run.{EndsMisuse, EndsSomeRun};
 
 use crate::running::{MISUSED, do_words};
-use hla_program::{System, tell, tell_out_of_memory};
+use hla_monitor::Opened;
+use hla_program::{Means, System, tell, tell_out_of_memory};
 use hla_transcript::Watched;
 use std::alloc::{AllocError, Global};
 use std::env::Args;
 use std::io::{BufWriter, Write};
+use std::marker::Brand;
 use std::process::ExitCode;
 use std::rt::Runtime;
+use std::sync::Wait;
+use std::sync::ledger::Blank;
+use std::thread::Threads;
 use std::{env, io};
 
 /// The words that the system gives, kept: all of them, in their order.
@@ -44,7 +49,10 @@ fn texts_of(alloc: Global, words: &[String]) -> Result<Vec<&str>, AllocError>
 
 /// Hands the words of the command line, the files of the system and its standard output on, and answers the status with which
 /// their run ends. Where the words cannot be had, or there is no memory for them, nothing is done.
-fn run<R: Runtime + AllocGlobal, E: Write>(rt: &R, errors: &mut Watched<E>) -> io::Result<u8>
+fn run<R: Runtime + AllocGlobal + Threads + Wait + Sync, E: Write>(
+    rt: &R,
+    errors: &mut Watched<E>,
+) -> io::Result<u8>
     ensures ok { IfOk result (EndsSomeRun
         (stream_of E.contents errors.old) (stream_of E.contents errors.new)) }
     ensures err { OnErr result (errors.new ≡ errors.old) }
@@ -54,7 +62,14 @@ fn run<R: Runtime + AllocGlobal, E: Write>(rt: &R, errors: &mut Watched<E>) -> i
     let texts = texts_of(alloc, words.as_slice())?;
     let mut out = Watched::new(BufWriter::new(alloc, io::writer(rt))?);
     let system = System::new(rt);
-    Ok(do_words(alloc, &system, texts.as_slice(), &mut out, errors))
+    let means = Means {
+        rt,
+        alloc,
+        blank: Blank::new(2049),
+        opened: Opened::new(),
+    };
+    let ended = do_words::<Brand, R, _, _, E>(means, &system, texts.as_slice(), &mut out, errors);
+    Ok(ended)
 }
 
 /// Says why there is no run, and answers the status: a word is not UTF-8, or memory ran out.

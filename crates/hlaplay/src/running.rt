@@ -1,15 +1,20 @@
 //! The run that the words of a command line ask for, over any files and writers.
 
+ghost use Rattle.std.specs.Prelude.{◌≡◌};
 ghost use Rattle.hla_transcript.specs.Watching.{stream_of};
 ghost use Rattle.clap.specs.Walk.{texts};
 ghost use Rattle.hlaplay.specs.Run.{EndsMisuse, EndsRun};
 
 use crate::words::{WordsFault, parse};
 use clap::Error;
-use hla_program::{Opener, do_task, tell, tell_out_of_memory};
+use hla_monitor::Naming;
+use hla_program::{Means, Opener, do_task, tell, tell_out_of_memory};
 use hla_transcript::Watched;
 use std::alloc::Global;
 use std::io::Write;
+use std::sync::Wait;
+use std::sync::ledger::Ledger;
+use std::thread::Threads;
 
 /// The status of a refused command line, and of a request for help.
 pub const MISUSED: u8 = 2;
@@ -30,19 +35,30 @@ fn tell_refusal<E: Write>(alloc: Global, errors: &mut Watched<E>, error: Error) 
 /// Does what the words of the command line ask for, the program's name in front, as `do_task` does it. Words of a plain form are
 /// always done. Where others ask for nothing that there is, or for help, the status is 2, with a text on `errors` and nothing on
 /// `out`.
-pub fn do_words<O: Opener, W: Write, E: Write>(
-    alloc: Global,
+pub fn do_words<
+    L: Ledger + Naming + Send + Sync,
+    R: Threads + Wait + Sync,
+    O: Opener,
+    W: Write,
+    E: Write,
+>(
+    means: Means<'_, R>,
     opener: &O,
     words: &[&str],
     out: &mut Watched<W>,
     errors: &mut Watched<E>,
 ) -> u8
+    requires name { means.blank.name ≡ L.name }
+    requires parts { means.blank.parts ≡ L.parts }
+    requires all { means.blank.parts ≡ 2049 }
+    requires book { means.opened.seen.book ≡ L.book }
     ensures { EndsRun (texts words.now) (O.bytes_of opener.now)
         (stream_of W.contents out.old) (stream_of W.contents out.new)
         (stream_of E.contents errors.old) (stream_of E.contents errors.new) result }
 {
+    let alloc = means.alloc;
     match parse(alloc, words) {
-        Ok(task) => do_task(alloc, opener, task, out, errors),
+        Ok(task) => do_task::<L, R, O, W, E>(means, opener, task, out, errors),
         Err(WordsFault::Refused(error)) => tell_refusal(alloc, errors, error),
         Err(WordsFault::Memory) => tell_out_of_memory(errors),
     }

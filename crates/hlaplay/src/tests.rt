@@ -1,5 +1,6 @@
 use crate::words::{WordsFault, parse};
 use hla_program::Task;
+use std::test::Fail;
 
 #[test]
 fn reads_the_command_line(rt: HostRuntime) {
@@ -32,6 +33,28 @@ fn reads_the_command_line(rt: HostRuntime) {
     assert!(rt;
         matches!(&parse(alloc, &["hlaplay", "check", "--", "a.fed", "-"]), Ok(task) if *task == checked)
     );
+    let run = Task::Run {
+        fed: "a.fed",
+        script: "-",
+        is_watched: false,
+    };
+    let watched = Task::Run {
+        fed: "a.fed",
+        script: "-",
+        is_watched: true,
+    };
+    assert!(rt;
+        matches!(&parse(alloc, &["hlaplay", "run", "a.fed", "-"]), Ok(task) if *task == run)
+    );
+    assert!(rt;
+        matches!(&parse(alloc, &["hlaplay", "run", "--", "a.fed", "-"]), Ok(task) if *task == run)
+    );
+    assert!(rt;
+        matches!(&parse(alloc, &["hlaplay", "run", "--monitor", "a.fed", "-"]), Ok(task) if *task == watched)
+    );
+    assert!(rt;
+        matches!(&parse(alloc, &["hlaplay", "run", "a.fed", "-", "--monitor"]), Ok(task) if *task == watched)
+    );
     let listed = Task::List { fed: "a.fed" };
     assert!(rt; matches!(&parse(alloc, &["hlaplay", "fed", "a.fed"]), Ok(task) if *task == listed));
     for words in [
@@ -40,6 +63,9 @@ fn reads_the_command_line(rt: HostRuntime) {
         ["hlaplay", "play", "a", "b", "c"].as_slice(),
         ["hlaplay", "--help"].as_slice(),
         ["hlaplay", "check", "a.fed"].as_slice(),
+        ["hlaplay", "run", "a.fed"].as_slice(),
+        ["hlaplay", "run", "a", "b", "--monitor", "--monitor"].as_slice(),
+        ["hlaplay", "play", "a", "b", "--monitor"].as_slice(),
         ["hlaplay", "fed"].as_slice(),
         ["hlaplay", "fed", "a", "b"].as_slice(),
         ["hlaplay", "play", "--loud", "a", "b"].as_slice(),
@@ -49,4 +75,18 @@ fn reads_the_command_line(rt: HostRuntime) {
             "at {words:?}"
         );
     }
+}
+
+#[test]
+fn helps_with_each_subcommand(rt: HostRuntime) -> Result<(), Fail> {
+    let alloc = rt.alloc();
+    let Err(WordsFault::Refused(error)) = parse(alloc, &["hlaplay", "--help"]) else {
+        panic!(rt; "no help");
+    };
+    let text = format!(in alloc; "{error}")?;
+    for name in ["play", "check", "run", "fed"] {
+        let line = format!(in alloc; "\n  {name} ")?;
+        assert!(rt; text.as_str().contains(line.as_str()), "at {name}");
+    }
+    Ok(())
 }

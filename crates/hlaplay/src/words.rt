@@ -5,11 +5,11 @@ ghost use Rattle.clap.specs.Matches.{first_value, found_of};
 ghost use Rattle.clap.specs.Simple.{app_of};
 ghost use Rattle.clap.specs.Walk.{rule_of, texts};
 ghost use Rattle.hla_program.specs.Tasks.{named_task};
-ghost use Rattle.hlaplay.specs.Words.{is_operand, plain_task, file_rule, script_subcommand, IsLocal, command_line, task_with, clap_task, task_of, IsReadAlike};
+ghost use Rattle.hlaplay.specs.Words.{is_operand, plain_task, file_rule, monitor_rule, script_subcommand, IsLocal, command_line, is_set, script_task, task_with, clap_task, task_of, IsReadAlike};
 ghost use Rattle.hlaplay.specs.Refusals.{IsCausedBy, IsFoundIn, RefusesWords};
 
 use clap::error::ErrorKind;
-use clap::{Arg, ArgMatches, Command, Error};
+use clap::{Arg, ArgAction, ArgMatches, Command, Error};
 use hla_program::Task;
 use std::alloc::{AllocError, Global};
 
@@ -45,6 +45,13 @@ fn plain_task<'a>(words: &[&'a str]) -> Option<Task<'a>>
         [_, word, fed, script] if *word == "check" && is_operand(fed) && is_operand(script) => {
             Some(Task::Check { fed, script })
         }
+        [_, word, fed, script] if *word == "run" && is_operand(fed) && is_operand(script) => {
+            Some(Task::Run {
+                fed,
+                script,
+                is_watched: false,
+            })
+        }
         _ => None,
     }
 }
@@ -72,6 +79,16 @@ fn script_command<'a>(
         .arg(file(alloc, "SCRIPT"))
 }
 
+/// The flag that has a monitor watch.
+fn watching(alloc: Global) -> Arg<'static>
+    ensures rule { rule_of result ≡ monitor_rule }
+    ensures local { result.global ≡ false }
+{
+    Arg::new(alloc, "monitor")
+        .long("monitor")
+        .action(ArgAction::SetTrue)
+}
+
 /// The command line as clap is told of it. Fails only for want of memory.
 fn command<'a>(alloc: Global) -> Result<Command<'a>, AllocError>
     ensures { IfOk result (λ command. app_of command ≡ command_line) }
@@ -86,15 +103,55 @@ fn command<'a>(alloc: Global) -> Result<Command<'a>, AllocError>
         "check",
         "Plays a script over a FED file and judges its records; - is the standard input",
     )?;
+    let run = script_command(
+        alloc,
+        "run",
+        "Runs a script over a FED file, a thread for each federate; - is the standard input",
+    )?
+    .arg(watching(alloc))?;
     let fed = Command::new(alloc, "fed")
         .about("Lists what a FED file declares; - is the standard input")
         .arg(file(alloc, "FILE"))?;
     Command::new(alloc, "hlaplay")
-        .about("Plays scripts over FED files; without arguments as play - -")
+        .about("Plays and runs scripts over FED files; without arguments as play - -")
         .subcommand_required(true)
         .subcommand(play)?
         .subcommand(check)?
+        .subcommand(run)?
         .subcommand(fed)
+}
+
+/// Whether a flag with this value was given.
+fn is_set(value: Option<&str>) -> bool
+    ensures { result ≡ is_set (option_map (λ text. text.now) value.entry) }
+{
+    match value {
+        Some(text) => text == "true",
+        None => false,
+    }
+}
+
+/// What a subcommand asks for with a script over a FED file.
+fn script_task<'a>(
+    name: &str,
+    fed: &'a str,
+    script: &'a str,
+    watched: Option<&str>,
+) -> Task<'a>
+    ensures { named_task result ≡ script_task name.now fed.entry.now script.entry.now
+        (option_map (λ text. text.now) watched.entry) }
+{
+    if name == "check" {
+        return Task::Check { fed, script };
+    }
+    if name == "run" {
+        return Task::Run {
+            fed,
+            script,
+            is_watched: is_set(watched),
+        };
+    }
+    Task::Play { fed, script }
 }
 
 /// What a subcommand asks for.
@@ -108,12 +165,7 @@ fn task_with<'a>(name: &str, found: &ArgMatches<'a>) -> Option<Task<'a>>
     }
     let fed = found.get_str("FED")?;
     let script = found.get_str("SCRIPT")?;
-    let task = if name == "check" {
-        Task::Check { fed, script }
-    } else {
-        Task::Play { fed, script }
-    };
-    Some(task)
+    Some(script_task(name, fed, script, found.get_str("monitor")))
 }
 
 /// Why clap gave no matches.
@@ -146,8 +198,8 @@ fn clap_task<'a>(alloc: Global, words: &'a [&'a str]) -> Result<Task<'a>, WordsF
 }
 
 /// What the words ask for, the program's name in front; without others it is `play - -`. Words of a plain form (no other
-/// words, `fed FILE`, `play FED SCRIPT` or `check FED SCRIPT`, with names that are no options) take no memory and are never
-/// refused.
+/// words, `fed FILE`, `play FED SCRIPT`, `check FED SCRIPT` or `run FED SCRIPT`, with names that are no options) take no memory
+/// and are never refused.
 #[tactic(auto, using(crate::proofs::PlainLemmas::read_alike))]
 pub fn parse<'a>(alloc: Global, words: &'a [&'a str]) -> Result<Task<'a>, WordsFault>
     ensures ok { IfOk result (λ task. task_of (texts words.entry.now) ≡ Some (named_task task)) }

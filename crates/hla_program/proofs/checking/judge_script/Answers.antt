@@ -1,7 +1,7 @@
-use Rattle.hla_program.proofs.CheckLemmas.{never_differs}
+use Rattle.hla_program.proofs.CheckLemmas.{found_of}
 use Rattle.hla_program.proofs.checking.judge_script.Goals as goal
 
 -- a script's records are a run, so none differs
-pub returns-in-Err-Place-clause-ok : goal.returns-in-Err-Place-clause-ok
-returns-in-Err-Place-clause-ok c =
-    never_differs c.as_slice.result.now c.in-Err-Place.place (rw c.as_slice.ensures c.in-Ok.ensures.run) (rw c.in-Err-Place.field-0-is at c.in-Err-Place.ensures.err)
+pub returns-in-Some-clause-ok : goal.returns-in-Some-clause-ok
+returns-in-Some-clause-ok c =
+    found_of c.args.fed.now c.args.script.now c.as_slice.result.now c.in-Some.finding (rw c.as_slice.ensures c.in-Ok.ensures.ok) (rw c.as_slice.ensures c.in-Ok.ensures.run) c.in-Some.ensures

@@ -8,5 +8,5 @@ returns-in-Ok-load g c = FilesRead c.as_slice.result.now c.as_slice-in-Ok-load.r
 pub returns-in-Err : goal.returns-in-Err
 returns-in-Err g c = FedUnread c.in-Err.fault c.in-Err.ensures.stopped refl refl c.tell_load_stop.ensures.line c.tell_load_stop.ensures.status
 
-pub returns : goal.returns
-returns g c = ScriptUnread c.in-Ok.bytes.items c.in-Ok.ensures.taken c.in-Err-load.fault c.in-Err-load.ensures.stopped refl c.tell_load_stop-in-Err-load.ensures.line c.tell_load_stop-in-Err-load.ensures.status
+pub returns-in-Err-load : goal.returns-in-Err-load
+returns-in-Err-load g c = ScriptUnread c.in-Ok.bytes.items c.in-Ok.ensures.taken c.in-Err-load.fault c.in-Err-load.ensures.stopped refl c.tell_load_stop-in-Err-load.ensures.line c.tell_load_stop-in-Err-load.ensures.status

@@ -13,4 +13,5 @@ returns c =
     ap app_of_fields c.subcommand_required.ensures ∙ ap (on_top (λ s. record s { subcommand_required = true })) (ap app_of_fields c.about-2.ensures ∙ c.new-2.ensures.app) in
     let with_play = c.in_ok-subcommand.ensures.shape (search rules) ∙ ap₂ with_subcommand top_is (ap (λ (a : App). a.top) c.in_ok-play.ensures.app) in
     let with_check = c.in_ok-subcommand-2.ensures.shape (search rules) ∙ ap₂ with_subcommand with_play (ap (λ (a : App). a.top) c.in_ok-check.ensures.app) in
-    IfOk-weaker c.subcommand-3.result _ _ (λ m adds. adds.shape (search rules) ∙ ap₂ with_subcommand with_check (ap (λ (a : App). a.top) fed_is)) c.subcommand-3.ensures
+    let with_run = c.in_ok-subcommand-3.ensures.shape (search rules) ∙ ap₂ with_subcommand with_check (ap (λ (a : App). a.top) c.in_ok-run.ensures.app) in
+    IfOk-weaker c.subcommand-4.result _ _ (λ m adds. adds.shape (search rules) ∙ ap₂ with_subcommand with_run (ap (λ (a : App). a.top) fed_is)) c.subcommand-4.ensures

@@ -1,0 +1,203 @@
+//! Federates that advance on the value that stands under the lock: lent to one caller, or locked anew for each step. What a record
+//! costs with its copies and the ambassador, and what the lock, shows beside the same steps on a bare federation and through the
+//! infrastructure.
+
+ghost use Rattle.std.specs.Prelude.{◌≡◌, ◌<◌, IfOk};
+ghost use Rattle.hla_history.specs.Hosts.{IsPlain};
+
+use crate::advancing::{FED, HISTORY_LIMIT, counted, name_of};
+use crate::counts::Counts;
+use hla_base::{ExecutionName, Fault, FederateNo, Ticks};
+use hla_callbacks::Recorder;
+use hla_history::Shared;
+use hla_machine::{Service, Step};
+use std::alloc::Global;
+use std::marker::Brand;
+use std::sync::ledger::{Blank, Ledger, Share};
+use std::sync::{Mutex, Wait};
+
+/// The value with its federates joined, and its one caller's share.
+#[derive(Drop)]
+struct Office<L: Ledger> {
+    execution: ExecutionName,
+    shared: Shared<L, Recorder>,
+    share: Share<L>,
+}
+
+/// Joins a federate.
+fn join<L: Ledger>(
+    alloc: Global,
+    shared: &mut Shared<L, Recorder>,
+    share: &mut Share<L>,
+    execution: ExecutionName,
+    federate: FederateNo,
+) -> Result<(), Fault>
+    requires { 0 < share.old.parts }
+    ensures { share.new.parts ≡ share.old.parts }
+{
+    let name = name_of(alloc, federate)?;
+    match shared.join(1, execution, name, Recorder::new(alloc), share) {
+        Ok(_) => Ok(()),
+        Err((fault, _)) => Err(fault),
+    }
+}
+
+/// The value of an execution that so many federates have joined.
+fn office<L: Ledger>(alloc: Global, blank: Blank, federates: u32) -> Result<Office<L>, Fault>
+    requires name { blank.name ≡ L.name }
+    requires parts { blank.parts ≡ L.parts }
+    requires all { blank.parts ≡ 2049 }
+    ensures { IfOk result (λ o. 0 < o.share.parts) }
+{
+    let execution = ExecutionName::new(b"bench")?;
+    let (book, mut share) = blank.open::<L>();
+    let mut shared = Shared::new(alloc, book, HISTORY_LIMIT)?;
+    let _created = shared.create(1, execution, FED, &mut share)?;
+    for federate in 1..=federates {
+        join(alloc, &mut shared, &mut share, execution, federate)?;
+    }
+    Ok(Office {
+        execution,
+        shared,
+        share,
+    })
+}
+
+/// One advance of a federate on the value.
+fn advance<L: Ledger>(
+    shared: &mut Shared<L, Recorder>,
+    share: &mut Share<L>,
+    execution: ExecutionName,
+    federate: FederateNo,
+    time: Ticks,
+) -> Result<(), Fault>
+    requires { 0 < share.old.parts }
+    ensures { share.new.parts ≡ share.old.parts }
+{
+    let service = Service::TimeAdvanceRequest { time };
+    let _asked = shared.step(1, execution, Step::Call { federate, service }, share)?;
+    let _granted = shared.step(1, execution, Step::Tick { federate }, share)?;
+    let service = Service::QueryFederateTime;
+    let _told = shared.step(1, execution, Step::Call { federate, service }, share)?;
+    Ok(())
+}
+
+/// One advance of a federate, the value locked anew for each step.
+fn advance_locked<L: Ledger>(
+    rt: &impl Wait,
+    shared: &Mutex<Shared<L, Recorder>>,
+    share: &mut Share<L>,
+    execution: ExecutionName,
+    federate: FederateNo,
+    time: Ticks,
+) -> Result<(), Fault>
+    requires { 0 < share.old.parts }
+    ensures { share.new.parts ≡ share.old.parts }
+{
+    let service = Service::TimeAdvanceRequest { time };
+    let asked = Step::Call { federate, service };
+    let _asked = shared.lock(rt).step(1, execution, asked, share)?;
+    let _granted = shared
+        .lock(rt)
+        .step(1, execution, Step::Tick { federate }, share)?;
+    let service = Service::QueryFederateTime;
+    let told = Step::Call { federate, service };
+    let _told = shared.lock(rt).step(1, execution, told, share)?;
+    Ok(())
+}
+
+/// One round on the value.
+fn round<L: Ledger>(
+    shared: &mut Shared<L, Recorder>,
+    share: &mut Share<L>,
+    execution: ExecutionName,
+    federates: u32,
+    time: Ticks,
+) -> Result<(), Fault>
+    requires { 0 < share.old.parts }
+    ensures { share.new.parts ≡ share.old.parts }
+{
+    for federate in 1..=federates {
+        advance(shared, share, execution, federate, time)?;
+    }
+    Ok(())
+}
+
+/// One round, the value locked anew for each step.
+fn round_locked<L: Ledger>(
+    rt: &impl Wait,
+    shared: &Mutex<Shared<L, Recorder>>,
+    share: &mut Share<L>,
+    execution: ExecutionName,
+    federates: u32,
+    time: Ticks,
+) -> Result<(), Fault>
+    requires { 0 < share.old.parts }
+    ensures { share.new.parts ≡ share.old.parts }
+{
+    for federate in 1..=federates {
+        advance_locked(rt, shared, share, execution, federate, time)?;
+    }
+    Ok(())
+}
+
+/// Plays so many rounds on the value.
+fn run_lent_at<L: Ledger>(
+    alloc: Global,
+    blank: Blank,
+    federates: u32,
+    rounds: u64,
+) -> Result<Counts, Fault>
+    requires name { blank.name ≡ L.name }
+    requires parts { blank.parts ≡ L.parts }
+    requires all { blank.parts ≡ 2049 }
+{
+    let Office {
+        execution,
+        mut shared,
+        mut share,
+    } = office::<L>(alloc, blank, federates)?;
+    for time in 1..=rounds {
+        round(&mut shared, &mut share, execution, federates, time)?;
+    }
+    Ok(counted(federates, rounds))
+}
+
+/// Plays so many rounds, the value locked anew for each step.
+fn run_locked_at<L: Ledger>(
+    rt: &impl Wait,
+    alloc: Global,
+    blank: Blank,
+    federates: u32,
+    rounds: u64,
+) -> Result<Counts, Fault>
+    requires name { blank.name ≡ L.name }
+    requires parts { blank.parts ≡ L.parts }
+    requires all { blank.parts ≡ 2049 }
+{
+    let Office {
+        execution,
+        shared,
+        mut share,
+    } = office::<L>(alloc, blank, federates)?;
+    let shared = Mutex::new(shared);
+    for time in 1..=rounds {
+        round_locked(rt, &shared, &mut share, execution, federates, time)?;
+    }
+    Ok(counted(federates, rounds))
+}
+
+/// Plays so many rounds on the value, at a brand of its own.
+pub fn run_lent(alloc: Global, federates: u32, rounds: u64) -> Result<Counts, Fault> {
+    run_lent_at::<Brand>(alloc, Blank::new(2049), federates, rounds)
+}
+
+/// The same, the value locked anew for each step.
+pub fn run_locked(
+    rt: &impl Wait,
+    alloc: Global,
+    federates: u32,
+    rounds: u64,
+) -> Result<Counts, Fault> {
+    run_locked_at::<Brand>(rt, alloc, Blank::new(2049), federates, rounds)
+}

@@ -1,0 +1,77 @@
+//! A monitor beside a run of a script.
+
+ghost use Rattle.std.specs.Prelude.{◌≡◌, IfOk, IfErr, IsTrue, is_some};
+ghost use Rattle.hla_run.specs.Running.{CountsBeginning, IsSeen};
+
+use crate::fault::RunFault;
+use hla_base::Fault;
+use hla_callbacks::Recorder;
+use hla_machine::Record;
+use hla_monitor::{Monitor, Naming, Publisher, Status};
+use hla_rti::{Closed, Rti};
+use std::sync::Wait;
+use std::sync::ledger::Ledger;
+
+/// A script that was run to its end.
+#[derive(Drop)]
+pub struct Ran {
+    /// The records of the history.
+    pub closed: Closed,
+    /// What a monitor read last, where one watched.
+    pub seen: Option<Status>,
+}
+
+/// A monitor, where one is to watch. An error is that of `Rti::monitor`.
+pub fn watcher<L: Ledger + Naming, P: Publisher<L>>(
+    rt: &impl Wait,
+    rti: &mut Rti<L, Recorder, P>,
+    is_watched: bool,
+) -> Result<Option<Monitor<L>>, Fault>
+    ensures { IfOk result (λ m. is_some m ≡ is_watched) }
+{
+    if !is_watched {
+        return Ok(None);
+    }
+    match rti.monitor(rt) {
+        Ok(monitor) => Ok(Some(monitor)),
+        Err(fault) => Err(fault),
+    }
+}
+
+/// What the monitor reads, if there is one.
+pub fn last_read<L: Naming>(monitor: Option<Monitor<L>>) -> Option<Status>
+    ensures { is_some result ≡ is_some monitor }
+{
+    match monitor {
+        Some(mut monitor) => Some(monitor.read()),
+        None => None,
+    }
+}
+
+/// Whether these are the counts of a beginning of the records.
+fn counts_beginning(status: Status, records: &[Record]) -> bool
+    ensures { IsTrue result → CountsBeginning records.now status }
+{
+    let steps = status.steps as usize;
+    steps <= records.len() && status.is_of(&records[..steps])
+}
+
+/// A run to its end, where what was read last are the counts of a beginning of the records; else `Monitor`.
+pub fn to_the_end(closed: Closed, seen: Option<Status>) -> Result<Ran, RunFault>
+    ensures ok { IfOk result (λ r. IsSeen (is_some seen) r.closed r.seen) }
+    ensures err { IfErr result (λ e. e ≡ RunFault.Monitor) }
+{
+    match seen {
+        None => Ok(Ran { closed, seen: None }),
+        Some(status) => {
+            if counts_beginning(status, closed.records()) {
+                Ok(Ran {
+                    closed,
+                    seen: Some(status),
+                })
+            } else {
+                Err(RunFault::Monitor)
+            }
+        }
+    }
+}
