@@ -13,6 +13,7 @@ use Rattle.hla_base.specs.declared.row.AdvanceKind.TheVariants as kind
 use Rattle.hla_base.specs.declared.row.TimeRow.{TimeRow}
 use Rattle.hla_null_message.specs.declared.message.Message.{Message}
 use Rattle.hla_null_message.specs.declared.message.Message.TheVariants as message
+use Rattle.hla_null_message.specs.Wires.{put_behind}
 use Rattle.hla_base.specs.Tables.{forever, upd, upd2, upd_row, upd_column, upd_new, upd_whole_column, or_else, numbers_below}
 use Rattle.hla_base.specs.Rows.{is_regulator, is_disabled, is_none_of, row_after_request, row_with_entry, row_after_regulation_enabled, row_after_constraint_enabled, row_after_pick, row_after_grant, new_row}
 use Rattle.hla_lbts.specs.Peers.{null_bound}
@@ -70,9 +71,6 @@ abbrev pub with_directory : Components → Directory → Components
 with_directory s d = record s { directory = d }
 
 -- ---- sending
-abbrev pub put_behind : Message → List Message → List Message
-put_behind m ms = ms ++ m ∷ []
-
 abbrev pub event_of : ℕ → ℕ → TimeRow → Option ℕ → Outgoing → Content → Event
 event_of g m r stamp out x = record { sender = g; serial = m; ordered = is_ordered r stamp out; stamp = kept_stamp r stamp out; content = x }
 
@@ -115,7 +113,7 @@ with_object_registered s f h d = record s {
   wire = upd_row s.wire s.directory.joined f (λ g. put_discoveries (discoveries_of d f g));
 }
 
--- ---- null messages
+-- ---- null messages: one that is put behind another of its epoch takes the place of that one
 abbrev pub with_null_announced : Components → ℕ → ℕ → Components
 with_null_announced s f v = record s { last_announced = upd s.last_announced f v; wire = upd_row s.wire s.directory.joined f (λ _. put_behind (message.Null (s.epoch f) v)) }
 

@@ -1,7 +1,7 @@
 //! Worked examples: what given lists of steps end in, as the definitions have it.
 
 ghost use Rattle.hla_components.specs.Examples.Objects.{Ancestor, AsynchronousDelivery, TwoOrdersAndATie, Refusals, LateSubscriber, CreateAndDestroy};
-ghost use Rattle.hla_components.specs.Examples.Time.{StaleBound, Boundary, Creep, CreepAvailable, Flush, LargestTime, PickThenGrant};
+ghost use Rattle.hla_components.specs.Examples.Time.{StaleBound, Boundary, Creep, CreepAvailable, Flush, LargestTime, PickThenGrant, NewestNull};
 ghost use Rattle.hla_components.specs.Examples.Roles.{Newcomer, Epoch, Retraction, Floor, RegulatorResigns, CeasingToBeConstrained, BarAboveEntry};
 
 /// Declarations, objects and receive order.
@@ -23,6 +23,7 @@ pub fn time()
     ensures flush { Flush }
     ensures largest_time { LargestTime }
     ensures pick_then_grant { PickThenGrant }
+    ensures newest_null { NewestNull }
 {}
 
 /// Roles that change, the floor, and retraction.

@@ -28,7 +28,7 @@ use std::thread::Threads;
 use std::{fs, io};
 
 /// The examples, by name.
-const NAMES: [&str; 26] = [
+const NAMES: [&str; 27] = [
     "ancestor",
     "late_subscriber",
     "refusals",
@@ -55,6 +55,7 @@ const NAMES: [&str; 26] = [
     "ceasing_to_be_constrained",
     "pick_then_grant",
     "bar_above_entry",
+    "newest_null",
 ];
 
 /// Those that run on threads, too. A tick that no callback answers there is repeated a thousand times, with what its federate has

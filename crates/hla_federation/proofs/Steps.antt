@@ -14,6 +14,8 @@ pub mod Announcing
 pub mod Retracting
 -- What a step chooses
 pub mod Choosing
+-- What is sent beside null messages
+pub mod NoNulls
 -- The messages of a service, and the state after them
 pub mod SendingAll
 -- What is noted of the messages of a service

@@ -1,10 +1,11 @@
 -- Messages put along the wires from one federate, or to one, peer by peer
-use Rattle.std.proofs.Common.{◌≡◌, ◌≢◌, ◌⊎◌, ⊎_elim, inl, inr, ℕ, ◌+◌, ◌<◌, ◌≤◌, List, ◌++◌, length, cond, eqb, ◌&&◌, true, false, refl, ap, ◌∙◌, arith}
+use Rattle.std.proofs.Common.{◌≡◌, ◌≢◌, ◌⊎◌, ⊎_elim, inl, inr, ℕ, ◌+◌, ◌<◌, ◌≤◌, List, length, cond, eqb, ◌&&◌, true, false, refl, ap, ◌∙◌, arith}
 use Rattle.std.proofs.lemmas.Bool.{cases_Bool, cases_eq}
 use Rattle.std.proofs.lemmas.Bool.Decides.{nat_tests}
 use Rattle.std.proofs.Math.Path.{fun_ext}
 use Rattle.hla_base.specs.Tables.{upd2}
 use Rattle.hla_null_message.specs.declared.message.Message.{Message}
+use Rattle.hla_null_message.specs.Wires.{put_all_behind}
 use Rattle.hla_members.specs.declared.direction.Direction.{Direction}
 use Rattle.hla_members.specs.declared.direction.Direction.TheVariants.{From, To}
 use Rattle.hla_members.specs.Members.{IsEnd, HasRoom, wires_posted_below, room_in, is_number}
@@ -78,12 +79,12 @@ posted_none along messages wire = fun_ext (λ g. fun_ext (λ h.
     ⊎_elim (λ (y : is_along along g h ≡ true). rw (y, none) refl) (λ (n : is_along along g h ≡ false). rw n refl) (cases_Bool (is_along along g h))))
 
 pub posted_more : (along : Direction) (messages : ℕ → List Message) (peer : ℕ) (wire : ℕ → ℕ → List Message) → 0 < peer
-    → upd2 (wires_posted_below along messages peer wire) (source along peer) (target along peer) (wires_posted_below along messages peer wire (source along peer) (target along peer) ++ messages peer)
+    → upd2 (wires_posted_below along messages peer wire) (source along peer) (target along peer) (put_all_behind (messages peer) (wires_posted_below along messages peer wire (source along peer) (target along peer)))
     ≡ wires_posted_below along messages (peer + 1) wire
 unfolding upd2
 posted_more (From f) messages peer wire some = fun_ext (λ g. fun_ext (λ h. at g h))
   where
-    at : (g h : ℕ) → cond (eqb f g && eqb peer h) (wires_posted_below (From f) messages peer wire f peer ++ messages peer) (wires_posted_below (From f) messages peer wire g h) ≡ wires_posted_below (From f) messages (peer + 1) wire g h
+    at : (g h : ℕ) → cond (eqb f g && eqb peer h) (put_all_behind (messages peer) (wires_posted_below (From f) messages peer wire f peer)) (wires_posted_below (From f) messages peer wire g h) ≡ wires_posted_below (From f) messages (peer + 1) wire g h
     at g h = ⊎_elim
         (λ (y : eqb f g ≡ true). let e : f ≡ g = grind (arith, nat_tests) in let self : eqb g g ≡ true = grind (arith, nat_tests) in ⊎_elim
         (λ (z : eqb peer h ≡ true). let i : peer ≡ h = grind (arith, nat_tests) in
@@ -95,7 +96,7 @@ posted_more (From f) messages peer wire some = fun_ext (λ g. fun_ext (λ h. at 
         (cases_Bool (eqb f g))
 posted_more (To f) messages peer wire some = fun_ext (λ g. fun_ext (λ h. at g h))
   where
-    at : (g h : ℕ) → cond (eqb peer g && eqb f h) (wires_posted_below (To f) messages peer wire peer f ++ messages peer) (wires_posted_below (To f) messages peer wire g h) ≡ wires_posted_below (To f) messages (peer + 1) wire g h
+    at : (g h : ℕ) → cond (eqb peer g && eqb f h) (put_all_behind (messages peer) (wires_posted_below (To f) messages peer wire peer f)) (wires_posted_below (To f) messages peer wire g h) ≡ wires_posted_below (To f) messages (peer + 1) wire g h
     at g h = ⊎_elim
         (λ (y : eqb f h ≡ true). let e : f ≡ h = grind (arith, nat_tests) in let self : eqb h h ≡ true = grind (arith, nat_tests) in ⊎_elim
         (λ (z : eqb peer g ≡ true). let i : peer ≡ g = grind (arith, nat_tests) in

@@ -5,6 +5,7 @@ use Rattle.hla_lbts.specs.declared.row.PeerRow.{PeerRow}
 use Rattle.hla_lbts.specs.Peers.{peers_of}
 use Rattle.hla_null_message.specs.declared.message.Message.{Message}
 use Rattle.hla_null_message.specs.declared.message.Message.TheVariants as message
+use Rattle.hla_null_message.specs.Wires.{put_behind, put_all_behind}
 use Rattle.hla_machine.specs.declared.step.Carried.{Carried}
 use Rattle.hla_machine.specs.declared.step.Carried.TheVariants as carried
 use Rattle.hla_local.specs.LocalValue.{LocalValue, new_local, resigned_local}
@@ -87,7 +88,7 @@ is_number end f = not (eqb f 0) && ltb f end
 -- ---- messages along the wires from one federate, or to one
 -- the wires after the messages for the peers below a number were put
 abbrev pub wires_posted_below : Direction → (ℕ → List Message) → ℕ → (ℕ → ℕ → List Message) → ℕ → ℕ → List Message
-wires_posted_below along messages end wire = λ g h. cond (is_along along g h && is_number end (peer_along along g h)) (wire g h ++ messages (peer_along along g h)) (wire g h)
+wires_posted_below along messages end wire = λ g h. cond (is_along along g h && is_number end (peer_along along g h)) (put_all_behind (messages (peer_along along g h)) (wire g h)) (wire g h)
 
 -- there is room for the messages for the peers from a number to another
 abbrev pub HasRoom : Direction → (ℕ → List Message) → ℕ → ℕ → List (List ℕ) → Type 0
@@ -118,9 +119,9 @@ with_arrival g f local m = record m { local = upd m.local f local; wire = upd2 m
 abbrev pub with_component : MemberTables → ℕ → LocalValue → MemberTables
 with_component m f local = record m { local = upd m.local f local }
 
--- a null message from f lies behind all else on its wires
+-- a null message from f lies at the end of its wires, in the place of one of its epoch that was there
 abbrev pub with_null_sent : MemberTables → ℕ → ℕ → ℕ → MemberTables
-with_null_sent m f epoch bound = record m { wire = upd_row m.wire m.joined f (λ _ ms. ms ++ message.Null epoch bound ∷ []) }
+with_null_sent m f epoch bound = record m { wire = upd_row m.wire m.joined f (λ _. put_behind (message.Null epoch bound)) }
 
 -- and so does a retraction, on the wire to each other one that is joined and was sent the message
 abbrev pub with_retraction_sent : MemberTables → ℕ → ℕ → MemberTables

@@ -1,9 +1,10 @@
 //! The wires to one federate.
 
-ghost use Rattle.std.specs.Prelude.{◌≡◌, ◌≢◌, ◌<◌, ◌≤◌, ◌++◌, [], ℕ, true, length, IfOk, IfErr, OnOk, OnErr, drop};
+ghost use Rattle.std.specs.Prelude.{◌≡◌, ◌≢◌, ◌<◌, ◌≤◌, [], ℕ, true, length, IfOk, IfErr, OnOk, OnErr, drop};
 ghost use Rattle.hla_base.specs.Limits.{max_joins};
 ghost use Rattle.hla_base.specs.declared.fault.Fault.TheVariants.{OutOfMemory};
 ghost use Rattle.hla_base.specs.Tables.{upd};
+ghost use Rattle.hla_null_message.specs.Wires.{put_all_behind};
 ghost use Rattle.hla_members.specs.MemberValue.{item};
 ghost use Rattle.hla_members.specs.Members.{AreQuiet, MayArrive, HasAccepted, carried_of};
 ghost use Rattle.hla_members.specs.Members.{arrival_takes_memory};
@@ -94,7 +95,7 @@ impl Incoming {
         requires within { from ≤ max_joins }
         requires room { length messages.items ≤ item 0 self.old.rooms from }
         ensures wires { item [] self.new.wires ≡ upd (item [] self.old.wires) from
-            (item [] self.old.wires from ++ messages.items) }
+            (put_all_behind messages.items (item [] self.old.wires from)) }
         ensures room { (g : ℕ) → from ≢ g → item 0 self.new.rooms g ≡ item 0 self.old.rooms g }
     {
         self.wires[from as usize - 1].append(messages)

@@ -1,6 +1,6 @@
 //! The federates of an execution.
 
-ghost use Rattle.std.specs.Prelude.{◌≡◌, ◌≢◌, ◌<◌, ◌≤◌, ◌+◌, ◌++◌, [], ℕ, length, false, true, ◌&&◌, ◌⊎◌, IfOk, IfErr, IfSome, OnOk, OnErr};
+ghost use Rattle.std.specs.Prelude.{◌≡◌, ◌≢◌, ◌<◌, ◌≤◌, ◌+◌, [], ℕ, length, false, true, ◌&&◌, ◌⊎◌, IfOk, IfErr, IfSome, OnOk, OnErr};
 ghost use Rattle.std.specs.List.{list_any};
 ghost use Rattle.std.specs.Str.{bytes_eq};
 ghost use Rattle.hla_base.specs.Limits.{max_joins, largest_number};
@@ -16,6 +16,7 @@ ghost use Rattle.hla_lbts.specs.Peers.{peers_of};
 ghost use Rattle.hla_local.specs.LocalValue.{no_peers};
 ghost use Rattle.hla_local.specs.Picking.{PickConstrains, picked_by, local_pick, local_picking};
 ghost use Rattle.hla_components.specs.Locals.{callback_given};
+ghost use Rattle.hla_null_message.specs.Wires.{put_all_behind};
 ghost use Rattle.hla_retraction.specs.SentEvents.{no_event};
 ghost use Rattle.hla_retraction.specs.SentRows.{sent_of};
 ghost use Rattle.hla_members.specs.Noting.{with_noted, with_retracted, IsUnsentFrom};
@@ -264,7 +265,7 @@ impl Members {
         requires within { to < (members_of self.old.shown).next_federate }
         requires room { length messages.items ≤ room_in self.old.rooms from to }
         ensures wires { members_of self.new.shown ≡ record (members_of self.old.shown) {
-          wire = upd2 (members_of self.old.shown).wire from to ((members_of self.old.shown).wire from to ++ messages.items);
+          wire = upd2 (members_of self.old.shown).wire from to (put_all_behind messages.items ((members_of self.old.shown).wire from to));
         } }
         ensures room { (g h : ℕ) → (from ≢ g) ⊎ (to ≢ h) → room_in self.new.rooms g h ≡ room_in
             self.old.rooms g h }

@@ -1,5 +1,8 @@
 //! Messages between components.
 
+ghost use Rattle.std.specs.Prelude.{◌≡◌};
+ghost use Rattle.hla_null_message.specs.Wires.{is_null_of};
+
 use hla_base::{Discovery, Event, Serial, Ticks};
 
 /// A message from one component to another.
@@ -14,4 +17,16 @@ pub enum Message {
     Retraction(Serial),
     /// An object that the receiver is to discover.
     Discovery(Discovery),
+}
+
+impl Message {
+    /// Whether it is a null message of this epoch.
+    pub fn is_null_of(&self, epoch: u64) -> bool
+        ensures { result ≡ is_null_of epoch self.now }
+    {
+        match self {
+            Message::Null { epoch: own, .. } => *own == epoch,
+            _ => false,
+        }
+    }
 }

@@ -1,8 +1,9 @@
 //! A wire from one component to another.
 
-ghost use Rattle.std.specs.Prelude.{◌≡◌, ◌++◌, ◌∷◌, ◌<◌, ◌≤◌, ◌-◌, [], OnOk, OnSome, IfErr, drop, slice_get, IsTrue, ◌↔◌, length};
+ghost use Rattle.std.specs.Prelude.{◌≡◌, ◌∷◌, ◌<◌, ◌≤◌, ◌+◌, ◌-◌, [], OnOk, OnSome, IfErr, cond, true, drop, slice_get, IsTrue, ◌↔◌, length};
 ghost use Rattle.std.specs.Option.{option_copied};
 ghost use Rattle.hla_base.specs.declared.fault.Fault.TheVariants.{OutOfMemory};
+ghost use Rattle.hla_null_message.specs.Wires.{ends_with_null, put_all_behind, put_behind, takes_room, without_last_null};
 
 use crate::message::Message;
 use hla_base::Fault;
@@ -50,19 +51,47 @@ impl Wire {
         }
     }
 
-    /// Puts a message on the wire, behind the others. It takes no memory.
-    pub fn put(&mut self, message: Message)
-        requires { 0 < self.old.room }
-        ensures messages { self.new.messages ≡ self.old.messages ++ message ∷ [] }
-        ensures room { self.new.room ≡ self.old.room - 1 }
+    /// Whether the message that was put last is a null message of this epoch.
+    pub fn ends_with_null(&self, epoch: u64) -> bool
+        ensures { result ≡ ends_with_null epoch self.now.messages }
     {
+        match self.messages.back() {
+            Some(last) => last.is_null_of(epoch),
+            None => false,
+        }
+    }
+
+    /// Takes the message that was put last, where it is a null message of this epoch.
+    fn take_last_null(&mut self, epoch: u64) -> Option<Message>
+        ensures messages { self.new.messages ≡ without_last_null epoch self.old.messages }
+        ensures room { self.new.room ≡
+            cond (ends_with_null epoch self.old.messages) (self.old.room + 1) self.old.room }
+    {
+        if self.ends_with_null(epoch) {
+            self.messages.pop_back()
+        } else {
+            None
+        }
+    }
+
+    /// Puts a message on the wire, behind the others. A null message takes the place of the one before it, where that is a
+    /// null message of its epoch: its sender has promised more since, and no room is needed. It takes no memory.
+    pub fn put(&mut self, message: Message)
+        requires { takes_room message self.old.messages ≡ true → 0 < self.old.room }
+        ensures messages { self.new.messages ≡ put_behind message self.old.messages }
+        ensures room { self.new.room ≡
+            cond (takes_room message self.old.messages) (self.old.room - 1) self.old.room }
+    {
+        if let Message::Null { epoch, .. } = message {
+            let _ = self.take_last_null(epoch);
+        }
         self.messages.push_back_reserved(message);
     }
 
     /// Puts messages on the wire, one behind the other. It takes no memory.
     pub fn append(&mut self, messages: Vec<Message>)
         requires { length messages.items ≤ self.old.room }
-        ensures { self.new.messages ≡ self.old.messages ++ messages.items }
+        ensures { self.new.messages ≡ put_all_behind messages.items self.old.messages }
     {
         for message in messages {
             self.put(message);

@@ -16,3 +16,5 @@ mod queues;
 mod retraction;
 #[cfg(test)]
 mod time_roles;
+#[cfg(test)]
+mod wires;

@@ -219,6 +219,56 @@ fn refuses_forged_epochs(rt: HostRuntime) -> Result<(), Fail> {
     check_forgeries(&rt, rt.alloc(), &EPOCH, &forgeries)
 }
 
+/// A announces twice before anything is carried: its second null message takes the place of the first, and the third lies behind
+/// an event.
+const NEWEST_NULL: Scene = Scene {
+    script: "join A
+join B
+B subscribeInteraction Hit
+A regulate 0 1
+A tick
+A tar 5
+announce A
+A send Hit @6
+A tick
+A tar 7
+announce A
+carry A B
+carry A B
+carry A B
+carry A B",
+    transcript: "ok 1
+ok 2
+ok
+ok
+ok regulationEnabled 0
+ok
+ok 6
+ok 1.1
+ok grant 5
+ok
+ok 8
+ok null 6
+ok event 1.1
+ok null 8
+ok none",
+};
+
+#[test]
+fn refuses_forged_nulls(rt: HostRuntime) -> Result<(), Fail> {
+    let forgeries = [
+        (12, "ok null 1"),
+        (12, "ok null 8"),
+        (12, "ok event 1.1"),
+        (13, "ok null 6"),
+        (13, "ok null 8"),
+        (14, "ok null 6"),
+        (14, "ok none"),
+        (15, "ok null 8"),
+    ];
+    check_forgeries(&rt, rt.alloc(), &NEWEST_NULL, &forgeries)
+}
+
 /// A and B wait for each other's next events, each by bounds that are stale, and C comes to regulate.
 const NEXT_EVENT: Scene = Scene {
     script: "join A

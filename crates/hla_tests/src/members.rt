@@ -139,10 +139,31 @@ impl Wires {
         self.posted.clear();
     }
 
-    /// Puts a letter on a wire, behind the others.
+    /// Puts a letter on a wire, behind the others. A null message takes the place of the last letter there, where that is a null
+    /// message of its epoch.
     pub fn put(&mut self, from: u32, to: u32, letter: Letter) -> Result<(), AllocError> {
+        if let Letter::Null { epoch, .. } = letter {
+            self.drop_last_null(from, to, epoch);
+        }
         self.posted.push(Posted { from, to, letter })?;
         Ok(())
+    }
+
+    /// Drops the last letter on a wire, where it is a null message of an epoch.
+    fn drop_last_null(&mut self, from: u32, to: u32, epoch: u32) {
+        let last = self
+            .posted
+            .iter()
+            .rposition(|posted| posted.from == from && posted.to == to);
+        let Some(place) = last else {
+            return;
+        };
+        match self.posted[place].letter {
+            Letter::Null { epoch: own, .. } if own == epoch => {
+                self.posted.remove(place);
+            }
+            _ => {}
+        }
     }
 
     /// Takes what was put first on the wire from one federate to another.

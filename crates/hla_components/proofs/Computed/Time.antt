@@ -4,7 +4,7 @@ use Rattle.hla_base.specs.Tables.{upd, upd2, upd_row, upd_column, upd_new, upd_w
 use Rattle.hla_machine.specs.Central.{low_entry}
 use Rattle.hla_order_queues.specs.Queues.{insert_event, find_event, remove_event, least_ordered, handles_of}
 use Rattle.hla_components.specs.Component.{regulation_entry}
-use Rattle.hla_components.specs.Examples.Time.{StaleBound, Boundary, Creep, CreepAvailable, Flush, LargestTime, PickThenGrant}
+use Rattle.hla_components.specs.Examples.Time.{StaleBound, Boundary, Creep, CreepAvailable, Flush, LargestTime, PickThenGrant, NewestNull}
 
 pub stale_bound : StaleBound
 unfolding upd upd2 upd_row upd_column upd_new upd_whole_column least greatest numbers_below low_entry insert_event find_event remove_event least_ordered handles_of regulation_entry
@@ -33,3 +33,7 @@ largest_time = refl
 pub pick_then_grant : PickThenGrant
 unfolding upd upd2 upd_row upd_column upd_new upd_whole_column least greatest numbers_below low_entry insert_event find_event remove_event least_ordered handles_of regulation_entry
 pick_then_grant = refl
+
+pub newest_null : NewestNull
+unfolding upd upd2 upd_row upd_column upd_new upd_whole_column least greatest numbers_below low_entry insert_event find_event remove_event least_ordered handles_of regulation_entry
+newest_null = refl

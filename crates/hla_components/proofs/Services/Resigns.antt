@@ -15,9 +15,9 @@ use Rattle.hla_machine.specs.Sends.{is_ordered}
 use Rattle.hla_machine.specs.Machine.{after_leaving}
 use Rattle.hla_machine.specs.Refusals.{refusal}
 use Rattle.hla_order_queues.specs.Queues.{find_event}
-use Rattle.hla_null_message.specs.Wires.{events, discoveries, retractions}
+use Rattle.hla_null_message.specs.Wires.{events, discoveries, retractions, put_behind}
 use Rattle.hla_components.specs.Components.{Components}
-use Rattle.hla_components.specs.Next.{components_seen, step_outcome, put_behind, with_message_sent, with_messages_sent, with_last_null, with_federate_gone}
+use Rattle.hla_components.specs.Next.{components_seen, step_outcome, with_message_sent, with_messages_sent, with_last_null, with_federate_gone}
 use Rattle.hla_components.specs.CentralOf.{central, bag_of, wire_copy, tso_copy, ro_copy}
 use Rattle.hla_components.specs.Invariant.{EachOf, IsTsoQueue, IsInKeyOrder, Carries, Tells, RowInv, IsTimed, CopyInv, ObjectInv, IsWired, is_wire, places_in, stamps, Kept}
 use Rattle.hla_components.specs.Headline.{IsKeptStep}

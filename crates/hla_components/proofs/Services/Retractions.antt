@@ -18,10 +18,10 @@ use Rattle.hla_machine.specs.Refusals.{refusal}
 use Rattle.hla_order_queues.specs.declared.control.Control.{Control}
 use Rattle.hla_order_queues.specs.declared.control.Control.TheVariants.{ToDiscover, ToRetract}
 use Rattle.hla_order_queues.specs.Queues.{is_event, find_event, remove_event, occurrences}
-use Rattle.hla_null_message.specs.Wires.{events, discoveries, retractions}
+use Rattle.hla_null_message.specs.Wires.{events, discoveries, retractions, put_behind}
 use Rattle.hla_order_queues.specs.Controls.{discoveries_from, dues}
 use Rattle.hla_components.specs.Components.{Components}
-use Rattle.hla_components.specs.Next.{components_seen, step_outcome, put_behind, put_retraction, with_event_retracted, with_retraction_accepted, carry_outcome}
+use Rattle.hla_components.specs.Next.{components_seen, step_outcome, put_retraction, with_event_retracted, with_retraction_accepted, carry_outcome}
 use Rattle.hla_components.specs.CentralOf.{central, bag_of, wire_copy, tso_copy, ro_copy}
 use Rattle.hla_components.specs.Invariant.{Tells, Kept}
 use Rattle.hla_machine.specs.CentralInvariant.{CentralInv}

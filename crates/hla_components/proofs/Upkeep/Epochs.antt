@@ -14,7 +14,8 @@ use Rattle.hla_components.specs.Components.{Components}
 use Rattle.hla_null_message.specs.Promise.{promise_in}
 use Rattle.hla_components.specs.Component.{local_bound}
 use Rattle.hla_local.specs.Promising.{promise_of}
-use Rattle.hla_components.specs.Next.{put_behind, put_retraction, with_regulation_enabled, with_regulation_disabled, with_event_retracted, with_retraction_accepted}
+use Rattle.hla_null_message.specs.Wires.{put_behind}
+use Rattle.hla_components.specs.Next.{put_retraction, with_regulation_enabled, with_regulation_disabled, with_event_retracted, with_retraction_accepted}
 use Rattle.hla_components.specs.Invariant.{Above, IsTsoQueue, IsInKeyOrder, Carries, RowInv, IsTimed, stamps}
 use Rattle.hla_components.proofs.Wiring.Keys.{IsInKeyOrder-remove}
 use Rattle.hla_components.proofs.Wiring.Queues.{IsTsoQueue-remove, first_stamp-remove, Above-remove}

@@ -1,5 +1,5 @@
 -- Discoveries come before what is said of their objects, after each change of wires and queues
-use Rattle.std.proofs.Common.{◌≡◌, ◌≢◌, ℕ, ◌≤◌, ◌<◌, cond, true, false, refl, sym, subst, ap, ◌∙◌, le_trans, arith, List, [], ◌∷◌, ◌++◌, map}
+use Rattle.std.proofs.Common.{◌≡◌, ◌≢◌, ℕ, ◌≤◌, ◌<◌, cond, eqb, true, false, refl, sym, subst, ap, ◌∙◌, le_trans, arith, List, [], ◌∷◌, ◌++◌, map}
 use Rattle.std.proofs.lemmas.Bool.{cond_both}
 use Rattle.hla_base.specs.declared.content.Content.{Content}
 use Rattle.hla_base.specs.declared.content.Content.TheVariants as content
@@ -11,15 +11,15 @@ use Rattle.hla_base.specs.Tables.{upd, upd2}
 use Rattle.hla_machine.specs.Directory.{Directory}
 use Rattle.hla_order_queues.specs.declared.control.Control.{Control}
 use Rattle.hla_order_queues.specs.declared.control.Control.TheVariants.{ToDiscover, ToRetract}
-use Rattle.hla_null_message.specs.Wires.{discoveries}
+use Rattle.hla_null_message.specs.Wires.{discoveries, put_behind, without_last_null}
 use Rattle.hla_order_queues.specs.Queues.{insert_event, remove_event}
 use Rattle.hla_components.specs.Components.{Components}
-use Rattle.hla_components.specs.Next.{put_behind, put_discoveries, with_event_accepted, with_discovery_accepted, with_retraction_accepted}
+use Rattle.hla_components.specs.Next.{put_discoveries, with_event_accepted, with_discovery_accepted, with_retraction_accepted}
 use Rattle.hla_local.specs.Arriving.{is_kept_in_order}
 use Rattle.hla_components.specs.Invariant.{EachOf, IsKnownOf, IsTold, IsBehind, Tells, IsWaiting, IsControl, ObjectInv}
 use Rattle.hla_base.proofs.Tables.{upd_each, upd2_each, upd2_same}
 use Rattle.hla_components.proofs.Basics.Each.{EachOf-append, EachOf-weaker, EachOf-remove, EachOf-insert}
-use Rattle.hla_components.proofs.Wiring.Wires.{discoveries-put_event, discoveries-put_null, discoveries-put_retraction, discoveries-put_discoveries, discoveries-event, discoveries-null, discoveries-retraction, discoveries-discovery}
+use Rattle.hla_components.proofs.Wiring.Wires.{discoveries-put_event, discoveries-without, discoveries-null_behind, discoveries-put_retraction, discoveries-put_discoveries, discoveries-event, discoveries-null, discoveries-retraction, discoveries-discovery}
 
 abbrev pub AreObjects : Components → Type 0
 AreObjects s = ObjectInv s.directory s.wire s.tso s.ro s.controls
@@ -85,12 +85,23 @@ tells_send d g f (message.Null k v ∷ ms) e told t = tells_send d g f ms e told
 tells_send d g f (message.Retraction m ∷ ms) e told t = tells_send d g f ms e told t
 tells_send d g f (message.Discovery x ∷ ms) e told t = (t.0, tells_send d g f ms e told t.1)
 
+tells_without : (d : Directory) (g f k : ℕ) (ms : List Message) → Tells d g f ms → Tells d g f (without_last_null k ms)
+tells_without d g f k [] t = tt
+tells_without d g f k (message.Event x ∷ ms) t = (t.0, subst (IsBehind x.content) (sym (discoveries-without k ms)) t.1, tells_without d g f k ms t.2)
+tells_without d g f k (message.Null j v ∷ []) t = cond_both (eqb j k) [] (message.Null j v ∷ []) (Tells d g f) (λ _. tt) (λ _. tt)
+tells_without d g f k (message.Null j v ∷ m ∷ ms) t = tells_without d g f k (m ∷ ms) t
+tells_without d g f k (message.Retraction m ∷ ms) t = tells_without d g f k ms t
+tells_without d g f k (message.Discovery x ∷ ms) t = (t.0, tells_without d g f k ms t.1)
+
+null_behind : (d : Directory) (g f : ℕ) (ms : List Message) (j w : ℕ) → Tells d g f ms → Tells d g f (ms ++ message.Null j w ∷ [])
+null_behind d g f [] j w t = tt
+null_behind d g f (message.Event x ∷ ms) j w t = (t.0, subst (IsBehind x.content) (sym (discoveries-null_behind j w ms)) t.1, null_behind d g f ms j w t.2)
+null_behind d g f (message.Null k v ∷ ms) j w t = null_behind d g f ms j w t
+null_behind d g f (message.Retraction m ∷ ms) j w t = null_behind d g f ms j w t
+null_behind d g f (message.Discovery x ∷ ms) j w t = (t.0, null_behind d g f ms j w t.1)
+
 pub tells_null : (d : Directory) (g f : ℕ) (ms : List Message) (j w : ℕ) → Tells d g f ms → Tells d g f (put_behind (message.Null j w) ms)
-tells_null d g f [] j w t = tt
-tells_null d g f (message.Event x ∷ ms) j w t = (t.0, subst (IsBehind x.content) (sym (discoveries-put_null j w ms)) t.1, tells_null d g f ms j w t.2)
-tells_null d g f (message.Null k v ∷ ms) j w t = tells_null d g f ms j w t
-tells_null d g f (message.Retraction m ∷ ms) j w t = tells_null d g f ms j w t
-tells_null d g f (message.Discovery x ∷ ms) j w t = (t.0, tells_null d g f ms j w t.1)
+tells_null d g f ms j w t = null_behind d g f (without_last_null j ms) j w (tells_without d g f j ms t)
 
 pub tells_retraction : (d : Directory) (g f : ℕ) (ms : List Message) (n : ℕ) → Tells d g f ms → Tells d g f (put_behind (message.Retraction n) ms)
 tells_retraction d g f [] n t = tt

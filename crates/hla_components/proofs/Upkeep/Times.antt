@@ -18,7 +18,8 @@ use Rattle.hla_null_message.specs.Promise.{promise_in}
 use Rattle.hla_components.specs.Component.{promise, local_bound}
 use Rattle.hla_local.specs.Promising.{promise_of}
 use Rattle.hla_lbts.specs.Peers.{null_bound}
-use Rattle.hla_components.specs.Next.{put_behind, put_event, event_of, with_message_sent, with_null_announced, with_null_accepted, with_event_accepted, with_discovery_accepted}
+use Rattle.hla_null_message.specs.Wires.{put_behind}
+use Rattle.hla_components.specs.Next.{put_event, event_of, with_message_sent, with_null_announced, with_null_accepted, with_event_accepted, with_discovery_accepted}
 use Rattle.hla_local.specs.Arriving.{is_kept_in_order}
 use Rattle.hla_components.specs.Invariant.{Above, IsTsoQueue, IsInKeyOrder, Carries, RowInv, IsTimed, stamps}
 use Rattle.hla_components.proofs.Wiring.Keys.{IsInKeyOrder-insert}

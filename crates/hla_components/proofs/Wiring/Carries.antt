@@ -1,5 +1,5 @@
 -- What a wire carries, after messages are put on it
-use Rattle.std.proofs.Common.{◌≡◌, ◌≢◌, ℕ, ◌+◌, ◌≤◌, ◌<◌, max, cond, eqb, Bool, true, false, refl, le_trans, lt_of_le_of_lt, ap, ◌∙◌, ⊎_elim, arith, eqb-true, ne_eqb, List, [], ◌∷◌, Some, map}
+use Rattle.std.proofs.Common.{◌≡◌, ◌≢◌, ℕ, ◌+◌, ◌≤◌, ◌<◌, max, cond, eqb, Bool, true, false, refl, le_trans, lt_of_le_of_lt, ap, ◌∙◌, ⊎_elim, arith, eqb-true, ne_eqb, List, [], ◌∷◌, ◌++◌, Some, map}
 use Rattle.std.proofs.lemmas.Bool.{cond_both, cases_Bool}
 use Rattle.std.proofs.lemmas.Bool.Decides.{nat_tests}
 use Rattle.hla_base.specs.declared.content.Event.{Event}
@@ -8,10 +8,10 @@ use Rattle.hla_null_message.specs.declared.message.Message.{Message}
 use Rattle.hla_null_message.specs.declared.message.Message.TheVariants as message
 use Rattle.hla_base.specs.Tables.{one_if}
 use Rattle.hla_order_queues.specs.Queues.{is_event, find_event, occurrences}
-use Rattle.hla_null_message.specs.Wires.{events, retractions}
-use Rattle.hla_components.specs.Next.{put_behind, put_discoveries}
+use Rattle.hla_null_message.specs.Wires.{events, retractions, put_behind, without_last_null}
+use Rattle.hla_components.specs.Next.{put_discoveries}
 use Rattle.hla_components.specs.Invariant.{Carries}
-use Rattle.hla_components.proofs.Wiring.Wires.{occurs-put_event, events-put_null, events-put_retraction, events-put_discoveries}
+use Rattle.hla_components.proofs.Wiring.Wires.{occurs-put_event, events-without, events-null_behind, events-put_retraction, events-put_discoveries}
 
 pub one_if_le : (b : Bool) → one_if b ≤ 1
 one_if_le true = omega arith
@@ -54,27 +54,44 @@ Carries-send r l k g t x (message.Null j w ∷ ms) v e new h s c = (c.0, Carries
 Carries-send r l k g t x (message.Retraction o ∷ ms) v e new h s c = (c.0, c.1, omega (arith, c.2, occurs-put_event g o e ms, not_key g o e (λ (same : o ≡ e.serial). omega (arith, c.1, new))), Carries-send r l k g t x ms v e new h s c.3)
 Carries-send r l k g t x (message.Discovery d ∷ ms) v e new h s c = Carries-send r l k g t x ms v e new h s c
 
--- a null of the wire's epoch
+-- without a null message at the end it carries the same, and less is to be announced
+pub Carries-without : (r : Bool) (l k g : ℕ) (t : ℕ → ℕ) (x i : ℕ) (ms : List Message) (v : ℕ) → Carries r l k g t x ms v → Carries r l k g t x (without_last_null i ms) v
+Carries-without r l k g t x i [] v c = c
+Carries-without r l k g t x i (message.Event y ∷ ms) v c = (c.0, c.1, Carries-without r l k g t x i ms v c.2)
+Carries-without r l k g t x i (message.Null j w ∷ []) v c = cond_both (eqb j i) [] (message.Null j w ∷ []) (λ ms. Carries r l k g t x ms v) (λ _. λ reg. le_trans (raised_ge (eqb j k) v w) (c.1 reg)) (λ _. c)
+Carries-without r l k g t x i (message.Null j w ∷ m ∷ ms) v c = (c.0, Carries-without r l k g t x i (m ∷ ms) _ c.1)
+Carries-without r l k g t x i (message.Retraction o ∷ ms) v c = (c.0, c.1, ap (occurrences g o) (events-without i ms) ∙ c.2, Carries-without r l k g t x i ms v c.3)
+Carries-without r l k g t x i (message.Discovery d ∷ ms) v c = Carries-without r l k g t x i ms v c
+
+-- a null of the wire's epoch at the end
+null_behind : (r : Bool) (l m k g : ℕ) (t : ℕ → ℕ) (x : ℕ) (ms : List Message) (v : ℕ) → l ≤ m
+    → Carries r l k g t x ms v → Carries r m k g t x (ms ++ message.Null k m ∷ []) v
+null_behind r l m k g t x [] v le c = (omega arith, λ e. rw raised_here (omega (arith, c e)))
+null_behind r l m k g t x (message.Event y ∷ ms) v le c = (c.0, c.1, null_behind r l m k g t x ms v le c.2)
+null_behind r l m k g t x (message.Null j w ∷ ms) v le c = (c.0, null_behind r l m k g t x ms _ le c.1)
+null_behind r l m k g t x (message.Retraction o ∷ ms) v le c = (c.0, c.1, ap (occurrences g o) (events-null_behind k m ms) ∙ c.2, null_behind r l m k g t x ms v le c.3)
+null_behind r l m k g t x (message.Discovery d ∷ ms) v le c = null_behind r l m k g t x ms v le c
+
 pub Carries-null : (r : Bool) (l m k g : ℕ) (t : ℕ → ℕ) (x : ℕ) (ms : List Message) (v : ℕ) → l ≤ m
     → Carries r l k g t x ms v → Carries r m k g t x (put_behind (message.Null k m) ms) v
-Carries-null r l m k g t x [] v le c = (omega arith, λ e. rw raised_here (omega (arith, c e)))
-Carries-null r l m k g t x (message.Event y ∷ ms) v le c = (c.0, c.1, Carries-null r l m k g t x ms v le c.2)
-Carries-null r l m k g t x (message.Null j w ∷ ms) v le c = (c.0, Carries-null r l m k g t x ms _ le c.1)
-Carries-null r l m k g t x (message.Retraction o ∷ ms) v le c = (c.0, c.1, ap (occurrences g o) (events-put_null k m ms) ∙ c.2, Carries-null r l m k g t x ms v le c.3)
-Carries-null r l m k g t x (message.Discovery d ∷ ms) v le c = Carries-null r l m k g t x ms v le c
+Carries-null r l m k g t x ms v le c = null_behind r l m k g t x (without_last_null k ms) v le (Carries-without r l k g t x k ms v c)
 
 -- a new epoch begins with its entry
-pub Carries-enter : (r q : Bool) (l e k g : ℕ) (t : ℕ → ℕ) (x : ℕ) (ms : List Message) (v w : ℕ) → w ≤ v → w ≤ e
-    → Carries r l k g t x ms v → Carries q e (k + 1) g t x (put_behind (message.Null (k + 1) e) ms) w
-Carries-enter r q l e k g t x [] v w a b c = (omega arith, λ _. rw raised_here (omega arith))
-Carries-enter r q l e k g t x (message.Event y ∷ ms) v w a b c = (λ t. omega (arith, c.0 t), c.1, Carries-enter r q l e k g t x ms v w a b c.2)
-Carries-enter r q l e k g t x (message.Null j y ∷ ms) v w a b c = (
+entry_behind : (r q : Bool) (l e k g : ℕ) (t : ℕ → ℕ) (x : ℕ) (ms : List Message) (v w : ℕ) → w ≤ v → w ≤ e
+    → Carries r l k g t x ms v → Carries q e (k + 1) g t x (ms ++ message.Null (k + 1) e ∷ []) w
+entry_behind r q l e k g t x [] v w a b c = (omega arith, λ _. rw raised_here (omega arith))
+entry_behind r q l e k g t x (message.Event y ∷ ms) v w a b c = (λ t. omega (arith, c.0 t), c.1, entry_behind r q l e k g t x ms v w a b c.2)
+entry_behind r q l e k g t x (message.Null j y ∷ ms) v w a b c = (
   omega (arith, c.0),
   let ne : j ≢ k + 1 = λ same. omega (arith, c.0) in
-      rw (ne_eqb j (k + 1) ne) (Carries-enter r q l e k g t x ms _ w (omega (arith, raised_ge (eqb j k) v y)) b c.1),
+      rw (ne_eqb j (k + 1) ne) (entry_behind r q l e k g t x ms _ w (omega (arith, raised_ge (eqb j k) v y)) b c.1),
 )
-Carries-enter r q l e k g t x (message.Retraction o ∷ ms) v w a b c = (omega (arith, c.0), c.1, ap (occurrences g o) (events-put_null (k + 1) e ms) ∙ c.2, Carries-enter r q l e k g t x ms v w a b c.3)
-Carries-enter r q l e k g t x (message.Discovery d ∷ ms) v w a b c = Carries-enter r q l e k g t x ms v w a b c
+entry_behind r q l e k g t x (message.Retraction o ∷ ms) v w a b c = (omega (arith, c.0), c.1, ap (occurrences g o) (events-null_behind (k + 1) e ms) ∙ c.2, entry_behind r q l e k g t x ms v w a b c.3)
+entry_behind r q l e k g t x (message.Discovery d ∷ ms) v w a b c = entry_behind r q l e k g t x ms v w a b c
+
+pub Carries-enter : (r q : Bool) (l e k g : ℕ) (t : ℕ → ℕ) (x : ℕ) (ms : List Message) (v w : ℕ) → w ≤ v → w ≤ e
+    → Carries r l k g t x ms v → Carries q e (k + 1) g t x (put_behind (message.Null (k + 1) e) ms) w
+Carries-enter r q l e k g t x ms v w a b c = entry_behind r q l e k g t x (without_last_null (k + 1) ms) v w a b (Carries-without r l k g t x (k + 1) ms v c)
 
 nothing_behind : (g m : ℕ) → occurrences g m (events []) ≡ 0
 unfolding occurrences events

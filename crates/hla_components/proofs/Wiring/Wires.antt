@@ -6,9 +6,10 @@ use Rattle.hla_null_message.specs.declared.message.Message.{Message}
 use Rattle.hla_null_message.specs.declared.message.Message.TheVariants as message
 use Rattle.hla_base.specs.Tables.{one_if}
 use Rattle.hla_order_queues.specs.Queues.{is_event, find_event, occurrences}
-use Rattle.hla_null_message.specs.Wires.{retractions, discoveries, events}
-use Rattle.hla_components.specs.Next.{put_behind, put_discoveries}
+use Rattle.hla_null_message.specs.Wires.{retractions, discoveries, events, put_behind, without_last_null}
+use Rattle.hla_components.specs.Next.{put_discoveries}
 use Rattle.hla_components.proofs.Wiring.Queues.{occurs-append, occurs-one}
+use Rattle.std.proofs.lemmas.Bool.{cond_both}
 use Rattle.std.proofs.lemmas.List.{append-nil}
 
 pub events-append : (ms ns : List Message) → events (ms ++ ns) ≡ events ms ++ events ns
@@ -35,17 +36,48 @@ retractions-append m (message.Null j w ∷ ms) ns = retractions-append m ms ns
 retractions-append m (message.Retraction o ∷ ms) ns = omega (arith, retractions-append m ms ns)
 retractions-append m (message.Discovery d ∷ ms) ns = retractions-append m ms ns
 
+-- ---- without a null message at the end
+pub events-without : (k : ℕ) (ms : List Message) → events (without_last_null k ms) ≡ events ms
+unfolding events
+events-without k [] = refl
+events-without k (message.Event e ∷ ms) = ap (λ es. e ∷ es) (events-without k ms)
+events-without k (message.Null j v ∷ []) = cond_both (eqb j k) [] (message.Null j v ∷ []) (λ ms. events ms ≡ []) (λ _. refl) (λ _. refl)
+events-without k (message.Null j v ∷ m ∷ ms) = events-without k (m ∷ ms)
+events-without k (message.Retraction m ∷ ms) = events-without k ms
+events-without k (message.Discovery d ∷ ms) = events-without k ms
+
+pub discoveries-without : (k : ℕ) (ms : List Message) → discoveries (without_last_null k ms) ≡ discoveries ms
+unfolding discoveries
+discoveries-without k [] = refl
+discoveries-without k (message.Event e ∷ ms) = discoveries-without k ms
+discoveries-without k (message.Null j v ∷ []) = cond_both (eqb j k) [] (message.Null j v ∷ []) (λ ms. discoveries ms ≡ []) (λ _. refl) (λ _. refl)
+discoveries-without k (message.Null j v ∷ m ∷ ms) = discoveries-without k (m ∷ ms)
+discoveries-without k (message.Retraction m ∷ ms) = discoveries-without k ms
+discoveries-without k (message.Discovery d ∷ ms) = ap (λ ds. d ∷ ds) (discoveries-without k ms)
+
+pub retractions-without : (k m : ℕ) (ms : List Message) → retractions m (without_last_null k ms) ≡ retractions m ms
+unfolding retractions
+retractions-without k m [] = refl
+retractions-without k m (message.Event e ∷ ms) = retractions-without k m ms
+retractions-without k m (message.Null j v ∷ []) = cond_both (eqb j k) [] (message.Null j v ∷ []) (λ ms. retractions m ms ≡ 0) (λ _. refl) (λ _. refl)
+retractions-without k m (message.Null j v ∷ n ∷ ms) = retractions-without k m (n ∷ ms)
+retractions-without k m (message.Retraction o ∷ ms) = ap (λ n. one_if (eqb m o) + n) (retractions-without k m ms)
+retractions-without k m (message.Discovery d ∷ ms) = retractions-without k m ms
+
 -- ---- what is put behind
 pub events-put_event : (e : Event) (ms : List Message) → events (put_behind (message.Event e) ms) ≡ events ms ++ e ∷ []
 unfolding events
 events-put_event e ms = events-append ms (message.Event e ∷ [])
 
-pub events-put_null : (k v : ℕ) (ms : List Message) → events (put_behind (message.Null k v) ms) ≡ events ms
+pub events-null_behind : (k v : ℕ) (ms : List Message) → events (ms ++ message.Null k v ∷ []) ≡ events ms
 unfolding events
-events-put_null k v ms = events-append ms (message.Null k v ∷ []) ∙ ap (λ es. events ms ++ es) (none k v) ∙ append-nil (events ms)
+events-null_behind k v ms = events-append ms (message.Null k v ∷ []) ∙ ap (λ es. events ms ++ es) (none k v) ∙ append-nil (events ms)
   where
     none : (k v : ℕ) → events (message.Null k v ∷ []) ≡ []
     none k v = refl
+
+pub events-put_null : (k v : ℕ) (ms : List Message) → events (put_behind (message.Null k v) ms) ≡ events ms
+events-put_null k v ms = events-null_behind k v (without_last_null k ms) ∙ events-without k ms
 
 pub events-put_retraction : (m : ℕ) (ms : List Message) → events (put_behind (message.Retraction m) ms) ≡ events ms
 unfolding events
@@ -72,12 +104,15 @@ discoveries-put_event e ms = discoveries-append ms (message.Event e ∷ []) ∙ 
     none : (e : Event) → discoveries (message.Event e ∷ []) ≡ []
     none e = refl
 
-pub discoveries-put_null : (k v : ℕ) (ms : List Message) → discoveries (put_behind (message.Null k v) ms) ≡ discoveries ms
+pub discoveries-null_behind : (k v : ℕ) (ms : List Message) → discoveries (ms ++ message.Null k v ∷ []) ≡ discoveries ms
 unfolding discoveries
-discoveries-put_null k v ms = discoveries-append ms (message.Null k v ∷ []) ∙ ap (λ ds. discoveries ms ++ ds) (none k v) ∙ append-nil (discoveries ms)
+discoveries-null_behind k v ms = discoveries-append ms (message.Null k v ∷ []) ∙ ap (λ ds. discoveries ms ++ ds) (none k v) ∙ append-nil (discoveries ms)
   where
     none : (k v : ℕ) → discoveries (message.Null k v ∷ []) ≡ []
     none k v = refl
+
+pub discoveries-put_null : (k v : ℕ) (ms : List Message) → discoveries (put_behind (message.Null k v) ms) ≡ discoveries ms
+discoveries-put_null k v ms = discoveries-null_behind k v (without_last_null k ms) ∙ discoveries-without k ms
 
 pub discoveries-put_retraction : (m : ℕ) (ms : List Message) → discoveries (put_behind (message.Retraction m) ms) ≡ discoveries ms
 unfolding discoveries
@@ -96,7 +131,7 @@ discoveries-put_discoveries ds ms = discoveries-append ms (map message.Discovery
 
 pub retractions-put_null : (j v m : ℕ) (ms : List Message) → retractions m (put_behind (message.Null j v) ms) ≡ retractions m ms
 unfolding retractions
-retractions-put_null j v m ms = omega (arith, retractions-append m ms (message.Null j v ∷ []))
+retractions-put_null j v m ms = omega (arith, retractions-append m (without_last_null j ms) (message.Null j v ∷ []), retractions-without j m ms)
 
 pub retractions-put_event : (e : Event) (m : ℕ) (ms : List Message) → retractions m (put_behind (message.Event e) ms) ≡ retractions m ms
 unfolding retractions

@@ -179,3 +179,24 @@ PickThenGrant = Shows (
     ∷ Call B (service.TimeAdvanceRequestAvailable 10) ⟶ ok
     ∷ Tick B ⟶ outcome_ticked (callback.TimeAdvanceGrant 10)
     ∷ [])
+
+-- a null message takes the place of one of its epoch at the end of the wire, and not across an event
+abbrev pub NewestNull : Type 0
+NewestNull = Shows (
+    Join (codes "A") ⟶ outcome_with (answer.Federate 1)
+    ∷ Join (codes "B") ⟶ outcome_with (answer.Federate 2)
+    ∷ Call A (service.PublishInteractionClass hit_class) ⟶ ok
+    ∷ Call B (service.SubscribeInteractionClass hit_class) ⟶ ok
+    ∷ Call A (service.EnableTimeRegulation 0 1) ⟶ ok
+    ∷ Tick A ⟶ outcome_ticked (callback.TimeRegulationEnabled 0)
+    ∷ Call A (service.TimeAdvanceRequest 5) ⟶ ok
+    ∷ Announce A ⟶ outcome_announced (Some 6)
+    ∷ Call A (service.SendInteraction hit_class [] (Some 6)) ⟶ outcome_sent (Some (event 1 1))
+    ∷ Tick A ⟶ outcome_ticked (callback.TimeAdvanceGrant 5)
+    ∷ Call A (service.TimeAdvanceRequest 7) ⟶ ok
+    ∷ Announce A ⟶ outcome_announced (Some 8)
+    ∷ Carry A B ⟶ outcome_carried (carried.Null 6)
+    ∷ Carry A B ⟶ outcome_carried (carried.Event (event 1 1))
+    ∷ Carry A B ⟶ outcome_carried (carried.Null 8)
+    ∷ Carry A B ⟶ outcome_carried carried.Nothing
+    ∷ [])

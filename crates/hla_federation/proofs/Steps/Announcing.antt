@@ -3,7 +3,6 @@ use Rattle.std.proofs.Common.{◌≡◌, ◌≢◌, ◌≤◌, ◌+◌, ℕ, min
 use Rattle.std.proofs.Math.Bool.{and-false}
 use Rattle.std.proofs.lemmas.Bool.{cases_Bool}
 use Rattle.std.proofs.lemmas.Bool.Decides.{nat_tests}
-use Rattle.std.proofs.lemmas.List.{append-nil}
 use Rattle.std.proofs.Math.Path.{fun_ext}
 use Rattle.hla_base.specs.Limits.{max_time, max_enablings}
 use Rattle.hla_base.specs.declared.row.TimeRow.{TimeRow}
@@ -57,7 +56,7 @@ null_posted m d f k v o members is numbers = fun_ext (λ g. fun_ext (λ h. at g 
         (λ (y : eqb f g ≡ true). ⊎_elim
         (λ (z : is_other m.joined f h ≡ true). let number = numbers h (other_joined m.joined f h z) in rw (y, z, number, sends h true z) refl)
         (λ (z : is_other m.joined f h ≡ false). ⊎_elim
-        (λ (b : is_number m.next_federate h ≡ true). rw (y, z, b, sends h false z) (append-nil (m.wire g h)))
+        (λ (b : is_number m.next_federate h ≡ true). rw (y, z, b, sends h false z) refl)
         (λ (b : is_number m.next_federate h ≡ false). rw (y, z, b) refl)
         (cases_Bool (is_number m.next_federate h)))
         (cases_Bool (is_other m.joined f h)))

@@ -1,11 +1,10 @@
 -- The state after a federate has registered an object
-use Rattle.std.proofs.Common.{◌≡◌, ◌≢◌, ◌⊎◌, inl, inr, ℕ, zero, suc, ◌+◌, ◌<◌, cond, eqb, ltb, not, ◌&&◌, true, false, Bool, List, [], ◌∷◌, ◌++◌, map, Option, Some, None, option_map, is_some, refl, sym, ap, subst, ◌∙◌, arith, add-one, ⊎_elim}
+use Rattle.std.proofs.Common.{◌≡◌, ◌≢◌, ◌⊎◌, inl, inr, ℕ, zero, suc, ◌+◌, ◌<◌, cond, eqb, ltb, not, ◌&&◌, true, false, Bool, List, [], ◌∷◌, map, Option, Some, None, option_map, is_some, refl, sym, ap, subst, ◌∙◌, arith, add-one, ⊎_elim}
 use Rattle.std.specs.Prelude.{find}
 use Rattle.std.specs.List.{filter_map, cons_option}
 use Rattle.std.specs.Option.{option_map_or}
 use Rattle.std.proofs.lemmas.Bool.{cases_Bool}
 use Rattle.std.proofs.lemmas.Bool.Decides.{nat_tests}
-use Rattle.std.proofs.lemmas.List.{append-nil}
 use Rattle.std.proofs.lemmas.List.Elements.{filter_map-append}
 use Rattle.std.proofs.Math.Path.{fun_ext}
 use Rattle.hla_base.specs.Tables.{numbers_below, upd2, upd_row, when}
@@ -13,6 +12,9 @@ use Rattle.hla_base.specs.declared.content.Discovery.{Discovery}
 use Rattle.hla_fed_file.specs.Lookup.{object_lineage}
 use Rattle.hla_null_message.specs.declared.message.Message.{Message}
 use Rattle.hla_null_message.specs.declared.message.Message.TheVariants as message
+use Rattle.hla_null_message.specs.Wires.{put_all_behind}
+use Rattle.hla_null_message.proofs.Wires.{put_all-no_null}
+use Rattle.hla_federation.proofs.Steps.NoNulls.{discoveries_no_null}
 use Rattle.hla_declaration.specs.Declarations.{DeclarationsValue}
 use Rattle.hla_declaration.specs.Receivers.{receivers_of}
 use Rattle.hla_declaration.specs.Receivers as receivers
@@ -187,15 +189,15 @@ module _ (d : Directory) (f class : ℕ) (name : List ℕ) (federates : ℕ) (in
       let none : o l ≡ [] = is l ∙ ap messages (sym same) ∙ messages_self in
       rw (z, none) (sym (nothing (is_number end l) (wire k l))))
       (λ (z : eqb f l ≡ false). ⊎_elim
-      (λ (j : d.joined l ≡ true). rw (z, j, numbers l j) (ap (λ (ms : List Message). wire k l ++ ms) (made_other l j z ∙ sym (is l))))
+      (λ (j : d.joined l ≡ true). rw (z, j, numbers l j) (sym (put_all-no_null (map message.Discovery (discoveries_of (with_object d f class name) f l)) (wire k l) (discoveries_no_null (discoveries_of (with_object d f class name) f l))) ∙ ap (λ (ms : List Message). put_all_behind ms (wire k l)) (made_other l j z ∙ sym (is l))))
       (λ (out : d.joined l ≡ false). let none : o l ≡ [] = is l ∙ messages_out l out in rw (z, out, none) (sym (nothing (is_number end l) (wire k l))))
       (cases_Bool (d.joined l)))
       (cases_Bool (eqb f l))))
       (λ (n : eqb f k ≡ false). rw n refl)
       (cases_Bool (eqb f k))))
     where
-      nothing : (b : Bool) (ms : List Message) → cond b (ms ++ []) ms ≡ ms
-      nothing true ms = append-nil ms
+      nothing : (b : Bool) (ms : List Message) → cond b (put_all_behind [] ms) ms ≡ ms
+      nothing true ms = refl
       nothing false ms = refl
 
 -- the state after it

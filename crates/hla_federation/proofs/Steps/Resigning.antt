@@ -28,7 +28,10 @@ use Rattle.hla_members.specs.declared.direction.Direction.TheVariants.{From}
 use Rattle.hla_components.specs.Components.{Components}
 use Rattle.hla_members.specs.MemberValue.{item, MemberValue}
 use Rattle.hla_members.specs.Members.{no_member, MemberTables, members_of, is_number, wires_posted_below, with_member_withdrawn}
-use Rattle.hla_components.specs.Next.{put_behind, with_last_null, with_federate_gone, with_messages_sent, with_federate_resigned, components_seen}
+use Rattle.hla_null_message.specs.Wires.{put_behind, put_all_behind}
+use Rattle.hla_null_message.proofs.Wires.{HasNoNull, put_all-append, put_all-no_null}
+use Rattle.hla_federation.proofs.Steps.NoNulls.{messages_no_null}
+use Rattle.hla_components.specs.Next.{with_last_null, with_federate_gone, with_messages_sent, with_federate_resigned, components_seen}
 use Rattle.hla_members.specs.Noting.{IsUnsentFrom}
 use Rattle.hla_federation.specs.Steps.Sending.{HasAdded, heading_of, message_to, messages_to, last_null_to}
 use Rattle.hla_federation.specs.Steps.State.{state_from, directory_from}
@@ -111,13 +114,14 @@ other_joined joined f h y = ⊎_elim
     (cases_Bool (joined h))
 
 -- the last null behind the messages
-null_behind : (reg : Bool) (k v : ℕ) (ws ms : List Message) → ws ++ (ms ++ cond reg (message.Null k v ∷ []) []) ≡ cond reg (put_behind (message.Null k v) (ws ++ ms)) (ws ++ ms)
-null_behind true k v ws ms = sym (append_assoc ws ms (message.Null k v ∷ []))
-null_behind false k v ws ms = ap (λ (xs : List Message). ws ++ xs) (append-nil ms)
+null_behind : (reg : Bool) (k v : ℕ) (ws ms : List Message) → HasNoNull ms
+    → put_all_behind (ms ++ cond reg (message.Null k v ∷ []) []) ws ≡ cond reg (put_behind (message.Null k v) (ws ++ ms)) (ws ++ ms)
+null_behind true k v ws ms none = put_all-append ms (message.Null k v ∷ []) ws ∙ ap (put_behind (message.Null k v)) (put_all-no_null ms ws none)
+null_behind false k v ws ms none = put_all-append ms [] ws ∙ put_all-no_null ms ws none
 
-nothing_behind : (reg : Bool) (ws ms : List Message) → ws ++ (ms ++ cond reg [] []) ≡ ws ++ ms
-nothing_behind true ws ms = ap (λ (xs : List Message). ws ++ xs) (append-nil ms)
-nothing_behind false ws ms = ap (λ (xs : List Message). ws ++ xs) (append-nil ms)
+nothing_behind : (reg : Bool) (ws ms : List Message) → HasNoNull ms → put_all_behind (ms ++ cond reg [] []) ws ≡ ws ++ ms
+nothing_behind true ws ms none = put_all-append ms [] ws ∙ put_all-no_null ms ws none
+nothing_behind false ws ms none = put_all-append ms [] ws ∙ put_all-no_null ms ws none
 
 -- what is posted is the messages, and behind them the last null
 pub posted_last : (s : Components) (f m : ℕ) (outs : List Outgoing) (next : ℕ) (o : ℕ → List Message) → ((h : ℕ) → o h ≡ messages_to s.directory f m (s.row f) None outs h ++ last_null_to s f h)
@@ -131,12 +135,12 @@ posted_last s f m outs next o is numbers = fun_ext (λ g. fun_ext (λ h. at g h)
         (λ (y : eqb f g ≡ true). ⊎_elim
         (λ (z : is_other s.directory.joined f h ≡ true).
         let number = numbers h (other_joined s.directory.joined f h z) in
-        rw (y, z, number) (ap (λ (ms : List Message). s.wire g h ++ ms) (is h ∙ ap (λ (b : Bool). messages_to s.directory f m (s.row f) None outs h ++ cond (is_regulator (s.row f)) (cond b (message.Null (s.epoch f) forever ∷ []) []) []) z)
-        ∙ null_behind (is_regulator (s.row f)) (s.epoch f) forever (s.wire g h) (messages_to s.directory f m (s.row f) None outs h)))
+        rw (y, z, number) (ap (λ (ms : List Message). put_all_behind ms (s.wire g h)) (is h ∙ ap (λ (b : Bool). messages_to s.directory f m (s.row f) None outs h ++ cond (is_regulator (s.row f)) (cond b (message.Null (s.epoch f) forever ∷ []) []) []) z)
+        ∙ null_behind (is_regulator (s.row f)) (s.epoch f) forever (s.wire g h) (messages_to s.directory f m (s.row f) None outs h) (messages_no_null s.directory f m (s.row f) None outs h)))
         (λ (z : is_other s.directory.joined f h ≡ false). ⊎_elim
         (λ (b : is_number next h ≡ true).
-        rw (y, z, b) (ap (λ (ms : List Message). s.wire g h ++ ms) (is h ∙ ap (λ (b : Bool). messages_to s.directory f m (s.row f) None outs h ++ cond (is_regulator (s.row f)) (cond b (message.Null (s.epoch f) forever ∷ []) []) []) z)
-        ∙ nothing_behind (is_regulator (s.row f)) (s.wire g h) (messages_to s.directory f m (s.row f) None outs h)))
+        rw (y, z, b) (ap (λ (ms : List Message). put_all_behind ms (s.wire g h)) (is h ∙ ap (λ (b : Bool). messages_to s.directory f m (s.row f) None outs h ++ cond (is_regulator (s.row f)) (cond b (message.Null (s.epoch f) forever ∷ []) []) []) z)
+        ∙ nothing_behind (is_regulator (s.row f)) (s.wire g h) (messages_to s.directory f m (s.row f) None outs h) (messages_no_null s.directory f m (s.row f) None outs h)))
         (λ (b : is_number next h ≡ false).
         let away : s.directory.joined h ≡ false = ⊎_elim (λ (j : s.directory.joined h ≡ true). let t = numbers h j in absurd (cc)) (λ (n : s.directory.joined h ≡ false). n) (cases_Bool (s.directory.joined h)) in
         rw (y, z, b, messages_none s.directory f m (s.row f) outs h away) (sym (append-nil (s.wire g h))))

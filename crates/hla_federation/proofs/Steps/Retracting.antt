@@ -3,13 +3,13 @@ use Rattle.std.proofs.Common.{◌≡◌, ◌≤◌, ◌<◌, ◌+◌, ℕ, zero,
 use Rattle.std.proofs.Math.Bool.{and-false}
 use Rattle.std.proofs.lemmas.Bool.{cases_Bool, and_parts}
 use Rattle.std.proofs.lemmas.Bool.Decides.{nat_tests}
-use Rattle.std.proofs.lemmas.List.{append-nil}
 use Rattle.std.proofs.Math.Path.{fun_ext}
 use Rattle.hla_base.specs.Tables.{upd_row, is_other}
 use Rattle.hla_declaration.specs.Declarations as declared
 use Rattle.hla_base.specs.declared.number.EventHandle.{EventHandle}
 use Rattle.hla_null_message.specs.declared.message.Message.{Message}
 use Rattle.hla_null_message.specs.declared.message.Message.TheVariants as message
+use Rattle.hla_null_message.specs.Wires.{put_all_behind}
 use Rattle.hla_retraction.specs.SentEvents.{may_retract}
 use Rattle.hla_machine.specs.Refusals.{refusal, tests}
 use Rattle.hla_machine.specs.declared.service.Service.TheVariants as service
@@ -49,9 +49,9 @@ pub retraction_posted : (m : MemberTables) (f k : ℕ) (o : ℕ → List Message
 unfolding upd_row
 retraction_posted m f k o is numbers = fun_ext (λ g. fun_ext (λ h. at g h))
   where
-    behind : (b : Bool) (ms : List Message) → ms ++ cond b (message.Retraction k ∷ []) [] ≡ cond b (ms ++ message.Retraction k ∷ []) ms
+    behind : (b : Bool) (ms : List Message) → put_all_behind (cond b (message.Retraction k ∷ []) []) ms ≡ cond b (ms ++ message.Retraction k ∷ []) ms
     behind true ms = refl
-    behind false ms = append-nil ms
+    behind false ms = refl
 
     at : (g h : ℕ) → wires_posted_below (From f) o m.next_federate m.wire g h ≡ (with_retraction_sent m f k).wire g h
     at g h = ⊎_elim
@@ -63,7 +63,7 @@ retraction_posted m f k o is numbers = fun_ext (λ g. fun_ext (λ h. at g h))
         (λ (z : is_other m.joined f h ≡ false).
         let nothing : o h ≡ [] = is h ∙ ap (λ (b : Bool). cond (b && (m.sent f k).receivers h) (message.Retraction k ∷ []) []) z in
         ⊎_elim
-        (λ (b : is_number m.next_federate h ≡ true). rw (y, z, b, nothing) (append-nil (m.wire g h)))
+        (λ (b : is_number m.next_federate h ≡ true). rw (y, z, b, nothing) refl)
         (λ (b : is_number m.next_federate h ≡ false). rw (y, z, b) refl)
         (cases_Bool (is_number m.next_federate h)))
         (cases_Bool (is_other m.joined f h)))

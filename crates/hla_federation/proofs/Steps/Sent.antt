@@ -21,6 +21,8 @@ use Rattle.hla_members.specs.declared.direction.Direction.TheVariants.{From}
 use Rattle.hla_components.specs.Components.{Components}
 use Rattle.hla_federation.specs.FederationValue.{FederationValue}
 use Rattle.hla_members.specs.MemberValue.{item, MemberValue}
+use Rattle.hla_null_message.proofs.Wires.{put_all-no_null}
+use Rattle.hla_federation.proofs.Steps.NoNulls.{messages_no_null}
 use Rattle.hla_members.specs.Members.{MemberTables, members_of, wires_posted_below, is_number, AreQuiet}
 use Rattle.hla_components.specs.Next.{answer_outcome, send_outcome, with_messages_sent, with_directory}
 use Rattle.hla_federation.specs.Steps.Sending.{HasAdded, heading_of, message_to, messages_to}
@@ -71,7 +73,8 @@ module _ (v : FederationValue) (f n : ℕ) (stamp : Option ℕ) (outs : List Out
       ≡ wires_posted_below (From f) o (members_of v.members).next_federate (members_of v.members).wire g h
   wire_at g h = ⊎_elim
       (λ (y : eqb f g ≡ true). ⊎_elim
-      (λ (z : (members_of v.members).joined h ≡ true). let number = joined_number v.members h z in rw (y, number, added h) refl)
+      (λ (z : (members_of v.members).joined h ≡ true). let number = joined_number v.members h z in
+      rw (y, number, added h) (sym (put_all-no_null (messages_to (state_of v).directory f ((members_of v.members).serial f) ((state_of v).row f) stamp outs h) ((members_of v.members).wire g h) (messages_no_null (state_of v).directory f ((members_of v.members).serial f) ((state_of v).row f) stamp outs h))))
       (λ (z : (members_of v.members).joined h ≡ false).
       let none = nothing_to (state_of v).directory f ((members_of v.members).serial f) ((state_of v).row f) stamp outs h z in
       let same = added h ∙ none in

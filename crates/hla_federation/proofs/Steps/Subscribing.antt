@@ -8,6 +8,9 @@ use Rattle.hla_base.specs.Tables.{upd, upd2}
 use Rattle.hla_base.specs.declared.content.Discovery.{Discovery}
 use Rattle.hla_null_message.specs.declared.message.Message.{Message}
 use Rattle.hla_null_message.specs.declared.message.Message.TheVariants as message
+use Rattle.hla_null_message.specs.Wires.{put_all_behind}
+use Rattle.hla_null_message.proofs.Wires.{HasNoNull, put_all-no_null}
+use Rattle.hla_federation.proofs.Steps.NoNulls.{discoveries_no_null}
 use Rattle.hla_declaration.specs.Declarations as declared
 use Rattle.hla_declaration.specs.Declarations.{DeclarationsValue}
 use Rattle.hla_declaration.specs.Lists.{DeclarationLists}
@@ -32,19 +35,19 @@ no_owner : (d : Directory) (g f : ℕ) → ((h : ℕ) → (d.object h).exists �
 no_owner d g f owners above = none_of (discoveries_of d g f) (each_discovery d g f (λ x. ⊥) (λ h x owner is. let t = discovery_tells d f h x is in let below = owners h t.1 in absurd (omega (arith, below, owner, above))))
 
 -- the wires to one federate
-wires_to : (next f : ℕ) (o ds : ℕ → List Message) (wire : ℕ → ℕ → List Message) → ((g : ℕ) → o g ≡ ds g) → o 0 ≡ [] → ((g : ℕ) → next ≤ g → ds g ≡ [])
+wires_to : (next f : ℕ) (o ds : ℕ → List Message) (wire : ℕ → ℕ → List Message) → ((g : ℕ) → o g ≡ ds g) → o 0 ≡ [] → ((g : ℕ) → next ≤ g → ds g ≡ []) → ((g : ℕ) → HasNoNull (ds g))
     → (λ g. upd (wire g) f (wire g f ++ ds g)) ≡ wires_posted_below (To f) o next wire
 unfolding upd
-wires_to next f o ds wire same nothing above = fun_ext (λ g. fun_ext (λ h. at g h))
+wires_to next f o ds wire same nothing above plain = fun_ext (λ g. fun_ext (λ h. at g h))
   where
     outside : (g : ℕ) → is_number next g ≡ false → ds g ≡ []
     outside zero n = sym (same 0) ∙ nothing
     outside (suc k) n = above (suc k) (let z : eqb (suc k) 0 ≡ false = grind (arith, nat_tests) in let m : ltb (suc k) next ≡ false = rw z at n in grind (arith, nat_tests))
 
-    at : (g h : ℕ) → cond (eqb f h) (wire g f ++ ds g) (wire g h) ≡ cond (eqb f h && is_number next g) (wire g h ++ o g) (wire g h)
+    at : (g h : ℕ) → cond (eqb f h) (wire g f ++ ds g) (wire g h) ≡ cond (eqb f h && is_number next g) (put_all_behind (o g) (wire g h)) (wire g h)
     at g h = ⊎_elim
         (λ (y : eqb f h ≡ true). let e : f ≡ h = grind (arith, nat_tests) in ⊎_elim
-        (λ (in_range : is_number next g ≡ true). rw (y, in_range, e, same g) refl)
+        (λ (in_range : is_number next g ≡ true). rw (y, in_range, e, same g) (sym (put_all-no_null (ds g) (wire g h) (plain g))))
         (λ (out : is_number next g ≡ false). rw (y, out, e, outside g out) (append-nil (wire g h)))
         (cases_Bool (is_number next g)))
         (λ (n : eqb f h ≡ false). rw n refl)
@@ -69,7 +72,8 @@ module _ (old : FederationValue) (f class : ℕ) (a : List ℕ) (d : Declaration
   subscribed_state inv d_is r_is m_is out nothing =
       ap (λ (w : ℕ → ℕ → List Message). record (state_of old) { directory = with_discoveries_made (directory_after_subscribe old f class a) f; wire = w })
       (wires_to (members_of old.members).next_federate f o (λ g. map message.Discovery (discoveries_of (directory_after_subscribe old f class a) g f)) (members_of old.members).wire out nothing
-      (λ g above. ap (map message.Discovery) (no_owner (directory_after_subscribe old f class a) g f (λ h exists. (inv.owners h exists).0) above)))
+      (λ g above. ap (map message.Discovery) (no_owner (directory_after_subscribe old f class a) g f (λ h exists. (inv.owners h exists).0) above))
+      (λ g. discoveries_no_null (discoveries_of (directory_after_subscribe old f class a) g f)))
       ∙ sym (λ i. state_from old.catalogue (d_is i) (r_is i) (m_is i))
 
   pub subscribed_whole : IsWhole old → (members_of old.members).joined f ≡ true → declared.declarations_of d ≡ declarations_after old f class a → registry_of r ≡ objects_after old f class a → members_of m ≡ members_after old f o → IsWhole (record old { declarations = d; objects = r; members = m })

@@ -1,24 +1,34 @@
 -- What announcements leave announced
-use Rattle.std.proofs.Common.{◌≡◌, ◌≢◌, ℕ, zero, suc, ◌+◌, ◌≤◌, ◌<◌, ltb, ◌&&◌, true, false, refl, sym, ◌∙◌, subst, ⊎_elim, arith, [], ◌∷◌, length, Some, None}
+use Rattle.std.proofs.Common.{◌≡◌, ◌≢◌, ℕ, zero, suc, ◌+◌, ◌≤◌, ◌<◌, ltb, ◌&&◌, true, false, refl, sym, ◌∙◌, subst, ⊎_elim, arith, eqb, List, [], ◌∷◌, length, Some, None}
 use Rattle.std.proofs.lemmas.Bool.{cases_eq, cases_Bool, cond_both, and_from, ltb-false}
 use Rattle.std.proofs.lemmas.List.{length-append}
 use Rattle.hla_base.specs.Rows.{is_regulator}
 use Rattle.hla_base.proofs.Tables.{upd_same, upd_other, upd_row_each, upd_row_other}
+use Rattle.hla_null_message.specs.declared.message.Message.{Message}
 use Rattle.hla_null_message.specs.declared.message.Message.TheVariants as message
 use Rattle.hla_machine.specs.declared.step.Step.TheVariants.{Announce}
 use Rattle.hla_machine.specs.declared.step.Answer.TheVariants as answer
 use Rattle.hla_components.specs.Components.{Components}
 use Rattle.hla_components.specs.Component.{promise}
-use Rattle.hla_components.specs.Next.{Outcomes, answer_outcome, next, announce_outcome, with_null_announced, put_behind}
+use Rattle.hla_null_message.specs.Wires.{put_behind, without_last_null}
+use Rattle.hla_components.specs.Next.{Outcomes, answer_outcome, next, announce_outcome, with_null_announced}
 use Rattle.hla_components.specs.Headline.{state_after}
 use Rattle.hla_components.proofs.Refinement.LedTo.{state_appended}
 use Rattle.hla_progress.specs.Rounds.{announcements}
 
--- one more message lies on the wires of who announces
+length-without : (k : ℕ) (ms : List Message) → length (without_last_null k ms) ≤ length ms
+length-without k [] = omega arith
+length-without k (message.Event e ∷ ms) = omega (arith, length-without k ms)
+length-without k (message.Null j v ∷ []) = cond_both (eqb j k) [] (message.Null j v ∷ []) (λ ms. length ms ≤ 1) (λ _. omega arith) (λ _. omega arith)
+length-without k (message.Null j v ∷ m ∷ ms) = omega (arith, length-without k (m ∷ ms))
+length-without k (message.Retraction m ∷ ms) = omega (arith, length-without k ms)
+length-without k (message.Discovery d ∷ ms) = omega (arith, length-without k ms)
+
+-- one more message lies on the wires of who announces, at most
 module _ (t : Components) (g : ℕ) where
   longer : (v : ℕ) (h l : ℕ) → length ((with_null_announced t g v).wire h l) ≤ length (t.wire h l) + 1
   longer v = upd_row_each t.wire t.directory.joined g (λ _. put_behind (message.Null (t.epoch g) v)) (λ h l ms. length ms ≤ length (t.wire h l) + 1)
-      (λ l _. omega (arith, length-append (t.wire g l) (message.Null (t.epoch g) v ∷ []))) (λ h l. omega arith)
+      (λ l _. omega (arith, length-append (without_last_null (t.epoch g) (t.wire g l)) (message.Null (t.epoch g) v ∷ []), length-without (t.epoch g) (t.wire g l))) (λ h l. omega arith)
 
   as_long : (v : ℕ) (h l : ℕ) → g ≢ h → length ((with_null_announced t g v).wire h l) ≤ length (t.wire h l)
   as_long v h l ne = rw upd_row_other (omega arith)

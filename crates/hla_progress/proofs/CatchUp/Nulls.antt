@@ -1,5 +1,5 @@
 -- Wires on which null messages alone are
-use Rattle.std.proofs.Common.{◌≡◌, ◌≢◌, ℕ, ltb, ◌&&◌, refl, sym, ◌∙◌, subst, List, [], ◌∷◌, Option, Some, None}
+use Rattle.std.proofs.Common.{◌≡◌, ◌≢◌, ℕ, ltb, ◌&&◌, refl, sym, ◌∙◌, subst, eqb, List, [], ◌∷◌, ◌++◌, Option, Some, None}
 use Rattle.std.proofs.lemmas.Bool.{cond_both}
 use Rattle.hla_base.specs.declared.content.Event.{Event}
 use Rattle.hla_base.specs.declared.fault.Fault.{Fault}
@@ -7,7 +7,7 @@ use Rattle.hla_base.specs.Rows.{is_regulator}
 use Rattle.hla_base.proofs.Tables.{upd_row_each, upd2_each}
 use Rattle.hla_null_message.specs.declared.message.Message.{Message}
 use Rattle.hla_null_message.specs.declared.message.Message.TheVariants as message
-use Rattle.hla_null_message.specs.Wires.{events}
+use Rattle.hla_null_message.specs.Wires.{events, put_behind, without_last_null}
 use Rattle.hla_order_queues.specs.declared.control.Control.TheVariants.{ToDiscover, ToRetract}
 use Rattle.hla_order_queues.specs.Queues.{find_event}
 use Rattle.hla_local.specs.Picking.{Pick, NoPick, PickControl, PickRo, PickRegulates, PickConstrains, PickTso, PickGrant}
@@ -17,7 +17,7 @@ use Rattle.hla_machine.specs.declared.step.Answer.TheVariants as answer
 use Rattle.hla_machine.specs.Refusals.{refusal}
 use Rattle.hla_components.specs.Components.{Components}
 use Rattle.hla_components.specs.Component.{promise}
-use Rattle.hla_components.specs.Next.{Outcomes, answer_outcome, next, step_outcome, carry_outcome, pick_outcome, announce_outcome, unless_refused, components_seen, with_null_announced, put_behind}
+use Rattle.hla_components.specs.Next.{Outcomes, answer_outcome, next, step_outcome, carry_outcome, pick_outcome, announce_outcome, unless_refused, components_seen, with_null_announced}
 use Rattle.hla_components.proofs.Wiring.Queues.{not_in_nil}
 use Rattle.hla_components.proofs.Wiring.Wires.{events-nil, events-null}
 use Rattle.hla_progress.specs.Rounds.{IsOfRounds}
@@ -40,12 +40,23 @@ no_events (message.Discovery d ∷ ms) n = absurd n
 pub none_found : (g m : ℕ) (e : Event) (ms : List Message) → AreNulls ms → find_event g m (events ms) ≡ Some e → ⊥
 none_found g m e ms n found = not_in_nil g m (subst (λ es. find_event g m es ≡ Some e) (no_events ms n) found)
 
+nulls_without : (k : ℕ) (ms : List Message) → AreNulls ms → AreNulls (without_last_null k ms)
+nulls_without k [] n = tt
+nulls_without k (message.Event e ∷ ms) n = absurd n
+nulls_without k (message.Null j w ∷ []) n = cond_both (eqb j k) [] (message.Null j w ∷ []) AreNulls (λ _. tt) (λ _. tt)
+nulls_without k (message.Null j w ∷ m ∷ ms) n = nulls_without k (m ∷ ms) n
+nulls_without k (message.Retraction m ∷ ms) n = absurd n
+nulls_without k (message.Discovery d ∷ ms) n = absurd n
+
+null_behind : (k v : ℕ) (ms : List Message) → AreNulls ms → AreNulls (ms ++ message.Null k v ∷ [])
+null_behind k v [] n = tt
+null_behind k v (message.Event e ∷ ms) n = absurd n
+null_behind k v (message.Null j w ∷ ms) n = null_behind k v ms n
+null_behind k v (message.Retraction m ∷ ms) n = absurd n
+null_behind k v (message.Discovery d ∷ ms) n = absurd n
+
 one_more_null : (k v : ℕ) (ms : List Message) → AreNulls ms → AreNulls (put_behind (message.Null k v) ms)
-one_more_null k v [] n = tt
-one_more_null k v (message.Event e ∷ ms) n = absurd n
-one_more_null k v (message.Null j w ∷ ms) n = one_more_null k v ms n
-one_more_null k v (message.Retraction m ∷ ms) n = absurd n
-one_more_null k v (message.Discovery d ∷ ms) n = absurd n
+one_more_null k v ms n = null_behind k v (without_last_null k ms) (nulls_without k ms n)
 
 abbrev pub NullsAlone : Components → ℕ → Type 0
 NullsAlone s f = (g : ℕ) → g ≢ 0 → AreNulls (s.wire g f)

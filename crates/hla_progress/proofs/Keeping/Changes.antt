@@ -15,7 +15,8 @@ use Rattle.hla_order_queues.specs.Queues.{first_stamp}
 use Rattle.hla_machine.specs.Directory.{Directory, Outgoing, content_for, discoveries_of}
 use Rattle.hla_components.specs.Components.{Components}
 use Rattle.hla_components.specs.Component.{local_bound}
-use Rattle.hla_components.specs.Next.{put_behind, put_discoveries, with_message_sent, with_regulation_enabled, with_regulation_disabled, with_null_accepted}
+use Rattle.hla_null_message.specs.Wires.{put_behind}
+use Rattle.hla_components.specs.Next.{put_discoveries, with_message_sent, with_regulation_enabled, with_regulation_disabled, with_null_accepted}
 use Rattle.hla_components.specs.Invariant.{Carries, Inv, stamps}
 use Rattle.hla_progress.specs.Promises.{bound_after, is_raised_late, IsRaised, PromiseInv, KeepsPromises}
 use Rattle.hla_progress.proofs.Keeping.Bounds.{bound_after-null, bound_after-event, bound_after-discoveries, bound_after-older}
@@ -92,7 +93,7 @@ module _ (s : Components) (k : KeepsPromises s) where
   -- a null message of the present epoch, at least what was announced last
   null_raises : (f v h : ℕ) → is_other s.directory.joined f h ≡ true → s.known_epoch h f ≡ s.epoch f → s.last_announced f ≤ v → bound_after (s.known_epoch h f) (s.bound h f) (put_behind (message.Null (s.epoch f) v) (s.wire f h)) ≡ v
   null_raises f v h o same up = subst (λ j. bound_after (s.known_epoch h f) (s.bound h f) (put_behind (message.Null j v) (s.wire f h)) ≡ v) same
-      (bound_after-null (s.known_epoch h f) (s.bound h f) v (s.wire f h) ∙ omega (arith, k.wires f h o))
+      (bound_after-null (s.known_epoch h f) (s.bound h f) v (s.wire f h) (omega (arith, k.wires f h o)))
 
   pub keeps_null : (f v : ℕ) (r : TimeRow) → ((h : ℕ) → is_other s.directory.joined f h ≡ true → s.known_epoch h f ≡ s.epoch f) → s.last_announced f ≤ v → (is_regulator r ≡ false → v ≡ forever) → IsRaised r
       → PromiseInv s.directory.joined (upd s.row f r) (upd_row s.wire s.directory.joined f (λ _. put_behind (message.Null (s.epoch f) v))) s.bound s.known_epoch (upd s.last_announced f v)
@@ -109,7 +110,7 @@ module _ (s : Components) (k : KeepsPromises s) where
   entry_raises inv f e h o =
       let c : Carries (is_regulator (s.row f) && is_other s.directory.joined f h) (s.last_announced f) (s.epoch f) f (stamps s f) (s.serial f) (s.wire f h) (s.bound h f) = rw inv.kept.time.epochs at (inv.kept.time.wires f h) in
       bound_after-null (s.epoch f + 1) (min (s.bound h f) e) e (s.wire f h)
-      ∙ omega (arith, bound_after-older (is_regulator (s.row f) && is_other s.directory.joined f h) (s.last_announced f) (s.epoch f) f (stamps s f) (s.serial f) (s.wire f h) (s.bound h f) (min (s.bound h f) e) c)
+      (omega (arith, bound_after-older (is_regulator (s.row f) && is_other s.directory.joined f h) (s.last_announced f) (s.epoch f) f (stamps s f) (s.serial f) (s.wire f h) (s.bound h f) (min (s.bound h f) e) c))
 
   pub keeps_enabled : Inv s → (f l e : ℕ) → (s.row f).advance ≡ None → KeepsPromises (with_regulation_enabled s f l e)
   keeps_enabled inv f l e idle = record {

@@ -9,7 +9,8 @@ use Rattle.hla_null_message.specs.declared.message.Message.{Message}
 use Rattle.hla_null_message.specs.declared.message.Message.TheVariants as message
 use Rattle.hla_machine.specs.Directory.{Outgoing}
 use Rattle.hla_components.specs.Components.{Components}
-use Rattle.hla_components.specs.Next.{put_behind, with_message_sent, with_messages_sent, with_federate_joined, with_federate_gone, with_last_null}
+use Rattle.hla_null_message.specs.Wires.{put_behind}
+use Rattle.hla_components.specs.Next.{with_message_sent, with_messages_sent, with_federate_joined, with_federate_gone, with_last_null}
 use Rattle.hla_components.specs.Invariant.{Inv, is_wire}
 use Rattle.hla_progress.specs.Promises.{bound_after, KeepsPromises}
 use Rattle.hla_progress.proofs.Keeping.Bounds.{bound_after-null}
@@ -81,7 +82,7 @@ module _ (s : Components) (f : ℕ) (r : IsReady s f) where
   last_null : (h : ℕ) → is_other s.directory.joined f h ≡ true → bound_after (s.known_epoch h f) (s.bound h f) (with_last_null s f (s.wire f h)) ≡ forever
   last_null h o = cond_both (is_regulator (s.row f)) (put_behind (message.Null (s.epoch f) forever) (s.wire f h)) (s.wire f h) (λ ms. bound_after (s.known_epoch h f) (s.bound h f) ms ≡ forever)
       (λ _. subst (λ j. bound_after (s.known_epoch h f) (s.bound h f) (put_behind (message.Null j forever) (s.wire f h)) ≡ forever) (r.epochs h o)
-      (bound_after-null (s.known_epoch h f) (s.bound h f) forever (s.wire f h) ∙ omega (arith, r.keeps.wires f h o, r.cap)))
+      (bound_after-null (s.known_epoch h f) (s.bound h f) forever (s.wire f h) (omega (arith, r.keeps.wires f h o, r.cap))))
       (λ n. r.keeps.wires f h o ∙ r.keeps.silent f n)
 
   abbrev row_wire : ℕ → ℕ → List Message

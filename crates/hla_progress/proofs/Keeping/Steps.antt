@@ -23,7 +23,8 @@ use Rattle.hla_machine.specs.Sends.{is_told}
 use Rattle.hla_machine.proofs.Tests.{clear_call}
 use Rattle.hla_components.specs.Components.{Components, new_components}
 use Rattle.hla_components.specs.Component.{local_bound, promise, regulation_entry}
-use Rattle.hla_components.specs.Next.{Outcomes, answer_outcome, next, step_outcome, call_outcome, carry_outcome, pick_outcome, announce_outcome, unless_refused, components_seen, put_behind, with_null_announced, with_messages_sent}
+use Rattle.hla_null_message.specs.Wires.{put_behind}
+use Rattle.hla_components.specs.Next.{Outcomes, answer_outcome, next, step_outcome, call_outcome, carry_outcome, pick_outcome, announce_outcome, unless_refused, components_seen, with_null_announced, with_messages_sent}
 use Rattle.hla_components.specs.Invariant.{Inv}
 use Rattle.hla_components.specs.Headline.{state_after}
 use Rattle.hla_components.proofs.Services.TimeSteps.{at_rest}

@@ -1,5 +1,5 @@
 -- How many callbacks are due, after messages are put and taken
-use Rattle.std.proofs.Common.{◌≡◌, ◌≢◌, ℕ, zero, suc, ◌+◌, ◌≤◌, ◌<◌, cond, Bool, true, false, refl, sym, ⊎_elim, arith, List, [], ◌∷◌, ◌++◌, length}
+use Rattle.std.proofs.Common.{◌≡◌, ◌≢◌, ℕ, zero, suc, ◌+◌, ◌≤◌, ◌<◌, cond, eqb, Bool, true, false, refl, sym, ⊎_elim, arith, List, [], ◌∷◌, ◌++◌, length}
 use Rattle.std.proofs.lemmas.Bool.{cases_eq, cond_both}
 use Rattle.std.proofs.lemmas.List.{length-append}
 use Rattle.hla_base.specs.declared.content.Event.{Event}
@@ -8,11 +8,11 @@ use Rattle.hla_base.specs.Rows.{is_none_of}
 use Rattle.hla_base.specs.Tables.{one_if, or_else}
 use Rattle.hla_null_message.specs.declared.message.Message.{Message}
 use Rattle.hla_null_message.specs.declared.message.Message.TheVariants as message
+use Rattle.hla_null_message.specs.Wires.{put_behind, without_last_null}
 use Rattle.hla_order_queues.specs.declared.control.Control.{Control}
 use Rattle.hla_order_queues.specs.declared.control.Control.TheVariants.{ToRetract}
 use Rattle.hla_order_queues.specs.Queues.{is_before, is_event, insert_event, remove_event, find_event}
 use Rattle.hla_local.specs.Arriving.{is_kept_in_order, tso_with_event, ro_with_event, controls_with_retraction}
-use Rattle.hla_components.specs.Next.{put_behind}
 use Rattle.hla_progress.specs.AtOnce.{is_ro_due, is_tso_due, due_in_order, due_of, due_on_wire, due_in_queues, total}
 
 -- ---- sums
@@ -35,8 +35,16 @@ due_on_wire-append : (r : TimeRow) (x : ℕ) (ms ns : List Message) → due_on_w
 due_on_wire-append r x [] ns = omega arith
 due_on_wire-append r x (m ∷ ms) ns = omega (arith, due_on_wire-append r x ms ns)
 
+due_on_wire-without : (r : TimeRow) (x k : ℕ) (ms : List Message) → due_on_wire r x (without_last_null k ms) ≡ due_on_wire r x ms
+due_on_wire-without r x k [] = refl
+due_on_wire-without r x k (message.Event e ∷ ms) = omega (arith, due_on_wire-without r x k ms)
+due_on_wire-without r x k (message.Null j v ∷ []) = cond_both (eqb j k) [] (message.Null j v ∷ []) (λ ms. due_on_wire r x ms ≡ due_on_wire r x (message.Null j v ∷ [])) (λ _. omega arith) (λ _. refl)
+due_on_wire-without r x k (message.Null j v ∷ m ∷ ms) = omega (arith, due_on_wire-without r x k (m ∷ ms))
+due_on_wire-without r x k (message.Retraction m ∷ ms) = omega (arith, due_on_wire-without r x k ms)
+due_on_wire-without r x k (message.Discovery d ∷ ms) = omega (arith, due_on_wire-without r x k ms)
+
 pub due_on_wire-null : (r : TimeRow) (x k v : ℕ) (ms : List Message) → due_on_wire r x (put_behind (message.Null k v) ms) ≡ due_on_wire r x ms
-due_on_wire-null r x k v ms = omega (arith, due_on_wire-append r x ms (message.Null k v ∷ []))
+due_on_wire-null r x k v ms = omega (arith, due_on_wire-append r x (without_last_null k ms) (message.Null k v ∷ []), due_on_wire-without r x k ms)
 
 -- ---- queues
 length-remove_le : (g m : ℕ) (es : List Event) → length (remove_event g m es) ≤ length es

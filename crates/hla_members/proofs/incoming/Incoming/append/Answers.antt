@@ -1,5 +1,5 @@
-use Rattle.std.proofs.Common.{◌≤◌, ℕ, length, [], ◌++◌, ap, ◌∙◌, arith, List}
-use Rattle.hla_null_message.specs.declared.message.Message.{Message}
+use Rattle.std.proofs.Common.{◌≤◌, ℕ, length, [], ap, ◌∙◌, arith}
+use Rattle.hla_null_message.specs.Wires.{put_all_behind}
 use Rattle.hla_base.specs.Tables.{upd}
 use Rattle.hla_members.specs.MemberValue.{item}
 use Rattle.hla_base.proofs.Tables.{upd_other}
@@ -16,7 +16,7 @@ returns-clause-wires c =
     let within : c.args.from ≤ length c.self.inside.wires.items = omega (arith, c.requires.within, c.self.invariant) in
     set_messages c.self.inside.wires.items c.args.self.now c.self.view_is c.args.from c.requires.some within c.append.new.self
     ∙ ap (upd (item [] c.args.self.now.wires) c.args.from) (c.append.ensures
-    ∙ ap (λ (ms : List Message). ms ++ c.args.messages.items) (read_messages c.self.inside.wires.items c.args.self.now c.self.view_is c.args.from c.requires.some within c.index_mut.result.now c.index_mut.ensures.value))
+    ∙ ap (put_all_behind c.args.messages.items) (read_messages c.self.inside.wires.items c.args.self.now c.self.view_is c.args.from c.requires.some within c.index_mut.result.now c.index_mut.ensures.value))
 
 pub returns-clause-room : goal.returns-clause-room
 returns-clause-room c g ne =

@@ -1,0 +1,2 @@
+-- What is put on a wire
+pub mod Wires
