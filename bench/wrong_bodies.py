@@ -3,7 +3,8 @@
 
 An edit file holds one wrong body for each of several functions, because what an edit costs is the reading of the libraries; `rt ci`
 shows that each file is refused. This program applies a file, checks the crate once, and looks for an error in each function that the
-file changes. It works in the folder of the crate, over what earlier checks kept, and puts the sources back; edit nothing while it runs.
+file changes. What turns a definition is refused by a theorem somewhere above it, so each of these is checked alone. It works in the
+folder of the crate, over what earlier checks kept, and puts the sources back; edit nothing while it runs.
 
     bench/wrong_bodies.py [--alone] [CRATE..]     --alone: one check for each wrong body
 """
@@ -95,7 +96,9 @@ def tried(folder, edit, alone):
     """Says of each wrong body of an edit file whether it is refused; gives how many are not."""
     bodies = wrong_bodies(edit)
     missing = 0
-    for some in [[it] for it in bodies] if alone else [bodies]:
+    single = [it for it in bodies if alone or any(file.startswith("specs/") for file, _, _ in it[1])]
+    together = [it for it in bodies if it not in single]
+    for some in [[it] for it in single] + [together] * bool(together):
         found, changed, any_refused = refused(folder, some)
         for name, functions in changed.items():
             by = [found[it] for it in functions if it in found]
