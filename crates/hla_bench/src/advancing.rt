@@ -82,7 +82,9 @@ enum Lived<L: Ledger> {
         fault: Option<Fault>,
     },
     /// How often a monitor was read.
-    Watched { reads: u64 },
+    Watched {
+        reads: u64,
+    },
 }
 
 /// What all threads leave behind.
@@ -218,7 +220,8 @@ fn rest_of<L: Ledger>(alloc: Global, all: Vec<Lived<L>>) -> Result<Rest<L>, Faul
     for lived in all {
         match lived {
             Lived::Called {
-                fault: Some(fault), ..
+                fault: Some(fault),
+                ..
             } => return Err(fault),
             Lived::Called { left, fault: None } => {
                 rest.lefts.push(left).map_err(|_| Fault::OutOfMemory)?

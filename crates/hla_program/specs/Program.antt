@@ -181,7 +181,7 @@ pub data EndsJudging (count : ℕ) (seen : Option Status) (out out' err err' : S
 -- records, which are a run of the machine, and what a monitor read last
 pub data EndsRunning (is_watched : Bool) (fed script : List ℕ) (out out' err err' : Stream) (status : ℕ) : Type 0 where
   Ran : (told : Stream) → IsRunFrom fed script out.bytes told.bytes → told.has_failed ≡ out.has_failed → (records : List Record) → IsWholeRun records → (seen : Option Status) → IsSeen is_watched records seen
-    → EndsJudging (length records) seen told out' err err' status → EndsRunning is_watched fed script out out' err err' status
+      → EndsJudging (length records) seen told out' err err' status → EndsRunning is_watched fed script out out' err err' status
   RunStopped : (why : RunFault) → StopsRun fed script out.bytes out'.bytes why → RunCause why out' → Complains err err' (run_stop_line why) → status ≡ run_stop_status why → EndsRunning is_watched fed script out out' err err' status
 
 -- what is asked for is done with a script over a FED file

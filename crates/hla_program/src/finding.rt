@@ -43,11 +43,7 @@ fn finding_line(alloc: Global, finding: Finding) -> Result<String, AllocError>
 }
 
 /// The line of what was found, and behind it one of what a monitor read last, if one watched.
-fn finding_text(
-    alloc: Global,
-    finding: Finding,
-    seen: Option<Status>,
-) -> Result<String, AllocError>
+fn finding_text(alloc: Global, finding: Finding, seen: Option<Status>) -> Result<String, AllocError>
     ensures { IfOk result (λ text. string_bytes text ≡ finding_text finding seen) }
 {
     let line = finding_line(alloc, finding)?;

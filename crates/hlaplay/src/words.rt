@@ -132,12 +132,7 @@ fn is_set(value: Option<&str>) -> bool
 }
 
 /// What a subcommand asks for with a script over a FED file.
-fn script_task<'a>(
-    name: &str,
-    fed: &'a str,
-    script: &'a str,
-    watched: Option<&str>,
-) -> Task<'a>
+fn script_task<'a>(name: &str, fed: &'a str, script: &'a str, watched: Option<&str>) -> Task<'a>
     ensures { named_task result ≡ script_task name.now fed.entry.now script.entry.now
         (option_map (λ text. text.now) watched.entry) }
 {
