@@ -63,7 +63,7 @@ own_fault line kind.ExpectedClose = refl
 own_fault line kind.TrailingText = refl
 own_fault line kind.TooLarge = refl
 
-gives_own : (r : All) → ReadsAs r r
+pub gives_own : (r : All) → ReadsAs r r
 gives_own (Ok c) = refl
 gives_own (Err e) = own_fault e.line e.kind
 
@@ -86,10 +86,10 @@ unfolding reading_of
 read_whole bytes h = let small : nat_lt max_fed_file (length bytes) ≡ false = le-ltb _ _ h in rw small refl
 
 -- its end, and its first fault
-pub ends_whole : (bytes : List ℕ) (line : ℕ) (first s : Reader) (r : All) → first ≡ start → length bytes ≤ max_fed_file → reading first (tokens bytes) ≡ ending_of line s → r ≡ ending_of line s → ReadsAs r (reading_of bytes)
+pub ends_whole : (bytes : List ℕ) (line : ℕ) (first s : Reader) (r : All) → first ≡ start → length bytes ≤ max_fed_file → reading first (tokens bytes) ≡ ending_of line s → ReadsAs r (ending_of line s) → ReadsAs r (reading_of bytes)
 ends_whole bytes line first s r begins h e answer =
-    let all : reading_of bytes ≡ r = read_whole bytes h ∙ ap (λ from. reading from (tokens bytes)) (sym begins) ∙ e ∙ sym answer in
-    rw all (gives_own r)
+    let all : reading_of bytes ≡ ending_of line s = read_whole bytes h ∙ ap (λ from. reading from (tokens bytes)) (sym begins) ∙ e in
+    rw all answer
 
 pub fails_whole : (bytes : List ℕ) (first : Reader) (e : FedFault) → first ≡ start → length bytes ≤ max_fed_file → IsFirstFault e.line e.kind (reading first (tokens bytes)) → ReadsAs (Err e) (reading_of bytes)
 fails_whole bytes first e begins h fault = rw (read_whole bytes h, ← begins) fault

@@ -1,5 +1,5 @@
 -- Looking up classes, attributes and parameters (HLA 1.3, support services)
-use Rattle.std.specs.Prelude.{ℕ, ◌+◌, ◌-◌, Bool, false, ◌==◌, ◌&&◌, nat_lt, List, [], ◌∷◌, length, drop, Option, None, Some, slice_get, position, is_some, codes, option_map, if◌then◌else◌}
+use Rattle.std.specs.Prelude.{ℕ, ◌+◌, ◌-◌, Bool, false, ◌==◌, ◌&&◌, nat_lt, List, [], ◌∷◌, length, drop, Option, None, slice_get, position, is_some, codes, option_map, if◌then◌else◌}
 use Rattle.std.specs.Str.{bytes_eq}
 use Rattle.std.specs.List.{list_any}
 use Rattle.std.specs.Option.{option_map_or}

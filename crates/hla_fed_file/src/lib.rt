@@ -3,6 +3,7 @@
 
 mod catalogue;
 mod declared;
+mod draft;
 mod fault;
 mod groups;
 mod lexer;

@@ -9,6 +9,7 @@ ghost use Rattle.hla_fed_file.specs.Lookup.{item_numbered, number_at, ends_with_
 
 use crate::catalogue::Catalogue;
 use crate::declared::{Attribute, InteractionClass, ObjectClass, Order, Parameter};
+use crate::draft::Draft;
 use crate::names::number_of;
 use hla_base::{AttributeNo, ClassNo, ParameterNo};
 
@@ -32,6 +33,28 @@ fn ends_with_name(path: &[u8], name: &[u8]) -> bool
         end[0] == b'.' && &end[1..] == name
     } else {
         false
+    }
+}
+
+impl Draft {
+    /// The path of an object class; empty where no object class has the number.
+    pub(crate) fn object_path(&self, class: ClassNo) -> &[u8]
+        ensures { result.now ≡ object_path self.now class }
+    {
+        match item_numbered(self.object_classes(), class) {
+            Some(outer) => outer.path.as_slice(),
+            None => &[],
+        }
+    }
+
+    /// The path of an interaction class; empty where no interaction class has the number.
+    pub(crate) fn interaction_path(&self, class: ClassNo) -> &[u8]
+        ensures { result.now ≡ interaction_path self.now class }
+    {
+        match item_numbered(self.interaction_classes(), class) {
+            Some(outer) => outer.path.as_slice(),
+            None => &[],
+        }
     }
 }
 

@@ -6,8 +6,8 @@ ghost use Rattle.hla_fed_file.specs.Declaring.{innermost, extended_path};
 ghost use Rattle.hla_fed_file.specs.Keywords.{keyword_of};
 ghost use Rattle.hla_fed_file.specs.Tokens.{view};
 
-use crate::catalogue::Catalogue;
 use crate::declared::{Attribute, InteractionClass, ObjectClass, Order, Parameter, Transport};
+use crate::draft::Draft;
 use crate::fault::{FedFault, FedFaultKind};
 use crate::lexer::Token;
 use crate::place::{Head, Keyword, Lists, Naming, Place, Stage, Within, meaning};
@@ -29,7 +29,7 @@ pub struct Reader {
     pub attribute: Option<Attribute>,
     /// The interaction class whose options are being read.
     pub class: Option<InteractionClass>,
-    pub catalogue: Catalogue,
+    pub(crate) catalogue: Draft,
 }
 
 /// Whose keyword must stand behind a parenthesis in a list of lists.
@@ -157,7 +157,7 @@ impl Reader {
             lineage: List::new(alloc),
             attribute: None,
             class: None,
-            catalogue: Catalogue::new(alloc),
+            catalogue: Draft::new(alloc),
         }
     }
 
@@ -548,7 +548,7 @@ impl Reader {
     }
 
     /// Ends where the text ends, on a line.
-    pub fn finish(self, line: usize) -> Result<Catalogue, FedFault>
+    pub(crate) fn finish(self, line: usize) -> Result<Draft, FedFault>
         ensures { result ≡ ending_of line self }
     {
         if matches!(self.place, Place::Done) {

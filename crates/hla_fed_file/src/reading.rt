@@ -2,7 +2,7 @@
 
 ghost use Rattle.std.specs.Prelude.{◌≤◌, length, Ok, IfOk};
 ghost use Rattle.hla_base.specs.Limits.{max_fed_file};
-ghost use Rattle.hla_fed_file.specs.Reading.{reading, reading_of, ReadsAs, Takes};
+ghost use Rattle.hla_fed_file.specs.Reading.{ending_of, reading, reading_of, ReadsAs, Takes};
 ghost use Rattle.hla_fed_file.specs.Lexical.{tokens};
 ghost use Rattle.hla_fed_file.specs.Grammar.{Describes};
 ghost use Rattle.hla_fed_file.specs.CatalogueValue.{CatalogueValue};
@@ -35,6 +35,22 @@ fn take_all(reader: &mut Reader, alloc: Global, text: &[u8]) -> Result<usize, Fe
     }
 }
 
+/// The catalogue of what was read, where the text ends, on a line. `OutOfMemory` where a growth was refused.
+fn finished(reader: Reader, alloc: Global, line: usize) -> Result<Catalogue, FedFault>
+    ensures { ReadsAs result (ending_of line reader) }
+{
+    match reader.finish(line) {
+        Ok(draft) => match Catalogue::from_draft(alloc, draft) {
+            Ok(catalogue) => Ok(catalogue),
+            Err(_) => Err(FedFault {
+                line,
+                kind: FedFaultKind::OutOfMemory,
+            }),
+        },
+        Err(fault) => Err(fault),
+    }
+}
+
 /// Reads a text token by token.
 fn read_tokens(alloc: Global, text: &[u8]) -> Result<Catalogue, FedFault>
     ensures { ReadsAs result (reading_of text.now) }
@@ -47,7 +63,7 @@ fn read_tokens(alloc: Global, text: &[u8]) -> Result<Catalogue, FedFault>
     }
     let mut reader = Reader::new(alloc);
     match take_all(&mut reader, alloc, text) {
-        Ok(line) => reader.finish(line),
+        Ok(line) => finished(reader, alloc, line),
         Err(fault) => Err(fault),
     }
 }

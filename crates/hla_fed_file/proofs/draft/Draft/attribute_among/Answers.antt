@@ -8,7 +8,7 @@ use Rattle.hla_fed_file.specs.Declaring.{attribute_among}
 use Rattle.hla_fed_file.specs.declared.groups.Declared.{Declared}
 use Rattle.hla_fed_file.specs.declared.declared.Attribute.{Attribute}
 use Rattle.hla_fed_file.proofs.GroupLemmas.{first_numbered}
-use Rattle.hla_fed_file.proofs.catalogue.Catalogue.attribute_among.Goals as goal
+use Rattle.hla_fed_file.proofs.draft.Draft.attribute_among.Goals as goal
 
 pub returns : goal.returns
 returns c =

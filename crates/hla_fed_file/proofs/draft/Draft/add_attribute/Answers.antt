@@ -5,7 +5,7 @@ use Rattle.hla_fed_file.specs.Groups.{IsNoted}
 use Rattle.hla_fed_file.specs.declared.declared.Attribute.{Attribute}
 use Rattle.hla_fed_file.specs.CatalogueValue.{CatalogueValue}
 use Rattle.hla_fed_file.proofs.GroupLemmas.{declared_added}
-use Rattle.hla_fed_file.proofs.catalogue.Catalogue.add_attribute.Goals as goal
+use Rattle.hla_fed_file.proofs.draft.Draft.add_attribute.Goals as goal
 
 pub invariant_of-self-in-Ok-note : goal.invariant_of-self-in-Ok-note
 invariant_of-self-in-Ok-note c =

@@ -4,7 +4,7 @@ use Rattle.std.proofs.lemmas.List.{length-append}
 use Rattle.hla_fed_file.specs.declared.declared.InteractionClass.{InteractionClass}
 use Rattle.hla_fed_file.specs.CatalogueValue.{CatalogueValue}
 use Rattle.hla_fed_file.proofs.NameLemmas.{paths_added}
-use Rattle.hla_fed_file.proofs.catalogue.Catalogue.add_interaction_class.Goals as goal
+use Rattle.hla_fed_file.proofs.draft.Draft.add_interaction_class.Goals as goal
 
 pub invariant_of-self-in-Ok-note : goal.invariant_of-self-in-Ok-note
 invariant_of-self-in-Ok-note c =

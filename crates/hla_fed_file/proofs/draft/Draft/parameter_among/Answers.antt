@@ -8,7 +8,7 @@ use Rattle.hla_fed_file.specs.Declaring.{parameter_among}
 use Rattle.hla_fed_file.specs.declared.groups.Declared.{Declared}
 use Rattle.hla_fed_file.specs.declared.declared.Parameter.{Parameter}
 use Rattle.hla_fed_file.proofs.GroupLemmas.{first_numbered}
-use Rattle.hla_fed_file.proofs.catalogue.Catalogue.parameter_among.Goals as goal
+use Rattle.hla_fed_file.proofs.draft.Draft.parameter_among.Goals as goal
 
 pub returns : goal.returns
 returns c =
