@@ -1,6 +1,6 @@
 //! The wires to one federate.
 
-ghost use Rattle.std.specs.Prelude.{◌≡◌, ◌≢◌, ◌<◌, ◌≤◌, ◌++◌, [], ℕ, true, length, IfOk, IfErr, OnOk, OnErr, drop};
+ghost use Rattle.std.specs.Prelude.{◌≡◌, ◌≢◌, ◌<◌, ◌≤◌, ◌++◌, ◌∷◌, ◌-◌, [], ℕ, true, IfOk, IfErr, OnOk, OnErr, drop};
 ghost use Rattle.hla_base.specs.Limits.{max_joins};
 ghost use Rattle.hla_base.specs.declared.fault.Fault.TheVariants.{OutOfMemory};
 ghost use Rattle.hla_base.specs.Tables.{upd};
@@ -88,16 +88,17 @@ impl Incoming {
         self.wires[from as usize - 1].reserve(count)
     }
 
-    /// Puts messages on the wire from a federate. It takes no memory.
-    pub fn append(&mut self, from: FederateNo, messages: Vec<Message>)
+    /// Puts a message on the wire from a federate. It takes no memory.
+    pub fn put(&mut self, from: FederateNo, message: Message)
         requires some { 0 < from }
         requires within { from ≤ max_joins }
-        requires room { length messages.items ≤ item 0 self.old.rooms from }
+        requires room { 0 < item 0 self.old.rooms from }
         ensures wires { item [] self.new.wires ≡ upd (item [] self.old.wires) from
-            (item [] self.old.wires from ++ messages.items) }
+            (item [] self.old.wires from ++ message ∷ []) }
+        ensures less { item 0 self.new.rooms from ≡ item 0 self.old.rooms from - 1 }
         ensures room { (g : ℕ) → from ≢ g → item 0 self.new.rooms g ≡ item 0 self.old.rooms g }
     {
-        self.wires[from as usize - 1].append(messages)
+        self.wires[from as usize - 1].put(message)
     }
 
     /// The first message on the wire from a federate comes to its receiver's component; `OutOfMemory`, and all as it was,

@@ -1,6 +1,6 @@
 //! One federate of an execution.
 
-ghost use Rattle.std.specs.Prelude.{◌≡◌, ◌≢◌, ◌<◌, ◌≤◌, ◌+◌, [], ℕ, length, true, IfOk, IfErr, OnOk, OnErr, ◌++◌, drop};
+ghost use Rattle.std.specs.Prelude.{◌≡◌, ◌≢◌, ◌<◌, ◌≤◌, ◌+◌, [], ℕ, true, IfOk, IfErr, OnOk, OnErr, ◌++◌, ◌∷◌, ◌-◌, drop};
 ghost use Rattle.hla_base.specs.Limits.{max_joins, largest_number};
 ghost use Rattle.hla_base.specs.declared.fault.Fault.TheVariants.{OutOfMemory};
 ghost use Rattle.hla_base.specs.Tables.{upd};
@@ -149,17 +149,18 @@ impl Member {
         self.incoming.reserve(from, count)
     }
 
-    /// Puts messages on the wire from a federate. It takes no memory.
-    pub fn append(&mut self, from: FederateNo, messages: Vec<Message>)
+    /// Puts a message on the wire from a federate. It takes no memory.
+    pub fn put(&mut self, from: FederateNo, message: Message)
         requires some { 0 < from }
         requires within { from ≤ max_joins }
-        requires room { length messages.items ≤ item 0 self.old.rooms from }
+        requires room { 0 < item 0 self.old.rooms from }
         ensures same { self.new.shown ≡ record self.old.shown { incoming = self.new.shown.incoming } }
         ensures wires { item [] self.new.shown.incoming ≡ upd (item [] self.old.shown.incoming) from
-            (item [] self.old.shown.incoming from ++ messages.items) }
+            (item [] self.old.shown.incoming from ++ message ∷ []) }
+        ensures less { item 0 self.new.rooms from ≡ item 0 self.old.rooms from - 1 }
         ensures room { (g : ℕ) → from ≢ g → item 0 self.new.rooms g ≡ item 0 self.old.rooms g }
     {
-        self.incoming.append(from, messages)
+        self.incoming.put(from, message)
     }
 
     /// Its component.
