@@ -15,4 +15,6 @@ mod queues;
 #[cfg(test)]
 mod retraction;
 #[cfg(test)]
+mod shared_lists;
+#[cfg(test)]
 mod time_roles;
