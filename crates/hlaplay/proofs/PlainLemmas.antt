@@ -8,7 +8,7 @@ use Rattle.clap.specs.Simple.{subcommand_of}
 use Rattle.clap.specs.Walk.{Text, Rule, Held, word_met, idle, value}
 use Rattle.clap.proofs.OnLiterals.{clap_on_literals}
 use Rattle.hla_program.specs.Tasks.{NamedTask, Play, Check, Running, Listing}
-use Rattle.hlaplay.specs.Words.{command_line, is_operand, subcommand_task, faults_in, clap_task, IsReadAlike}
+use Rattle.hlaplay.specs.Words.{command_line, is_operand, plain_script_task, subcommand_task, faults_in, clap_task, IsReadAlike}
 use Rattle.clap.proofs.WalkLemmas.{both}
 
 -- no name of a flag
@@ -81,37 +81,33 @@ fed_alike program word fed true is =
     let value = plain_value fed parts.1 in
     rw same (read_task _ (Listing fed) (fed_faults program fed value) (fed_task program fed value))
 
-run_alike : (program word fed script : Text) (b : Bool) → (bytes_eq word (codes "run") && (is_operand fed && is_operand script)) ≡ b → IfSome (if b then Some (Running fed script false) else None) (λ task. clap_task (program ∷ word ∷ fed ∷ script ∷ []) ≡ Some task)
-run_alike program word fed script false is = tt
-run_alike program word fed script true is =
-    let parts = both (bytes_eq word (codes "run")) (is_operand fed && is_operand script) is in
-    let names = both (is_operand fed) (is_operand script) parts.1 in
-    let same : word ≡ codes "run" = (bytes_eq-Decides word (codes "run")).0 parts.0 in
-    let f = plain_value fed names.0 in
-    let s = plain_value script names.1 in
+run_alike : (program word fed script : Text) → IsValue fed → IsValue script → (b : Bool) → bytes_eq word (codes "run") ≡ b → IfSome (if b then Some (Running fed script false) else None) (λ task. clap_task (program ∷ word ∷ fed ∷ script ∷ []) ≡ Some task)
+run_alike program word fed script f s false is = tt
+run_alike program word fed script f s true is =
+    let same : word ≡ codes "run" = (bytes_eq-Decides word (codes "run")).0 is in
     rw same (read_task _ (Running fed script false) (run_faults program fed script f s) (run_task program fed script f s))
 
-check_alike : (program word fed script : Text) (other : Option NamedTask) (b : Bool) → (bytes_eq word (codes "check") && (is_operand fed && is_operand script)) ≡ b → IfSome other (λ task. clap_task (program ∷ word ∷ fed ∷ script ∷ []) ≡ Some task)
+check_alike : (program word fed script : Text) (other : Option NamedTask) → IsValue fed → IsValue script → (b : Bool) → bytes_eq word (codes "check") ≡ b → IfSome other (λ task. clap_task (program ∷ word ∷ fed ∷ script ∷ []) ≡ Some task)
     → IfSome (if b then Some (Check fed script) else other) (λ task. clap_task (program ∷ word ∷ fed ∷ script ∷ []) ≡ Some task)
-check_alike program word fed script other false is alike = alike
-check_alike program word fed script other true is alike =
-    let parts = both (bytes_eq word (codes "check")) (is_operand fed && is_operand script) is in
-    let names = both (is_operand fed) (is_operand script) parts.1 in
-    let same : word ≡ codes "check" = (bytes_eq-Decides word (codes "check")).0 parts.0 in
-    let f = plain_value fed names.0 in
-    let s = plain_value script names.1 in
+check_alike program word fed script other f s false is alike = alike
+check_alike program word fed script other f s true is alike =
+    let same : word ≡ codes "check" = (bytes_eq-Decides word (codes "check")).0 is in
     rw same (read_task _ (Check fed script) (check_faults program fed script f s) (check_task program fed script f s))
 
-play_alike : (program word fed script : Text) (other : Option NamedTask) (b : Bool) → (bytes_eq word (codes "play") && (is_operand fed && is_operand script)) ≡ b → IfSome other (λ task. clap_task (program ∷ word ∷ fed ∷ script ∷ []) ≡ Some task)
+play_alike : (program word fed script : Text) (other : Option NamedTask) → IsValue fed → IsValue script → (b : Bool) → bytes_eq word (codes "play") ≡ b → IfSome other (λ task. clap_task (program ∷ word ∷ fed ∷ script ∷ []) ≡ Some task)
     → IfSome (if b then Some (Play fed script) else other) (λ task. clap_task (program ∷ word ∷ fed ∷ script ∷ []) ≡ Some task)
-play_alike program word fed script other false is alike = alike
-play_alike program word fed script other true is alike =
-    let parts = both (bytes_eq word (codes "play")) (is_operand fed && is_operand script) is in
-    let names = both (is_operand fed) (is_operand script) parts.1 in
-    let same : word ≡ codes "play" = (bytes_eq-Decides word (codes "play")).0 parts.0 in
+play_alike program word fed script other f s false is alike = alike
+play_alike program word fed script other f s true is alike =
+    let same : word ≡ codes "play" = (bytes_eq-Decides word (codes "play")).0 is in
+    rw same (read_task _ (Play fed script) (play_faults program fed script f s) (play_task program fed script f s))
+
+script_alike : (program word fed script : Text) (b : Bool) → (is_operand fed && is_operand script) ≡ b → IfSome (if b then plain_script_task word fed script else None) (λ task. clap_task (program ∷ word ∷ fed ∷ script ∷ []) ≡ Some task)
+script_alike program word fed script false is = tt
+script_alike program word fed script true is =
+    let names = both (is_operand fed) (is_operand script) is in
     let f = plain_value fed names.0 in
     let s = plain_value script names.1 in
-    rw same (read_task _ (Play fed script) (play_faults program fed script f s) (play_task program fed script f s))
+    play_alike program word fed script _ f s _ refl (check_alike program word fed script _ f s _ refl (run_alike program word fed script f s _ refl))
 
 if_task : (o : Option NamedTask) (P : Type 0) (Q : NamedTask → Type 0) → IfSome o Q → IfSome o (λ task. P → Q task)
 if_task None P Q is = tt
@@ -123,5 +119,5 @@ read_alike [] = λ more. absurd (omega (arith, more))
 read_alike (program ∷ []) = λ more. absurd (omega (arith, more))
 read_alike (program ∷ word ∷ []) = tt
 read_alike (program ∷ word ∷ fed ∷ []) = if_task _ _ _ (fed_alike program word fed _ refl)
-read_alike (program ∷ word ∷ fed ∷ script ∷ []) = if_task _ _ _ (play_alike program word fed script _ _ refl (check_alike program word fed script _ _ refl (run_alike program word fed script _ refl)))
+read_alike (program ∷ word ∷ fed ∷ script ∷ []) = if_task _ _ _ (script_alike program word fed script _ refl)
 read_alike (program ∷ word ∷ fed ∷ script ∷ more ∷ rest) = tt

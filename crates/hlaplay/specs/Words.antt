@@ -21,17 +21,21 @@ is_operand _ = true
 abbrev pub default_task : NamedTask
 default_task = Play (codes "-") (codes "-")
 
+-- what a word asks for with a script over a FED file
+abbrev pub plain_script_task : Text → Text → Text → Option NamedTask
+plain_script_task word fed script =
+    if bytes_eq word (codes "play") then Some (Play fed script)
+    else if bytes_eq word (codes "check") then Some (Check fed script)
+    else if bytes_eq word (codes "run") then Some (Running fed script false)
+    else None
+
 -- no words but the program's name; `fed FILE`; `play FED SCRIPT`; `check FED SCRIPT`; `run FED SCRIPT`
 abbrev pub plain_task : List Text → Option NamedTask
 plain_task [] = Some default_task
 plain_task (program ∷ []) = Some default_task
 plain_task (program ∷ word ∷ fed ∷ []) =
     if bytes_eq word (codes "fed") && is_operand fed then Some (Listing fed) else None
-plain_task (program ∷ word ∷ fed ∷ script ∷ []) =
-    if bytes_eq word (codes "play") && (is_operand fed && is_operand script) then Some (Play fed script)
-    else if bytes_eq word (codes "check") && (is_operand fed && is_operand script) then Some (Check fed script)
-    else if bytes_eq word (codes "run") && (is_operand fed && is_operand script) then Some (Running fed script false)
-    else None
+plain_task (program ∷ word ∷ fed ∷ script ∷ []) = if is_operand fed && is_operand script then plain_script_task word fed script else None
 plain_task _ = None
 
 -- ---- all others, as clap reads them
@@ -53,9 +57,12 @@ IsLocal command = (out-Command command).has_globals ≡ false
 abbrev pub fed_subcommand : App
 fed_subcommand = with_rule (new_app (codes "fed")) (file_rule (codes "FILE"))
 
+abbrev pub run_subcommand : App
+run_subcommand = with_rule (script_subcommand (codes "run")) monitor_rule
+
 -- the program's command, with its four subcommands
 unfoldable pub command_line : App
-command_line = with_subcommand (with_subcommand (with_subcommand (with_subcommand (on_top (λ s. record s { subcommand_required = true }) (new_app (codes "hlaplay"))) (script_subcommand (codes "play")).top) (script_subcommand (codes "check")).top) (with_rule (script_subcommand (codes "run")) monitor_rule).top) fed_subcommand.top
+command_line = with_subcommand (with_subcommand (with_subcommand (with_subcommand (on_top (λ s. record s { subcommand_required = true }) (new_app (codes "hlaplay"))) (script_subcommand (codes "play")).top) (script_subcommand (codes "check")).top) run_subcommand.top) fed_subcommand.top
 
 -- the value of a flag that was given
 abbrev pub is_set : Option Text → Bool

@@ -5,7 +5,7 @@ ghost use Rattle.clap.specs.Matches.{first_value, found_of};
 ghost use Rattle.clap.specs.Simple.{app_of};
 ghost use Rattle.clap.specs.Walk.{rule_of, texts};
 ghost use Rattle.hla_program.specs.Tasks.{named_task};
-ghost use Rattle.hlaplay.specs.Words.{is_operand, plain_task, file_rule, monitor_rule, script_subcommand, IsLocal, command_line, is_set, script_task, task_with, clap_task, task_of, IsReadAlike};
+ghost use Rattle.hlaplay.specs.Words.{is_operand, plain_script_task, plain_task, file_rule, monitor_rule, script_subcommand, run_subcommand, fed_subcommand, IsLocal, command_line, is_set, script_task, task_with, clap_task, task_of, IsReadAlike};
 ghost use Rattle.hlaplay.specs.Refusals.{IsCausedBy, IsFoundIn, RefusesWords};
 
 use clap::error::ErrorKind;
@@ -29,6 +29,26 @@ fn is_operand(word: &str) -> bool
     !matches!(word.as_bytes(), [b'-', _, ..])
 }
 
+/// What a word asks for with a script over a FED file, without clap.
+fn plain_script_task<'a>(word: &str, fed: &'a str, script: &'a str) -> Option<Task<'a>>
+    ensures { option_map named_task result ≡ plain_script_task word.now fed.entry.now script.entry.now }
+{
+    if word == "play" {
+        return Some(Task::Play { fed, script });
+    }
+    if word == "check" {
+        return Some(Task::Check { fed, script });
+    }
+    if word == "run" {
+        return Some(Task::Run {
+            fed,
+            script,
+            is_watched: false,
+        });
+    }
+    None
+}
+
 /// What words of a plain form ask for. This takes no memory, so they are never refused.
 fn plain_task<'a>(words: &[&'a str]) -> Option<Task<'a>>
     ensures { option_map named_task result ≡ plain_task (texts words.now) }
@@ -39,18 +59,8 @@ fn plain_task<'a>(words: &[&'a str]) -> Option<Task<'a>>
             script: "-",
         }),
         [_, word, fed] if *word == "fed" && is_operand(fed) => Some(Task::List { fed }),
-        [_, word, fed, script] if *word == "play" && is_operand(fed) && is_operand(script) => {
-            Some(Task::Play { fed, script })
-        }
-        [_, word, fed, script] if *word == "check" && is_operand(fed) && is_operand(script) => {
-            Some(Task::Check { fed, script })
-        }
-        [_, word, fed, script] if *word == "run" && is_operand(fed) && is_operand(script) => {
-            Some(Task::Run {
-                fed,
-                script,
-                is_watched: false,
-            })
+        [_, word, fed, script] if is_operand(fed) && is_operand(script) => {
+            plain_script_task(word, fed, script)
         }
         _ => None,
     }
@@ -89,6 +99,29 @@ fn watching(alloc: Global) -> Arg<'static>
         .action(ArgAction::SetTrue)
 }
 
+/// The subcommand for a script that is run on threads. Fails only for want of memory.
+fn run_command<'a>(alloc: Global) -> Result<Command<'a>, AllocError>
+    ensures app { IfOk result (λ command. app_of command ≡ run_subcommand) }
+    ensures local { IfOk result IsLocal }
+{
+    script_command(
+        alloc,
+        "run",
+        "Runs a script over a FED file, a thread for each federate; - is the standard input",
+    )?
+    .arg(watching(alloc))
+}
+
+/// The subcommand for a FED file that is listed. Fails only for want of memory.
+fn fed_command<'a>(alloc: Global) -> Result<Command<'a>, AllocError>
+    ensures app { IfOk result (λ command. app_of command ≡ fed_subcommand) }
+    ensures local { IfOk result IsLocal }
+{
+    Command::new(alloc, "fed")
+        .about("Lists what a FED file declares; - is the standard input")
+        .arg(file(alloc, "FILE"))
+}
+
 /// The command line as clap is told of it. Fails only for want of memory.
 fn command<'a>(alloc: Global) -> Result<Command<'a>, AllocError>
     ensures { IfOk result (λ command. app_of command ≡ command_line) }
@@ -103,15 +136,8 @@ fn command<'a>(alloc: Global) -> Result<Command<'a>, AllocError>
         "check",
         "Plays a script over a FED file and judges its records; - is the standard input",
     )?;
-    let run = script_command(
-        alloc,
-        "run",
-        "Runs a script over a FED file, a thread for each federate; - is the standard input",
-    )?
-    .arg(watching(alloc))?;
-    let fed = Command::new(alloc, "fed")
-        .about("Lists what a FED file declares; - is the standard input")
-        .arg(file(alloc, "FILE"))?;
+    let run = run_command(alloc)?;
+    let fed = fed_command(alloc)?;
     Command::new(alloc, "hlaplay")
         .about("Plays and runs scripts over FED files; without arguments as play - -")
         .subcommand_required(true)

@@ -16,6 +16,6 @@ returns-in-Err-Refused g c =
     let found = subst P c.in-Err-Refused.field-0-is c.in-Err-Refused.ensures.err.1 in
     Misused c.in-Err-Refused.ensures.err.0 (kind_of c.in-Err-Refused.error) found refl c.tell_refusal.ensures
 
-pub returns-in-Err-Memory : goal.returns-in-Err-Memory
-returns-in-Err-Memory g c =
+pub returns : goal.returns
+returns g c =
     NoMemory c.in-Err-Memory.ensures.err.0 refl c.tell_out_of_memory.ensures.line c.tell_out_of_memory.ensures.status
