@@ -153,8 +153,8 @@ fn watch<L: Ledger + Naming>(mut monitor: Monitor<L>, callers: &Callers) -> Live
     Lived::Watched { reads }
 }
 
-/// What a thread does.
-fn lived<L: Ledger + Naming, W: Publisher<L>>(
+/// What a thread does, and how it ends.
+fn end_of<L: Ledger + Naming, W: Publisher<L>>(
     rt: &impl Wait,
     party: Party<L, W>,
     rounds: u64,
@@ -239,7 +239,7 @@ fn all_lives<L: Ledger + Naming + Send + Sync, W: Publisher<L> + Send, R: Thread
     rounds: u64,
     callers: &Callers,
 ) -> Result<Vec<Lived<L>>, Fault> {
-    let Ok(all) = thread::map_vec(rt, parties, &|party| lived(rt, party, rounds, callers)) else {
+    let Ok(all) = thread::map_vec(rt, parties, &|party| end_of(rt, party, rounds, callers)) else {
         return Err(Fault::OutOfMemory);
     };
     Ok(all)

@@ -43,7 +43,7 @@ fn join<L: Ledger>(
 }
 
 /// The value of an execution that so many federates have joined.
-fn office<L: Ledger>(alloc: Global, blank: Blank, federates: u32) -> Result<Office<L>, Fault>
+fn open_office<L: Ledger>(alloc: Global, blank: Blank, federates: u32) -> Result<Office<L>, Fault>
     requires name { blank.name ≡ L.name }
     requires parts { blank.parts ≡ L.parts }
     requires all { blank.parts ≡ 2049 }
@@ -156,7 +156,7 @@ fn run_lent_at<L: Ledger>(
         execution,
         mut shared,
         mut share,
-    } = office::<L>(alloc, blank, federates)?;
+    } = open_office::<L>(alloc, blank, federates)?;
     for time in 1..=rounds {
         round(&mut shared, &mut share, execution, federates, time)?;
     }
@@ -179,7 +179,7 @@ fn run_locked_at<L: Ledger>(
         execution,
         shared,
         mut share,
-    } = office::<L>(alloc, blank, federates)?;
+    } = open_office::<L>(alloc, blank, federates)?;
     let shared = Mutex::new(shared);
     for time in 1..=rounds {
         round_locked(rt, &shared, &mut share, execution, federates, time)?;

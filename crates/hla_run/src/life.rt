@@ -18,8 +18,19 @@ use std::thread;
 /// How often a line that ticks does so at most until a callback comes.
 const MAX_TICKS: u32 = 1_000;
 
-/// How often a thread gives its turn away after a tick with nothing: the others get on meanwhile, and the history lasts.
-const PATIENCE: u32 = 32;
+/// How often a thread gives its turn away after the first, the second and each further tick of a line that brought nothing.
+/// Ten thousand turns are some milliseconds: time for the others to get on, so that the history lasts, also beside busy
+/// processes. After `PATIENT_TICKS` there is little to wait for.
+const FIRST_TURNS: u32 = 10_000;
+
+const SECOND_TURNS: u32 = 40_000;
+
+const FURTHER_TURNS: u32 = 100_000;
+
+const LAST_TURNS: u32 = 1_000;
+
+/// How many ticks with nothing the thread is patient after.
+const PATIENT_TICKS: u32 = 10;
 
 /// What all threads of a run share.
 #[derive(Drop)]
@@ -76,9 +87,19 @@ fn exchange<L: Ledger + Naming, P: Publisher<L>>(
     }
 }
 
-/// Gives the thread's turn away.
-fn stand_back() {
-    for _ in 0..PATIENCE {
+/// How often a thread gives its turn away, by how many ticks of the line brought nothing before this one.
+fn turns_after(ticks: u32) -> u32 {
+    match ticks {
+        0 => FIRST_TURNS,
+        1 => SECOND_TURNS,
+        _ if ticks < PATIENT_TICKS => FURTHER_TURNS,
+        _ => LAST_TURNS,
+    }
+}
+
+/// Gives the thread's turn away, so often.
+fn stand_back(turns: u32) {
+    for _ in 0..turns {
         thread::yield_now();
     }
 }
@@ -92,11 +113,11 @@ fn called_back<L: Ledger + Naming, P: Publisher<L>>(
     execution: ExecutionName,
     joined: FederateNo,
 ) -> Outcome {
-    for _ in 0..MAX_TICKS {
+    for ticks in 0..MAX_TICKS {
         match outcome_of_tick(federate.tick(rt)) {
             Outcome::Done(Answer::Ticked(None)) => {
                 exchange(rt, courier, execution, joined);
-                stand_back();
+                stand_back(turns_after(ticks));
             }
             ended => return ended,
         }
