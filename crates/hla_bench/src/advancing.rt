@@ -211,6 +211,19 @@ fn add_watcher<L: Ledger + Naming, W: Publisher<L>>(
     Ok(())
 }
 
+/// The parties of a run: so many federates, and a monitor, where one is to watch.
+fn all_parties<L: Ledger + Naming, W: Publisher<L>>(
+    rt: &impl Wait,
+    alloc: Global,
+    rti: &mut Rti<L, Recorder, W>,
+    federates: u32,
+    is_watched: bool,
+) -> Result<Vec<Party<L, W>>, Fault> {
+    let mut parties = join_all(rt, alloc, rti, federates)?;
+    add_watcher(rt, rti, is_watched, &mut parties)?;
+    Ok(parties)
+}
+
 /// What those who have lived leave behind, or what stopped one.
 fn rest_of<L: Ledger>(alloc: Global, all: Vec<Lived<L>>) -> Result<Rest<L>, Fault> {
     let mut rest = Rest {
@@ -261,8 +274,7 @@ fn run_at<L: Ledger + Naming + Send + Sync, R: Threads + Wait + Sync>(
     requires book { opened.seen.book ≡ L.book }
 {
     let mut rti = open_rti::<L, Recorder, &R>(alloc, rt, blank, opened, HISTORY_LIMIT)?;
-    let mut parties = join_all(rt, alloc, &mut rti, threads)?;
-    add_watcher(rt, &mut rti, is_watched, &mut parties)?;
+    let parties = all_parties(rt, alloc, &mut rti, threads, is_watched)?;
     let callers = Callers {
         count: threads,
         ended: AtomicU32::new(0),
