@@ -12,3 +12,5 @@ pub mod Entries
 pub mod Lowering
 -- Messages put along the wires from one federate, or to one
 pub mod Posting
+-- The messages of an outbox, for each federate
+pub mod Outboxes

@@ -1,5 +1,5 @@
 -- The wires to one member, after one of them changed
-use Rattle.std.proofs.Common.{◌≡◌, ℕ, zero, suc, ◌-◌, ◌<◌, ◌≤◌, List, [], ◌∷◌, length, get_or, set, map, Some, None, slice_get, refl, sym, ap, ◌∙◌, arith}
+use Rattle.std.proofs.Common.{◌≡◌, ℕ, zero, suc, ◌+◌, ◌-◌, ◌<◌, ◌≤◌, Bool, true, false, cond, List, [], ◌∷◌, length, get_or, set, map, Some, None, slice_get, refl, sym, ap, ◌∙◌, arith}
 use Rattle.std.proofs.lemmas.List.{map-set, length-map, get_or-map}
 use Rattle.hla_base.specs.Tables.{upd}
 use Rattle.hla_null_message.specs.Wires.{WireValue}
@@ -33,6 +33,11 @@ module _ (ws : List WireValue) (v : IncomingValue) (is : incoming_of ws ≡ v) (
 
   pub set_rooms : (w : WireValue) → item 0 (map (λ (x : WireValue). x.room) (set ws (g - 1) w)) ≡ upd (item 0 v.rooms) g w.room
   set_rooms w = item-map-set (λ (x : WireValue). x.room) ws g w 0 some within ∙ ap (λ (x : IncomingValue). upd (item 0 x.rooms) g w.room) is
+
+-- the room on a wire that one message was put on
+pub less_by_one : (takes : Bool) (old new : ℕ) → new ≡ cond takes (old - 1) old → old ≤ new + 1
+less_by_one true old new is = omega (arith, is)
+less_by_one false old new is = omega (arith, is)
 
 -- wires with nothing on them
 pub quiet-map : (ws : List WireValue) → ((k : ℕ) → k < length ws → (get_or ws k (record { messages = []; room = 0 })).messages ≡ []) → (g : ℕ) → item [] (map (λ (x : WireValue). x.messages) ws) g ≡ []

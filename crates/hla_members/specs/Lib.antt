@@ -4,6 +4,8 @@ pub mod MemberValue
 pub mod Wiring
 -- What is noted of messages that may be retracted
 pub mod Noting
+-- The messages of an outbox
+pub mod Outboxes
 -- Members as tables, and what is done with their wires
 pub mod Members
 -- What services change of one component

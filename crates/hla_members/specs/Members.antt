@@ -95,6 +95,11 @@ abbrev pub HasRoom : Direction → (ℕ → List Message) → ℕ → ℕ → Li
 HasRoom along messages start end rooms =
     (g h : ℕ) → is_along along g h ≡ true → start ≤ peer_along along g h → peer_along along g h < end → length (messages (peer_along along g h)) ≤ room_in rooms g h
 
+-- each wire along has less room by no more than the messages for the peer at its end
+abbrev pub IsLessRoom : Direction → (ℕ → List Message) → List (List ℕ) → List (List ℕ) → Type 0
+IsLessRoom along messages old new =
+    (g h : ℕ) → is_along along g h ≡ true → room_in old g h ≤ room_in new g h + length (messages (peer_along along g h))
+
 -- the one end of the wires is a federate that has joined
 abbrev pub IsEnd : Direction → ℕ → Type 0
 IsEnd (From f) next = (0 < f) × (f < next)

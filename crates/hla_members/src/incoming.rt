@@ -1,10 +1,10 @@
 //! The wires to one federate.
 
-ghost use Rattle.std.specs.Prelude.{◌≡◌, ◌≢◌, ◌<◌, ◌≤◌, [], ℕ, true, length, IfOk, IfErr, OnOk, OnErr, drop};
+ghost use Rattle.std.specs.Prelude.{◌≡◌, ◌≢◌, ◌<◌, ◌≤◌, ◌+◌, [], ℕ, true, IfOk, IfErr, OnOk, OnErr, drop};
 ghost use Rattle.hla_base.specs.Limits.{max_joins};
 ghost use Rattle.hla_base.specs.declared.fault.Fault.TheVariants.{OutOfMemory};
 ghost use Rattle.hla_base.specs.Tables.{upd};
-ghost use Rattle.hla_null_message.specs.Wires.{put_all_behind};
+ghost use Rattle.hla_null_message.specs.Wires.{put_behind};
 ghost use Rattle.hla_members.specs.MemberValue.{item};
 ghost use Rattle.hla_members.specs.Members.{AreQuiet, MayArrive, HasAccepted, carried_of};
 ghost use Rattle.hla_members.specs.Members.{arrival_takes_memory};
@@ -89,16 +89,17 @@ impl Incoming {
         self.wires[from as usize - 1].reserve(count)
     }
 
-    /// Puts messages on the wire from a federate. It takes no memory.
-    pub fn append(&mut self, from: FederateNo, messages: Vec<Message>)
+    /// Puts a message on the wire from a federate. It takes no memory.
+    pub fn put(&mut self, from: FederateNo, message: Message)
         requires some { 0 < from }
         requires within { from ≤ max_joins }
-        requires room { length messages.items ≤ item 0 self.old.rooms from }
+        requires room { 0 < item 0 self.old.rooms from }
         ensures wires { item [] self.new.wires ≡ upd (item [] self.old.wires) from
-            (put_all_behind messages.items (item [] self.old.wires from)) }
+            (put_behind message (item [] self.old.wires from)) }
+        ensures less { item 0 self.old.rooms from ≤ item 0 self.new.rooms from + 1 }
         ensures room { (g : ℕ) → from ≢ g → item 0 self.new.rooms g ≡ item 0 self.old.rooms g }
     {
-        self.wires[from as usize - 1].append(messages)
+        self.wires[from as usize - 1].put(message)
     }
 
     /// The first message on the wire from a federate comes to its receiver's component; `OutOfMemory`, and all as it was,

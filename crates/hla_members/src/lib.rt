@@ -2,6 +2,7 @@
 //! lead to it. Services change them through `Members` alone.
 #![tactic(auto)]
 
+mod addressed;
 mod change;
 mod direction;
 mod incoming;

@@ -1,6 +1,6 @@
 //! One federate of an execution.
 
-ghost use Rattle.std.specs.Prelude.{◌≡◌, ◌≢◌, ◌<◌, ◌≤◌, ◌+◌, [], ℕ, length, true, IfOk, IfErr, OnOk, OnErr, drop};
+ghost use Rattle.std.specs.Prelude.{◌≡◌, ◌≢◌, ◌<◌, ◌≤◌, ◌+◌, [], ℕ, true, IfOk, IfErr, OnOk, OnErr, drop};
 ghost use Rattle.hla_base.specs.Limits.{max_joins, largest_number};
 ghost use Rattle.hla_base.specs.declared.fault.Fault.TheVariants.{OutOfMemory};
 ghost use Rattle.hla_base.specs.Tables.{upd};
@@ -8,7 +8,7 @@ ghost use Rattle.hla_lbts.specs.Peers.{peers_of};
 ghost use Rattle.hla_local.specs.LocalValue.{new_local, no_peers};
 ghost use Rattle.hla_local.specs.Picking.{PickConstrains, picked_by, local_pick, local_picking};
 ghost use Rattle.hla_components.specs.Locals.{callback_given};
-ghost use Rattle.hla_null_message.specs.Wires.{put_all_behind};
+ghost use Rattle.hla_null_message.specs.Wires.{put_behind};
 ghost use Rattle.hla_retraction.specs.SentEvents.{no_event};
 ghost use Rattle.hla_retraction.specs.SentRows.{sent_of};
 ghost use Rattle.hla_members.specs.Noting.{noted_event, IsUnsentFrom};
@@ -150,17 +150,18 @@ impl Member {
         self.incoming.reserve(from, count)
     }
 
-    /// Puts messages on the wire from a federate. It takes no memory.
-    pub fn append(&mut self, from: FederateNo, messages: Vec<Message>)
+    /// Puts a message on the wire from a federate. It takes no memory.
+    pub fn put(&mut self, from: FederateNo, message: Message)
         requires some { 0 < from }
         requires within { from ≤ max_joins }
-        requires room { length messages.items ≤ item 0 self.old.rooms from }
+        requires room { 0 < item 0 self.old.rooms from }
         ensures same { self.new.shown ≡ record self.old.shown { incoming = self.new.shown.incoming } }
         ensures wires { item [] self.new.shown.incoming ≡ upd (item [] self.old.shown.incoming) from
-            (put_all_behind messages.items (item [] self.old.shown.incoming from)) }
+            (put_behind message (item [] self.old.shown.incoming from)) }
+        ensures less { item 0 self.old.rooms from ≤ item 0 self.new.rooms from + 1 }
         ensures room { (g : ℕ) → from ≢ g → item 0 self.new.rooms g ≡ item 0 self.old.rooms g }
     {
-        self.incoming.append(from, messages)
+        self.incoming.put(from, message)
     }
 
     /// Its component.

@@ -1,13 +1,14 @@
 //! The federates of an execution.
 
-ghost use Rattle.std.specs.Prelude.{◌≡◌, ◌≢◌, ◌<◌, ◌≤◌, ◌+◌, [], ℕ, length, false, true, ◌&&◌, ◌⊎◌, IfOk, IfErr, IfSome, OnOk, OnErr};
+ghost use Rattle.std.specs.Prelude.{◌≡◌, ◌≢◌, ◌<◌, ◌≤◌, ◌+◌, ◌∷◌, [], ℕ, length, false, true, ◌&&◌, ◌⊎◌, IfOk, IfErr, IfSome, OnOk, OnErr};
 ghost use Rattle.std.specs.List.{list_any};
 ghost use Rattle.std.specs.Str.{bytes_eq};
 ghost use Rattle.hla_base.specs.Limits.{max_joins, largest_number};
 ghost use Rattle.hla_base.specs.declared.fault.Fault.TheVariants.{OutOfMemory};
 ghost use Rattle.hla_base.specs.Rows.{bar_of};
 ghost use Rattle.hla_base.specs.Tables.{upd, upd2, greatest, numbers_below};
-ghost use Rattle.hla_members.specs.Members.{members_of, room_in, IsEnd, AreQuiet, new_member, with_member_admitted, with_member_withdrawn, with_component, HasRoom, wires_posted_below, MayArrive, HasAccepted, carried_of, with_arrival};
+ghost use Rattle.hla_members.specs.Members.{members_of, room_in, IsEnd, AreQuiet, new_member, with_member_admitted, with_member_withdrawn, with_component, HasRoom, IsLessRoom, wires_posted_below, MayArrive, HasAccepted, carried_of, with_arrival};
+ghost use Rattle.hla_members.specs.Outboxes.{messages_for};
 ghost use Rattle.hla_members.specs.Changes.{changed_local, local_unconstrained, entry_by, MayChange, AreLowered};
 ghost use Rattle.hla_members.specs.declared.direction.Direction.TheVariants.{From};
 ghost use Rattle.hla_members.specs.MemberValue.{item, RoomyMember};
@@ -16,11 +17,12 @@ ghost use Rattle.hla_lbts.specs.Peers.{peers_of};
 ghost use Rattle.hla_local.specs.LocalValue.{no_peers};
 ghost use Rattle.hla_local.specs.Picking.{PickConstrains, picked_by, local_pick, local_picking};
 ghost use Rattle.hla_components.specs.Locals.{callback_given};
-ghost use Rattle.hla_null_message.specs.Wires.{put_all_behind};
+ghost use Rattle.hla_null_message.specs.Wires.{put_behind};
 ghost use Rattle.hla_retraction.specs.SentEvents.{no_event};
 ghost use Rattle.hla_retraction.specs.SentRows.{sent_of};
 ghost use Rattle.hla_members.specs.Noting.{with_noted, with_retracted, IsUnsentFrom};
 
+use crate::addressed::Addressed;
 use crate::change::Change;
 use crate::direction::Direction;
 use crate::member::Member;
@@ -257,20 +259,41 @@ impl Members {
         self.members[to as usize - 1].reserve(from, count)
     }
 
-    /// Puts messages on a wire. It takes no memory.
-    fn append(&mut self, from: FederateNo, to: FederateNo, messages: Vec<Message>)
+    /// Puts a message on a wire. It takes no memory.
+    fn put(&mut self, from: FederateNo, to: FederateNo, message: Message)
         requires some_from { 0 < from }
         requires within_from { from ≤ max_joins }
         requires some { 0 < to }
         requires within { to < (members_of self.old.shown).next_federate }
-        requires room { length messages.items ≤ room_in self.old.rooms from to }
+        requires room { 0 < room_in self.old.rooms from to }
         ensures wires { members_of self.new.shown ≡ record (members_of self.old.shown) {
-          wire = upd2 (members_of self.old.shown).wire from to (put_all_behind messages.items ((members_of self.old.shown).wire from to));
+          wire = upd2 (members_of self.old.shown).wire from to (put_behind message ((members_of self.old.shown).wire from to));
         } }
+        ensures less { room_in self.old.rooms from to ≤ room_in self.new.rooms from to + 1 }
         ensures room { (g h : ℕ) → (from ≢ g) ⊎ (to ≢ h) → room_in self.new.rooms g h ≡ room_in
             self.old.rooms g h }
     {
-        self.members[to as usize - 1].append(from, messages);
+        self.members[to as usize - 1].put(from, message);
+    }
+
+    /// Puts a message on its wire, if there is a federate at the other end, that is one below `end`. It takes no memory.
+    fn post(&mut self, along: Direction, addressed: Addressed, end: FederateNo)
+        requires last { end ≡ (members_of self.old.shown).next_federate }
+        requires few { end ≤ max_joins + 1 }
+        requires one_end { IsEnd along (members_of self.old.shown).next_federate }
+        requires room { HasRoom along (λ h. messages_for h (addressed ∷ [])) 1
+            (members_of self.old.shown).next_federate self.old.rooms }
+        ensures wires { members_of self.new.shown ≡ record (members_of self.old.shown) {
+          wire = wires_posted_below along (λ h. messages_for h (addressed ∷ []))
+              (members_of self.old.shown).next_federate (members_of self.old.shown).wire;
+        } }
+        ensures room { IsLessRoom along (λ h. messages_for h (addressed ∷ [])) self.old.rooms self.new.rooms }
+    {
+        let Addressed { peer, message } = addressed;
+        if peer == 0 || peer >= end {
+            return;
+        }
+        self.put(along.source(peer), along.target(peer), message);
     }
 
     /// Makes room for all messages of an outbox on their wires; `OutOfMemory` where that was refused.
@@ -298,11 +321,9 @@ impl Members {
               (members_of self.old.shown).wire;
         } }
     {
-        let mut outbox = outbox;
         let end = self.next_federate();
-        for peer in 1..end {
-            let messages = outbox.take(peer);
-            self.append(along.source(peer), along.target(peer), messages);
+        for addressed in outbox.into_messages() {
+            self.post(along, addressed, end);
         }
     }
 

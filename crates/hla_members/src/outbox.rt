@@ -1,52 +1,55 @@
 //! Messages that are made and not yet on their wires.
 
-ghost use Rattle.std.specs.Prelude.{◌≡◌, ◌<◌, ◌≤◌, ◌++◌, ◌∷◌, [], length, IfOk, IfErr, OnOk};
+ghost use Rattle.std.specs.Prelude.{◌≡◌, ◌<◌, ◌≤◌, ◌++◌, ◌∷◌, [], length, eqb, count_by, IfOk, IfErr, OnOk};
 ghost use Rattle.hla_base.specs.Limits.{max_joins};
 ghost use Rattle.hla_base.specs.declared.fault.Fault.TheVariants.{OutOfMemory};
 ghost use Rattle.hla_base.specs.Tables.{upd};
 ghost use Rattle.hla_members.specs.MemberValue.{item};
 ghost use Rattle.hla_members.specs.Members.{AreQuiet};
+ghost use Rattle.hla_members.specs.Outboxes.{by_peer};
+ghost use Rattle.hla_members.specs.declared.addressed.Addressed.{Addressed};
 
-use hla_base::{Fault, FederateNo, List, MAX_JOINS};
+use crate::addressed::Addressed;
+use hla_base::{Fault, FederateNo, MAX_JOINS};
 use hla_null_message::Message;
 use std::alloc::Global;
 use std::marker::Model;
 
-/// The messages that a step sends, by the federate at the other end of their wire. They are made before anything changes,
-/// so that a step for which memory runs out leaves all as it was.
+/// The messages that a step sends, in the order in which they were made. They are made before anything changes, so that a
+/// step for which memory runs out leaves all as it was. Contracts see them by the federate at the other end of their wire.
 #[derive(Debug, Drop)]
 pub struct Outbox {
-    alloc: Global,
-    messages: Vec<List<Message>>,
+    messages: Vec<Addressed>,
 }
 
 impl Model for Outbox {
-    ghost use Rattle.hla_base.specs.Limits.{max_joins};
-    ghost use Rattle.std.specs.Prelude.{◌≡◌, List, length};
+    ghost use Rattle.std.specs.Prelude.{List};
     ghost use Rattle.hla_null_message.specs.declared.message.Message.{Message};
+    ghost use Rattle.hla_members.specs.Outboxes.{by_peer};
 
     ghost Value = { List (List Message) };
 
-    ghost view = { λ o. o.messages.items };
+    ghost view = { λ o. by_peer o.messages.items };
+}
 
-    ghost invariant = { λ o. length o.messages.items ≡ max_joins };
+/// How many of these are for a federate.
+fn count_for(addressed: &[Addressed], peer: FederateNo) -> usize
+    ensures { result ≡ count_by (λ (a : Addressed). eqb a.peer peer) addressed.now }
+{
+    addressed.iter().filter(|a| a.peer == peer).count()
 }
 
 impl Outbox {
-    /// No messages.
+    /// No messages, and room for one to each federate that may join; `OutOfMemory` where that was refused.
+    #[tactic(auto, using(crate::proofs::Outboxes::by_peer_none))]
     pub fn new(alloc: Global) -> Result<Outbox, Fault>
         ensures ok { IfOk result (λ o. AreQuiet o) }
         ensures err { IfErr result (λ e. e ≡ Fault.OutOfMemory) }
     {
-        let Ok(mut messages) = Vec::with_capacity(alloc, MAX_JOINS) else {
-            return Err(Fault::OutOfMemory);
-        };
-        for _made in 0..MAX_JOINS {
-            if messages.push(List::new(alloc)).is_err() {
-                return Err(Fault::OutOfMemory);
-            }
+        match Vec::with_capacity(alloc, MAX_JOINS) {
+            Ok(messages) => Ok(Outbox { messages }),
+            Err(_) => Err(Fault::OutOfMemory),
         }
-        Ok(Outbox { alloc, messages })
     }
 
     /// Adds a message for a federate, behind the others; `OutOfMemory` where a growth was refused.
@@ -57,7 +60,9 @@ impl Outbox {
             (item [] self.old peer ++ message ∷ [])) }
         ensures err { IfErr result (λ e. e ≡ Fault.OutOfMemory) }
     {
-        self.messages[peer as usize - 1].push(message)?;
+        let Ok(()) = self.messages.push(Addressed { peer, message }) else {
+            return Err(Fault::OutOfMemory);
+        };
         Ok(())
     }
 
@@ -67,17 +72,13 @@ impl Outbox {
         requires within { peer ≤ max_joins }
         ensures { result ≡ length (item [] self.now peer) }
     {
-        self.messages[peer as usize - 1].len()
+        count_for(&self.messages, peer)
     }
 
-    /// Takes the messages for a federate.
-    pub fn take(&mut self, peer: FederateNo) -> Vec<Message>
-        requires some { 0 < peer }
-        requires within { peer ≤ max_joins }
-        ensures messages { result.items ≡ item [] self.old peer }
-        ensures others { item [] self.new ≡ upd (item [] self.old) peer [] }
+    /// The messages, in the order in which they were made.
+    pub(crate) fn into_messages(self) -> Vec<Addressed>
+        ensures { by_peer result.items ≡ self }
     {
-        let empty = List::new(self.alloc);
-        std::mem::replace(&mut self.messages[peer as usize - 1], empty).into_vec()
+        self.messages
     }
 }
