@@ -2,6 +2,8 @@
 pub mod NameLemmas
 -- A word, a comment and a quoted name end where their bytes end.
 pub mod Lexing
+-- A run of bytes is as long as its lanes say.
+pub mod SpanLemmas
 -- One more token.
 pub mod ReadingLemmas
 -- What is in the grammar is read: one symbol after the other, and ignored lists.

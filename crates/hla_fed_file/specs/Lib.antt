@@ -14,6 +14,8 @@ pub mod Fault
 pub mod Lexical
 -- Tokens of the code as tokens of the text.
 pub mod Tokens
+-- Bytes in front that pass a test, several at a time
+pub mod Spans
 -- The words with a meaning, whatever their case
 pub mod Keywords
 -- What a declaration adds to a catalogue. Numbers count up from 1, in the order of the text; the lineage is the classes around a place, innermost first

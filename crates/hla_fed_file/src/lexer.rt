@@ -1,10 +1,11 @@
 //! The tokens of a FED text.
 
 ghost use Rattle.std.specs.Prelude.{◌≡◌, false, ◌+◌, ◌<◌, ◌≤◌, ◌^◌, ◌∷◌, ℕ, length, drop};
-ghost use Rattle.std.specs.List.{take_while, prefix_len};
+ghost use Rattle.std.specs.List.{take_while};
 ghost use Rattle.hla_fed_file.specs.Lexical.{is_blank, is_bad, is_word, is_quoted, is_comment, has_bad_front, tokens_from, Between, Lexed, drop_while};
 ghost use Rattle.hla_fed_file.specs.Tokens.{view, stream, is_end, IsFront, StartsWord};
 
+use crate::spans::{is_bad, is_blank, quoted_len, word_len};
 use bstr::ByteSlice;
 
 /// A token.
@@ -29,48 +30,6 @@ impl Token<'_> {
     {
         matches!(self, Token::End)
     }
-}
-
-#[tactic(auto, unfolding(crate::specs::Lexical::is_blank))]
-fn is_blank(byte: u8) -> bool
-    ensures { result ≡ is_blank byte }
-{
-    matches!(byte, b' ' | b'\t' | b'\r' | 11 | 12)
-}
-
-#[tactic(auto, unfolding(crate::specs::Lexical::is_bad))]
-fn is_bad(byte: u8) -> bool
-    ensures { result ≡ is_bad byte }
-{
-    (byte < 32 && byte != b'\n' && !is_blank(byte)) || byte == 127
-}
-
-#[tactic(auto, unfolding(crate::specs::Lexical::is_word, crate::specs::Lexical::is_mark))]
-fn is_word(byte: u8) -> bool
-    ensures { result ≡ is_word byte }
-{
-    !(byte == b'\n' || is_blank(byte) || matches!(byte, b'(' | b')' | b';' | b'"') || is_bad(byte))
-}
-
-#[tactic(auto, unfolding(crate::specs::Lexical::is_quoted))]
-fn is_quoted(byte: u8) -> bool
-    ensures { result ≡ is_quoted byte }
-{
-    !(byte == b'"' || byte == b'\n' || is_bad(byte))
-}
-
-fn word_len(text: &[u8]) -> usize
-    ensures count { result ≡ prefix_len is_word text.now }
-    ensures within { result ≤ length text.now }
-{
-    text.iter().take_while(|b| is_word(**b)).count()
-}
-
-fn quoted_len(text: &[u8]) -> usize
-    ensures count { result ≡ prefix_len is_quoted text.now }
-    ensures within { result ≤ length text.now }
-{
-    text.iter().take_while(|b| is_quoted(**b)).count()
 }
 
 /// The bytes of a word in front, and what follows them.

@@ -12,6 +12,7 @@ mod names;
 mod place;
 mod reader;
 mod reading;
+mod spans;
 
 pub use catalogue::Catalogue;
 pub use declared::{Attribute, InteractionClass, ObjectClass, Order, Parameter, Transport};

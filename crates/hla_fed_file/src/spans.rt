@@ -1,0 +1,133 @@
+//! How far a word or a quoted name reaches, by comparing several bytes at a time: most of a FED text is names.
+
+ghost use Rattle.std.specs.Prelude.{◌≡◌, ◌+◌, ◌≤◌, length};
+ghost use Rattle.std.specs.List.{prefix_len};
+ghost use Rattle.hla_fed_file.specs.Lexical.{is_blank, is_bad, is_word, is_quoted};
+ghost use Rattle.hla_fed_file.specs.Spans.{IsRun, first_set};
+
+use std::simd::prelude::*;
+
+/// How many bytes are compared at a time.
+const LANES: usize = 16;
+
+#[tactic(auto, unfolding(crate::specs::Lexical::is_blank))]
+pub(crate) fn is_blank(byte: u8) -> bool
+    ensures { result ≡ is_blank byte }
+{
+    matches!(byte, b' ' | b'\t' | b'\r' | 11 | 12)
+}
+
+#[tactic(auto, unfolding(crate::specs::Lexical::is_bad))]
+pub(crate) fn is_bad(byte: u8) -> bool
+    ensures { result ≡ is_bad byte }
+{
+    (byte < 32 && byte != b'\n' && !is_blank(byte)) || byte == 127
+}
+
+#[tactic(auto, unfolding(crate::specs::Lexical::is_word, crate::specs::Lexical::is_mark))]
+fn is_word(byte: u8) -> bool
+    ensures { result ≡ is_word byte }
+{
+    !(byte == b'\n' || is_blank(byte) || matches!(byte, b'(' | b')' | b';' | b'"') || is_bad(byte))
+}
+
+#[tactic(auto, unfolding(crate::specs::Lexical::is_quoted))]
+fn is_quoted(byte: u8) -> bool
+    ensures { result ≡ is_quoted byte }
+{
+    !(byte == b'"' || byte == b'\n' || is_bad(byte))
+}
+
+/// The place of the lowest bit of a mask, or the number of all lanes where no bit is set.
+#[inline(always)]
+fn first_set(mask: u64) -> usize
+    ensures { result ≡ first_set mask LANES }
+{
+    if mask == 0 {
+        LANES
+    } else {
+        mask.trailing_zeros() as usize
+    }
+}
+
+/// How many of the bytes of one load, from the first, may stand in a word.
+#[inline(always)]
+fn word_run(text: &[u8], at: usize) -> usize
+    requires { at + LANES ≤ length text.now }
+    ensures { IsRun is_word text.now at LANES result }
+{
+    let bytes = u8x16::from_slice(&text[at..]);
+    let ends = bytes.simd_lt(u8x16::splat(33))
+        | bytes.simd_eq(u8x16::splat(b'('))
+        | bytes.simd_eq(u8x16::splat(b')'))
+        | bytes.simd_eq(u8x16::splat(b'"'))
+        | bytes.simd_eq(u8x16::splat(b';'))
+        | bytes.simd_eq(u8x16::splat(127));
+    first_set(ends.to_bitmask())
+}
+
+/// How many of the bytes of one load, from the first, may stand in a quoted name.
+#[inline(always)]
+fn quoted_run(text: &[u8], at: usize) -> usize
+    requires { at + LANES ≤ length text.now }
+    ensures { IsRun is_quoted text.now at LANES result }
+{
+    let bytes = u8x16::from_slice(&text[at..]);
+    let control = bytes.simd_lt(u8x16::splat(32));
+    let blank = bytes.simd_eq(u8x16::splat(b'\t'))
+        | bytes.simd_eq(u8x16::splat(11))
+        | bytes.simd_eq(u8x16::splat(12))
+        | bytes.simd_eq(u8x16::splat(b'\r'));
+    let ends = (control & !blank)
+        | bytes.simd_eq(u8x16::splat(b'"'))
+        | bytes.simd_eq(u8x16::splat(127));
+    first_set(ends.to_bitmask())
+}
+
+/// How many bytes in front may stand in a word, one by one.
+fn word_bytes(text: &[u8]) -> usize
+    ensures count { result ≡ prefix_len is_word text.now }
+    ensures within { result ≤ length text.now }
+{
+    text.iter().take_while(|b| is_word(**b)).count()
+}
+
+/// How many bytes in front may stand in a word.
+pub(crate) fn word_len(text: &[u8]) -> usize
+    ensures count { result ≡ prefix_len is_word text.now }
+    ensures within { result ≤ length text.now }
+{
+    let mut at = 0;
+    while text.len() - at >= LANES {
+        let run = word_run(text, at);
+        at += run;
+        if run < LANES {
+            return at;
+        }
+    }
+    at + word_bytes(&text[at..])
+}
+
+/// How many bytes in front may stand in a quoted name, one by one.
+fn quoted_bytes(text: &[u8]) -> usize
+    ensures count { result ≡ prefix_len is_quoted text.now }
+    ensures within { result ≤ length text.now }
+{
+    text.iter().take_while(|b| is_quoted(**b)).count()
+}
+
+/// How many bytes in front may stand in a quoted name.
+pub(crate) fn quoted_len(text: &[u8]) -> usize
+    ensures count { result ≡ prefix_len is_quoted text.now }
+    ensures within { result ≤ length text.now }
+{
+    let mut at = 0;
+    while text.len() - at >= LANES {
+        let run = quoted_run(text, at);
+        at += run;
+        if run < LANES {
+            return at;
+        }
+    }
+    at + quoted_bytes(&text[at..])
+}
