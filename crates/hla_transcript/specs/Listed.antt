@@ -1,5 +1,5 @@
 -- How a catalogue is listed
-use Rattle.std.specs.Prelude.{ℕ, ◌==◌, Bool, true, false, List, [], ◌++◌, Option, Result, Ok, Err, codes, decimal, if◌then◌else◌}
+use Rattle.std.specs.Prelude.{◌≡◌, ℕ, ◌+◌, ◌<◌, ◌≤◌, length, get_or, ◌==◌, Bool, true, false, List, [], ◌++◌, Option, Result, Ok, Err, codes, decimal, if◌then◌else◌}
 use Rattle.std.specs.List.{flat_map, enumerate_from}
 use Rattle.std.specs.Io.KnownBytes.{Appends}
 use Rattle.hla_fed_file.specs.declared.declared.Attribute.{Attribute}
@@ -27,6 +27,21 @@ order_text order.Timestamp = codes "timestamp"
 -- the texts of items, each with its number; numbers count from 1
 abbrev pub numbered_texts : {X : Type 0} → (ℕ → X → List ℕ) → List X → List ℕ
 numbered_texts text xs = flat_map (λ p. text p.0 p.1) (enumerate_from 1 xs)
+
+-- so many texts, and all are empty
+pub record AreEmpty (count : ℕ) (texts : List (List ℕ)) : Type 0 where
+  pub many : length texts ≡ count
+  pub empty : (k : ℕ) → get_or texts k [] ≡ []
+
+-- at each place a text grows by what the place is given
+pub record EachGrows (given : ℕ → List ℕ) (old new : List (List ℕ)) : Type 0 where
+  pub many : length new ≡ length old
+  pub grows : (k : ℕ) → k < length old → get_or new k [] ≡ get_or old k [] ++ given k
+
+-- at the number of each class, the texts of its own items
+pub record AreOwn {X : Type 0} (own : ℕ → ℕ → X → List ℕ) (classes : ℕ) (xs : List X) (texts : List (List ℕ)) : Type 0 where
+  pub many : length texts ≡ classes + 1
+  pub whole : (class : ℕ) → class ≤ classes → get_or texts class [] ≡ numbered_texts (own class) xs
 
 -- the line of an attribute
 abbrev pub attribute_text : ℕ → Attribute → List ℕ

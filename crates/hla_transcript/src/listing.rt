@@ -2,7 +2,7 @@
 
 ghost use Rattle.std.specs.Prelude.{◌≡◌, ◌||◌, ◌++◌, ◌≤◌, length, codes, OnOk, IfOk, IfErr};
 ghost use Rattle.hla_base.specs.Limits.{max_classes};
-ghost use Rattle.hla_transcript.specs.Listed.{transport_text, order_text, numbered_texts, attribute_text, parameter_text, own_attribute_text, own_parameter_text, object_line, interaction_line, object_text, interaction_text, listing, IsListed, StopsListing, is_unwritten};
+ghost use Rattle.hla_transcript.specs.Listed.{transport_text, order_text, numbered_texts, AreEmpty, EachGrows, AreOwn, attribute_text, parameter_text, own_attribute_text, own_parameter_text, object_line, interaction_line, object_text, interaction_text, listing, IsListed, StopsListing, is_unwritten};
 
 use crate::text::Text;
 use crate::watched::Watched;
@@ -77,32 +77,81 @@ fn parameter_line(text: &mut Text, number: u64, parameter: &Parameter) -> Result
     text.word("\n")
 }
 
-/// Adds the lines of the attributes that a class declares itself.
-fn own_attributes(text: &mut Text, class: ClassNo, attributes: &[Attribute]) -> Result<(), Fault>
-    ensures ok { OnOk result (text.new ≡ text.old ++ numbered_texts (own_attribute_text class)
-        attributes.now) }
+/// So many empty texts; or that a growth was refused.
+fn empty_texts(alloc: Global, count: usize) -> Result<Vec<Text>, Fault>
+    ensures ok { IfOk result (λ texts. AreEmpty count texts.items) }
     ensures err { IfErr result (λ e. e ≡ Fault.OutOfMemory) }
 {
-    for (place, attribute) in attributes.iter().enumerate() {
-        if attribute.class == class {
-            attribute_line(text, place as u64 + 1, attribute)?;
+    let mut texts = Vec::new(alloc);
+    for _ in 0..count {
+        if texts.push(Text::new(alloc)).is_err() {
+            return Err(Fault::OutOfMemory);
         }
     }
-    Ok(())
+    Ok(texts)
 }
 
-/// Adds the lines of the parameters that a class declares itself.
-fn own_parameters(text: &mut Text, class: ClassNo, parameters: &[Parameter]) -> Result<(), Fault>
-    ensures ok { OnOk result (text.new ≡ text.old ++ numbered_texts (own_parameter_text class)
-        parameters.now) }
+/// Adds the line of an attribute to the text of the class that declares it.
+fn note_attribute(texts: &mut Vec<Text>, number: u64, attribute: &Attribute) -> Result<(), Fault>
+    ensures ok { OnOk result (EachGrows (λ class. own_attribute_text class number attribute.now) texts.old.items
+        texts.new.items) }
     ensures err { IfErr result (λ e. e ≡ Fault.OutOfMemory) }
 {
-    for (place, parameter) in parameters.iter().enumerate() {
-        if parameter.class == class {
-            parameter_line(text, place as u64 + 1, parameter)?;
-        }
+    let class = attribute.class as usize;
+    if class < texts.len() {
+        attribute_line(&mut texts[class], number, attribute)
+    } else {
+        Ok(())
     }
-    Ok(())
+}
+
+/// Adds the line of a parameter to the text of the class that declares it.
+fn note_parameter(texts: &mut Vec<Text>, number: u64, parameter: &Parameter) -> Result<(), Fault>
+    ensures ok { OnOk result (EachGrows (λ class. own_parameter_text class number parameter.now) texts.old.items
+        texts.new.items) }
+    ensures err { IfErr result (λ e. e ≡ Fault.OutOfMemory) }
+{
+    let class = parameter.class as usize;
+    if class < texts.len() {
+        parameter_line(&mut texts[class], number, parameter)
+    } else {
+        Ok(())
+    }
+}
+
+/// The lines of the attributes that each class declares itself, at its number. They are made in one pass over all attributes,
+/// since those of a class may stand apart, and a pass for each class would take as long again for each of them.
+fn attribute_texts(
+    alloc: Global,
+    classes: usize,
+    attributes: &[Attribute],
+) -> Result<Vec<Text>, Fault>
+    requires { classes ≤ max_classes }
+    ensures ok { IfOk result (λ texts. AreOwn own_attribute_text classes attributes.now texts.items) }
+    ensures err { IfErr result (λ e. e ≡ Fault.OutOfMemory) }
+{
+    let mut texts = empty_texts(alloc, classes + 1)?;
+    for (place, attribute) in attributes.iter().enumerate() {
+        note_attribute(&mut texts, place as u64 + 1, attribute)?;
+    }
+    Ok(texts)
+}
+
+/// The lines of the parameters that each class declares itself, at its number, made in one pass over all parameters.
+fn parameter_texts(
+    alloc: Global,
+    classes: usize,
+    parameters: &[Parameter],
+) -> Result<Vec<Text>, Fault>
+    requires { classes ≤ max_classes }
+    ensures ok { IfOk result (λ texts. AreOwn own_parameter_text classes parameters.now texts.items) }
+    ensures err { IfErr result (λ e. e ≡ Fault.OutOfMemory) }
+{
+    let mut texts = empty_texts(alloc, classes + 1)?;
+    for (place, parameter) in parameters.iter().enumerate() {
+        note_parameter(&mut texts, place as u64 + 1, parameter)?;
+    }
+    Ok(texts)
 }
 
 /// Adds the line of an object class.
@@ -130,36 +179,9 @@ fn interaction_class_line(
     text.word("\n")
 }
 
-/// Adds an object class and its own attributes.
-fn object_class(
-    text: &mut Text,
-    number: ClassNo,
-    class: &ObjectClass,
-    attributes: &[Attribute],
-) -> Result<(), Fault>
-    ensures ok { OnOk result (text.new ≡ text.old ++ object_text attributes.now number class.now) }
-    ensures err { IfErr result (λ e. e ≡ Fault.OutOfMemory) }
-{
-    object_class_line(text, number, class)?;
-    own_attributes(text, number, attributes)
-}
-
-/// Adds an interaction class and its own parameters.
-fn interaction_class(
-    text: &mut Text,
-    number: ClassNo,
-    class: &InteractionClass,
-    parameters: &[Parameter],
-) -> Result<(), Fault>
-    ensures ok { OnOk result (text.new ≡ text.old ++ interaction_text parameters.now number class.now) }
-    ensures err { IfErr result (λ e. e ≡ Fault.OutOfMemory) }
-{
-    interaction_class_line(text, number, class)?;
-    own_parameters(text, number, parameters)
-}
-
 /// Adds object classes with their own attributes.
 fn object_classes(
+    alloc: Global,
     text: &mut Text,
     classes: &[ObjectClass],
     attributes: &[Attribute],
@@ -169,14 +191,17 @@ fn object_classes(
         classes.now) }
     ensures err { IfErr result (λ e. e ≡ Fault.OutOfMemory) }
 {
+    let own = attribute_texts(alloc, classes.len(), attributes)?;
     for (place, class) in classes.iter().enumerate() {
-        object_class(text, place as u32 + 1, class, attributes)?;
+        object_class_line(text, place as u32 + 1, class)?;
+        text.bytes(own[place + 1].as_slice())?;
     }
     Ok(())
 }
 
 /// Adds interaction classes with their own parameters.
 fn interaction_classes(
+    alloc: Global,
     text: &mut Text,
     classes: &[InteractionClass],
     parameters: &[Parameter],
@@ -186,8 +211,10 @@ fn interaction_classes(
         classes.now) }
     ensures err { IfErr result (λ e. e ≡ Fault.OutOfMemory) }
 {
+    let own = parameter_texts(alloc, classes.len(), parameters)?;
     for (place, class) in classes.iter().enumerate() {
-        interaction_class(text, place as u32 + 1, class, parameters)?;
+        interaction_class_line(text, place as u32 + 1, class)?;
+        text.bytes(own[place + 1].as_slice())?;
     }
     Ok(())
 }
@@ -200,11 +227,13 @@ fn listing_text(alloc: Global, catalogue: &Catalogue) -> Result<Text, Fault>
 {
     let mut text = Text::new(alloc);
     object_classes(
+        alloc,
         &mut text,
         catalogue.object_classes(),
         catalogue.attributes(),
     )?;
     interaction_classes(
+        alloc,
         &mut text,
         catalogue.interaction_classes(),
         catalogue.parameters(),

@@ -1,0 +1,13 @@
+use Rattle.std.proofs.Common.{◌∙◌}
+use Rattle.hla_transcript.specs.Listed.{own_parameter_text}
+use Rattle.hla_transcript.proofs.ListLemmas.{made_more, made_all}
+use Rattle.hla_transcript.proofs.listing.parameter_texts.Goals as goal
+
+pub loop-place-preserved : goal.loop-place-preserved
+loop-place-preserved c = record {
+  many = c.in_ok-note_parameter.ensures.ok.many ∙ c.loop-place.invariant.many;
+  made = made_more own_parameter_text c.args.classes c.loop-place.texts.items _ c.args.parameters.now c.loop-place.place c.index-parameters-place.result c.loop-place-test.true c.index-parameters-place.is c.loop-place.invariant.many c.loop-place.invariant.made c.in_ok-note_parameter.ensures.ok;
+}
+
+pub returns-clause-ok : goal.returns-clause-ok
+returns-clause-ok c = made_all own_parameter_text c.args.classes c.loop-place.texts.items c.args.parameters.now c.loop-place.place c.loop-place-test.false c.loop-place.invariant.many c.loop-place.invariant.made
