@@ -2,9 +2,9 @@
 
 ghost use Rattle.std.proofs.Common.{rules};
 
-use crate::list::List;
 use crate::number::{ClassNo, FederateNo, ObjectNo, Serial, Ticks};
 use crate::plain::Plain;
+use crate::shared_list::SharedList;
 use crate::value::Value;
 
 /// An attribute or a parameter, by its number, with its value.
@@ -20,12 +20,12 @@ pub enum Content {
     /// An interaction, at the class at which the receiver gets it.
     Interaction {
         class: ClassNo,
-        values: List<HandleValuePair>,
+        values: SharedList<HandleValuePair>,
     },
     /// An update of attributes of an object.
     Reflection {
         object: ObjectNo,
-        values: List<HandleValuePair>,
+        values: SharedList<HandleValuePair>,
     },
     /// The deletion of an object.
     Removal {
@@ -50,7 +50,7 @@ pub struct Event {
 pub struct Discovery {
     pub object: ObjectNo,
     pub class: ClassNo,
-    pub name: List<u8>,
+    pub name: SharedList<u8>,
 }
 
 impl Plain for HandleValuePair {

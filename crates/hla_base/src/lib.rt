@@ -9,6 +9,7 @@ mod name;
 mod number;
 mod plain;
 mod row;
+mod shared_list;
 mod value;
 
 pub use content::{Content, Discovery, Event, HandleValuePair};
@@ -26,4 +27,5 @@ pub use number::{
 };
 pub use plain::Plain;
 pub use row::{AdvanceKind, AdvanceRequest, Role, TimeRow};
+pub use shared_list::SharedList;
 pub use value::Value;

@@ -5,7 +5,7 @@ ghost use Rattle.hla_callbacks.specs.declared.callback.Callback.{Callback};
 ghost use Rattle.hla_callbacks.specs.declared.callback.Callback.TheVariants as callback;
 
 use crate::callback::Delivery;
-use hla_base::{ClassNo, EventHandle, Fault, HandleValuePair, List, ObjectNo, Ticks};
+use hla_base::{ClassNo, EventHandle, Fault, HandleValuePair, ObjectNo, SharedList, Ticks};
 
 /// That a federate ambassador failed in a callback. The callback counts as given (`FederateInternalError` of HLA 1.3).
 #[derive(Clone, Copy, Debug, PartialEq, Eq)]
@@ -34,7 +34,7 @@ pub trait FederateAmbassador: Drop {
         &mut self,
         object: ObjectNo,
         class: ClassNo,
-        name: List<u8>,
+        name: SharedList<u8>,
     ) -> Result<(), FederateFault>
         requires { room self.old ≡ true }
         ensures { heard self.new ≡ heard self.old ++ callback.DiscoverObjectInstance object class name ∷ [] };
@@ -43,7 +43,7 @@ pub trait FederateAmbassador: Drop {
     fn reflect_attribute_values(
         &mut self,
         object: ObjectNo,
-        values: List<HandleValuePair>,
+        values: SharedList<HandleValuePair>,
         event: EventHandle,
         delivery: Delivery,
     ) -> Result<(), FederateFault>
@@ -55,7 +55,7 @@ pub trait FederateAmbassador: Drop {
     fn receive_interaction(
         &mut self,
         class: ClassNo,
-        values: List<HandleValuePair>,
+        values: SharedList<HandleValuePair>,
         event: EventHandle,
         delivery: Delivery,
     ) -> Result<(), FederateFault>
@@ -108,7 +108,7 @@ impl FederateAmbassador for Box<dyn FederateAmbassador + Send> {
         &mut self,
         object: ObjectNo,
         class: ClassNo,
-        name: List<u8>,
+        name: SharedList<u8>,
     ) -> Result<(), FederateFault> {
         (**self).discover_object_instance(object, class, name)
     }
@@ -116,7 +116,7 @@ impl FederateAmbassador for Box<dyn FederateAmbassador + Send> {
     fn reflect_attribute_values(
         &mut self,
         object: ObjectNo,
-        values: List<HandleValuePair>,
+        values: SharedList<HandleValuePair>,
         event: EventHandle,
         delivery: Delivery,
     ) -> Result<(), FederateFault> {
@@ -126,7 +126,7 @@ impl FederateAmbassador for Box<dyn FederateAmbassador + Send> {
     fn receive_interaction(
         &mut self,
         class: ClassNo,
-        values: List<HandleValuePair>,
+        values: SharedList<HandleValuePair>,
         event: EventHandle,
         delivery: Delivery,
     ) -> Result<(), FederateFault> {

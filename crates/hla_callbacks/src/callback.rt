@@ -2,7 +2,7 @@
 
 ghost use Rattle.std.proofs.Common.{rules};
 
-use hla_base::{ClassNo, EventHandle, HandleValuePair, List, ObjectNo, Plain, Ticks};
+use hla_base::{ClassNo, EventHandle, HandleValuePair, ObjectNo, Plain, SharedList, Ticks};
 
 /// In which order a message was sent, and in which it is given.
 #[derive(Clone, Copy, Debug, PartialEq, Eq)]
@@ -23,19 +23,19 @@ pub enum Callback {
     DiscoverObjectInstance {
         object: ObjectNo,
         class: ClassNo,
-        name: List<u8>,
+        name: SharedList<u8>,
     },
     /// Reflect Attribute Values.
     ReflectAttributeValues {
         object: ObjectNo,
-        values: List<HandleValuePair>,
+        values: SharedList<HandleValuePair>,
         event: EventHandle,
         delivery: Delivery,
     },
     /// Receive Interaction.
     ReceiveInteraction {
         class: ClassNo,
-        values: List<HandleValuePair>,
+        values: SharedList<HandleValuePair>,
         event: EventHandle,
         delivery: Delivery,
     },

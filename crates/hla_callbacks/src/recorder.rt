@@ -4,7 +4,7 @@ ghost use Rattle.std.specs.Prelude.{◌≡◌, true, [], ◌∷◌, ◌++◌};
 
 use crate::ambassador::{FederateAmbassador, FederateFault};
 use crate::callback::{Callback, Delivery};
-use hla_base::{ClassNo, EventHandle, Fault, HandleValuePair, List, ObjectNo, Ticks};
+use hla_base::{ClassNo, EventHandle, Fault, HandleValuePair, ObjectNo, SharedList, Ticks};
 use std::alloc::Global;
 use std::marker::Model;
 
@@ -84,7 +84,7 @@ impl FederateAmbassador for Recorder {
         &mut self,
         object: ObjectNo,
         class: ClassNo,
-        name: List<u8>,
+        name: SharedList<u8>,
     ) -> Result<(), FederateFault> {
         self.hear(Callback::DiscoverObjectInstance {
             object,
@@ -96,7 +96,7 @@ impl FederateAmbassador for Recorder {
     fn reflect_attribute_values(
         &mut self,
         object: ObjectNo,
-        values: List<HandleValuePair>,
+        values: SharedList<HandleValuePair>,
         event: EventHandle,
         delivery: Delivery,
     ) -> Result<(), FederateFault> {
@@ -111,7 +111,7 @@ impl FederateAmbassador for Recorder {
     fn receive_interaction(
         &mut self,
         class: ClassNo,
-        values: List<HandleValuePair>,
+        values: SharedList<HandleValuePair>,
         event: EventHandle,
         delivery: Delivery,
     ) -> Result<(), FederateFault> {

@@ -10,7 +10,9 @@ ghost use Rattle.hla_checker.specs.Kept.{directory_of};
 ghost use Rattle.hla_checker.specs.Sending.{body_said, AreContents};
 
 use crate::kept::KeptExecution;
-use hla_base::{ClassNo, Content, Fault, FederateNo, HandleValuePair, List, ObjectNo, Plain};
+use hla_base::{
+    ClassNo, Content, Fault, FederateNo, HandleValuePair, List, ObjectNo, Plain, SharedList,
+};
 use hla_fed_file::Order;
 
 /// What a service sends, before it is cut to what each receiver is shown. The values are by rising handle.
@@ -42,7 +44,7 @@ impl KeptExecution {
         &self,
         class: ClassNo,
         values: &[HandleValuePair],
-    ) -> Result<List<HandleValuePair>, Fault>
+    ) -> Result<SharedList<HandleValuePair>, Fault>
         ensures ok { IfOk result (λ shown. shown ≡ filter
             (λ (v : HandleValuePair). has_parameter self.now.catalogue class v.handle) values.now) }
         ensures err { IfErr result (λ e. e ≡ Fault.OutOfMemory) }
@@ -53,7 +55,8 @@ impl KeptExecution {
                 shown.push(value.copy()?)?;
             }
         }
-        Ok(shown)
+        let shared = SharedList::from_list(shown)?;
+        Ok(shared)
     }
 
     /// The values of the attributes that a federate subscribes at a class. `OutOfMemory` where a growth was refused.
@@ -62,7 +65,7 @@ impl KeptExecution {
         federate: FederateNo,
         class: ClassNo,
         values: &[HandleValuePair],
-    ) -> Result<List<HandleValuePair>, Fault>
+    ) -> Result<SharedList<HandleValuePair>, Fault>
         ensures ok { IfOk result (λ shown. shown ≡ subscribed_values (directory_of self.now) federate class
             values.now) }
         ensures err { IfErr result (λ e. e ≡ Fault.OutOfMemory) }
@@ -76,7 +79,8 @@ impl KeptExecution {
                 shown.push(value.copy()?)?;
             }
         }
-        Ok(shown)
+        let shared = SharedList::from_list(shown)?;
+        Ok(shared)
     }
 
     /// What an interaction says to a federate, if anything. `OutOfMemory` where a growth was refused.

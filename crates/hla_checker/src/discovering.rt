@@ -15,7 +15,7 @@ ghost use Rattle.hla_checker.specs.Verdicts.{Judged};
 use crate::outcomes::is_nothing;
 use crate::verdict::Verdict;
 use hla_accounts::Accounts;
-use hla_base::{ClassNo, Discovery, Fault, FederateNo, List, ObjectNo, Plain};
+use hla_base::{ClassNo, Discovery, Fault, FederateNo, ObjectNo, Plain, SharedList};
 use hla_machine::Choice;
 use hla_object_registry::Registry;
 
@@ -52,7 +52,7 @@ pub(crate) fn judge_discovery(
     federate: FederateNo,
     object: ObjectNo,
     class: ClassNo,
-    name: &List<u8>,
+    name: &SharedList<u8>,
     choice: &Choice,
 ) -> Result<Verdict, Fault>
     requires { (account_at accounts.old federate).is_joined ≡ true }

@@ -17,7 +17,7 @@ use crate::outcomes::is_nothing;
 use crate::verdict::Verdict;
 use hla_accounts::{Accounts, RowChange};
 use hla_base::{
-    ClassNo, Content, EventHandle, Fault, FederateNo, HandleValuePair, List, ObjectNo, Plain,
+    ClassNo, Content, EventHandle, Fault, FederateNo, HandleValuePair, ObjectNo, Plain, SharedList,
 };
 use hla_callbacks::Delivery;
 use hla_machine::Choice;
@@ -72,7 +72,7 @@ pub(crate) fn judge_reflection(
     accounts: &mut Accounts,
     federate: FederateNo,
     object: ObjectNo,
-    values: &List<HandleValuePair>,
+    values: &SharedList<HandleValuePair>,
     event: EventHandle,
     delivery: Delivery,
     choice: &Choice,
@@ -95,7 +95,7 @@ pub(crate) fn judge_interaction(
     accounts: &mut Accounts,
     federate: FederateNo,
     class: ClassNo,
-    values: &List<HandleValuePair>,
+    values: &SharedList<HandleValuePair>,
     event: EventHandle,
     delivery: Delivery,
     choice: &Choice,

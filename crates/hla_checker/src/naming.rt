@@ -4,12 +4,12 @@ ghost use Rattle.std.specs.Prelude.{◌≡◌, IfOk, IfErr};
 ghost use Rattle.hla_base.specs.declared.fault.Fault.TheVariants.{OutOfMemory};
 ghost use Rattle.hla_machine.specs.Directory.{default_name, name_or_default};
 
-use hla_base::{Fault, List, ObjectNo, Plain};
+use hla_base::{Fault, List, ObjectNo, Plain, SharedList};
 use std::alloc::Global;
 use std::io::Write;
 
 /// A copy of a name; `OutOfMemory` where the growth was refused.
-pub(crate) fn name_copy(alloc: Global, name: &[u8]) -> Result<List<u8>, Fault>
+fn name_copy(alloc: Global, name: &[u8]) -> Result<List<u8>, Fault>
     ensures ok { IfOk result (λ copy. copy ≡ name.now) }
     ensures err { IfErr result (λ e. e ≡ Fault.OutOfMemory) }
 {
@@ -17,6 +17,16 @@ pub(crate) fn name_copy(alloc: Global, name: &[u8]) -> Result<List<u8>, Fault>
         Ok(copy) => Ok(List::from_vec(copy)),
         Err(_) => Err(Fault::OutOfMemory),
     }
+}
+
+/// A copy of a name, which its own copies share; `OutOfMemory` where a growth was refused.
+pub(crate) fn shared_name(alloc: Global, name: &[u8]) -> Result<SharedList<u8>, Fault>
+    ensures ok { IfOk result (λ copy. copy ≡ name.now) }
+    ensures err { IfErr result (λ e. e ≡ Fault.OutOfMemory) }
+{
+    let copy = name_copy(alloc, name)?;
+    let shared = SharedList::from_list(copy)?;
+    Ok(shared)
 }
 
 /// The name of an object for which none was given; `OutOfMemory` where a growth was refused.

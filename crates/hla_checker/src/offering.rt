@@ -13,7 +13,7 @@ ghost use Rattle.hla_accounts.specs.Accounts.{account_at, central_with, offers_f
 ghost use Rattle.hla_checker.specs.Kept.{directory_kept};
 ghost use Rattle.hla_checker.specs.Offering.{is_wanted, known_to_joined, wanted_of, wanted_discoveries};
 
-use crate::naming::name_copy;
+use crate::naming::shared_name;
 use hla_accounts::{Accounts, Offer};
 use hla_base::{ClassNo, Discovery, Fault, FederateNo, ObjectNo};
 use hla_declaration::Declarations;
@@ -88,7 +88,7 @@ pub(crate) fn offers_to(
     let end = registry.next_object();
     for object in 1..end {
         if let Some(class) = wanted_class(catalogue, declarations, registry, of, federate, object) {
-            let name = name_copy(alloc, registry.name_of(object))?;
+            let name = shared_name(alloc, registry.name_of(object))?;
             let from = registry.owner(object);
             let discovery = Discovery {
                 object,

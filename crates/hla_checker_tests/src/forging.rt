@@ -1,6 +1,6 @@
 //! Records of scripts, and what is told of them once one is forged. Places count from 0.
 
-use hla_base::{EventHandle, List};
+use hla_base::{EventHandle, List, SharedList};
 use hla_callbacks::{Callback, Delivery};
 use hla_checker::{CheckFault, check_run};
 use hla_machine::{Act, Answer, Choice, Outcome, Record, Service, Step};
@@ -137,11 +137,11 @@ pub fn ticked(callback: Callback) -> Outcome {
 }
 
 /// A hit of federate 1 with no values.
-pub fn hit(alloc: Global, serial: u64, delivery: Delivery) -> Outcome {
-    ticked(Callback::ReceiveInteraction {
+pub fn hit(alloc: Global, serial: u64, delivery: Delivery) -> Result<Outcome, Fail> {
+    Ok(ticked(Callback::ReceiveInteraction {
         class: HIT,
-        values: List::new(alloc),
+        values: SharedList::from_list(List::new(alloc))?,
         event: EventHandle { sender: 1, serial },
         delivery,
-    })
+    }))
 }

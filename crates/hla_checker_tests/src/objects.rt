@@ -1,7 +1,7 @@
 //! Forgeries of objects.
 
 use crate::forging::{call, refuses_outcome, refuses_step, refuses_without, ticked};
-use hla_base::{EventHandle, List};
+use hla_base::{EventHandle, List, SharedList};
 use hla_callbacks::{Callback, Delivery};
 use hla_machine::{Answer, Outcome, Service};
 use std::test::Fail;
@@ -65,7 +65,7 @@ fn update_without_its_values(rt: HostRuntime) -> Result<(), Fail> {
     let alloc = rt.alloc();
     let reflected = ticked(Callback::ReflectAttributeValues {
         object: 1,
-        values: List::new(alloc),
+        values: SharedList::from_list(List::new(alloc))?,
         event: EventHandle {
             sender: 1,
             serial: 1,

@@ -92,14 +92,14 @@ fn outcome_of_another_send(rt: HostRuntime) -> Result<(), Fail> {
 #[test]
 fn stamp_of_a_callback(rt: HostRuntime) -> Result<(), Fail> {
     let alloc = rt.alloc();
-    let forged = hit(alloc, 2, Delivery::TimeStamp { stamp: 3 });
+    let forged = hit(alloc, 2, Delivery::TimeStamp { stamp: 3 })?;
     refuses_outcome(&rt, alloc, HITS, 19, forged)
 }
 
 #[test]
 fn order_of_a_callback(rt: HostRuntime) -> Result<(), Fail> {
     let alloc = rt.alloc();
-    let forged = hit(alloc, 2, Delivery::Receive);
+    let forged = hit(alloc, 2, Delivery::Receive)?;
     refuses_outcome(&rt, alloc, HITS, 19, forged)
 }
 
@@ -159,7 +159,7 @@ fn pick_of_the_sender(rt: HostRuntime) -> Result<(), Fail> {
 #[test]
 fn pick_of_a_retracted_event(rt: HostRuntime) -> Result<(), Fail> {
     let alloc = rt.alloc();
-    let forged = hit(alloc, 1, Delivery::TimeStamp { stamp: 9 });
+    let forged = hit(alloc, 1, Delivery::TimeStamp { stamp: 9 })?;
     refuses_outcome(&rt, alloc, RETRACTED, 20, forged)
 }
 
@@ -192,7 +192,7 @@ fn retraction_asked_of_another_event(rt: HostRuntime) -> Result<(), Fail> {
 #[test]
 fn pick_once_more(rt: HostRuntime) -> Result<(), Fail> {
     let alloc = rt.alloc();
-    let forged = hit(alloc, 2, Delivery::TimeStamp { stamp: 1 });
+    let forged = hit(alloc, 2, Delivery::TimeStamp { stamp: 1 })?;
     refuses_outcome(&rt, alloc, RETRACTED, 20, forged)
 }
 

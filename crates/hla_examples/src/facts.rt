@@ -1,6 +1,6 @@
 //! What a record says, as far as a forgery needs it.
 
-use hla_base::{EventHandle, Fault, FederateNo, Plain, Ticks};
+use hla_base::{EventHandle, Fault, FederateNo, Plain, SharedList, Ticks};
 use hla_callbacks::{Callback, Delivery};
 use hla_machine::{Act, Answer, Outcome, Record, Service, Step};
 
@@ -120,7 +120,7 @@ pub fn receipt(record: &Record, event: EventHandle) -> Result<Option<Callback>, 
             },
         ) => Ok(Some(Callback::ReceiveInteraction {
             class: *class,
-            values: values.copy()?,
+            values: SharedList::from_list(values.copy()?)?,
             event,
             delivery: Delivery::TimeStamp { stamp: *stamp },
         })),

@@ -4,7 +4,7 @@ ghost use Rattle.std.specs.Prelude.{◌≡◌, IfOk, IfErr};
 ghost use Rattle.hla_base.specs.declared.fault.Fault.TheVariants.{OutOfMemory};
 ghost use Rattle.hla_machine.specs.Directory.{default_name};
 
-use hla_base::{Fault, List, ObjectNo};
+use hla_base::{Fault, List, ObjectNo, SharedList};
 use std::alloc::Global;
 use std::io::Write;
 
@@ -29,4 +29,14 @@ pub fn name_copy(alloc: Global, name: &[u8]) -> Result<List<u8>, Fault>
         Ok(copy) => Ok(List::from_vec(copy)),
         Err(_) => Err(Fault::OutOfMemory),
     }
+}
+
+/// A copy of a name, which its own copies share.
+pub fn shared_name(alloc: Global, name: &[u8]) -> Result<SharedList<u8>, Fault>
+    ensures ok { IfOk result (λ copy. copy ≡ name.now) }
+    ensures err { IfErr result (λ e. e ≡ Fault.OutOfMemory) }
+{
+    let copy = name_copy(alloc, name)?;
+    let shared = SharedList::from_list(copy)?;
+    Ok(shared)
 }

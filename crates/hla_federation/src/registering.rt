@@ -16,9 +16,11 @@ ghost use Rattle.hla_federation.specs.Steps.Sending.{HasAdded, messages_among};
 ghost use Rattle.hla_federation.specs.Steps.Soundness.{IsSound, MayCall};
 ghost use Rattle.hla_federation.specs.Steps.State.{state_of, IsWhole, Ends};
 
-use crate::naming::{default_name, name_copy};
+use crate::naming::{default_name, shared_name};
 use crate::parts::Parts;
-use hla_base::{AttributeNo, ClassNo, Discovery, Fault, FederateNo, List, ObjectNo, Plain};
+use hla_base::{
+    AttributeNo, ClassNo, Discovery, Fault, FederateNo, List, ObjectNo, Plain, SharedList,
+};
 use hla_declaration::Receiver;
 use hla_machine::Answer;
 use hla_members::{Direction, Outbox};
@@ -48,7 +50,7 @@ impl Parts {
         outbox: &mut Outbox,
         receivers: &[Receiver],
         object: ObjectNo,
-        name: &[u8],
+        name: &SharedList<u8>,
     ) -> Result<(), Fault>
         requires { AreFederates receivers.now }
         ensures ok { OnOk result (HasAdded (messages_among (discovery_to object name.now) receivers.now)
@@ -59,7 +61,7 @@ impl Parts {
             let discovery = Discovery {
                 object,
                 class: receiver.class,
-                name: name_copy(self.alloc, name)?,
+                name: name.copy()?,
             };
             outbox.put(receiver.federate, Message::Discovery(discovery))?;
         }
@@ -108,7 +110,8 @@ impl Parts {
             .declarations
             .receivers_of_object_class(self.alloc, &self.catalogue, federate, class)?;
         let mut outbox = Outbox::new(self.alloc)?;
-        self.address_discoveries(&mut outbox, receivers.as_slice(), object, given.as_slice())?;
+        let known = shared_name(self.alloc, given.as_slice())?;
+        self.address_discoveries(&mut outbox, receivers.as_slice(), object, &known)?;
         let along = Direction::From(federate);
         self.members.reserve_all(along, &outbox)?;
         self.registry.register(class, given, federate, attributes)?;
@@ -177,7 +180,7 @@ impl Parts {
                 let discovery = Discovery {
                     object,
                     class,
-                    name: name_copy(self.alloc, self.registry.name_of(object))?,
+                    name: shared_name(self.alloc, self.registry.name_of(object))?,
                 };
                 outbox.put(self.registry.owner(object), Message::Discovery(discovery))?;
             }

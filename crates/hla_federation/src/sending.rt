@@ -4,7 +4,9 @@ ghost use Rattle.std.specs.Prelude.{◌≡◌, ◌≤◌, ◌<◌, ◌+◌, ◌&
 ghost use Rattle.hla_base.specs.declared.content.HandleValuePair.{HandleValuePair};
 ghost use Rattle.hla_base.specs.declared.fault.Fault.TheVariants.{OutOfMemory};
 ghost use Rattle.hla_base.specs.Tables.{is_other, one_if};
-ghost use Rattle.hla_fed_file.specs.Lookup.{has_parameter};
+ghost use Rattle.std.specs.List.{list_all};
+ghost use Rattle.std.specs.Option.{option_map_or};
+ghost use Rattle.hla_fed_file.specs.Lookup.{contains_number, has_parameter};
 ghost use Rattle.hla_fed_file.specs.declared.declared.Order.TheVariants.{Receive};
 ghost use Rattle.hla_retraction.specs.Receivers.{receiver_set};
 ghost use Rattle.hla_machine.specs.Directory.{AnInteraction, AnUpdate, ADeletion, is_receiver, subscribed_values, values_of_order, part_sent};
@@ -16,11 +18,11 @@ ghost use Rattle.hla_federation.specs.Steps.Soundness.{MayCall};
 ghost use Rattle.hla_federation.specs.Steps.State.{state_of, IsWhole, Ends};
 
 use crate::heading::{Heading, is_timestamp};
-use crate::pairs::by_handle;
+use crate::pairs::{by_handle, shared_by_handle};
 use crate::parts::Parts;
 use hla_base::{
     ClassNo, Content, EventHandle, Fault, FederateNo, HandleValuePair, List, ObjectNo, Plain,
-    Serial, Ticks,
+    Serial, SharedList, Ticks,
 };
 use hla_fed_file::Order;
 use hla_machine::Answer;
@@ -83,23 +85,89 @@ impl Parts {
         Ok(shown)
     }
 
-    /// The values of the attributes whose updates have this order.
+    /// Whether a class has all the parameters of these values.
+    fn shows_parameters(&self, class: ClassNo, values: &[HandleValuePair]) -> bool
+        ensures { result ≡ list_all (λ (v : HandleValuePair). has_parameter self.now.catalogue class v.handle)
+            values.now }
+    {
+        values
+            .iter()
+            .all(|v| self.catalogue.has_parameter(class, v.handle))
+    }
+
+    /// The values of the parameters that a class has, shared: those that are given, where it has all of them.
+    fn parameters_for(
+        &self,
+        class: ClassNo,
+        values: &SharedList<HandleValuePair>,
+    ) -> Result<SharedList<HandleValuePair>, Fault>
+        ensures ok { IfOk result (λ shown. shown ≡ filter
+            (λ (v : HandleValuePair). has_parameter self.now.catalogue class v.handle) values.now) }
+        ensures err { IfErr result (λ e. e ≡ Fault.OutOfMemory) }
+    {
+        if self.shows_parameters(class, values.as_slice()) {
+            let same = values.copy()?;
+            return Ok(same);
+        }
+        let shown = self.shown_parameters(class, values.as_slice())?;
+        let shared = SharedList::from_list(shown)?;
+        Ok(shared)
+    }
+
+    /// Whether a federate subscribes at a class all the attributes of these values.
+    fn shows_attributes(
+        &self,
+        federate: FederateNo,
+        class: ClassNo,
+        values: &[HandleValuePair],
+    ) -> bool
+        ensures { result ≡ list_all (λ (v : HandleValuePair). option_map_or (contains_number v.handle)
+            ((state_of self.now).directory.subscribed federate class) false) values.now }
+    {
+        values.iter().all(|v| self
+            .declarations
+            .subscribes_attribute(federate, class, v.handle))
+    }
+
+    /// The values of the attributes that a federate subscribes at a class, shared: those that are given, where it subscribes
+    /// all of them.
+    fn attributes_for(
+        &self,
+        federate: FederateNo,
+        class: ClassNo,
+        values: &SharedList<HandleValuePair>,
+    ) -> Result<SharedList<HandleValuePair>, Fault>
+        ensures ok { IfOk result (λ shown. shown ≡ subscribed_values (state_of self.now).directory federate
+            class values.now) }
+        ensures err { IfErr result (λ e. e ≡ Fault.OutOfMemory) }
+    {
+        if self.shows_attributes(federate, class, values.as_slice()) {
+            let same = values.copy()?;
+            return Ok(same);
+        }
+        let shown = self.shown_attributes(federate, class, values.as_slice())?;
+        let shared = SharedList::from_list(shown)?;
+        Ok(shared)
+    }
+
+    /// The values of the attributes whose updates have this order, shared.
     fn values_of_order(
         &self,
         order: Order,
         values: &[HandleValuePair],
-    ) -> Result<List<HandleValuePair>, Fault>
+    ) -> Result<SharedList<HandleValuePair>, Fault>
         ensures ok { IfOk result (λ part. part ≡ values_of_order (state_of self.now).directory order
             values.now) }
         ensures err { IfErr result (λ e. e ≡ Fault.OutOfMemory) }
     {
-        let mut part = List::with_room(self.alloc, values.len())?;
+        let mut part = List::new(self.alloc);
         for value in values {
             if self.catalogue.attribute_order(value.handle) == order {
                 part.push(value.copy()?)?;
             }
         }
-        Ok(part)
+        let shared = SharedList::from_list(part)?;
+        Ok(shared)
     }
 
     /// What heads a message of a federate that has this order: the stamp counts where the order is time-stamp order and the
@@ -134,7 +202,7 @@ impl Parts {
         outbox: &mut Outbox,
         heading: Heading,
         class: ClassNo,
-        values: &[HandleValuePair],
+        values: &SharedList<HandleValuePair>,
     ) -> Result<Receivers, Fault>
         requires { IsWhole self.now }
         ensures receivers { IfOk result (λ rs. receiver_set rs ≡ is_receiver (state_of self.now).directory
@@ -148,7 +216,7 @@ impl Parts {
             .declarations
             .receivers_of_interaction_class(self.alloc, &self.catalogue, heading.sender, class)?;
         for receiver in receivers.as_slice() {
-            let values = self.shown_parameters(receiver.class, values)?;
+            let values = self.parameters_for(receiver.class, values)?;
             let content = Content::Interaction {
                 class: receiver.class,
                 values,
@@ -165,7 +233,7 @@ impl Parts {
         outbox: &mut Outbox,
         heading: Heading,
         object: ObjectNo,
-        values: &[HandleValuePair],
+        values: &SharedList<HandleValuePair>,
     ) -> Result<Receivers, Fault>
         requires { IsWhole self.now }
         ensures receivers { IfOk result (λ rs. receiver_set rs ≡ is_receiver (state_of self.now).directory
@@ -180,7 +248,7 @@ impl Parts {
             .declarations
             .receivers_of_object_class(self.alloc, &self.catalogue, heading.sender, class)?;
         for receiver in receivers.as_slice() {
-            let values = self.shown_attributes(receiver.federate, receiver.class, values)?;
+            let values = self.attributes_for(receiver.federate, receiver.class, values)?;
             if !values.is_empty() {
                 let content = Content::Reflection { object, values };
                 outbox.put(receiver.federate, heading.event(content))?;
@@ -229,7 +297,7 @@ impl Parts {
         outbox: &mut Outbox,
         heading: Heading,
         object: ObjectNo,
-        values: &[HandleValuePair],
+        values: &SharedList<HandleValuePair>,
     ) -> Result<Option<Receivers>, Fault>
         requires { IsWhole self.now }
         ensures count { IfOk result (λ told. one_if (is_some told) ≡ length (part_sent Receive object values.now)) }
@@ -266,9 +334,9 @@ impl Parts {
         let serial = self.members.next_serial(federate);
         let order = self.catalogue.interaction_order(class);
         let heading = self.heading(federate, serial, order, stamp);
-        let values = by_handle(self.alloc, values)?;
+        let values = shared_by_handle(self.alloc, values)?;
         let mut outbox = Outbox::new(self.alloc)?;
-        let told = self.address_interaction(&mut outbox, heading, class, values.as_slice())?;
+        let told = self.address_interaction(&mut outbox, heading, class, &values)?;
         let note = heading.note(told);
         let handle = handle_noted(federate, &note);
         self.members.send_all(federate, outbox, 1, note)?;
@@ -299,10 +367,10 @@ impl Parts {
         let stamped = self.values_of_order(Order::Timestamp, values.as_slice())?;
         let mut outbox = Outbox::new(self.alloc)?;
         let first = self.heading(federate, serial, Order::Receive, stamp);
-        let received_by = self.address_part(&mut outbox, first, object, received.as_slice())?;
+        let received_by = self.address_part(&mut outbox, first, object, &received)?;
         let first_count = u64::from(received_by.is_some());
         let second = self.heading(federate, serial + first_count, Order::Timestamp, stamp);
-        let stamped_by = self.address_part(&mut outbox, second, object, stamped.as_slice())?;
+        let stamped_by = self.address_part(&mut outbox, second, object, &stamped)?;
         let count = first_count + u64::from(stamped_by.is_some());
         let note = second.note_part(stamped_by);
         let handle = handle_noted(federate, &note);

@@ -15,6 +15,8 @@ mod queues;
 #[cfg(test)]
 mod retraction;
 #[cfg(test)]
+mod shared_lists;
+#[cfg(test)]
 mod time_roles;
 #[cfg(test)]
 mod wires;

@@ -1,5 +1,5 @@
 use crate::FED;
-use hla_base::{EventHandle, FOREVER, Fault, HandleValuePair, List, Value};
+use hla_base::{EventHandle, FOREVER, Fault, HandleValuePair, List, SharedList, Value};
 use hla_callbacks::{Callback, Delivery};
 use hla_fed_file::read;
 use hla_machine::{Answer, Carried, Outcome};
@@ -98,11 +98,11 @@ fn ticked_outcome(callback: Callback) -> Outcome {
     Outcome::Done(Answer::Ticked(Some(callback)))
 }
 
-fn pair(alloc: Global, handle: u32, value: &str) -> Result<List<HandleValuePair>, Fail> {
+fn pair(alloc: Global, handle: u32, value: &str) -> Result<SharedList<HandleValuePair>, Fail> {
     let mut pairs = List::new(alloc);
     let value = Value::new(alloc, value.as_bytes())?;
     pairs.push(HandleValuePair { handle, value })?;
-    Ok(pairs)
+    Ok(SharedList::from_list(pairs)?)
 }
 
 #[test]
@@ -117,7 +117,7 @@ fn prints_callbacks(rt: HostRuntime) -> Result<(), Fail> {
             ticked_outcome(Callback::DiscoverObjectInstance {
                 object: 1,
                 class: 2,
-                name: List::from_vec(b"object-1".to_vec(alloc)?),
+                name: SharedList::from_list(List::from_vec(b"object-1".to_vec(alloc)?))?,
             }),
             "7 ok discover 1 ObjectRoot.Car object-1\n",
         ),

@@ -11,7 +11,7 @@ loop-receiver-init c = λ h. refl
 
 pub loop-receiver-preserved : goal.loop-receiver-preserved
 loop-receiver-preserved c = λ h.
-    put_more (item [] c.loop-receiver.outbox) _ c.args.receivers.now c.loop-receiver.receiver-index _ (discovery_to c.args.object c.args.name.now) _ c.loop-receiver-test.true c.in_ok-put.ensures.ok (rw c.in_ok-name_copy.ensures.ok refl) h
+    put_more (item [] c.loop-receiver.outbox) _ c.args.receivers.now c.loop-receiver.receiver-index _ (discovery_to c.args.object c.args.name.now) _ c.loop-receiver-test.true c.in_ok-put.ensures.ok (rw c.in_ok-copy.ensures.ok refl) h
     ∙ c.loop-receiver.invariant h
 
 pub returns-clause-ok : goal.returns-clause-ok

@@ -13,7 +13,7 @@ use Rattle.hla_federation.specs.Steps.State.{state_of}
 use Rattle.hla_components.proofs.Services.Discoveries.{discovery_tells}
 use Rattle.hla_federation.proofs.Steps.FoundObjects.{made_below, made_first, put_one, found_some, found_none, when_none, last_made, none_made}
 use Rattle.hla_federation.proofs.parts.Parts.address_found.Goals as goal
-use Rattle.hla_federation.proofs.parts.Parts.address_found.Goals.{in-Some+in_ok-name_copy+in_ok-put, in_default}
+use Rattle.hla_federation.proofs.parts.Parts.address_found.Goals.{in-Some+in_ok-shared_name+in_ok-put, in_default}
 
 -- what is made of an object for the wire from a federate
 abbrev made_of : FederationValue → ℕ → ℕ → List ℕ → ℕ → ℕ → Option Discovery
@@ -50,11 +50,11 @@ loop-object-preserved c = λ a g.
     let first = item [] c.args.outbox.now g in
     let before = map message.Discovery (filter_map (made_of c.args.self.now c.args.federate c.args.class a g) (numbers_below c.loop-object.object)) in
     elim c.match-discovery_class.branch [
-      | in-Some+in_ok-name_copy+in_ok-put w ↦
+      | in-Some+in_ok-shared_name+in_ok-put w ↦
           let k = w.in-Some.class in
           let found = found_some d f n k (sym w.in-Some.is ∙ c.discovery_class.ensures a) in
           let owner : w.owner.result ≡ (d.object n).owner = w.owner.ensures ∙ ap (λ (v : FederationValue). ((registry_of v.objects).object n).owner) c.self.view_is in
-          let name : w.in_ok-name_copy.field-0 ≡ (d.object n).name = w.in_ok-name_copy.ensures.ok ∙ w.name_of.ensures ∙ ap (λ (v : FederationValue). ((registry_of v.objects).object n).name) c.self.view_is in
+          let name : w.in_ok-shared_name.field-0 ≡ (d.object n).name = w.in_ok-shared_name.ensures.ok ∙ w.name_of.ensures ∙ ap (λ (v : FederationValue). ((registry_of v.objects).object n).name) c.self.view_is in
           ap (λ (o : List (List Message)). item [] o g) w.outbox-is
           ∙ ap (λ (t : ℕ → List Message). t g) w.in_ok-put.ensures.ok
           ∙ (λ i. upd old (owner i) (old (owner i) ++ message.Discovery (record { object = n; class = k; name = name i }) ∷ []) g)

@@ -36,7 +36,7 @@ use Rattle.hla_federation.proofs.parts.Parts.register_object_instance.Goals.{in-
 pub address_discoveries-requires : goal.address_discoveries-requires
 address_discoveries-requires c =
     let few : (declared.declarations_of c.self.inside.declarations).federates ≤ 16 = omega (arith, ap (λ (v : FederationValue). (declared.declarations_of v.declarations).federates) c.self.view_is, c.requires.sound.whole.parts.federates, c.requires.sound.whole.parts.few) in
-    subst AreFederates (sym (c.as_slice.ensures ∙ c.in_ok-receivers.ensures.ok)) (federates_all c.self.inside.catalogue c.self.inside.declarations c.args.class c.args.federate few)
+    subst AreFederates (sym (c.as_slice-2.ensures ∙ c.in_ok-receivers.ensures.ok)) (federates_all c.self.inside.catalogue c.self.inside.declarations c.args.class c.args.federate few)
 
 pub reserve_all-requires : goal.reserve_all-requires
 reserve_all-requires c =
@@ -114,7 +114,7 @@ returns-clause-done c =
     let r = registry_of c.self.inside.registry in
     let m = members_of c.self.inside.members.shown in
     let o = item [] c.address_discoveries.new.outbox in
-    let to = rw (c.as_slice.ensures, c.in_ok-receivers.ensures.ok, c.as_slice-2.ensures, c.next_object-object.ensures.next) at c.in_ok-address_discoveries.ensures.ok in
+    let to = rw (c.as_slice-2.ensures, c.in_ok-receivers.ensures.ok, c.in_ok-known.ensures.ok, c.as_slice.ensures, c.next_object-object.ensures.next) at c.in_ok-address_discoveries.ensures.ok in
     let out : (g : ℕ) → o g ≡ messages_among (discovery_to r.next_object c.match-name.given) (receivers_of (λ k. object_class_served c.self.inside.catalogue d.subscribed k c.args.class) d.federates f) g
     = λ g. to g ∙ ap (λ (ms : List Message). ms ++ messages_among (discovery_to r.next_object c.match-name.given) (receivers_of (λ k. object_class_served c.self.inside.catalogue d.subscribed k c.args.class) d.federates f) g) (c.in_ok-outbox.ensures.ok g) in
     let members_is = c.post_all.ensures

@@ -70,11 +70,11 @@ returns-clause-whole c =
     let same = c.next_serial-serial.ensures ∙ ap (λ (v : FederationValue). (members_of v.members).serial f) c.self.view_is in
     let order = c.interaction_order-order.ensures ∙ ap (λ (v : FederationValue). interaction_order v.catalogue c.args.class) c.self.view_is in
     let head = c.heading-heading.ensures ∙ ap (λ (k : Order). heading_of f c.next_serial-serial.result r c.args.stamp k) order in
-    let values = c.as_slice.ensures ∙ c.in_ok-values.ensures.ok in
+    let values = c.in_ok-values.ensures.ok in
     let added = one_added d f c.next_serial-serial.result m r c.args.stamp out c.in_ok-outbox.outbox c.address_interaction.new.outbox c.in_ok-outbox.ensures.ok
-    (λ h. c.in_ok-told.ensures.ok h ∙ ap (λ (x : Heading). item [] c.in_ok-outbox.outbox h ++ message_to d x (AnInteraction c.args.class c.as_slice.result.now) h) head
+    (λ h. c.in_ok-told.ensures.ok h ∙ ap (λ (x : Heading). item [] c.in_ok-outbox.outbox h ++ message_to d x (AnInteraction c.args.class c.in_ok-values.values) h) head
     ∙ ap (λ (vs : List HandleValuePair). item [] c.in_ok-outbox.outbox h ++ message_to d (heading_of f c.next_serial-serial.result r c.args.stamp out.order) (AnInteraction c.args.class vs) h) values) same in
-    let told : receiver_set c.in_ok-told.told ≡ is_receiver d f out.body = c.in_ok-told.ensures.receivers ∙ ap (λ (x : Heading). is_receiver d x.sender (AnInteraction c.args.class c.as_slice.result.now)) head ∙ ap (λ (vs : List HandleValuePair). is_receiver d f (AnInteraction c.args.class vs)) values in
+    let told : receiver_set c.in_ok-told.told ≡ is_receiver d f out.body = c.in_ok-told.ensures.receivers ∙ ap (λ (x : Heading). is_receiver d x.sender (AnInteraction c.args.class c.in_ok-values.values)) head ∙ ap (λ (vs : List HandleValuePair). is_receiver d f (AnInteraction c.args.class vs)) values in
     let note = c.note-note.ensures ∙ ap (λ (x : Heading). note_under x c.in_ok-told.told) head ∙ ap (λ (k : ℕ). note_under (heading_of f k r c.args.stamp out.order) c.in_ok-told.told) same in
     let noted = one_noted d f m r c.args.stamp out (members_of now.members).sent (unsent_from now f c.requires.sound.kept m (omega arith)) c.in_ok-told.told told refl ∙ ap (λ (x : Option Note). with_noted (members_of now.members).sent f x) (sym note) in
     subst (λ (v : FederationValue). IsWhole (record v { members = c.send_all.new.self.shown })) (sym c.self.view_is)
@@ -95,11 +95,11 @@ returns-clause-done c =
     let same = c.next_serial-serial.ensures ∙ ap (λ (v : FederationValue). (members_of v.members).serial f) c.self.view_is in
     let order = c.interaction_order-order.ensures ∙ ap (λ (v : FederationValue). interaction_order v.catalogue c.args.class) c.self.view_is in
     let head = c.heading-heading.ensures ∙ ap (λ (k : Order). heading_of f c.next_serial-serial.result r c.args.stamp k) order in
-    let values = c.as_slice.ensures ∙ c.in_ok-values.ensures.ok in
+    let values = c.in_ok-values.ensures.ok in
     let added = one_added d f c.next_serial-serial.result m r c.args.stamp out c.in_ok-outbox.outbox c.address_interaction.new.outbox c.in_ok-outbox.ensures.ok
-    (λ h. c.in_ok-told.ensures.ok h ∙ ap (λ (x : Heading). item [] c.in_ok-outbox.outbox h ++ message_to d x (AnInteraction c.args.class c.as_slice.result.now) h) head
+    (λ h. c.in_ok-told.ensures.ok h ∙ ap (λ (x : Heading). item [] c.in_ok-outbox.outbox h ++ message_to d x (AnInteraction c.args.class c.in_ok-values.values) h) head
     ∙ ap (λ (vs : List HandleValuePair). item [] c.in_ok-outbox.outbox h ++ message_to d (heading_of f c.next_serial-serial.result r c.args.stamp out.order) (AnInteraction c.args.class vs) h) values) same in
-    let told : receiver_set c.in_ok-told.told ≡ is_receiver d f out.body = c.in_ok-told.ensures.receivers ∙ ap (λ (x : Heading). is_receiver d x.sender (AnInteraction c.args.class c.as_slice.result.now)) head ∙ ap (λ (vs : List HandleValuePair). is_receiver d f (AnInteraction c.args.class vs)) values in
+    let told : receiver_set c.in_ok-told.told ≡ is_receiver d f out.body = c.in_ok-told.ensures.receivers ∙ ap (λ (x : Heading). is_receiver d x.sender (AnInteraction c.args.class c.in_ok-values.values)) head ∙ ap (λ (vs : List HandleValuePair). is_receiver d f (AnInteraction c.args.class vs)) values in
     let note = c.note-note.ensures ∙ ap (λ (x : Heading). note_under x c.in_ok-told.told) head ∙ ap (λ (k : ℕ). note_under (heading_of f k r c.args.stamp out.order) c.in_ok-told.told) same in
     let noted = one_noted d f m r c.args.stamp out (members_of now.members).sent (unsent_from now f c.requires.sound.kept m (omega arith)) c.in_ok-told.told told refl ∙ ap (λ (x : Option Note). with_noted (members_of now.members).sent f x) (sym note) in
     let none : refusal (components_seen (state_of now)) (Call f (service.SendInteraction c.args.class c.args.values.now c.args.stamp)) ≡ None = sym c.send_fault.ensures ∙ c.in_default.is in
