@@ -1,10 +1,11 @@
 #!/usr/bin/env python3
 """Tells whether the prover refuses each wrong body of the files must-fail/*.edit, and by the contract of which function.
 
-An edit file holds one wrong body for each of several functions, because what an edit costs is the reading of the libraries; `rt ci`
-shows that each file is refused. This program applies a file, checks the crate once, and looks for an error in each function that the
-file changes. What turns a definition is refused by a theorem somewhere above it, so each of these is checked alone. It works in the
-folder of the crate, over what earlier checks kept, and puts the sources back; edit nothing while it runs.
+An edit file holds wrong bodies of many functions, because what an edit costs is the reading of the libraries; `rt ci` shows that each
+file is refused. This program applies a file, checks the crate once, and looks for an error in each function that the file changes. Of
+several wrong bodies of one function the first is checked so, and each other one alone. What turns a definition is refused by a theorem
+somewhere above it, so each of these is checked alone. It works in the folder of the crate, over what earlier checks kept, and puts the
+sources back; edit nothing while it runs.
 
     bench/wrong_bodies.py [--alone] [CRATE..]     --alone: one check for each wrong body
 """
@@ -96,8 +97,12 @@ def tried(folder, edit, alone):
     """Says of each wrong body of an edit file whether it is refused; gives how many are not."""
     bodies = wrong_bodies(edit)
     missing = 0
-    single = [it for it in bodies if alone or any(file.startswith("specs/") for file, _, _ in it[1])]
-    together = [it for it in bodies if it not in single]
+    single, together, taken = [], [], set()
+    for it in bodies:
+        changes = edited(folder, [it])[2][it[0]]
+        is_single = alone or any(file.startswith("specs/") for file, _, _ in it[1]) or changes & taken
+        (single if is_single else together).append(it)
+        taken |= changes
     for some in [[it] for it in single] + [together] * bool(together):
         found, changed, any_refused = refused(folder, some)
         for name, functions in changed.items():
