@@ -4,6 +4,8 @@ pub mod NameLemmas
 pub mod Lexing
 -- A run of bytes is as long as its lanes say.
 pub mod SpanLemmas
+-- A word that is the keyword spells it.
+pub mod SpellingLemmas
 -- One more token.
 pub mod ReadingLemmas
 -- What is in the grammar is read: one symbol after the other, and ignored lists.

@@ -1,7 +1,7 @@
 //! The words and the places of a FED text.
 
 ghost use Rattle.std.specs.Prelude.{◌≡◌};
-ghost use Rattle.hla_fed_file.specs.Keywords.{keyword_of};
+ghost use Rattle.hla_fed_file.specs.Keywords.{keyword_of, is_spelling_of};
 
 use crate::declared::{Order, Transport};
 
@@ -96,36 +96,46 @@ pub enum Place {
     Done,
 }
 
+/// Whether a word is a keyword, whatever its case. Texts spell most keywords in small letters, as here, and then one comparison
+/// tells.
+#[inline(always)]
+#[tactic(auto, using(crate::proofs::SpellingLemmas::same_spelling))]
+fn is_spelling_of(word: &[u8], keyword: &[u8]) -> bool
+    ensures { result ≡ is_spelling_of word.now keyword.now }
+{
+    word == keyword || word.eq_ignore_ascii_case(keyword)
+}
+
 /// The meaning of a word, whatever its case.
 #[tactic(auto, unfolding(crate::specs::Keywords::keyword_of))]
 pub fn meaning(word: &[u8]) -> Option<Keyword>
     ensures { result ≡ keyword_of word.now }
 {
-    if word.eq_ignore_ascii_case(b"attribute") {
+    if is_spelling_of(word, b"attribute") {
         Some(Keyword::Attribute)
-    } else if word.eq_ignore_ascii_case(b"parameter") {
+    } else if is_spelling_of(word, b"parameter") {
         Some(Keyword::Parameter)
-    } else if word.eq_ignore_ascii_case(b"class") {
+    } else if is_spelling_of(word, b"class") {
         Some(Keyword::Class)
-    } else if word.eq_ignore_ascii_case(b"reliable") {
+    } else if is_spelling_of(word, b"reliable") {
         Some(Keyword::Carried(Transport::Reliable))
-    } else if word.eq_ignore_ascii_case(b"best_effort") {
+    } else if is_spelling_of(word, b"best_effort") {
         Some(Keyword::Carried(Transport::BestEffort))
-    } else if word.eq_ignore_ascii_case(b"receive") {
+    } else if is_spelling_of(word, b"receive") {
         Some(Keyword::Ordered(Order::Receive))
-    } else if word.eq_ignore_ascii_case(b"timestamp") {
+    } else if is_spelling_of(word, b"timestamp") {
         Some(Keyword::Ordered(Order::Timestamp))
-    } else if word.eq_ignore_ascii_case(b"sec_level") {
+    } else if is_spelling_of(word, b"sec_level") {
         Some(Keyword::SecLevel)
-    } else if word.eq_ignore_ascii_case(b"objects") {
+    } else if is_spelling_of(word, b"objects") {
         Some(Keyword::Objects)
-    } else if word.eq_ignore_ascii_case(b"interactions") {
+    } else if is_spelling_of(word, b"interactions") {
         Some(Keyword::Interactions)
-    } else if word.eq_ignore_ascii_case(b"federate") || word.eq_ignore_ascii_case(b"spaces") {
+    } else if is_spelling_of(word, b"federate") || is_spelling_of(word, b"spaces") {
         Some(Keyword::Ignored)
-    } else if word.eq_ignore_ascii_case(b"federation") || word.eq_ignore_ascii_case(b"fedversion") {
+    } else if is_spelling_of(word, b"federation") || is_spelling_of(word, b"fedversion") {
         Some(Keyword::Label)
-    } else if word.eq_ignore_ascii_case(b"fed") {
+    } else if is_spelling_of(word, b"fed") {
         Some(Keyword::Fed)
     } else {
         None
