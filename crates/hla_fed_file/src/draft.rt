@@ -10,7 +10,7 @@ ghost use Rattle.hla_fed_file.specs.declared.declared.Attribute.{Attribute};
 ghost use Rattle.hla_fed_file.specs.declared.declared.Parameter.{Parameter};
 
 use crate::declared::{Attribute, InteractionClass, ObjectClass, Parameter};
-use crate::groups::{Declared, Groups, first_number};
+use crate::groups::{Declared, Groups};
 use crate::names::FirstNumbers;
 use hla_base::{AttributeNo, ClassNo, Fault, List, ParameterNo};
 use std::alloc::Global;
@@ -131,7 +131,7 @@ impl Draft {
         ensures { result ≡ number_at (position (λ (a : Attribute). contains_number a.class classes.now &&
             bytes_eq a.name name.now) self.now.attributes) }
     {
-        first_number(self.attribute_names.group(name), classes)
+        self.attribute_names.first_number(name, classes)
     }
 
     /// The first parameter of a name among those of some classes.
@@ -139,7 +139,7 @@ impl Draft {
         ensures { result ≡ number_at (position (λ (p : Parameter). contains_number p.class classes.now &&
             bytes_eq p.name name.now) self.now.parameters) }
     {
-        first_number(self.parameter_names.group(name), classes)
+        self.parameter_names.first_number(name, classes)
     }
 
     /// Adds an object class; `OutOfMemory`, and the draft as it was, where a growth was refused.

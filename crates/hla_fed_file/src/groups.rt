@@ -25,21 +25,62 @@ fn first_among(group: &[Declared], classes: &[ClassNo]) -> Option<Declared>
     group.iter().copied().find(|d| classes.contains(&d.class))
 }
 
-/// The number of the first of the declarations in some classes.
-pub(crate) fn first_number(group: &[Declared], classes: &[ClassNo]) -> Option<u32>
-    ensures { result ≡ option_map declared_number (find (λ (d : Declared). contains_number d.class
-        classes.now) group.now) }
-{
-    match first_among(group, classes) {
-        Some(declared) => Some(declared.number),
-        None => None,
+/// The declarations of a name, in the order of their numbers. Most names are declared once, so the first stands here and takes
+/// no memory of its own.
+#[derive(Debug, Drop)]
+struct Group {
+    first: Declared,
+    more: List<Declared>,
+}
+
+impl Model for Group {
+    ghost use Rattle.std.specs.Prelude.{List, ◌∷◌};
+    ghost use Rattle.hla_fed_file.specs.declared.groups.Declared.{Declared};
+
+    ghost Value = { List Declared };
+
+    ghost view = { λ g. g.first ∷ g.more };
+}
+
+impl Group {
+    /// A single declaration; it takes no memory.
+    fn new(alloc: Global, first: Declared) -> Group
+        ensures { result ≡ first ∷ [] }
+    {
+        Group {
+            first,
+            more: List::new(alloc),
+        }
+    }
+
+    /// Adds a declaration; `OutOfMemory`, and the declarations as they were, where a growth was refused.
+    fn push(&mut self, place: Declared) -> Result<(), Fault>
+        ensures ok { OnOk result (self.new ≡ self.old ++ place ∷ []) }
+        ensures err { IfErr result (λ e. e ≡ Fault.OutOfMemory) }
+        ensures unchanged { OnErr result (self.new ≡ self.old) }
+    {
+        self.more.push(place)
+    }
+
+    /// The number of the first of the declarations in some classes.
+    fn first_number(&self, classes: &[ClassNo]) -> Option<u32>
+        ensures { result ≡ option_map declared_number (find (λ (d : Declared). contains_number d.class
+            classes.now) self.now) }
+    {
+        if classes.contains(&self.first.class) {
+            return Some(self.first.number);
+        }
+        match first_among(self.more.as_slice(), classes) {
+            Some(declared) => Some(declared.number),
+            None => None,
+        }
     }
 }
 
 /// The declarations of each name, in the order of their numbers, found without going over all names.
 #[derive(Debug, Drop)]
 pub(crate) struct Groups {
-    groups: IndexMap<Vec<u8>, List<Declared>>,
+    groups: IndexMap<Vec<u8>, Group>,
     alloc: Global,
 }
 
@@ -63,13 +104,14 @@ impl Groups {
         }
     }
 
-    /// The declarations of a name.
-    pub(crate) fn group(&self, name: &[u8]) -> &[Declared]
-        ensures { result.now ≡ group_in self.now name.now }
+    /// The number of the first of the declarations of a name in some classes.
+    pub(crate) fn first_number(&self, name: &[u8], classes: &[ClassNo]) -> Option<u32>
+        ensures { result ≡ option_map declared_number (find (λ (d : Declared). contains_number d.class
+            classes.now) (group_in self.now name.now)) }
     {
         match self.groups.get(name) {
-            Some(group) => group.as_slice(),
-            None => &[],
+            Some(group) => group.first_number(classes),
+            None => None,
         }
     }
 
@@ -82,8 +124,7 @@ impl Groups {
         if let Some(group) = self.groups.get_mut(name.as_slice()) {
             return group.push(place);
         }
-        let mut group = List::new(self.alloc);
-        group.push(place)?;
+        let group = Group::new(self.alloc, place);
         let Ok(_) = self.groups.insert(name, group) else {
             return Err(Fault::OutOfMemory);
         };

@@ -15,6 +15,6 @@ returns c =
     let classes = c.args.classes.now in
     let name = c.args.name.now in
     c.first_number.ensures
-    ∙ ap (λ (ds : List Declared). option_map declared_number (find (λ (d : Declared). contains_number d.class classes) ds)) (c.group.ensures ∙ c.self.invariant.attributes name)
+    ∙ ap (λ (ds : List Declared). option_map declared_number (find (λ (d : Declared). contains_number d.class classes) ds)) (c.self.invariant.attributes name)
     ∙ first_numbered (λ (a : Attribute). a.class) (λ (a : Attribute). a.name) classes name c.self.inside.attributes
     ∙ ap (λ (t : CatalogueValue). attribute_among t classes name) c.self.view_is

@@ -15,6 +15,6 @@ returns c =
     let classes = c.args.classes.now in
     let name = c.args.name.now in
     c.first_number.ensures
-    ∙ ap (λ (ds : List Declared). option_map declared_number (find (λ (d : Declared). contains_number d.class classes) ds)) (c.group.ensures ∙ c.self.invariant.parameters name)
+    ∙ ap (λ (ds : List Declared). option_map declared_number (find (λ (d : Declared). contains_number d.class classes) ds)) (c.self.invariant.parameters name)
     ∙ first_numbered (λ (a : Parameter). a.class) (λ (a : Parameter). a.name) classes name c.self.inside.parameters
     ∙ ap (λ (t : CatalogueValue). parameter_among t classes name) c.self.view_is

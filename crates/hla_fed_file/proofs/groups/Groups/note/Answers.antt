@@ -21,6 +21,5 @@ pub returns-clause-ok : goal.returns-clause-ok
 returns-clause-ok c =
     let es = c.self.inside.groups.entries in
     let found : None ≡ lookup (is_key c.args.name.items) es = c.in_default.ensures.value ∙ ap (λ n. lookup (is_key n) es) c.as_slice.ensures.value in
-    let added = c.in-Ok.ensures.entries ∙ ap (λ m. insert_entry same_key m.entries c.args.name c.push-2.new.self) c.get_mut.follows.holds-at-none in
-    let first = c.in_ok-push.ensures.ok ∙ ap (λ l. l ++ c.args.place ∷ []) c.new-group.ensures in
-    rw (← c.self.view_is) (noted_first es _ c.args.name c.push-2.new.self c.args.place found added first)
+    let added = c.in-Ok.ensures.entries ∙ ap (λ m. insert_entry same_key m.entries c.args.name c.new-group.result) c.get_mut.follows.holds-at-none in
+    rw (← c.self.view_is) (noted_first es _ c.args.name c.new-group.result c.args.place found added c.new-group.ensures)
