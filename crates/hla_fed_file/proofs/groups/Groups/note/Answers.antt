@@ -1,4 +1,4 @@
-use Rattle.std.proofs.Common.{[], ◌∷◌, ◌++◌, None, ◌≡◌, ap, ◌∙◌}
+use Rattle.std.proofs.Common.{None, ◌≡◌, ap, ◌∙◌}
 use Rattle.std.specs.Map.{lookup}
 use Rattle.indexmap.specs.IndexMap.{insert_entry}
 use Rattle.hla_fed_file.proofs.GroupLemmas.{noted_more, noted_first, set_same, on_ok, on_err, is_key, same_key}
