@@ -1,10 +1,11 @@
 ghost use Rattle.std.specs.Prelude.{◌≡◌, IfOk};
 ghost use Rattle.hla_declaration.specs.Declarations.{declarations_of};
 
-use hla_base::{AttributeNo, List};
-use hla_declaration::Declarations;
+use hla_base::{AttributeNo, ClassNo, FederateNo, List};
+use hla_declaration::{Declarations, Receiver};
 use hla_fed_file::read;
 use std::alloc::{AllocError, Global};
+use std::process::Abort;
 use std::test::Fail;
 
 /// Object classes 1 to 3 and interaction classes 1 to 3, each below the one before.
@@ -45,77 +46,148 @@ fn one(alloc: Global, attribute: AttributeNo) -> Result<List<AttributeNo>, Alloc
     Ok(List::from_vec(vec![in alloc; attribute]?))
 }
 
+/// Federate 2 subscribes object classes 1 and 3, and federate 3 object class 2.
+fn subscribed(alloc: Global) -> Result<Declarations, Fail> {
+    let mut declarations = three_federates(alloc)?;
+    declarations.subscribe_object_class_attributes(2, 1, one(alloc, 1)?);
+    declarations.subscribe_object_class_attributes(2, 3, one(alloc, 3)?);
+    declarations.subscribe_object_class_attributes(3, 2, one(alloc, 2)?);
+    Ok(declarations)
+}
+
+/// Whether these federates receive, each at its class.
+fn are_receivers(receivers: &[Receiver], expected: &[(FederateNo, ClassNo)]) -> bool {
+    let mut is_same = receivers.len() == expected.len();
+    for (receiver, (federate, class)) in receivers.iter().zip(expected) {
+        is_same = is_same && receiver.federate == *federate && receiver.class == *class;
+    }
+    is_same
+}
+
+/// At which class federate 2 is served of object classes 3 and 2, and federate 1 of class 3.
+fn classes_served(alloc: Global) -> Result<[Option<ClassNo>; 3], Fail> {
+    let catalogue = read(alloc, FED)?;
+    let declarations = subscribed(alloc)?;
+    Ok([
+        declarations.object_class_served(&catalogue, 2, 3),
+        declarations.object_class_served(&catalogue, 2, 2),
+        declarations.object_class_served(&catalogue, 1, 3),
+    ])
+}
+
 #[test]
 fn is_served_at_the_most_derived_class(rt: HostRuntime) -> Result<(), Fail> {
-    let catalogue = read(rt.alloc(), FED)?;
-    let mut declarations = three_federates(rt.alloc())?;
-    declarations.subscribe_object_class_attributes(2, 1, one(rt.alloc(), 1)?);
-    declarations.subscribe_object_class_attributes(2, 3, one(rt.alloc(), 3)?);
-    declarations.subscribe_object_class_attributes(3, 2, one(rt.alloc(), 2)?);
-    assert_eq!(rt; declarations.object_class_served(&catalogue, 2, 3), Some(3));
-    assert_eq!(rt; declarations.object_class_served(&catalogue, 2, 2), Some(1));
-    assert_eq!(rt; declarations.object_class_served(&catalogue, 1, 3), None);
-    let receivers = declarations.receivers_of_object_class(rt.alloc(), &catalogue, 1, 3)?;
-    assert_eq!(rt; receivers.len(), 2);
-    assert_eq!(rt; receivers.as_slice()[0].federate, 2);
-    assert_eq!(rt; receivers.as_slice()[0].class, 3);
-    assert_eq!(rt; receivers.as_slice()[1].federate, 3);
-    assert_eq!(rt; receivers.as_slice()[1].class, 2);
+    assert_eq!(rt; classes_served(rt.alloc())?, [Some(3), Some(1), None]);
+    Ok(())
+}
+
+/// Whether an object of class 3 that federate 1 sends has these receivers, each at its class.
+fn is_object_received_by(
+    alloc: Global,
+    declarations: &Declarations,
+    expected: &[(FederateNo, ClassNo)],
+) -> Result<bool, Fail> {
+    let catalogue = read(alloc, FED)?;
+    let receivers = declarations.receivers_of_object_class(alloc, &catalogue, 1, 3)?;
+    Ok(are_receivers(receivers.as_slice(), expected))
+}
+
+/// Whether an interaction of class 3 that federate 1 sends has these receivers, each at its class.
+fn is_interaction_received_by(
+    alloc: Global,
+    declarations: &Declarations,
+    expected: &[(FederateNo, ClassNo)],
+) -> Result<bool, Fail> {
+    let catalogue = read(alloc, FED)?;
+    let receivers = declarations.receivers_of_interaction_class(alloc, &catalogue, 1, 3)?;
+    Ok(are_receivers(receivers.as_slice(), expected))
+}
+
+#[test]
+fn receives_at_the_most_derived_class(rt: HostRuntime) -> Result<(), Fail> {
+    let declarations = subscribed(rt.alloc())?;
+    assert!(rt; is_object_received_by(rt.alloc(), &declarations, &[(2, 3), (3, 2)])?);
     Ok(())
 }
 
 #[test]
 fn sender_is_no_receiver(rt: HostRuntime) -> Result<(), Fail> {
-    let catalogue = read(rt.alloc(), FED)?;
     let mut declarations = three_federates(rt.alloc())?;
     declarations.subscribe_interaction_class(1, 2);
     declarations.subscribe_interaction_class(3, 1);
-    let receivers = declarations.receivers_of_interaction_class(rt.alloc(), &catalogue, 1, 3)?;
-    assert_eq!(rt; receivers.len(), 1);
-    assert_eq!(rt; receivers.as_slice()[0].federate, 3);
-    assert_eq!(rt; receivers.as_slice()[0].class, 1);
+    assert!(rt; is_interaction_received_by(rt.alloc(), &declarations, &[(3, 1)])?);
     Ok(())
+}
+
+/// Federate 2 has declared object class 2 and interaction class 2, and was withdrawn.
+fn withdrawn(rt: &impl Abort, alloc: Global) -> Result<Declarations, Fail> {
+    let mut declarations = three_federates(alloc)?;
+    declarations.publish_object_class(2, 2, one(alloc, 2)?);
+    declarations.subscribe_object_class_attributes(2, 2, one(alloc, 2)?);
+    declarations.subscribe_interaction_class(2, 2);
+    assert!(rt; declarations.publishes_attribute(2, 2, 2));
+    declarations.withdraw(2);
+    Ok(declarations)
 }
 
 #[test]
 fn receives_nothing_once_withdrawn(rt: HostRuntime) -> Result<(), Fail> {
-    let catalogue = read(rt.alloc(), FED)?;
-    let mut declarations = three_federates(rt.alloc())?;
-    declarations.publish_object_class(2, 2, one(rt.alloc(), 2)?);
-    declarations.subscribe_object_class_attributes(2, 2, one(rt.alloc(), 2)?);
-    declarations.subscribe_interaction_class(2, 2);
-    assert!(rt; declarations.publishes_attribute(2, 2, 2));
-    declarations.withdraw(2);
-    let receivers = declarations.receivers_of_object_class(rt.alloc(), &catalogue, 1, 3)?;
-    assert!(rt; receivers.is_empty());
-    let receivers = declarations.receivers_of_interaction_class(rt.alloc(), &catalogue, 1, 3)?;
-    assert!(rt; receivers.is_empty());
+    let declarations = withdrawn(&rt, rt.alloc())?;
+    assert!(rt; is_object_received_by(rt.alloc(), &declarations, &[])?);
+    assert!(rt; is_interaction_received_by(rt.alloc(), &declarations, &[])?);
+    Ok(())
+}
+
+#[test]
+fn publishes_nothing_once_withdrawn(rt: HostRuntime) -> Result<(), Fail> {
+    let declarations = withdrawn(&rt, rt.alloc())?;
     assert!(rt; !declarations.publishes_object_class(2, 2));
-    assert_eq!(rt; declarations.federates(), 3);
+    assert!(rt; declarations.federates() == 3);
+    Ok(())
+}
+
+/// Federate 1 publishes and subscribes object class 3 and interaction class 3.
+fn declared(alloc: Global) -> Result<Declarations, Fail>
+    ensures federates { IfOk result (λ d. (declarations_of d).federates ≡ 3) }
+    ensures objects { IfOk result (λ d. (declarations_of d).object_classes ≡ 3) }
+    ensures interactions { IfOk result (λ d. (declarations_of d).interaction_classes ≡ 3) }
+{
+    let mut declarations = three_federates(alloc)?;
+    declarations.publish_object_class(1, 3, one(alloc, 3)?);
+    declarations.publish_interaction_class(1, 3);
+    declarations.subscribe_object_class_attributes(1, 3, one(alloc, 3)?);
+    declarations.subscribe_interaction_class(1, 3);
+    Ok(declarations)
+}
+
+/// Whether federate 1 publishes and subscribes object class 3, and then interaction class 3.
+fn declared_at_three(declarations: &Declarations) -> [bool; 4] {
+    [
+        declarations.publishes_object_class(1, 3),
+        declarations.subscribes_object_class(1, 3),
+        declarations.publishes_interaction_class(1, 3),
+        declarations.subscribes_interaction_class(1, 3),
+    ]
+}
+
+#[test]
+fn publishes_and_subscribes_what_was_declared(rt: HostRuntime) -> Result<(), Fail> {
+    let declarations = declared(rt.alloc())?;
+    assert_eq!(rt; declared_at_three(&declarations), [true; 4]);
+    assert!(rt; declarations.published_attributes(1, 3) == [3].as_slice());
+    assert!(rt; declarations.subscribes_attribute(1, 3, 3));
+    assert!(rt; !declarations.publishes_object_class(1, 0));
+    assert!(rt; !declarations.publishes_object_class(0, 3));
     Ok(())
 }
 
 #[test]
 fn declares_until_it_takes_back(rt: HostRuntime) -> Result<(), Fail> {
-    let mut declarations = three_federates(rt.alloc())?;
-    declarations.publish_object_class(1, 3, one(rt.alloc(), 3)?);
-    declarations.publish_interaction_class(1, 3);
-    declarations.subscribe_object_class_attributes(1, 3, one(rt.alloc(), 3)?);
-    declarations.subscribe_interaction_class(1, 3);
-    assert_eq!(rt; declarations.published_attributes(1, 3), [3].as_slice());
-    assert!(rt; declarations.publishes_interaction_class(1, 3));
-    assert!(rt; declarations.subscribes_object_class(1, 3));
-    assert!(rt; declarations.subscribes_attribute(1, 3, 3));
-    assert!(rt; declarations.subscribes_interaction_class(1, 3));
-    assert!(rt; !declarations.publishes_object_class(1, 0));
-    assert!(rt; !declarations.publishes_object_class(0, 3));
+    let mut declarations = declared(rt.alloc())?;
     declarations.unpublish_object_class(1, 3);
     declarations.unpublish_interaction_class(1, 3);
     declarations.unsubscribe_object_class(1, 3);
     declarations.unsubscribe_interaction_class(1, 3);
-    assert!(rt; !declarations.publishes_object_class(1, 3));
-    assert!(rt; !declarations.publishes_interaction_class(1, 3));
-    assert!(rt; !declarations.subscribes_object_class(1, 3));
-    assert!(rt; !declarations.subscribes_interaction_class(1, 3));
+    assert_eq!(rt; declared_at_three(&declarations), [false; 4]);
     Ok(())
 }

@@ -1,6 +1,4 @@
-ghost use Rattle.std.specs.Prelude.{◌<◌, ◌≤◌};
-
-use hla_base::{FederateNo, List, ObjectNo};
+use hla_base::{ClassNo, FederateNo, List, ObjectNo};
 use hla_object_registry::Registry;
 use std::alloc::Global;
 use std::process::Abort;
@@ -13,70 +11,124 @@ fn add(
     registry: &mut Registry,
     name: &[u8],
     owner: FederateNo,
-) -> Result<ObjectNo, Fail>
-    requires some { 0 < owner }
-    requires within { owner ≤ 16 }
-{
-    let name = List::from_vec(Vec::from_slice(alloc, name)?);
-    let attributes = List::from_vec(Vec::from_slice(alloc, &[4, 5])?);
+) -> Result<ObjectNo, Fail> {
+    assert!(rt; 0 < owner);
+    assert!(rt; owner <= 16);
     assert!(rt; registry.next_object() <= 4096);
+    let name = List::from_vec(Vec::from_slice(alloc, name)?);
     assert!(rt; !registry.is_name_used(name.as_slice()));
+    let attributes = List::from_vec(Vec::from_slice(alloc, &[4, 5])?);
     Ok(registry.register(3, name, owner, attributes)?)
 }
 
 /// Three objects, of federates 1, 2 and 1.
 fn three(rt: &impl Abort, alloc: Global) -> Result<Registry, Fail> {
     let mut registry = Registry::new(alloc);
-    add(rt, alloc, &mut registry, b"Car", 1)?;
-    add(rt, alloc, &mut registry, b"Bus", 2)?;
-    add(rt, alloc, &mut registry, b"Tram", 1)?;
+    for (name, owner) in [("Car", 1), ("Bus", 2), ("Tram", 1)] {
+        add(rt, alloc, &mut registry, name.as_bytes(), owner)?;
+    }
     Ok(registry)
+}
+
+/// The class and the owner of an object.
+fn class_and_owner(registry: &Registry, object: ObjectNo) -> (ClassNo, FederateNo) {
+    (registry.class_of(object), registry.owner(object))
 }
 
 #[test]
 fn registers(rt: HostRuntime) -> Result<(), Fail> {
     let registry = three(&rt, rt.alloc())?;
-    assert_eq!(rt; registry.next_object(), 4);
-    assert!(rt; registry.has_object(2));
-    assert_eq!(rt; registry.class_of(2), 3);
-    assert_eq!(rt; registry.owner(2), 2);
-    assert_eq!(rt; registry.name_of(2), b"Bus".as_slice());
-    assert!(rt; registry.owns_attribute(2, 2, 5));
-    assert!(rt; !registry.owns_attribute(1, 2, 5));
-    assert!(rt; !registry.owns_attribute(2, 2, 6));
-    assert!(rt; !registry.has_object(0));
-    assert!(rt; !registry.has_object(4));
-    assert_eq!(rt; registry.name_of(4), b"".as_slice());
+    assert!(rt; registry.next_object() == 4);
+    assert!(rt; class_and_owner(&registry, 2) == (3, 2));
+    assert!(rt; registry.name_of(2) == b"Bus".as_slice());
+    assert!(rt; registry.name_of(4) == b"".as_slice());
+    Ok(())
+}
+
+/// Which of objects 0, 2 and 4 there are.
+fn objects_there(registry: &Registry) -> [bool; 3] {
+    [
+        registry.has_object(0),
+        registry.has_object(2),
+        registry.has_object(4),
+    ]
+}
+
+/// Whether federate 2 owns attribute 5 of object 2, federate 1 does, and federate 2 owns attribute 6.
+fn attributes_owned(registry: &Registry) -> [bool; 3] {
+    [
+        registry.owns_attribute(2, 2, 5),
+        registry.owns_attribute(1, 2, 5),
+        registry.owns_attribute(2, 2, 6),
+    ]
+}
+
+#[test]
+fn owns_what_was_registered(rt: HostRuntime) -> Result<(), Fail> {
+    let registry = three(&rt, rt.alloc())?;
+    assert!(rt; objects_there(&registry) == [false, true, false]);
+    assert!(rt; attributes_owned(&registry) == [true, false, false]);
+    Ok(())
+}
+
+/// Three objects, the first of which was deleted.
+fn one_deleted(rt: &impl Abort, alloc: Global) -> Result<Registry, Fail> {
+    let mut registry = three(rt, alloc)?;
+    assert!(rt; registry.next_object() > 1);
+    registry.delete(1);
+    Ok(registry)
+}
+
+#[test]
+fn deletes(rt: HostRuntime) -> Result<(), Fail> {
+    let registry = one_deleted(&rt, rt.alloc())?;
+    assert!(rt; !registry.has_object(1));
+    assert!(rt; registry.name_of(1) == b"Car".as_slice());
+    assert!(rt; registry.object_named(1, b"Car").is_none());
     Ok(())
 }
 
 #[test]
 fn never_uses_a_name_again(rt: HostRuntime) -> Result<(), Fail> {
-    let mut registry = three(&rt, rt.alloc())?;
-    assert!(rt; registry.next_object() > 1);
-    registry.delete(1);
-    assert!(rt; !registry.has_object(1));
+    let mut registry = one_deleted(&rt, rt.alloc())?;
     assert!(rt; registry.is_name_used(b"Car"));
     assert!(rt; !registry.is_name_used(b"Train"));
-    assert_eq!(rt; registry.name_of(1), b"Car".as_slice());
-    assert_eq!(rt; registry.object_named(1, b"Car"), None);
-    assert_eq!(rt; add(&rt, rt.alloc(), &mut registry, b"Train", 1)?, 4);
+    assert!(rt; add(&rt, rt.alloc(), &mut registry, b"Train", 1)? == 4);
     Ok(())
+}
+
+/// To which of federates 0, 1, 2, 16 and 17 object 2 is known.
+fn known_to(registry: &Registry) -> [bool; 5] {
+    [
+        registry.is_known(2, 0),
+        registry.is_known(2, 1),
+        registry.is_known(2, 2),
+        registry.is_known(2, 16),
+        registry.is_known(2, 17),
+    ]
+}
+
+/// Three objects, the second of which was made known to federate 1.
+fn one_made_known(rt: &impl Abort, alloc: Global) -> Result<Registry, Fail> {
+    let mut registry = three(rt, alloc)?;
+    assert!(rt; known_to(&registry) == [false, false, true, false, false]);
+    assert!(rt; registry.object_named(1, b"Bus").is_none());
+    assert!(rt; registry.next_object() > 2);
+    registry.make_known(2, 1);
+    Ok(registry)
 }
 
 #[test]
 fn is_known_to_whom_it_was_made_known(rt: HostRuntime) -> Result<(), Fail> {
-    let mut registry = three(&rt, rt.alloc())?;
-    assert!(rt; registry.is_known(2, 2));
-    assert!(rt; !registry.is_known(2, 1));
-    assert_eq!(rt; registry.object_named(1, b"Bus"), None);
-    assert!(rt; registry.next_object() > 2);
-    registry.make_known(2, 1);
-    assert!(rt; registry.is_known(2, 1));
-    assert!(rt; !registry.is_known(2, 0));
-    assert!(rt; !registry.is_known(2, 16));
-    assert!(rt; !registry.is_known(2, 17));
-    assert_eq!(rt; registry.object_named(1, b"Bus"), Some(2));
+    let registry = one_made_known(&rt, rt.alloc())?;
+    assert!(rt; known_to(&registry) == [false, true, true, false, false]);
+    assert!(rt; registry.object_named(1, b"Bus") == Some(2));
+    Ok(())
+}
+
+#[test]
+fn is_known_until_it_is_deleted(rt: HostRuntime) -> Result<(), Fail> {
+    let mut registry = one_made_known(&rt, rt.alloc())?;
     assert!(rt; registry.next_object() > 2);
     registry.delete(2);
     assert!(rt; !registry.is_known(2, 1));
@@ -84,21 +136,39 @@ fn is_known_to_whom_it_was_made_known(rt: HostRuntime) -> Result<(), Fail> {
     Ok(())
 }
 
+/// Whether a federate owns these objects, and as many as are counted.
+fn owns(
+    registry: &Registry,
+    alloc: Global,
+    owner: FederateNo,
+    objects: &[ObjectNo],
+) -> Result<bool, Fail> {
+    let owned = registry.objects_owned_by(alloc, owner)?;
+    Ok(owned.as_slice() == objects && registry.count_owned_by(owner) == objects.len())
+}
+
+/// Whether federates 1 and 2 own these objects.
+fn own(
+    registry: &Registry,
+    alloc: Global,
+    first: &[ObjectNo],
+    second: &[ObjectNo],
+) -> Result<bool, Fail> {
+    Ok(owns(registry, alloc, 1, first)? && owns(registry, alloc, 2, second)?)
+}
+
 #[test]
 fn lists_objects_by_rising_number(rt: HostRuntime) -> Result<(), Fail> {
+    let registry = three(&rt, rt.alloc())?;
+    assert!(rt; own(&registry, rt.alloc(), &[1, 3], &[2])?);
+    Ok(())
+}
+
+#[test]
+fn deletes_the_objects_of_a_federate(rt: HostRuntime) -> Result<(), Fail> {
     let mut registry = three(&rt, rt.alloc())?;
-    assert_eq!(rt;
-        registry.objects_owned_by(rt.alloc(), 1)?.as_slice(),
-        [1, 3].as_slice()
-    );
-    assert_eq!(rt;
-        registry.objects_owned_by(rt.alloc(), 2)?.as_slice(),
-        [2].as_slice()
-    );
-    assert_eq!(rt; registry.count_owned_by(1), 2);
     registry.delete_owned_by(1);
-    assert!(rt; registry.objects_owned_by(rt.alloc(), 1)?.is_empty());
-    assert_eq!(rt; registry.count_owned_by(2), 1);
+    assert!(rt; own(&registry, rt.alloc(), &[], &[2])?);
     assert!(rt; !registry.has_object(3));
     Ok(())
 }

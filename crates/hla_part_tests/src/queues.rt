@@ -2,6 +2,8 @@ ghost use Rattle.std.specs.Prelude.{◌<◌};
 
 use hla_base::{Content, Event, FOREVER, FederateNo, Serial, Ticks};
 use hla_order_queues::{RoQueue, TsoQueue};
+use std::alloc::{AllocError, Global};
+use std::process::Abort;
 use std::test::Fail;
 
 fn event(sender: FederateNo, serial: Serial, stamp: Ticks) -> Event {
@@ -14,7 +16,10 @@ fn event(sender: FederateNo, serial: Serial, stamp: Ticks) -> Event {
     }
 }
 
-fn key(event: &Event) -> (Ticks, FederateNo, Serial) {
+/// What orders events: the stamp, the sender and its serial.
+type Key = (Ticks, FederateNo, Serial);
+
+fn key(event: &Event) -> Key {
     (event.stamp, event.sender, event.serial)
 }
 
@@ -34,59 +39,123 @@ fn put(queue: &mut TsoQueue, event: Event) -> Result<(), Fail> {
     Ok(())
 }
 
-#[test]
-fn gives_what_is_left_in_the_order_of_a_sorted_list(rt: HostRuntime) -> Result<(), Fail> {
-    let mut queue = TsoQueue::new(rt.alloc());
-    let mut left = Vec::new(rt.alloc());
-    for i in 0..10_000u64 {
-        let event = event_of(i);
-        if i % 3 != 0 {
-            left.push(key(&event))?;
-        }
-        put(&mut queue, event)?;
+/// Takes an event out, and gives its key.
+fn remove(queue: &mut TsoQueue, sender: FederateNo, serial: Serial) -> Option<Key> {
+    match queue.remove(sender, serial) {
+        Some(event) => Some(key(&event)),
+        None => None,
     }
+}
+
+/// Takes the least event out, and gives its key.
+fn take_least(queue: &mut TsoQueue) -> Option<Key> {
+    match queue.take_least() {
+        Some(event) => Some(key(&event)),
+        None => None,
+    }
+}
+
+/// Ten thousand events.
+fn filled(alloc: Global) -> Result<TsoQueue, Fail> {
+    let mut queue = TsoQueue::new(alloc);
+    for i in 0..10_000u64 {
+        put(&mut queue, event_of(i))?;
+    }
+    Ok(queue)
+}
+
+/// Takes out each third of the events of `filled`.
+fn remove_thirds(rt: &impl Abort, queue: &mut TsoQueue) {
     for i in 0..3_334u64 {
-        let event = event_of(3 * i);
-        let removed = queue
-            .remove(event.sender, event.serial)
-            .ok_or("it is gone")?;
-        assert_eq!(rt; key(&removed), key(&event));
+        let expected = key(&event_of(3 * i));
+        assert!(rt; remove(queue, expected.1, expected.2) == Some(expected));
+    }
+}
+
+/// The keys of what `remove_thirds` leaves, sorted.
+fn keys_left(alloc: Global) -> Result<Vec<Key>, AllocError> {
+    let mut left = Vec::new(alloc);
+    for i in 0..10_000u64 {
+        if i % 3 != 0 {
+            left.push(key(&event_of(i)))?;
+        }
     }
     left.sort()?;
-    assert_eq!(rt; queue.len(), 6_666);
-    for expected in &left {
-        let event = queue.take_least().ok_or("none is left")?;
-        assert_eq!(rt; key(&event), *expected);
+    Ok(left)
+}
+
+#[test]
+fn gives_what_is_left_in_the_order_of_a_sorted_list(rt: HostRuntime) -> Result<(), Fail> {
+    let mut queue = filled(rt.alloc())?;
+    remove_thirds(&rt, &mut queue);
+    assert!(rt; queue.len() == 6_666);
+    for expected in &keys_left(rt.alloc())? {
+        assert!(rt; take_least(&mut queue) == Some(*expected));
     }
-    assert!(rt; queue.take_least().is_none());
+    assert!(rt; take_least(&mut queue).is_none());
     Ok(())
+}
+
+/// Five events, of which four are below 9.
+fn five_events(alloc: Global) -> Result<TsoQueue, Fail> {
+    let mut queue = TsoQueue::new(alloc);
+    for (sender, serial, stamp) in [(2, 1, 7), (1, 2, 7), (1, 1, 7), (3, 1, 9), (3, 2, 5)] {
+        put(&mut queue, event(sender, serial, stamp))?;
+    }
+    Ok(queue)
+}
+
+/// One event that was received before.
+fn one_received(alloc: Global) -> Result<RoQueue, Fail> {
+    let mut received = RoQueue::new(alloc);
+    received.reserve(1)?;
+    received.put(event(9, 9, 1));
+    Ok(received)
+}
+
+/// Whether the events that were received have these keys.
+fn are_received(received: &RoQueue, expected: &[Key]) -> bool {
+    let mut is_same = received.len() == expected.len();
+    for (place, expected) in expected.iter().enumerate() {
+        is_same = is_same
+            && match received.nth(place) {
+                Some(event) => key(event) == *expected,
+                None => false,
+            };
+    }
+    is_same
 }
 
 #[test]
 fn moves_what_is_below_a_bound(rt: HostRuntime) -> Result<(), Fail> {
-    let mut queue = TsoQueue::new(rt.alloc());
-    let mut received = RoQueue::new(rt.alloc());
-    put(&mut queue, event(2, 1, 7))?;
-    put(&mut queue, event(1, 2, 7))?;
-    put(&mut queue, event(1, 1, 7))?;
-    put(&mut queue, event(3, 1, 9))?;
-    put(&mut queue, event(3, 2, 5))?;
-    received.reserve(1)?;
-    received.put(event(9, 9, 1));
-    assert_eq!(rt; queue.least_stamp(), 5);
+    let mut queue = five_events(rt.alloc())?;
+    let mut received = one_received(rt.alloc())?;
+    assert!(rt; queue.least_stamp() == 5);
     queue.move_below(9, &mut received)?;
-    assert_eq!(rt; queue.len(), 1);
-    assert_eq!(rt; received.len(), 5);
-    let second = received.nth(1).ok_or("no second")?;
-    assert_eq!(rt; key(second), (5, 3, 2));
-    let third = received.nth(2).ok_or("no third")?;
-    assert_eq!(rt; key(third), (7, 1, 1));
-    let fifth = received.remove(2, 1).ok_or("no fifth")?;
-    assert_eq!(rt; key(&fifth), (7, 2, 1));
+    assert!(rt; queue.len() == 1);
+    let expected = [(1, 9, 9), (5, 3, 2), (7, 1, 1), (7, 1, 2), (7, 2, 1)];
+    assert!(rt; are_received(&received, &expected));
+    Ok(())
+}
+
+/// The key of an event that is taken out of those that were received.
+fn remove_received(received: &mut RoQueue, sender: FederateNo, serial: Serial) -> Option<Key> {
+    match received.remove(sender, serial) {
+        Some(event) => Some(key(&event)),
+        None => None,
+    }
+}
+
+#[test]
+fn moves_all_below_forever(rt: HostRuntime) -> Result<(), Fail> {
+    let mut queue = five_events(rt.alloc())?;
+    let mut received = one_received(rt.alloc())?;
+    queue.move_below(9, &mut received)?;
+    assert!(rt; remove_received(&mut received, 2, 1) == Some((7, 2, 1)));
     queue.move_below(FOREVER, &mut received)?;
     assert!(rt; queue.least().is_none());
-    assert_eq!(rt; received.least_ordered(), 1);
-    let last = received.nth(4).ok_or("no last")?;
-    assert_eq!(rt; key(last), (9, 3, 1));
+    assert!(rt; received.least_ordered() == 1);
+    let expected = [(1, 9, 9), (5, 3, 2), (7, 1, 1), (7, 1, 2), (9, 3, 1)];
+    assert!(rt; are_received(&received, &expected));
     Ok(())
 }

@@ -2,6 +2,8 @@ ghost use Rattle.std.specs.Prelude.{◌<◌, ◌≤◌};
 
 use hla_base::{FederateNo, Serial, Ticks};
 use hla_retraction::{Receivers, Sent};
+use std::alloc::Global;
+use std::process::Abort;
 use std::test::Fail;
 
 fn pair(first: FederateNo, second: FederateNo) -> Receivers
@@ -55,20 +57,37 @@ fn nothing_was_sent_at_first(rt: HostRuntime) -> Result<(), Fail> {
     Ok(())
 }
 
-#[test]
-fn a_message_is_retracted_once_and_keeps_its_receivers(rt: HostRuntime) -> Result<(), Fail> {
-    let mut sent = Sent::new(rt.alloc());
+/// Message 3 went to federates 2 and 16, and message 5 to federate 4.
+fn two_sent(alloc: Global) -> Result<Sent, Fail> {
+    let mut sent = Sent::new(alloc);
     sent.note(3, 20, pair(2, 16))?;
     sent.note(5, 10, pair(4, 4))?;
-    assert!(rt; !take_back(&mut sent, 0, 4));
-    assert!(rt; take_back(&mut sent, 0, 3));
-    assert!(rt; !take_back(&mut sent, 0, 3));
-    assert!(rt; take_back(&mut sent, 0, 5));
-    assert!(rt; sent.is_receiver(3, 2));
-    assert!(rt; sent.is_receiver(3, 16));
-    assert!(rt; !sent.is_receiver(3, 4));
-    assert!(rt; !sent.is_receiver(4, 4));
-    assert!(rt; sent.is_receiver(5, 4));
+    Ok(sent)
+}
+
+/// Whether the receivers of `two_sent` are those of its messages, and no others.
+fn has_its_receivers(sent: &Sent) -> bool {
+    let receivers = [
+        sent.is_receiver(3, 2),
+        sent.is_receiver(3, 16),
+        sent.is_receiver(5, 4),
+        sent.is_receiver(3, 4),
+        sent.is_receiver(4, 4),
+    ];
+    receivers == [true, true, true, false, false]
+}
+
+#[test]
+fn a_message_is_retracted_once_and_keeps_its_receivers(rt: HostRuntime) -> Result<(), Fail> {
+    let mut sent = two_sent(rt.alloc())?;
+    let taken = [
+        take_back(&mut sent, 0, 4),
+        take_back(&mut sent, 0, 3),
+        take_back(&mut sent, 0, 3),
+        take_back(&mut sent, 0, 5),
+    ];
+    assert!(rt; taken == [false, true, false, true]);
+    assert!(rt; has_its_receivers(&sent));
     Ok(())
 }
 
@@ -83,23 +102,44 @@ fn only_a_stamp_above_the_least_is_taken_back(rt: HostRuntime) -> Result<(), Fai
     Ok(())
 }
 
-#[test]
-fn finds_each_of_many_messages(rt: HostRuntime) -> Result<(), Fail> {
-    let mut sent = Sent::new(rt.alloc());
+/// A thousand messages of odd serials.
+fn many_sent(alloc: Global) -> Result<Sent, Fail> {
+    let mut sent = Sent::new(alloc);
     for i in 0..1_000u64 {
         sent.note(2 * i + 1, 5000 - i, pair(1 + (i % 16) as u32, 16))?;
     }
+    Ok(sent)
+}
+
+/// What is found of the message of a number: whether its serial and the one before it may be retracted, and whether its
+/// receiver and federate 2 are receivers.
+fn found(sent: &Sent, i: u64) -> [bool; 4]
+    requires { i < 1000 }
+{
+    [
+        sent.may_retract(true, 5000 - i, 2 * i + 1),
+        sent.may_retract(true, 0, 2 * i),
+        sent.is_receiver(2 * i + 1, 1 + (i % 16) as u32),
+        sent.is_receiver(2 * i + 1, 2),
+    ]
+}
+
+/// Finds each message, and takes each third of them back.
+fn take_thirds_back(rt: &impl Abort, sent: &mut Sent) {
     for i in 0..1_000u64 {
-        assert!(rt; !sent.may_retract(true, 0, 2 * i));
-        assert!(rt; sent.is_receiver(2 * i + 1, 1 + (i % 16) as u32));
-        assert_eq!(rt; sent.is_receiver(2 * i + 1, 2), i % 16 == 1);
-        assert!(rt; !sent.may_retract(true, 5000 - i, 2 * i + 1));
+        assert!(rt; found(sent, i) == [false, false, true, i % 16 == 1]);
         if i % 3 == 0 {
-            assert!(rt; take_back(&mut sent, 4999 - i, 2 * i + 1));
+            assert!(rt; take_back(sent, 4999 - i, 2 * i + 1));
         }
     }
+}
+
+#[test]
+fn finds_each_of_many_messages(rt: HostRuntime) -> Result<(), Fail> {
+    let mut sent = many_sent(rt.alloc())?;
+    take_thirds_back(&rt, &mut sent);
     for i in 0..1_000u64 {
-        assert_eq!(rt; sent.may_retract(true, 0, 2 * i + 1), i % 3 != 0);
+        assert!(rt; sent.may_retract(true, 0, 2 * i + 1) == (i % 3 != 0));
     }
     Ok(())
 }

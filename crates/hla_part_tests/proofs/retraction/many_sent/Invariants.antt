@@ -2,7 +2,7 @@
 use Rattle.std.proofs.Common.{◌+◌, ◌*◌}
 use Rattle.hla_retraction.specs.SentRows.{sent_of}
 use Rattle.hla_retraction.proofs.FreeLemmas.{IsFreeFrom}
-use Rattle.hla_part_tests.proofs.retraction.finds_each_of_many_messages.Given as goal
+use Rattle.hla_part_tests.proofs.retraction.many_sent.Given as goal
 
 abbrev pub invariant-loop-i : goal.invariant-loop-i
-invariant-loop-i g l = IsFreeFrom (2 * l.i + 1) (sent_of l.sent)
+invariant-loop-i l = IsFreeFrom (2 * l.i + 1) (sent_of l.sent)
