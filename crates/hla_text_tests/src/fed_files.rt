@@ -4,44 +4,70 @@ use hla_fed_file::{Catalogue, FedFault, FedFaultKind, Order, Transport, read};
 use std::alloc::{AllocError, Global};
 use std::test::Fail;
 
+/// The catalogue of `FED`.
+fn catalogue(alloc: Global) -> Result<Catalogue, Fail> {
+    Ok(read(alloc, FED.as_bytes())?)
+}
+
 #[test]
-fn reads_a_file(rt: HostRuntime) -> Result<(), Fail> {
-    let catalogue = read(rt.alloc(), FED.as_bytes())?;
-    let car = catalogue.object_class(b"ObjectRoot.Car");
-    assert_eq!(rt; car, Some(2));
-    assert_eq!(rt; catalogue.object_class(b"Car"), Some(2));
-    assert_eq!(rt; catalogue.object_class(b"ar"), None);
-    assert_eq!(rt; catalogue.attribute(2, b"privilegeToDelete"), Some(1));
-    assert_eq!(rt; catalogue.attribute(1, b"Pos"), None);
-    assert_eq!(rt; catalogue.deletion_order(2), Order::Timestamp);
-    assert_eq!(rt; catalogue.attribute_order(3), Order::Receive);
-    assert_eq!(rt; catalogue.interaction_class(b"Memo"), Some(3));
-    assert_eq!(rt;
-        catalogue.interaction_path(3),
-        b"InteractionRoot.Note.Memo".as_slice()
-    );
-    assert_eq!(rt; catalogue.interaction_lineage(3), [3, 2, 1].as_slice());
-    assert_eq!(rt; catalogue.interaction_order(4), Order::Timestamp);
-    assert_eq!(rt; catalogue.parameter(3, b"Text"), Some(1));
-    assert_eq!(rt; catalogue.parameter(4, b"Text"), None);
-    assert_eq!(rt; catalogue.parameter_name(3), b"Force".as_slice());
+fn reads_object_classes(rt: HostRuntime) -> Result<(), Fail> {
+    let catalogue = catalogue(rt.alloc())?;
+    let classes = [
+        catalogue.object_class(b"ObjectRoot.Car"),
+        catalogue.object_class(b"Car"),
+        catalogue.object_class(b"ar"),
+    ];
+    assert!(rt; classes == [Some(2), Some(2), None]);
+    assert!(rt; catalogue.attribute(2, b"privilegeToDelete") == Some(1));
+    assert!(rt; catalogue.attribute(1, b"Pos").is_none());
     Ok(())
 }
 
 #[test]
-fn reads_any_case(rt: HostRuntime) -> Result<(), Fail> {
-    let text = b"(fed (FEDERATION \"My Fed\") (FedVersion v1.3) ; note
+fn reads_interaction_classes(rt: HostRuntime) -> Result<(), Fail> {
+    let catalogue = catalogue(rt.alloc())?;
+    assert!(rt; catalogue.interaction_class(b"Memo") == Some(3));
+    assert!(rt; catalogue.parameter(3, b"Text") == Some(1));
+    assert!(rt; catalogue.parameter(4, b"Text").is_none());
+    assert!(rt; catalogue.parameter_name(3) == b"Force".as_slice());
+    Ok(())
+}
+
+#[test]
+fn reads_paths(rt: HostRuntime) -> Result<(), Fail> {
+    let catalogue = catalogue(rt.alloc())?;
+    assert!(rt; catalogue.interaction_path(3) == b"InteractionRoot.Note.Memo".as_slice());
+    assert!(rt; catalogue.interaction_lineage(3) == [3, 2, 1].as_slice());
+    Ok(())
+}
+
+#[test]
+fn reads_orders(rt: HostRuntime) -> Result<(), Fail> {
+    let catalogue = catalogue(rt.alloc())?;
+    assert!(rt; catalogue.deletion_order(2) == Order::Timestamp);
+    assert!(rt; catalogue.attribute_order(3) == Order::Receive);
+    assert!(rt; catalogue.interaction_order(4) == Order::Timestamp);
+    Ok(())
+}
+
+/// A FED file in letters of both cases, with a comment.
+const ANY_CASE: &[u8] = b"(fed (FEDERATION \"My Fed\") (FedVersion v1.3) ; note
 (OBJECTS (Class \"Root X\" (ATTRIBUTE a BEST_EFFORT TimeStamp Geo) (attribute b RELIABLE) (attribute c)))
 (Interactions (class I (parameter p))))
 ";
-    let catalogue = read(rt.alloc(), text)?;
-    assert_eq!(rt; catalogue.object_path(1), b"Root X".as_slice());
-    assert_eq!(rt; catalogue.attributes().len(), 3);
-    assert_eq!(rt; catalogue.attribute_order(1), Order::Timestamp);
-    assert!(rt;
-        matches!(catalogue.attributes(), [a, _, _] if a.transport == Transport::BestEffort)
-    );
-    assert_eq!(rt; catalogue.interaction_order(1), Order::Receive);
+
+/// Whether the first of three attributes is sent by best effort.
+fn has_a_first_of_best_effort(catalogue: &Catalogue) -> bool {
+    matches!(catalogue.attributes(), [a, _, _] if a.transport == Transport::BestEffort)
+}
+
+#[test]
+fn reads_any_case(rt: HostRuntime) -> Result<(), Fail> {
+    let catalogue = read(rt.alloc(), ANY_CASE)?;
+    assert!(rt; catalogue.object_path(1) == b"Root X".as_slice());
+    assert!(rt; catalogue.attribute_order(1) == Order::Timestamp);
+    assert!(rt; has_a_first_of_best_effort(&catalogue));
+    assert!(rt; catalogue.interaction_order(1) == Order::Receive);
     assert!(rt; catalogue.has_parameter(1, 1));
     Ok(())
 }
@@ -81,154 +107,156 @@ fn is_read_as(alloc: Global, text: &[u8], catalogue: &Catalogue) -> bool {
     }
 }
 
+/// Texts, and the line and the kind of the fault of each.
+const FAULTS: [(&[u8], usize, FedFaultKind); 46] = [
+    (b"(FED\n(objects\n(class Ob", 3, FedFaultKind::UnexpectedEnd),
+    (b"", 1, FedFaultKind::UnexpectedEnd),
+    (b"(FED) \"a", 1, FedFaultKind::UnexpectedEnd),
+    (b"(FED \x01)", 1, FedFaultKind::BadByte),
+    (b"(FED\n(foo\x01", 2, FedFaultKind::BadByte),
+    (b"(FED) a\x7fb", 1, FedFaultKind::BadByte),
+    (b"(FED ; \x01\n)\x7f", 2, FedFaultKind::BadByte),
+    (b"(FED (Federation \"a\nb\"))", 1, FedFaultKind::BadByte),
+    (b"FED", 1, FedFaultKind::ExpectedOpen),
+    (b"(FED x)", 1, FedFaultKind::ExpectedOpen),
+    (
+        b"(FED (objects (class a \"x\")))",
+        1,
+        FedFaultKind::ExpectedOpen,
+    ),
+    (
+        b"(FED (interactions (class a \"x\")))",
+        1,
+        FedFaultKind::ExpectedOpen,
+    ),
+    (
+        b"(FED (interactions (class a receive b c)))",
+        1,
+        FedFaultKind::ExpectedOpen,
+    ),
+    (b"(\"FED\")", 1, FedFaultKind::UnknownKeyword),
+    (b"(FED (foo))", 1, FedFaultKind::UnknownKeyword),
+    (b"(FED ())", 1, FedFaultKind::UnknownKeyword),
+    (
+        b"(FED (objects (attribute a)))",
+        1,
+        FedFaultKind::UnknownKeyword,
+    ),
+    (
+        b"(FED (objects (class a (parameter b))))",
+        1,
+        FedFaultKind::UnknownKeyword,
+    ),
+    (
+        b"(FED (objects (class a (attribute b fast))))",
+        1,
+        FedFaultKind::UnknownKeyword,
+    ),
+    (
+        b"(FED (objects (class a (attribute b reliable best_effort))))",
+        1,
+        FedFaultKind::UnknownKeyword,
+    ),
+    (
+        b"(FED (objects (class a (attribute b (class c)))))",
+        1,
+        FedFaultKind::UnknownKeyword,
+    ),
+    (
+        b"(FED (interactions (class a fast)))",
+        1,
+        FedFaultKind::UnknownKeyword,
+    ),
+    (
+        b"(FED (interactions (class a (parameter b (class c)))))",
+        1,
+        FedFaultKind::UnknownKeyword,
+    ),
+    (b"(FED (Federation))", 1, FedFaultKind::ExpectedName),
+    (b"(FED (Federation (a)))", 1, FedFaultKind::ExpectedName),
+    (
+        b"(FED (objects (class \"\")))",
+        1,
+        FedFaultKind::ExpectedName,
+    ),
+    (
+        b"(FED (objects (class a (attribute))))",
+        1,
+        FedFaultKind::ExpectedName,
+    ),
+    (b"(FED (Federation a\nb))", 2, FedFaultKind::ExpectedClose),
+    (b"(FED (FEDversion a (b)))", 1, FedFaultKind::ExpectedClose),
+    (
+        b"(FED (objects (class a (attribute b \"receive\"))))",
+        1,
+        FedFaultKind::ExpectedClose,
+    ),
+    (
+        b"(FED (objects (class a (attribute b receive c d))))",
+        1,
+        FedFaultKind::ExpectedClose,
+    ),
+    (
+        b"(FED (objects (class a (attribute b (sec_level) receive))))",
+        1,
+        FedFaultKind::ExpectedClose,
+    ),
+    (
+        b"(FED (interactions (class a (parameter p reliable))))",
+        1,
+        FedFaultKind::ExpectedClose,
+    ),
+    (b"(FED)\n\n)", 3, FedFaultKind::TrailingText),
+    (b"(FED) a", 1, FedFaultKind::TrailingText),
+    (b"(FED)", 0, FedFaultKind::OutOfMemory),
+    (b"\t(FED\x0b\x0c)\r\n; end", 0, FedFaultKind::OutOfMemory),
+    (
+        b"(FED (federate a (\"\" ()) b) (spaces ((x))))",
+        0,
+        FedFaultKind::OutOfMemory,
+    ),
+    (
+        b"(FED (objects (class a (sec_level 1) (attribute b receive \"\" (sec_level 1) (sec_level)))))",
+        0,
+        FedFaultKind::OutOfMemory,
+    ),
+    (
+        b"(FED (objects (class a (attribute b (sec_level 1)))))",
+        0,
+        FedFaultKind::OutOfMemory,
+    ),
+    (
+        b"(FED (interactions (class a best_effort (sec_level x) (class b timestamp c (parameter d)))))",
+        0,
+        FedFaultKind::OutOfMemory,
+    ),
+    (
+        b"(FED (interactions (class a receive)))",
+        0,
+        FedFaultKind::OutOfMemory,
+    ),
+    (
+        b"(FED (interactions (class a receive b (parameter c (sec_level)))))",
+        0,
+        FedFaultKind::OutOfMemory,
+    ),
+    (
+        b"(FED (objects (class class (attribute attribute))))",
+        0,
+        FedFaultKind::OutOfMemory,
+    ),
+    (
+        b"(FED (objects (class \xff\x80)))",
+        0,
+        FedFaultKind::OutOfMemory,
+    ),
+    (b"(FED (Federation \"a\tb\"))", 0, FedFaultKind::OutOfMemory),
+];
+
 #[test]
 fn finds_faults(rt: HostRuntime) {
-    let cases: [(&[u8], usize, FedFaultKind); 46] = [
-        (b"(FED\n(objects\n(class Ob", 3, FedFaultKind::UnexpectedEnd),
-        (b"", 1, FedFaultKind::UnexpectedEnd),
-        (b"(FED) \"a", 1, FedFaultKind::UnexpectedEnd),
-        (b"(FED \x01)", 1, FedFaultKind::BadByte),
-        (b"(FED\n(foo\x01", 2, FedFaultKind::BadByte),
-        (b"(FED) a\x7fb", 1, FedFaultKind::BadByte),
-        (b"(FED ; \x01\n)\x7f", 2, FedFaultKind::BadByte),
-        (b"(FED (Federation \"a\nb\"))", 1, FedFaultKind::BadByte),
-        (b"FED", 1, FedFaultKind::ExpectedOpen),
-        (b"(FED x)", 1, FedFaultKind::ExpectedOpen),
-        (
-            b"(FED (objects (class a \"x\")))",
-            1,
-            FedFaultKind::ExpectedOpen,
-        ),
-        (
-            b"(FED (interactions (class a \"x\")))",
-            1,
-            FedFaultKind::ExpectedOpen,
-        ),
-        (
-            b"(FED (interactions (class a receive b c)))",
-            1,
-            FedFaultKind::ExpectedOpen,
-        ),
-        (b"(\"FED\")", 1, FedFaultKind::UnknownKeyword),
-        (b"(FED (foo))", 1, FedFaultKind::UnknownKeyword),
-        (b"(FED ())", 1, FedFaultKind::UnknownKeyword),
-        (
-            b"(FED (objects (attribute a)))",
-            1,
-            FedFaultKind::UnknownKeyword,
-        ),
-        (
-            b"(FED (objects (class a (parameter b))))",
-            1,
-            FedFaultKind::UnknownKeyword,
-        ),
-        (
-            b"(FED (objects (class a (attribute b fast))))",
-            1,
-            FedFaultKind::UnknownKeyword,
-        ),
-        (
-            b"(FED (objects (class a (attribute b reliable best_effort))))",
-            1,
-            FedFaultKind::UnknownKeyword,
-        ),
-        (
-            b"(FED (objects (class a (attribute b (class c)))))",
-            1,
-            FedFaultKind::UnknownKeyword,
-        ),
-        (
-            b"(FED (interactions (class a fast)))",
-            1,
-            FedFaultKind::UnknownKeyword,
-        ),
-        (
-            b"(FED (interactions (class a (parameter b (class c)))))",
-            1,
-            FedFaultKind::UnknownKeyword,
-        ),
-        (b"(FED (Federation))", 1, FedFaultKind::ExpectedName),
-        (b"(FED (Federation (a)))", 1, FedFaultKind::ExpectedName),
-        (
-            b"(FED (objects (class \"\")))",
-            1,
-            FedFaultKind::ExpectedName,
-        ),
-        (
-            b"(FED (objects (class a (attribute))))",
-            1,
-            FedFaultKind::ExpectedName,
-        ),
-        (b"(FED (Federation a\nb))", 2, FedFaultKind::ExpectedClose),
-        (b"(FED (FEDversion a (b)))", 1, FedFaultKind::ExpectedClose),
-        (
-            b"(FED (objects (class a (attribute b \"receive\"))))",
-            1,
-            FedFaultKind::ExpectedClose,
-        ),
-        (
-            b"(FED (objects (class a (attribute b receive c d))))",
-            1,
-            FedFaultKind::ExpectedClose,
-        ),
-        (
-            b"(FED (objects (class a (attribute b (sec_level) receive))))",
-            1,
-            FedFaultKind::ExpectedClose,
-        ),
-        (
-            b"(FED (interactions (class a (parameter p reliable))))",
-            1,
-            FedFaultKind::ExpectedClose,
-        ),
-        (b"(FED)\n\n)", 3, FedFaultKind::TrailingText),
-        (b"(FED) a", 1, FedFaultKind::TrailingText),
-        (b"(FED)", 0, FedFaultKind::OutOfMemory),
-        (b"\t(FED\x0b\x0c)\r\n; end", 0, FedFaultKind::OutOfMemory),
-        (
-            b"(FED (federate a (\"\" ()) b) (spaces ((x))))",
-            0,
-            FedFaultKind::OutOfMemory,
-        ),
-        (
-            b"(FED (objects (class a (sec_level 1) (attribute b receive \"\" (sec_level 1) (sec_level)))))",
-            0,
-            FedFaultKind::OutOfMemory,
-        ),
-        (
-            b"(FED (objects (class a (attribute b (sec_level 1)))))",
-            0,
-            FedFaultKind::OutOfMemory,
-        ),
-        (
-            b"(FED (interactions (class a best_effort (sec_level x) (class b timestamp c (parameter d)))))",
-            0,
-            FedFaultKind::OutOfMemory,
-        ),
-        (
-            b"(FED (interactions (class a receive)))",
-            0,
-            FedFaultKind::OutOfMemory,
-        ),
-        (
-            b"(FED (interactions (class a receive b (parameter c (sec_level)))))",
-            0,
-            FedFaultKind::OutOfMemory,
-        ),
-        (
-            b"(FED (objects (class class (attribute attribute))))",
-            0,
-            FedFaultKind::OutOfMemory,
-        ),
-        (
-            b"(FED (objects (class \xff\x80)))",
-            0,
-            FedFaultKind::OutOfMemory,
-        ),
-        (b"(FED (Federation \"a\tb\"))", 0, FedFaultKind::OutOfMemory),
-    ];
-    for (text, line, kind) in cases {
-        assert_eq!(rt; fault_of(rt.alloc(), text), (line, kind), "{text:?}");
+    for (text, line, kind) in FAULTS.iter() {
+        assert!(rt; fault_of(rt.alloc(), text) == (*line, *kind), "{text:?}");
     }
 }
 
@@ -248,72 +276,99 @@ fn repeated_text(
     Ok(text)
 }
 
+/// The fault of a text of so many times the same item.
+fn fault_of_repeated(
+    alloc: Global,
+    head: &[u8],
+    item: &[u8],
+    count: usize,
+    tail: &[u8],
+) -> Result<(usize, FedFaultKind), AllocError> {
+    let text = repeated_text(alloc, head, item, count, tail)?;
+    Ok(fault_of(alloc, text.as_slice()))
+}
+
+/// Texts of so many times the same item; with one more it is too large.
+const LIMITS: [(&[u8], &[u8], usize, &[u8]); 9] = [
+    (b"(FED)", b" ", 1_048_571, b""),
+    (
+        b"(FED (spaces ",
+        b"(",
+        62,
+        b"))))))))))))))))))))))))))))))))))))))))))))))))))))))))))))))))",
+    ),
+    (
+        b"(FED (objects ",
+        b"(class c",
+        62,
+        b"))))))))))))))))))))))))))))))))))))))))))))))))))))))))))))))))",
+    ),
+    (b"(FED (objects", b"(class c)", 512, b"))"),
+    (b"(FED (interactions", b"(class c)", 512, b"))"),
+    (b"(FED (Federation ", b"n", 255, b"))"),
+    (b"(FED (objects (class \"", b"n", 255, b"\")))"),
+    (b"(FED (objects (class c (attribute ", b"n", 255, b"))))"),
+    (
+        b"(FED (interactions (class c (parameter ",
+        b"n",
+        255,
+        b"))))",
+    ),
+];
+
+const TOO_LARGE: (usize, FedFaultKind) = (1, FedFaultKind::TooLarge);
+
 #[test]
 fn keeps_the_limits(rt: HostRuntime) -> Result<(), Fail> {
-    // The last count that is read; one more is too large.
-    let cases: [(&[u8], &[u8], usize, &[u8]); 9] = [
-        (b"(FED)", b" ", 1_048_571, b""),
-        (
-            b"(FED (spaces ",
-            b"(",
-            62,
-            b"))))))))))))))))))))))))))))))))))))))))))))))))))))))))))))))))",
-        ),
-        (
-            b"(FED (objects ",
-            b"(class c",
-            62,
-            b"))))))))))))))))))))))))))))))))))))))))))))))))))))))))))))))))",
-        ),
-        (b"(FED (objects", b"(class c)", 512, b"))"),
-        (b"(FED (interactions", b"(class c)", 512, b"))"),
-        (b"(FED (Federation ", b"n", 255, b"))"),
-        (b"(FED (objects (class \"", b"n", 255, b"\")))"),
-        (b"(FED (objects (class c (attribute ", b"n", 255, b"))))"),
-        (
-            b"(FED (interactions (class c (parameter ",
-            b"n",
-            255,
-            b"))))",
-        ),
-    ];
-    for (head, item, count, tail) in cases {
-        let text = repeated_text(rt.alloc(), head, item, count, tail)?;
-        assert_eq!(rt; fault_of(rt.alloc(), text.as_slice()), READ, "{head:?}");
-        let text = repeated_text(rt.alloc(), head, item, count + 1, tail)?;
-        assert_eq!(rt;
-            fault_of(rt.alloc(), text.as_slice()),
-            (1, FedFaultKind::TooLarge),
-            "{head:?}"
-        );
+    for (head, item, count, tail) in LIMITS.iter() {
+        let last = fault_of_repeated(rt.alloc(), head, item, *count, tail)?;
+        assert!(rt; last == READ, "{head:?}");
+        let next = fault_of_repeated(rt.alloc(), head, item, *count + 1, tail)?;
+        assert!(rt; next == TOO_LARGE, "{head:?}");
     }
     Ok(())
 }
 
+/// How many attributes and parameters a text of so many times the same item declares.
+fn counts_of_repeated(
+    alloc: Global,
+    head: &[u8],
+    item: &[u8],
+    count: usize,
+) -> Result<Option<(usize, usize)>, AllocError> {
+    let text = repeated_text(alloc, head, item, count, b"))")?;
+    Ok(counts_of(alloc, text.as_slice()))
+}
+
+/// A class of eight attributes.
+const EIGHT_ATTRIBUTES: &[u8] =
+    b"(class c (attribute a)(attribute b)(attribute c)(attribute d)(attribute e)(attribute f)(attribute g)(attribute h))";
+
 #[test]
-fn counts_declarations(rt: HostRuntime) -> Result<(), Fail> {
-    let attributes =
-        b"(class c (attribute a)(attribute b)(attribute c)(attribute d)(attribute e)(attribute f)(attribute g)(attribute h))";
-    let text = repeated_text(rt.alloc(), b"(FED (objects", attributes, 512, b"))")?;
-    assert_eq!(rt; counts_of(rt.alloc(), text.as_slice()), Some((4096, 0)));
+fn counts_attributes(rt: HostRuntime) -> Result<(), Fail> {
+    let alloc = rt.alloc();
+    let counts = counts_of_repeated(alloc, b"(FED (objects", EIGHT_ATTRIBUTES, 512)?;
+    assert!(rt; counts == Some((4096, 0)));
     let head =
         b"(FED (objects (class c (attribute a)(attribute b)(attribute c)(attribute d)(attribute e)(attribute f)(attribute g)(attribute h)(attribute i))";
-    let text = repeated_text(rt.alloc(), head, attributes, 511, b"))")?;
-    assert_eq!(rt;
-        fault_of(rt.alloc(), text.as_slice()),
-        (1, FedFaultKind::TooLarge)
-    );
-    let parameters =
-        b"(class c (parameter a)(parameter b)(parameter c)(parameter d)(parameter e)(parameter f)(parameter g)(parameter h))";
-    let text = repeated_text(rt.alloc(), b"(FED (interactions", parameters, 512, b"))")?;
-    assert_eq!(rt; counts_of(rt.alloc(), text.as_slice()), Some((0, 4096)));
+    let fault = fault_of_repeated(alloc, head, EIGHT_ATTRIBUTES, 511, b"))")?;
+    assert!(rt; fault == TOO_LARGE);
+    Ok(())
+}
+
+/// A class of eight parameters.
+const EIGHT_PARAMETERS: &[u8] =
+    b"(class c (parameter a)(parameter b)(parameter c)(parameter d)(parameter e)(parameter f)(parameter g)(parameter h))";
+
+#[test]
+fn counts_parameters(rt: HostRuntime) -> Result<(), Fail> {
+    let alloc = rt.alloc();
+    let counts = counts_of_repeated(alloc, b"(FED (interactions", EIGHT_PARAMETERS, 512)?;
+    assert!(rt; counts == Some((0, 4096)));
     let head =
         b"(FED (interactions (class c (parameter a)(parameter b)(parameter c)(parameter d)(parameter e)(parameter f)(parameter g)(parameter h)(parameter i))";
-    let text = repeated_text(rt.alloc(), head, parameters, 511, b"))")?;
-    assert_eq!(rt;
-        fault_of(rt.alloc(), text.as_slice()),
-        (1, FedFaultKind::TooLarge)
-    );
+    let fault = fault_of_repeated(alloc, head, EIGHT_PARAMETERS, 511, b"))")?;
+    assert!(rt; fault == TOO_LARGE);
     Ok(())
 }
 
@@ -332,6 +387,12 @@ fn refuses_each_prefix(rt: HostRuntime) {
     }
 }
 
+/// Whether a text is read, or its fault is one of the text and in one of its 20 lines.
+fn is_answered(alloc: Global, text: &[u8]) -> bool {
+    let (line, kind) = fault_of(alloc, text);
+    line <= 20 && (line == 0 || kind != FedFaultKind::OutOfMemory)
+}
+
 #[test]
 fn answers_each_change_of_a_byte(rt: HostRuntime) -> Result<(), Fail> {
     let mut text = FED.as_bytes().to_vec(rt.alloc())?;
@@ -339,11 +400,7 @@ fn answers_each_change_of_a_byte(rt: HostRuntime) -> Result<(), Fail> {
         let before = text[place];
         for byte in [b'(', b'"', b';', 0, 0xff] {
             text[place] = byte;
-            let (line, kind) = fault_of(rt.alloc(), text.as_slice());
-            assert!(rt;
-                line <= 20 && (line == 0 || kind != FedFaultKind::OutOfMemory),
-                "{place}"
-            );
+            assert!(rt; is_answered(rt.alloc(), text.as_slice()), "{place}");
         }
         text[place] = before;
     }
@@ -352,23 +409,29 @@ fn answers_each_change_of_a_byte(rt: HostRuntime) -> Result<(), Fail> {
 
 #[test]
 fn copies_a_catalogue(rt: HostRuntime) -> Result<(), Fail> {
-    let catalogue = read(rt.alloc(), FED.as_bytes())?;
+    let catalogue = catalogue(rt.alloc())?;
     assert!(rt; is_copied(&catalogue));
     assert!(rt; is_read_as(rt.alloc(), FED.as_bytes(), &catalogue));
     assert!(rt; !is_read_as(rt.alloc(), b"(FED)", &catalogue));
     Ok(())
 }
 
+/// A class whose attributes stand before and behind a class below it.
+const INHERITING: &[u8] =
+    b"(FED (objects (class a (attribute x) (class b (attribute x) (attribute y) (attribute y)) (attribute y) (class b))))";
+
 #[test]
 fn inherits_what_stands_before(rt: HostRuntime) -> Result<(), Fail> {
-    let text =
-        b"(FED (objects (class a (attribute x) (class b (attribute x) (attribute y) (attribute y)) (attribute y) (class b))))";
-    let catalogue = read(rt.alloc(), text)?;
-    assert_eq!(rt; catalogue.attributes().len(), 3);
-    assert_eq!(rt; catalogue.attribute(2, b"x"), Some(1));
-    assert_eq!(rt; catalogue.attribute(2, b"y"), Some(2));
-    assert_eq!(rt; catalogue.attribute(1, b"y"), Some(3));
-    assert_eq!(rt; catalogue.object_class(b"a.b"), Some(2));
-    assert!(rt; catalogue.has_attribute(3, 3) && !catalogue.has_attribute(3, 2));
+    let catalogue = read(rt.alloc(), INHERITING)?;
+    assert!(rt; catalogue.attributes().len() == 3);
+    let attributes = [
+        catalogue.attribute(2, b"x"),
+        catalogue.attribute(2, b"y"),
+        catalogue.attribute(1, b"y"),
+    ];
+    assert!(rt; attributes == [Some(1), Some(2), Some(3)]);
+    assert!(rt; catalogue.object_class(b"a.b") == Some(2));
+    assert!(rt; catalogue.has_attribute(3, 3));
+    assert!(rt; !catalogue.has_attribute(3, 2));
     Ok(())
 }

@@ -56,20 +56,17 @@ parameter 1 q
     Ok(())
 }
 
+/// A FED file that is cut off in its third line.
+const REFUSED: &[u8] = b"(FED\n(objects\n(class Ob";
+
 #[test]
 fn writes_nothing_of_a_refused_file(rt: HostRuntime) {
     let mut out = Vec::new(rt.alloc());
+    let answer = list(rt.alloc(), REFUSED, &mut Watched::new(&mut out));
     let fault = FedFault {
         line: 3,
         kind: FedFaultKind::UnexpectedEnd,
     };
-    assert_eq!(rt;
-        list(
-            rt.alloc(),
-            b"(FED\n(objects\n(class Ob",
-            &mut Watched::new(&mut out)
-        ),
-        Err(ListFault::Fed(fault))
-    );
-    assert_eq!(rt; out.len(), 0);
+    assert!(rt; answer == Err(ListFault::Fed(fault)));
+    assert!(rt; out.is_empty());
 }
