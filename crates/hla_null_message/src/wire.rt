@@ -1,9 +1,9 @@
 //! A wire from one component to another.
 
-ghost use Rattle.std.specs.Prelude.{◌≡◌, ◌∷◌, ◌<◌, ◌≤◌, ◌+◌, ◌-◌, [], OnOk, OnSome, IfErr, cond, true, drop, slice_get, IsTrue, ◌↔◌, length};
+ghost use Rattle.std.specs.Prelude.{◌≡◌, ◌∷◌, ◌<◌, ◌≤◌, ◌+◌, ◌-◌, [], OnOk, OnSome, IfErr, cond, true, drop, slice_get, IsTrue, ◌↔◌};
 ghost use Rattle.std.specs.Option.{option_copied};
 ghost use Rattle.hla_base.specs.declared.fault.Fault.TheVariants.{OutOfMemory};
-ghost use Rattle.hla_null_message.specs.Wires.{ends_with_null, put_all_behind, put_behind, takes_room, without_last_null};
+ghost use Rattle.hla_null_message.specs.Wires.{ends_with_null, put_behind, takes_room, without_last_null};
 
 use crate::message::Message;
 use hla_base::Fault;
@@ -86,16 +86,6 @@ impl Wire {
             let _ = self.take_last_null(epoch);
         }
         self.messages.push_back_reserved(message);
-    }
-
-    /// Puts messages on the wire, one behind the other. It takes no memory.
-    pub fn append(&mut self, messages: Vec<Message>)
-        requires { length messages.items ≤ self.old.room }
-        ensures { self.new.messages ≡ put_all_behind messages.items self.old.messages }
-    {
-        for message in messages {
-            self.put(message);
-        }
     }
 
     /// The message that was put first, if there is one.
