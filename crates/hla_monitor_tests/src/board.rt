@@ -20,39 +20,54 @@ fn recorded(act: Act, outcome: Outcome) -> Result<Record, Fail> {
     })
 }
 
-fn ticked(outcome: Outcome) -> Result<Record, Fail> {
-    recorded(Act::Step(Step::Tick { federate: 1 }), outcome)
+/// Adds the record of an act of the first federate.
+fn note(all: &mut Vec<Record>, act: Act, outcome: Outcome) -> Result<(), Fail> {
+    all.push(recorded(act, outcome)?)?;
+    Ok(())
+}
+
+/// Two federates join.
+fn note_joinings(alloc: Global, all: &mut Vec<Record>) -> Result<(), Fail> {
+    for federate in 1..=2 {
+        let name = List::new(alloc);
+        let joined = Outcome::Done(Answer::Federate(federate));
+        note(all, Act::Step(Step::Join { name }), joined)?;
+    }
+    Ok(())
+}
+
+fn note_tick(all: &mut Vec<Record>, outcome: Outcome) -> Result<(), Fail> {
+    note(all, Act::Step(Step::Tick { federate: 1 }), outcome)
+}
+
+/// One ticks with nothing, a grant and a failing ambassador.
+fn note_ticks(all: &mut Vec<Record>) -> Result<(), Fail> {
+    note_tick(all, Outcome::Done(Answer::Ticked(None)))?;
+    let grant = Callback::TimeAdvanceGrant { time: 5 };
+    note_tick(all, Outcome::Done(Answer::Ticked(Some(grant))))?;
+    let enabled = Callback::TimeConstrainedEnabled { time: 0 };
+    note_tick(all, Outcome::Failed(enabled))
+}
+
+/// One resigns, and destroying is refused.
+fn note_end(all: &mut Vec<Record>) -> Result<(), Fail> {
+    let resigning = Step::Call {
+        federate: 2,
+        service: Service::Resign {
+            action: ResignAction::NoAction,
+        },
+    };
+    note(all, Act::Step(resigning), Outcome::Done(Answer::Done))?;
+    let refused = Outcome::Refused(Fault::FederatesCurrentlyJoined);
+    note(all, Act::Destroy, refused)
 }
 
 /// Two federates join, one ticks with nothing, a grant and a failing ambassador, one resigns, and destroying is refused.
 fn records(alloc: Global) -> Result<Vec<Record>, Fail> {
-    let grant = Callback::TimeAdvanceGrant { time: 5 };
-    let enabled = Callback::TimeConstrainedEnabled { time: 0 };
-    let resigning = Service::Resign {
-        action: ResignAction::NoAction,
-    };
     let mut all = Vec::new(alloc);
-    for federate in 1..=2 {
-        let name = List::new(alloc);
-        all.push(recorded(
-            Act::Step(Step::Join { name }),
-            Outcome::Done(Answer::Federate(federate)),
-        )?)?;
-    }
-    all.push(ticked(Outcome::Done(Answer::Ticked(None)))?)?;
-    all.push(ticked(Outcome::Done(Answer::Ticked(Some(grant))))?)?;
-    all.push(ticked(Outcome::Failed(enabled))?)?;
-    all.push(recorded(
-        Act::Step(Step::Call {
-            federate: 2,
-            service: resigning,
-        }),
-        Outcome::Done(Answer::Done),
-    )?)?;
-    all.push(recorded(
-        Act::Destroy,
-        Outcome::Refused(Fault::FederatesCurrentlyJoined),
-    )?)?;
+    note_joinings(alloc, &mut all)?;
+    note_ticks(&mut all)?;
+    note_end(&mut all)?;
     Ok(all)
 }
 
