@@ -37,9 +37,9 @@ pub enum Content {
 #[derive(Clone, PartialEq, Eq, Debug, Drop)]
 pub struct Event {
     pub sender: FederateNo,
-    pub serial: Serial,
     /// Whether it was sent in time-stamp order; else it was sent in receive order.
     pub ordered: bool,
+    pub serial: Serial,
     /// The time stamp, 0 in receive order.
     pub stamp: Ticks,
     pub content: Content,

@@ -3,6 +3,7 @@
 //!
 //!     hla_bench lockstep FEDERATES EVENTS ROUNDS
 //!     hla_bench phold FEDERATES POPULATION LOOKAHEAD DELIVERED
+//!     hla_bench updates RECEIVERS UPDATES
 //!     hla_bench queue EVENTS
 //!     hla_bench fed BYTES
 //!     hla_bench bare FEDERATES ROUNDS
@@ -22,6 +23,7 @@ mod phold;
 mod random;
 mod reading;
 mod sharing;
+mod updating;
 
 use crate::counts::Counts;
 use hla_base::Fault;
@@ -49,6 +51,10 @@ enum Benchmark {
         population: u32,
         lookahead: u64,
         delivered: u64,
+    },
+    Updates {
+        receivers: u32,
+        updates: u64,
     },
     Queue {
         events: u32,
@@ -82,7 +88,7 @@ enum Benchmark {
 
 const USAGE: &str =
     "usage: hla_bench lockstep FEDERATES EVENTS ROUNDS | phold FEDERATES POPULATION LOOKAHEAD DELIVERED | \
-    queue EVENTS | fed BYTES | bare FEDERATES ROUNDS | lent FEDERATES ROUNDS | locked FEDERATES ROUNDS | \
+    updates RECEIVERS UPDATES | queue EVENTS | fed BYTES | bare FEDERATES ROUNDS | lent FEDERATES ROUNDS | locked FEDERATES ROUNDS | \
     run THREADS ROUNDS | watch THREADS ROUNDS | check FEDERATES EVENTS ROUNDS";
 
 /// The next word as a number.
@@ -110,6 +116,10 @@ fn asked_for(words: &mut Args) -> Option<Benchmark> {
             population: small(words)?,
             lookahead: number(words)?,
             delivered: number(words)?,
+        },
+        "updates" => Benchmark::Updates {
+            receivers: small(words)?,
+            updates: number(words)?,
         },
         "queue" => Benchmark::Queue {
             events: small(words)?,
@@ -194,6 +204,7 @@ fn counts_of<R: AllocGlobal + Threads + Wait + Sync>(
             lookahead,
             delivered,
         } => phold::run(alloc, federates, population, lookahead, delivered),
+        Benchmark::Updates { receivers, updates } => updating::run(alloc, receivers, updates),
         Benchmark::Queue { events } => holding::run(alloc, events),
         Benchmark::Fed { bytes } => reading::run(alloc, bytes),
         Benchmark::Bare { federates, rounds } => advancing::run_bare(alloc, federates, rounds),

@@ -3,7 +3,8 @@
 use crate::advancing::name_of;
 use crate::counts::Counts;
 use hla_base::{
-    ClassNo, ExecutionName, Fault, FederateNo, HandleValuePair, List, Plain, Ticks, Value,
+    AttributeNo, ClassNo, ExecutionName, Fault, FederateNo, HandleValuePair, List, Plain, Ticks,
+    Value,
 };
 use hla_callbacks::Callback;
 use hla_fed_file::Catalogue;
@@ -52,7 +53,9 @@ enum Brought {
 
 fn brought_by(answer: &Answer) -> Brought {
     match answer {
-        Answer::Ticked(Some(Callback::ReceiveInteraction { .. })) => Brought::Message,
+        Answer::Ticked(
+            Some(Callback::ReceiveInteraction { .. } | Callback::ReflectAttributeValues { .. }),
+        ) => Brought::Message,
         Answer::Ticked(Some(Callback::TimeAdvanceGrant { time })) => Brought::Grant(*time),
         Answer::Ticked(None) | Answer::Carried(Carried::Nothing) => Brought::Nothing,
         _ => Brought::Other,
@@ -163,6 +166,35 @@ impl Meter {
                 class,
                 values,
                 stamp: Some(stamp),
+            },
+        )?;
+        self.counts.sent = self.counts.sent.wrapping_add(1);
+        Ok(())
+    }
+
+    /// The numbers of attributes.
+    pub fn numbers(&self, numbers: &[AttributeNo]) -> Result<List<AttributeNo>, Fault> {
+        match Vec::from_slice(self.alloc, numbers) {
+            Ok(numbers) => Ok(List::from_vec(numbers)),
+            Err(_) => Err(Fault::OutOfMemory),
+        }
+    }
+
+    /// A federate updates attributes 1 and 2 of object 1, each with eight bytes.
+    pub fn update(&mut self, federate: FederateNo) -> Result<(), Fault> {
+        let mut values = List::new(self.alloc);
+        for handle in 1..=2u32 {
+            values.push(HandleValuePair {
+                handle,
+                value: Value::new(self.alloc, b"8 bytes.")?,
+            })?;
+        }
+        self.call(
+            federate,
+            Service::UpdateAttributeValues {
+                object: 1,
+                values,
+                stamp: None,
             },
         )?;
         self.counts.sent = self.counts.sent.wrapping_add(1);
