@@ -1,14 +1,16 @@
 //! What the federates of one execution declare.
 
-ghost use Rattle.std.specs.Prelude.{◌≡◌, ◌<◌, ◌≤◌, ◌+◌, [], None, Some, false, true, IfOk, IfErr, OnOk, OnErr, is_some};
+ghost use Rattle.std.specs.Prelude.{◌≡◌, ◌<◌, ◌≤◌, ◌+◌, ℕ, find, [], None, Some, false, true, IfOk, IfErr, OnOk, OnErr, is_some};
 ghost use Rattle.std.specs.Option.{option_map_or, option_copied};
 ghost use Rattle.hla_base.specs.Limits.{max_classes, max_joins};
 ghost use Rattle.hla_base.specs.declared.fault.Fault.TheVariants.{OutOfMemory};
 ghost use Rattle.hla_base.specs.Tables.{upd, upd2};
 ghost use Rattle.hla_fed_file.specs.Lookup.{item_numbered, contains_number};
 ghost use Rattle.hla_declaration.specs.Declarations.{declarations_of, IsBounded};
+ghost use Rattle.hla_declaration.specs.Subscribers.{has_federate};
 
 use crate::member::Member;
+use crate::subscribers::SubscriberSets;
 use hla_base::{AttributeNo, ClassNo, Fault, FederateNo, List};
 use std::alloc::Global;
 use std::marker::Model;
@@ -22,16 +24,18 @@ pub struct Declarations {
     object_classes: usize,
     interaction_classes: usize,
     members: Vec<Member>,
+    interaction_subscribers: SubscriberSets,
 }
 
 impl Model for Declarations {
-    ghost use Rattle.hla_declaration.specs.Lists.{DeclarationLists, AreListsWhole};
+    ghost use Rattle.hla_declaration.specs.Lists.{DeclarationLists};
+    ghost use Rattle.hla_declaration.specs.Subscribers.{AreDeclarationsWhole};
 
     ghost Value = { DeclarationLists };
 
     ghost view = { λ d. record { object_classes = d.object_classes; interaction_classes = d.interaction_classes; members = d.members.items } };
 
-    ghost invariant = { λ d. AreListsWhole d.object_classes d.interaction_classes d.members.items };
+    ghost invariant = { λ d. AreDeclarationsWhole d.object_classes d.interaction_classes d.members.items d.interaction_subscribers };
 }
 
 impl Declarations {
@@ -54,6 +58,7 @@ impl Declarations {
             object_classes,
             interaction_classes,
             members: Vec::new(alloc),
+            interaction_subscribers: SubscriberSets::new(alloc),
         }
     }
 
@@ -64,6 +69,18 @@ impl Declarations {
         ensures bounds { IsBounded (declarations_of self.now) }
     {
         self.members.len()
+    }
+
+    /// The federates that subscribe any of these interaction classes. It looks once at each class, whatever the federates.
+    pub(crate) fn interaction_subscribers_among(&self, classes: &[ClassNo]) -> u32
+        ensures { (f : ℕ) → f ≤ max_joins → has_federate result f ≡ false →
+            find (λ k. (declarations_of self.now).subscribed_interaction f k) classes.now ≡ None }
+    {
+        let mut subscribers = 0;
+        for class in classes {
+            subscribers |= self.interaction_subscribers.get(*class);
+        }
+        subscribers
     }
 
     /// What a federate declares; `None` where no federate has the number.
@@ -87,6 +104,8 @@ impl Declarations {
         ensures unchanged { OnErr result (self.new ≡ self.old) }
     {
         let alloc = *self.members.allocator();
+        self.interaction_subscribers
+            .make_room(self.interaction_classes)?;
         let member = Member::new(alloc, self.object_classes, self.interaction_classes)?;
         let Ok(()) = self.members.push(member) else {
             return Err(Fault::OutOfMemory);
@@ -106,6 +125,7 @@ impl Declarations {
         } }
     {
         self.members[federate as usize - 1].clear();
+        self.interaction_subscribers.withdraw(federate);
     }
 
     /// A federate publishes these attributes of an object class from now on, or does not publish it any more.
@@ -176,6 +196,8 @@ impl Declarations {
         self.members[federate as usize - 1]
             .subscribed_interactions
             .set(class, subscribes);
+        self.interaction_subscribers
+            .set(federate, class, subscribes);
     }
 
     /// Publish Object Class: the federate publishes just these attributes of the class from now on. It takes no memory.

@@ -1,13 +1,16 @@
 //! Who receives what is sent of a class.
 
-ghost use Rattle.std.specs.Prelude.{◌≡◌, not, eqb, option_map, IfOk, IfErr};
+ghost use Rattle.std.specs.Prelude.{◌≡◌, ◌≤◌, None, false, not, eqb, option_map, IfOk, IfErr};
 ghost use Rattle.hla_base.specs.declared.fault.Fault.TheVariants.{OutOfMemory};
+ghost use Rattle.hla_base.specs.Limits.{max_joins};
 ghost use Rattle.hla_base.specs.Tables.{when};
 ghost use Rattle.hla_declaration.specs.Declarations.{declarations_of};
 ghost use Rattle.hla_declaration.specs.Receivers.{object_class_served, interaction_class_served, receivers_of};
+ghost use Rattle.hla_declaration.specs.Subscribers.{has_federate};
 
 use crate::declarations::Declarations;
 use crate::receiver::Receiver;
+use crate::subscribers::has_federate;
 use hla_base::{ClassNo, Fault, FederateNo, List};
 use hla_fed_file::Catalogue;
 use std::alloc::Global;
@@ -90,8 +93,31 @@ impl Declarations {
         Ok(receivers)
     }
 
+    /// At which class a federate receives an interaction of a class, where no federate outside the set receives it.
+    fn class_served_within(
+        &self,
+        subscribers: u32,
+        catalogue: &Catalogue,
+        federate: FederateNo,
+        class: ClassNo,
+    ) -> Option<ClassNo>
+        requires few { federate ≤ max_joins }
+        requires others { has_federate subscribers federate ≡ false → interaction_class_served catalogue.now
+            (declarations_of self.now).subscribed_interaction federate class ≡ None }
+        ensures { result ≡ interaction_class_served catalogue.now
+            (declarations_of self.now).subscribed_interaction federate class }
+    {
+        if !has_federate(subscribers, federate) {
+            return None;
+        }
+        self.interaction_class_served(catalogue, federate, class)
+    }
+
     /// Who but the sender receives an interaction of a class, and at which class, by rising number of the federate;
     /// `OutOfMemory` where a growth was refused.
+    ///
+    /// It looks once at each class around the class, and again for each federate that subscribes one of them, so that
+    /// federates that subscribe none cost no search.
     pub fn receivers_of_interaction_class(
         &self,
         alloc: Global,
@@ -104,10 +130,12 @@ impl Declarations {
             class) (declarations_of self.now).federates sender) }
         ensures err { IfErr result (λ e. e ≡ Fault.OutOfMemory) }
     {
+        let lineage = catalogue.interaction_lineage(class);
+        let subscribers = self.interaction_subscribers_among(lineage);
         let mut receivers = List::with_room(alloc, self.federates())?;
         for place in 0..self.federates() {
             let federate = place as FederateNo + 1;
-            let served = self.interaction_class_served(catalogue, federate, class);
+            let served = self.class_served_within(subscribers, catalogue, federate, class);
             if let Some(receiver) = receiver(sender, federate, served) {
                 receivers.push(receiver)?;
             }

@@ -8,5 +8,5 @@ returns c =
     let joined : c.args.federate ≤ length c.self.inside.members.items = rw (ap (λ (d : DeclarationLists). length d.members) c.self.view_is) c.requires.joined in
     let defined : c.args.class ≤ c.self.inside.interaction_classes = rw (ap (λ (d : DeclarationLists). d.interaction_classes) c.self.view_is) c.requires.defined in
     rw (← c.self.view_is, c.set.ensures)
-    (subscribed_interaction_put c.self.inside.object_classes c.self.inside.interaction_classes c.self.inside.members.items c.self.invariant
+    (subscribed_interaction_put c.self.inside.object_classes c.self.inside.interaction_classes c.self.inside.members.items c.self.invariant.lists
     c.args.federate c.index_mut.result.now c.requires.some joined c.index_mut.ensures.value c.args.class c.requires.numbered c.args.subscribes defined)

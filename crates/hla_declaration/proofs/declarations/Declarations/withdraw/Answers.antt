@@ -7,5 +7,5 @@ pub returns : goal.returns
 returns c =
     let joined : c.args.federate ≤ length c.self.inside.members.items = rw (ap (λ (d : DeclarationLists). length d.members) c.self.view_is) c.requires.joined in
     rw (← c.self.view_is)
-    (member_cleared c.self.inside.object_classes c.self.inside.interaction_classes c.self.inside.members.items c.self.invariant
+    (member_cleared c.self.inside.object_classes c.self.inside.interaction_classes c.self.inside.members.items c.self.invariant.lists
     c.args.federate c.index_mut.result.now c.requires.some joined c.index_mut.ensures.value c.clear.new.self c.clear.ensures)
