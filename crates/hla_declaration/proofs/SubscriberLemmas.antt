@@ -32,12 +32,12 @@ pub find_none_more : (p : ℕ → Bool) (xs : List ℕ) (x : ℕ) → find p xs 
 find_none_more p xs x before here = find-append p xs (x ∷ []) ∙ rw (before, here) refl
 
 both : (a b x y : Bool) → b ≡ true → cond a x y ≡ cond (a && b) x y
-both true b x y yes = rw yes refl
-both false b x y yes = refl
+both true b x y is = rw is refl
+both false b x y is = refl
 
 neither : (a b x y : Bool) → b ≡ false → y ≡ cond (a && b) x y
-neither true b x y no = rw no refl
-neither false b x y no = refl
+neither true b x y is = rw is refl
+neither false b x y is = refl
 
 apply : (b : Bool) (row : ℕ → Bool) (k : ℕ) → cond b false (row k) ≡ cond b (λ (_ : ℕ). false) row k
 apply true row k = refl
