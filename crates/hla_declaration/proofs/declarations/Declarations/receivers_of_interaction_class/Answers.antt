@@ -14,7 +14,7 @@ loop-place-init c =
 pub loop-place-preserved : goal.loop-place-preserved
 loop-place-preserved c =
     let served : ℕ → Option ℕ = λ g. interaction_class_served c.args.catalogue.now (declarations_of c.args.self.now).subscribed_interaction g c.args.class in
-    let is = rw c.interaction_class_served-served.ensures at c.receiver.ensures in
+    let is = rw c.class_served_within-served.ensures at c.receiver.ensures in
     elim c.match-receiver.branch [
       | in-Some+in_ok-push w ↦
           w.receivers-is ∙ w.in_ok-push.ensures.ok ∙ ap (λ (rs : List Receiver). rs ++ w.in-Some.receiver ∷ []) c.loop-place.invariant

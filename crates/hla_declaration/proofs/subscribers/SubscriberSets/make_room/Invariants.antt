@@ -6,7 +6,7 @@ use Rattle.hla_declaration.proofs.subscribers.SubscriberSets.make_room.Given as 
 abbrev pub invariant-loop-class : goal.invariant-loop-class
 invariant-loop-class l =
     record {
-      same : (class : ℕ) → entry_at 0 l.self.sets.items class ≡ entry_at 0 l.fn.self class;
-      room : length l.self.sets.items ≡ l._class;
-      kept : length l.fn.self ≤ length l.self.sets.items;
+      same : (class : ℕ) → entry_at 0 l.self-inside.sets.items class ≡ entry_at 0 l.fn.self class;
+      room : length l.self-inside.sets.items ≡ l._class;
+      kept : length l.fn.self ≤ length l.self-inside.sets.items;
     }
