@@ -1,8 +1,8 @@
 #!/usr/bin/env python3
 """Builds hla_bench, and prints how many allocations its steps make, counted by valgrind.
 
-Each figure is the difference of two runs, the second of which does a hundred times more of one thing, so that what is made once
-doesn't count. What wires and queues grow by is left out where it was grown before. Growing a block counts as an allocation."""
+Each figure is the difference of two runs, the second of which does more of one thing, so that what is made once doesn't count. The
+values of a call count, as does what queues grow by; growing a block counts as an allocation."""
 import pathlib
 import re
 import subprocess
