@@ -88,8 +88,8 @@ enum Benchmark {
 
 const USAGE: &str =
     "usage: hla_bench lockstep FEDERATES EVENTS ROUNDS | phold FEDERATES POPULATION LOOKAHEAD DELIVERED | \
-    updates RECEIVERS UPDATES | queue EVENTS | fed BYTES | bare FEDERATES ROUNDS | lent FEDERATES ROUNDS | locked FEDERATES ROUNDS | \
-    run THREADS ROUNDS | watch THREADS ROUNDS | check FEDERATES EVENTS ROUNDS";
+    updates RECEIVERS UPDATES | queue EVENTS | fed BYTES | bare FEDERATES ROUNDS | lent FEDERATES ROUNDS | \
+    locked FEDERATES ROUNDS | run THREADS ROUNDS | watch THREADS ROUNDS | check FEDERATES EVENTS ROUNDS";
 
 /// The next word as a number.
 fn number(words: &mut Args) -> Option<u64> {
