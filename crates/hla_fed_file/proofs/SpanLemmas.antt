@@ -6,7 +6,7 @@ use Rattle.std.proofs.lemmas.List.{length-map, length-drop, take_all}
 use Rattle.std.proofs.lemmas.List.Sums.{prefix_len-le-length, prefix_len_passes, prefix_len_stops}
 use Rattle.std.specs.List.{prefix_len}
 use lib.Lanes.{chunk, zip2, mask_l, top}
-use Rattle.hla_fed_file.specs.Spans.{AllPass, IsRun, first_set}
+use Rattle.hla_fed_file.specs.Spans.{AllPass, IsSpan, first_set}
 
 zip2-map : (h : ℕ → ℕ → ℕ) (f g : ℕ → ℕ) (xs : List ℕ) → zip2 h (map f xs) (map g xs) ≡ map (λ x. h (f x) (g x)) xs
 zip2-map h f g [] = refl
@@ -50,7 +50,7 @@ module _ (q : ℕ → Bool) (d : List ℕ) (i n r : ℕ) (z : List ℕ) (room : 
       subst (λ x. stops x ≡ false) at (not-true _ (prefix_len_passes (λ x. not (stops x)) (chunk i n d) (k - i) 0 (omega (arith, counted))))
 
   -- a lane stops just where q fails
-  pub run_in : agree_below stops (λ x. not (q x)) 256 ≡ true → IsRun q d i n r
+  pub run_in : agree_below stops (λ x. not (q x)) 256 ≡ true → IsSpan q d i n r
   run_in all = record {
     few = omega (arith, counted, long, prefix_len-le-length (λ x. not (stops x)) (chunk i n d));
     pass = λ k from to. not-false _ (sym (agree_below_at stops (λ x. not (q x)) 256 (get_or d k 0) all (fits k).fits) ∙ goes_on k from to);
@@ -80,7 +80,7 @@ pub counted_to : (p : ℕ → Bool) (xs : List ℕ) (at : ℕ) → at < length x
 counted_to p xs at within pass fails = omega (arith, counted_from p xs at (omega arith) pass, stops_here p xs at within fails)
 
 -- where a run stops behind bytes that pass, all of it is counted
-pub counted_run : (p : ℕ → Bool) (xs : List ℕ) (at n run : ℕ) → AllPass p xs 0 at → IsRun p xs at n run → run < n → at + n ≤ length xs → at + run ≡ prefix_len p xs
+pub counted_run : (p : ℕ → Bool) (xs : List ℕ) (at n run : ℕ) → AllPass p xs 0 at → IsSpan p xs at n run → run < n → at + n ≤ length xs → at + run ≡ prefix_len p xs
 counted_run p xs at n run pass found short within =
     counted_to p xs (at + run) (omega arith) (λ k from to. elim (cases_lt k at) [ inl early ↦ pass k from early | inr late ↦ found.pass k (omega arith) to ]) (found.stops short)
 

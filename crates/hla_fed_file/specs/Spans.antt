@@ -7,7 +7,7 @@ abbrev pub AllPass : (ℕ → Bool) → List ℕ → ℕ → ℕ → Type 0
 AllPass test bytes at end = (k : ℕ) → at ≤ k → k < end → test (slice_index bytes k) ≡ true
 
 -- just the first run bytes of the n from at pass the test: the next one of the n fails it
-pub record IsRun (test : ℕ → Bool) (bytes : List ℕ) (at n run : ℕ) : Type 0 where
+pub record IsSpan (test : ℕ → Bool) (bytes : List ℕ) (at n run : ℕ) : Type 0 where
   pub few : run ≤ n
   pub pass : AllPass test bytes at (at + run)
   pub stops : run < n → test (slice_index bytes (at + run)) ≡ false

@@ -3,7 +3,7 @@
 ghost use Rattle.std.specs.Prelude.{◌≡◌, ◌+◌, ◌≤◌, length};
 ghost use Rattle.std.specs.List.{prefix_len};
 ghost use Rattle.hla_fed_file.specs.Lexical.{is_blank, is_bad, is_word, is_quoted};
-ghost use Rattle.hla_fed_file.specs.Spans.{IsRun, first_set};
+ghost use Rattle.hla_fed_file.specs.Spans.{IsSpan, first_set};
 
 use std::simd::prelude::*;
 
@@ -54,7 +54,7 @@ fn first_set(mask: u64) -> usize
 #[inline(always)]
 fn word_run(text: &[u8], at: usize) -> usize
     requires { at + LANES ≤ length text.now }
-    ensures { IsRun is_word text.now at LANES result }
+    ensures { IsSpan is_word text.now at LANES result }
 {
     let bytes = u8x16::from_slice(&text[at..]);
     let ends = bytes.simd_lt(u8x16::splat(33))
@@ -70,7 +70,7 @@ fn word_run(text: &[u8], at: usize) -> usize
 #[inline(always)]
 fn quoted_run(text: &[u8], at: usize) -> usize
     requires { at + LANES ≤ length text.now }
-    ensures { IsRun is_quoted text.now at LANES result }
+    ensures { IsSpan is_quoted text.now at LANES result }
 {
     let bytes = u8x16::from_slice(&text[at..]);
     let control = bytes.simd_lt(u8x16::splat(32));
