@@ -8,7 +8,7 @@ ghost use Rattle.hla_base.specs.declared.fault.Fault.TheVariants.{OutOfMemory};
 use crate::fault::Fault;
 use crate::list::List;
 use crate::plain::Plain;
-use std::alloc::AllocError;
+use std::alloc::{AllocError, Global};
 use std::marker::Model;
 use std::sync::ArcSlice;
 
@@ -34,6 +34,19 @@ impl<T: Drop> SharedList<T> {
         ensures err { IfErr result (λ e. e ≡ Fault.OutOfMemory) }
     {
         match ArcSlice::from_vec(list.into_vec()) {
+            Ok(items) => Ok(SharedList { items }),
+            Err(_) => Err(Fault::OutOfMemory),
+        }
+    }
+
+    /// Copies of these items, from now on shared; `OutOfMemory` where a growth was refused.
+    pub fn from_slice(alloc: Global, items: &[T]) -> Result<SharedList<T>, Fault>
+    where
+        T: Copy,
+        ensures ok { IfOk result (λ xs. xs ≡ items.now) }
+        ensures err { IfErr result (λ e. e ≡ Fault.OutOfMemory) }
+    {
+        match ArcSlice::from_slice(alloc, items) {
             Ok(items) => Ok(SharedList { items }),
             Err(_) => Err(Fault::OutOfMemory),
         }

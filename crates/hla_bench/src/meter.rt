@@ -3,8 +3,7 @@
 use crate::advancing::name_of;
 use crate::counts::Counts;
 use hla_base::{
-    AttributeNo, ClassNo, ExecutionName, Fault, FederateNo, HandleValuePair, List, Plain, Ticks,
-    Value,
+    AttributeNo, ClassNo, Fault, FederateNo, HandleValuePair, List, Plain, SharedList, Ticks, Value,
 };
 use hla_callbacks::Callback;
 use hla_fed_file::Catalogue;
@@ -24,7 +23,7 @@ pub struct Meter {
 /// The records of an execution's steps.
 #[derive(Drop)]
 struct History {
-    execution: ExecutionName,
+    execution: SharedList<u8>,
     records: Vec<Record>,
 }
 
@@ -33,7 +32,7 @@ impl History {
     fn add(&mut self, act: Act, outcome: Outcome, choice: Choice) -> Result<(), Fault> {
         let record = Record {
             actor: 1,
-            execution: self.execution,
+            execution: self.execution.copy()?,
             act,
             outcome,
             choice,
@@ -83,7 +82,7 @@ impl Meter {
     /// A federation that no federate has joined yet, of whose steps there will be records behind that of its creation.
     pub fn with_history(alloc: Global, catalogue: Catalogue) -> Result<Meter, Fault> {
         let mut history = History {
-            execution: ExecutionName::new(b"bench")?,
+            execution: SharedList::from_slice(alloc, b"bench")?,
             records: Vec::new(alloc),
         };
         let act = Act::Create {

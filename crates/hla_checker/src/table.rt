@@ -14,7 +14,7 @@ ghost use Rattle.hla_checker.specs.Creating.{creation_tests};
 use crate::kept::KeptExecution;
 use crate::outcomes::{ends_as, is_nothing, is_unfound};
 use crate::verdict::Verdict;
-use hla_base::{ExecutionName, Fault, MAX_CREATES, MAX_EXECUTIONS, Plain};
+use hla_base::{Fault, MAX_CREATES, MAX_EXECUTIONS, Plain, SharedList};
 use hla_fed_file::Catalogue;
 use hla_machine::{Act, Choice, Outcome, Record, Step};
 use std::alloc::Global;
@@ -22,7 +22,7 @@ use std::alloc::Global;
 /// An execution and its name.
 #[derive(Drop)]
 pub(crate) struct NamedExecution {
-    pub(crate) name: ExecutionName,
+    pub(crate) name: SharedList<u8>,
     pub(crate) execution: KeptExecution,
 }
 
@@ -35,7 +35,7 @@ pub(crate) struct ExecutionTable {
 }
 
 /// Where an execution of this name is.
-pub(crate) fn place_of(executions: &[NamedExecution], name: &ExecutionName) -> Option<usize>
+pub(crate) fn place_of(executions: &[NamedExecution], name: &SharedList<u8>) -> Option<usize>
     ensures { result ≡ position (λ (x : NamedExecution). bytes_eq name.now x.name) executions.now }
 {
     executions
@@ -59,7 +59,7 @@ fn creation_refusal(is_there: bool, is_read: bool, creates: u32, present: u32) -
 }
 
 /// Takes the executions of a name out.
-fn remove_named(executions: &mut Vec<NamedExecution>, name: &ExecutionName)
+fn remove_named(executions: &mut Vec<NamedExecution>, name: &SharedList<u8>)
     ensures { executions.new.items ≡ filter (λ (x : NamedExecution). not (bytes_eq name.now x.name)) executions.old.items }
 {
     executions.retain(|x| !(name.as_slice() == x.name.as_slice()));
@@ -79,7 +79,7 @@ impl ExecutionTable {
     }
 
     /// Why an execution is not created, if it is not.
-    fn creation_fault(&self, name: &ExecutionName, catalogue: &Option<Catalogue>) -> Option<Fault>
+    fn creation_fault(&self, name: &SharedList<u8>, catalogue: &Option<Catalogue>) -> Option<Fault>
         ensures { result ≡ create_fault (executions_of self.now) name.now catalogue.now }
     {
         let is_there = place_of(self.executions.as_slice(), name).is_some();
@@ -87,7 +87,7 @@ impl ExecutionTable {
     }
 
     /// Creates an execution that nobody has joined (Create Federation Execution); `OutOfMemory` where a growth was refused.
-    fn create(&mut self, name: &ExecutionName, catalogue: &Catalogue) -> Result<(), Fault>
+    fn create(&mut self, name: &SharedList<u8>, catalogue: &Catalogue) -> Result<(), Fault>
         requires free { create_fault (executions_of self.old) name.now (Some catalogue.now) ≡ None }
         requires consistent { AreConsistent self.old.executions.items }
         ensures consistent { OnOk result (AreConsistent self.new.executions.items) }
@@ -95,8 +95,9 @@ impl ExecutionTable {
         ensures err { IfErr result (λ e. e ≡ Fault.OutOfMemory) }
     {
         let alloc = *self.executions.allocator();
+        let name = name.copy()?;
         let execution = NamedExecution {
-            name: *name,
+            name,
             execution: KeptExecution::new(alloc, catalogue.copy()?),
         };
         let Ok(()) = self.executions.push(execution) else {
@@ -108,7 +109,7 @@ impl ExecutionTable {
     }
 
     /// Why an execution is not destroyed, if it is not.
-    fn destruction_fault(&self, name: &ExecutionName) -> Option<Fault>
+    fn destruction_fault(&self, name: &SharedList<u8>) -> Option<Fault>
         ensures { result ≡ destroy_fault (centrals_of self.now.executions.items name.now) }
     {
         match place_of(self.executions.as_slice(), name) {
@@ -124,7 +125,7 @@ impl ExecutionTable {
     }
 
     /// Destroys an execution (Destroy Federation Execution).
-    fn destroy(&mut self, name: &ExecutionName)
+    fn destroy(&mut self, name: &SharedList<u8>)
         requires { AreConsistent self.old.executions.items }
         ensures after { executions_of self.new ≡ after_destroy (executions_of self.old) name.now }
         ensures consistent { AreConsistent self.new.executions.items }
@@ -136,7 +137,7 @@ impl ExecutionTable {
     /// Whether a creation is allowed that ended so; where it is, it is done. `OutOfMemory` where a growth was refused.
     fn judge_creation(
         &mut self,
-        name: &ExecutionName,
+        name: &SharedList<u8>,
         catalogue: &Option<Catalogue>,
         outcome: &Outcome,
         choice: &Choice,
@@ -168,7 +169,7 @@ impl ExecutionTable {
     /// Whether a destruction is allowed that ended so; where it is, it is done.
     fn judge_destruction(
         &mut self,
-        name: &ExecutionName,
+        name: &SharedList<u8>,
         outcome: &Outcome,
         choice: &Choice,
     ) -> Verdict
@@ -195,7 +196,7 @@ impl ExecutionTable {
     /// it is kept. `OutOfMemory` where a growth was refused.
     fn judge_step(
         &mut self,
-        name: &ExecutionName,
+        name: &SharedList<u8>,
         step: &Step,
         outcome: &Outcome,
         choice: &Choice,

@@ -1,7 +1,7 @@
 //! Forgeries of who is there, and of executions.
 
 use crate::forging::{call, differ, records_of, refuses_outcome, refuses_step, refuses_without};
-use hla_base::{ExecutionName, Fault};
+use hla_base::{Fault, SharedList};
 use hla_machine::{Act, Answer, Outcome, Service, Step};
 use std::test::Fail;
 
@@ -79,7 +79,7 @@ fn refuses_a_step_of_another_execution(rt: HostRuntime) -> Result<(), Fail> {
     let alloc = rt.alloc();
     let mut records = records_of(&rt, alloc, RESIGNED)?;
     if let Some(record) = records.get_mut(8) {
-        record.execution = ExecutionName::new(b"other")?;
+        record.execution = SharedList::from_slice(alloc, b"other")?;
     }
     differ(&rt, alloc, records.as_slice(), 8);
     Ok(())

@@ -15,6 +15,7 @@ use crate::preparing::{Stepped, recorded};
 use hla_base::{ExecutionName, Fault};
 use hla_callbacks::FederateAmbassador;
 use hla_machine::{Act, Outcome, Record, Step};
+use std::alloc::Global;
 
 /// Where an execution of this name is.
 pub(crate) fn place_of<B: FederateAmbassador>(
@@ -28,13 +29,14 @@ pub(crate) fn place_of<B: FederateAmbassador>(
 
 /// The record of a step of an execution that does not exist, and its copies.
 pub(crate) fn refused_step(
+    alloc: Global,
     actor: u32,
-    execution: ExecutionName,
+    execution: &ExecutionName,
     step: Step,
 ) -> Result<(Record, Stepped), Fault>
     ensures record { IfOk result (λ p. p.0 ≡ record {
       actor = actor;
-      execution = execution;
+      execution = execution.now;
       act = act.Step step;
       outcome = outcome.Refused fault.FederationExecutionDoesNotExist;
       choice = choice.None;
@@ -44,7 +46,7 @@ pub(crate) fn refused_step(
     ensures err { IfErr result (λ e. e ≡ Fault.OutOfMemory) }
 {
     let outcome = Outcome::Refused(Fault::FederationExecutionDoesNotExist);
-    recorded(actor, execution, Act::Step(step), outcome)
+    recorded(alloc, actor, execution, Act::Step(step), outcome)
 }
 
 /// Does a step that is no joining and no resigning, of the execution of this name.
@@ -76,7 +78,8 @@ pub(crate) fn step_among<B: FederateAmbassador>(
 {
     match place_of(executions.as_slice(), &execution) {
         None => {
-            let refused = refused_step(actor, execution, step)?;
+            let alloc = *executions.allocator();
+            let refused = refused_step(alloc, actor, &execution, step)?;
             Ok(refused)
         }
         Some(place) => {

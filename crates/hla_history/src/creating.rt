@@ -86,8 +86,9 @@ pub(crate) fn create_among<B: FederateAmbassador>(
     match creation_refusal(is_there, catalogue.is_some(), *counts) {
         Some(fault) => {
             let refused = recorded(
+                *executions.allocator(),
                 actor,
-                name,
+                &name,
                 Act::Create { catalogue },
                 Outcome::Refused(fault),
             )?;
@@ -98,10 +99,11 @@ pub(crate) fn create_among<B: FederateAmbassador>(
                 unreachable!()
             };
             let alloc = *executions.allocator();
-            let hosted = Hosted::new(alloc, name, declared.copy()?)?;
+            let hosted = Hosted::new(alloc, &name, declared.copy()?)?;
             let made = recorded(
+                alloc,
                 actor,
-                name,
+                &name,
                 Act::Create { catalogue },
                 Outcome::Done(Answer::Done),
             )?;
@@ -165,13 +167,14 @@ pub(crate) fn destroy_among<B: FederateAmbassador>(
     ensures unchanged { OnErr result (executions.new.items ≡ executions.old.items) }
     ensures counts { OnErr result (counts.new ≡ counts.old) }
 {
+    let alloc = *executions.allocator();
     match destruction_refusal(executions.as_slice(), &name) {
         Some(fault) => {
-            let refused = recorded(actor, name, Act::Destroy, Outcome::Refused(fault))?;
+            let refused = recorded(alloc, actor, &name, Act::Destroy, Outcome::Refused(fault))?;
             Ok(refused)
         }
         None => {
-            let made = recorded(actor, name, Act::Destroy, Outcome::Done(Answer::Done))?;
+            let made = recorded(alloc, actor, &name, Act::Destroy, Outcome::Done(Answer::Done))?;
             remove_named(executions, &name);
             counts.present = counts.present.saturating_sub(1);
             Ok(made)

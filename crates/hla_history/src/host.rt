@@ -16,7 +16,7 @@ ghost use Rattle.hla_history.specs.Hosts.{IsPlain, HasAmbassadors, host_after, n
 use crate::delivering::{delivered, ready};
 use crate::preparing::{Stepped, advance, prepare, taken};
 use crate::seating::{seated, unseated};
-use hla_base::{ExecutionName, Fault, FederateNo, List, MAX_JOINS};
+use hla_base::{ExecutionName, Fault, FederateNo, List, MAX_JOINS, Plain, SharedList};
 use hla_callbacks::{Ear, FederateAmbassador};
 use hla_fed_file::Catalogue;
 use hla_federation::Federation;
@@ -27,7 +27,7 @@ use std::marker::Model;
 /// An execution by name, with an ear for each joined federate. Contracts see its components, and what each ear has heard.
 #[derive(Drop)]
 pub(crate) struct Hosted<B: FederateAmbassador> {
-    name: ExecutionName,
+    name: SharedList<u8>,
     federation: Federation,
     /// By the number of the federate; the place of no federate is empty.
     ears: Vec<Option<Ear<B>>>,
@@ -48,10 +48,10 @@ impl<B: FederateAmbassador> Hosted<B> {
     /// An execution that nobody has joined; `OutOfMemory` where a growth was refused.
     pub(crate) fn new(
         alloc: Global,
-        name: ExecutionName,
+        name: &ExecutionName,
         catalogue: Catalogue,
     ) -> Result<Hosted<B>, Fault>
-        ensures name { IfOk result (λ h. h.name ≡ name) }
+        ensures name { IfOk result (λ h. h.name ≡ name.now) }
         ensures host { IfOk result (λ h. host_of h ≡ new_host catalogue) }
         ensures err { IfErr result (λ e. e ≡ Fault.OutOfMemory) }
     {
@@ -60,7 +60,7 @@ impl<B: FederateAmbassador> Hosted<B> {
         };
         ears.push_reserved(None);
         Ok(Hosted {
-            name,
+            name: SharedList::from_slice(alloc, name.as_slice())?,
             federation: Federation::new(alloc, catalogue),
             ears,
         })
@@ -77,7 +77,7 @@ impl<B: FederateAmbassador> Hosted<B> {
     pub(crate) fn is_named(&self, name: &ExecutionName) -> bool
         ensures { result ≡ bytes_eq name.now self.now.name }
     {
-        *name == self.name
+        name.as_slice() == self.name.as_slice()
     }
 
     /// Does a step that is no joining and no resigning, and gives its callback to the ear of its federate. `OutOfMemory`,
@@ -101,7 +101,8 @@ impl<B: FederateAmbassador> Hosted<B> {
         ensures unchanged { OnErr result (self.new ≡ self.old) }
     {
         ready(&mut self.ears, &step)?;
-        let prepared = prepare(&self.federation, actor, self.name, step)?;
+        let execution = self.name.copy()?;
+        let prepared = prepare(&self.federation, actor, execution, step)?;
         let prepared = advance(&mut self.federation, prepared)?;
         Ok(delivered(&mut self.ears, prepared))
     }
@@ -134,7 +135,10 @@ impl<B: FederateAmbassador> Hosted<B> {
         if self.ears.reserve(1).is_err() {
             return Err((Fault::OutOfMemory, inner));
         }
-        match taken(&mut self.federation, actor, self.name, Step::Join { name }) {
+        let Ok(execution) = self.name.copy() else {
+            return Err((Fault::OutOfMemory, inner));
+        };
+        match taken(&mut self.federation, actor, execution, Step::Join { name }) {
             Ok(made) => {
                 let (record, stepped) = made;
                 let back = seated(&mut self.ears, &stepped.answer, inner);
@@ -170,11 +174,12 @@ impl<B: FederateAmbassador> Hosted<B> {
         ensures err { IfErr result (λ e. e ≡ Fault.OutOfMemory) }
         ensures unchanged { OnErr result (self.new ≡ self.old) }
     {
+        let execution = self.name.copy()?;
         let service = Service::Resign { action };
         let (record, stepped) = taken(
             &mut self.federation,
             actor,
-            self.name,
+            execution,
             Step::Call { federate, service },
         )?;
         let back = unseated(&mut self.ears, federate, &stepped.answer);

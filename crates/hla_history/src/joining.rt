@@ -43,7 +43,12 @@ pub(crate) fn join_among<B: FederateAmbassador>(
     ensures unchanged { OnErr result (executions.new.items ≡ executions.old.items) }
 {
     match place_of(executions.as_slice(), &execution) {
-        None => match refused_step(actor, execution, Step::Join { name }) {
+        None => match refused_step(
+            *executions.allocator(),
+            actor,
+            &execution,
+            Step::Join { name },
+        ) {
             Ok(made) => Ok((made.0, made.1, Some(inner))),
             Err(fault) => Err((fault, inner)),
         },
@@ -86,8 +91,9 @@ pub(crate) fn resign_among<B: FederateAmbassador>(
         None => {
             let service = Service::Resign { action };
             let (record, stepped) = refused_step(
+                *executions.allocator(),
                 actor,
-                execution,
+                &execution,
                 Step::Call { federate, service },
             )?;
             Ok((record, stepped, None))

@@ -7,10 +7,11 @@ ghost use Rattle.hla_history.specs.Hosting.{components_hosted, components_after,
 ghost use Rattle.hla_machine.specs.declared.step.Act.TheVariants as act;
 ghost use Rattle.hla_machine.specs.declared.step.Choice.TheVariants as choice;
 
-use hla_base::{ExecutionName, Fault, Plain};
+use hla_base::{ExecutionName, Fault, Plain, SharedList};
 use hla_callbacks::Callback;
 use hla_federation::{Federation, Foreseen};
 use hla_machine::{Act, Answer, Choice, Outcome, Record, Step};
+use std::alloc::Global;
 
 /// What an act hands to its caller.
 #[derive(Drop)]
@@ -60,14 +61,15 @@ pub(crate) fn copied(made: &Record) -> Result<Stepped, Fault>
 
 /// The record of an act that leaves nothing open, and the caller's copies.
 pub(crate) fn recorded(
+    alloc: Global,
     actor: u32,
-    execution: ExecutionName,
+    name: &ExecutionName,
     act: Act,
     outcome: Outcome,
 ) -> Result<(Record, Stepped), Fault>
     ensures record { IfOk result (λ p. p.0 ≡ record {
       actor = actor;
-      execution = execution;
+      execution = name.now;
       act = act;
       outcome = outcome;
       choice = choice.None;
@@ -76,6 +78,7 @@ pub(crate) fn recorded(
     ensures answer { IfOk result (λ p. p.1.answer ≡ p.0.outcome) }
     ensures err { IfErr result (λ e. e ≡ Fault.OutOfMemory) }
 {
+    let execution = SharedList::from_slice(alloc, name.as_slice())?;
     let record = Record {
         actor,
         execution,
@@ -91,7 +94,7 @@ pub(crate) fn recorded(
 pub(crate) fn prepare(
     federation: &Federation,
     actor: u32,
-    execution: ExecutionName,
+    execution: SharedList<u8>,
     step: Step,
 ) -> Result<Prepared, Fault>
     ensures record { IfOk result (λ p. p.record ≡ record {
@@ -144,7 +147,7 @@ pub(crate) fn advance(federation: &mut Federation, prepared: Prepared) -> Result
 pub(crate) fn taken(
     federation: &mut Federation,
     actor: u32,
-    execution: ExecutionName,
+    execution: SharedList<u8>,
     step: Step,
 ) -> Result<(Record, Stepped), Fault>
     ensures record { IfOk result (λ p. p.0 ≡ record {

@@ -4,7 +4,7 @@ ghost use Rattle.std.specs.Prelude.{◌≡◌};
 ghost use Rattle.std.proofs.Common.{rules};
 
 use crate::service::Service;
-use hla_base::{EventHandle, ExecutionName, Fault, FederateNo, List, ObjectNo, Plain, Ticks};
+use hla_base::{EventHandle, Fault, FederateNo, List, ObjectNo, Plain, SharedList, Ticks};
 use hla_callbacks::Callback;
 use hla_fed_file::Catalogue;
 
@@ -115,7 +115,8 @@ pub enum Choice {
 pub struct Record {
     /// The caller's number.
     pub actor: u32,
-    pub execution: ExecutionName,
+    /// The name of the execution, which its records share.
+    pub execution: SharedList<u8>,
     pub act: Act,
     pub outcome: Outcome,
     pub choice: Choice,

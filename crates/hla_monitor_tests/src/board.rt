@@ -1,6 +1,6 @@
 ghost use Rattle.std.specs.Prelude.{◌≡◌};
 
-use hla_base::{ExecutionName, Fault, List};
+use hla_base::{Fault, List, SharedList};
 use hla_callbacks::Callback;
 use hla_machine::{Act, Answer, Choice, Outcome, Record, ResignAction, Service, Step};
 use hla_monitor::{MAX_MONITORS, Naming, Opened, Status, open_board};
@@ -10,10 +10,10 @@ use std::process::Abort;
 use std::sync::Wait;
 use std::test::Fail;
 
-fn recorded(act: Act, outcome: Outcome) -> Result<Record, Fail> {
+fn recorded(alloc: Global, act: Act, outcome: Outcome) -> Result<Record, Fail> {
     Ok(Record {
         actor: 1,
-        execution: ExecutionName::new(b"play")?,
+        execution: SharedList::from_slice(alloc, b"play")?,
         act,
         outcome,
         choice: Choice::None,
@@ -22,7 +22,8 @@ fn recorded(act: Act, outcome: Outcome) -> Result<Record, Fail> {
 
 /// Adds the record of an act of the first federate.
 fn note(all: &mut Vec<Record>, act: Act, outcome: Outcome) -> Result<(), Fail> {
-    all.push(recorded(act, outcome)?)?;
+    let alloc = *all.allocator();
+    all.push(recorded(alloc, act, outcome)?)?;
     Ok(())
 }
 

@@ -5,7 +5,7 @@ ghost use Rattle.hla_machine.specs.declared.step.Act.TheVariants as act;
 ghost use Rattle.hla_script.specs.Playing.{act_of, created_catalogue};
 ghost use Rattle.hla_script.specs.Keeping.{components_of, standing, IsStepped, IsDestroyed, IsActed};
 
-use hla_base::{ExecutionName, Fault, MAX_CREATES, Plain};
+use hla_base::{Fault, MAX_CREATES, Plain, SharedList};
 use hla_fed_file::Catalogue;
 use hla_federation::Federation;
 use hla_machine::{Act, Answer, Choice, Outcome, Record, Step};
@@ -17,7 +17,8 @@ use std::alloc::Global;
 #[derive(Drop)]
 pub struct Execution {
     pub alloc: Global,
-    pub name: ExecutionName,
+    /// The name, which all records of the execution share.
+    pub name: SharedList<u8>,
     pub catalogue: Catalogue,
     /// How often it was created.
     pub creates: u32,
@@ -79,7 +80,7 @@ fn destroy_unless_joined(federation: &mut Option<Federation>) -> Outcome
     Outcome::Done(Answer::Done)
 }
 
-fn script_record(name: ExecutionName, act: Act, outcome: Outcome, choice: Choice) -> Record
+fn script_record(name: SharedList<u8>, act: Act, outcome: Outcome, choice: Choice) -> Record
     ensures { result ≡ record {
       actor = 0;
       execution = name;
@@ -99,7 +100,7 @@ fn script_record(name: ExecutionName, act: Act, outcome: Outcome, choice: Choice
 
 impl Execution {
     /// No execution yet, for a FED file.
-    pub fn new(alloc: Global, name: ExecutionName, catalogue: Catalogue) -> Execution
+    pub fn new(alloc: Global, name: SharedList<u8>, catalogue: Catalogue) -> Execution
         ensures name { result.name ≡ name }
         ensures catalogue { result.catalogue ≡ catalogue }
         ensures creates { result.creates ≡ 0 }
@@ -128,16 +129,17 @@ impl Execution {
         ensures catalogue { self.new.catalogue ≡ self.old.catalogue }
         ensures name { self.new.name ≡ self.old.name }
     {
+        let name = self.name.copy()?;
         match request {
-            Request::Create => self.create(),
-            Request::Destroy => Ok(self.destroy()),
-            Request::Step(step) => self.take(step),
+            Request::Create => self.create(name),
+            Request::Destroy => Ok(self.destroy(name)),
+            Request::Step(step) => self.take(name, step),
         }
     }
 
     /// Creates the execution, unless it is there.
-    fn create(&mut self) -> Result<Record, Fault>
-        requires { self.old.name ≡ codes "play" }
+    fn create(&mut self, name: SharedList<u8>) -> Result<Record, Fault>
+        requires { name ≡ codes "play" }
         ensures ok { IfOk result (λ r. IsActed (act.Create (created_catalogue self.old.catalogue r.outcome))
             (standing self.old.creates self.old.federation) self.old.members.items r
             (standing self.new.creates self.new.federation) self.new.members.items) }
@@ -149,7 +151,7 @@ impl Execution {
     {
         if self.federation.is_some() {
             return Ok(script_record(
-                self.name,
+                name,
                 Act::Create { catalogue: None },
                 Outcome::Refused(Fault::FederationExecutionAlreadyExists),
                 Choice::None,
@@ -158,7 +160,7 @@ impl Execution {
         let held = self.catalogue.copy()?;
         if self.creates >= MAX_CREATES {
             return Ok(script_record(
-                self.name,
+                name,
                 Act::Create {
                     catalogue: Some(held),
                 },
@@ -171,7 +173,7 @@ impl Execution {
         self.creates += 1;
         self.members.clear();
         Ok(script_record(
-            self.name,
+            name,
             Act::Create {
                 catalogue: Some(held),
             },
@@ -181,8 +183,8 @@ impl Execution {
     }
 
     /// Destroys the execution, where it may be.
-    fn destroy(&mut self) -> Record
-        requires { self.old.name ≡ codes "play" }
+    fn destroy(&mut self, name: SharedList<u8>) -> Record
+        requires { name ≡ codes "play" }
         ensures ok { IsActed act.Destroy (standing self.old.creates self.old.federation)
             self.old.members.items result (standing self.new.creates self.new.federation)
             self.new.members.items }
@@ -190,12 +192,12 @@ impl Execution {
         ensures name { self.new.name ≡ self.old.name }
     {
         let outcome = destroy_unless_joined(&mut self.federation);
-        script_record(self.name, Act::Destroy, outcome, Choice::None)
+        script_record(name, Act::Destroy, outcome, Choice::None)
     }
 
     /// Does a step of the execution.
-    fn take(&mut self, step: Step) -> Result<Record, Fault>
-        requires name { self.old.name ≡ codes "play" }
+    fn take(&mut self, name: SharedList<u8>, step: Step) -> Result<Record, Fault>
+        requires name { name ≡ codes "play" }
         ensures ok { IfOk result (λ r. IsActed (act.Step step)
             (standing self.old.creates self.old.federation) self.old.members.items r
             (standing self.new.creates self.new.federation) self.new.members.items) }
@@ -211,6 +213,6 @@ impl Execution {
         }
         let Ending { outcome, choice } = do_step(&mut self.federation, &step)?;
         note(&mut self.members, change, &outcome);
-        Ok(script_record(self.name, Act::Step(step), outcome, choice))
+        Ok(script_record(name, Act::Step(step), outcome, choice))
     }
 }

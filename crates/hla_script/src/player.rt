@@ -9,7 +9,7 @@ ghost use Rattle.hla_script.specs.Playing.{IsPlayed, IsPlayedFrom, StopsBy, is_u
 
 use crate::execution::Execution;
 use crate::history::play_line;
-use hla_base::{ExecutionName, Fault, List};
+use hla_base::{Fault, List, SharedList};
 use hla_commands::{Script, ScriptFault, parse};
 use hla_fed_file::{Catalogue, FedFault, read};
 use hla_machine::Record;
@@ -49,7 +49,7 @@ fn play_lines<W: Write>(
     ensures next { IfOk result (λ records. (x : Federations) × AreNext no_federations records x) }
     ensures failure { out.new.has_failed ≡ (out.old.has_failed || is_cut_off result) }
 {
-    let Ok(name) = ExecutionName::new(b"play") else {
+    let Ok(name) = SharedList::from_slice(alloc, b"play") else {
         return Err(StopFault::Memory);
     };
     let mut execution = Execution::new(alloc, name, catalogue);
