@@ -2,7 +2,7 @@
 use Rattle.std.proofs.Common.{◌≡◌, ◌≢◌, ℕ, zero, suc, ◌+◌, ◌-◌, ◌<◌, ◌≤◌, List, [], ◌∷◌, ◌++◌, ◌==◌, length, get_or, set, eqb, cond, true, false, Some, None, refl, sym, ◌∙◌, arith, ⊎_elim, replicate}
 use Rattle.std.specs.List.{slice_get}
 use Rattle.std.proofs.lemmas.Option.{slice_get-get_or, slice_get_past, slice_get_read}
-use Rattle.std.proofs.lemmas.List.{get_or-replicate, length-replicate}
+use Rattle.std.proofs.lemmas.List.{get_or-replicate, get_or_past, length-replicate}
 use Rattle.std.proofs.lemmas.Bool.{cases_eq, cases_lt}
 use Rattle.std.proofs.lemmas.Bool.Decides.{nat_tests}
 use Rattle.hla_fed_file.specs.Lookup.{item_numbered}
@@ -68,6 +68,13 @@ pub item_numbered-push_last : {X : Type 0} (xs : List X) (x : X) → item_number
 item_numbered-push_last xs x =
     let e : length xs + 1 ≡ suc (length xs) = omega arith in
     rw e (item_numbered-suc (xs ++ x ∷ []) (length xs) ∙ slice_get-push_last xs x)
+
+-- the entry of the number after a place is what stands at the place
+pub entry-suc : {X : Type 0} (absent : X) (xs : List X) (k : ℕ) → entry_at absent xs (suc k) ≡ get_or xs k absent
+entry-suc absent xs k = rw (item_numbered-suc xs k)
+    (⊎_elim (λ (within : k < length xs). rw (slice_get-get_or xs k absent within) refl)
+    (λ (past : length xs ≤ k). rw (slice_get_past xs k past) (sym (get_or_past xs k absent past)))
+    (cases_lt k (length xs)))
 
 -- where nothing stands at any place, nothing stands at any number
 pub entry_absent : {X : Type 0} (absent : X) (xs : List X) → ((k : ℕ) → k < length xs → get_or xs k absent ≡ absent) → (n : ℕ) → entry_at absent xs n ≡ absent

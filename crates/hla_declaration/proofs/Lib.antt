@@ -6,3 +6,7 @@ pub mod TableLemmas
 pub mod ReceiverLemmas
 -- A federate that has not joined declares nothing
 pub mod Bounds
+-- Sets of subscribers after a change
+pub mod SubscriberLemmas
+-- The lists and the sets are whole after each change
+pub mod WholeLemmas

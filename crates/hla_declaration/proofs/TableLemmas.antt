@@ -95,7 +95,7 @@ tables objects interactions members = declarations_of (record { object_classes =
 
 module _ (objects interactions : ℕ) (members : List Member) (whole : AreListsWhole objects interactions members) where
   module _ (f : ℕ) (m : Member) (some : 0 < f) (within : f ≤ length members) (is : m ≡ get_or members (f - 1) m) where
-    room : IsMember objects interactions m
+    pub room : IsMember objects interactions m
     room = subst (IsMember objects interactions) (sym is) (All-get_or (IsMember objects interactions) members (f - 1) m (omega arith) whole.each)
 
     module _ (class : ℕ) (first : 0 < class) where

@@ -8,3 +8,5 @@ pub mod Lists
 pub mod Declarations
 -- Who receives what is sent of a class, and at which class
 pub mod Receivers
+-- Who subscribes each class, as sets of federates
+pub mod Subscribers

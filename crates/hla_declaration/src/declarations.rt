@@ -7,8 +7,10 @@ ghost use Rattle.hla_base.specs.declared.fault.Fault.TheVariants.{OutOfMemory};
 ghost use Rattle.hla_base.specs.Tables.{upd, upd2};
 ghost use Rattle.hla_fed_file.specs.Lookup.{item_numbered, contains_number};
 ghost use Rattle.hla_declaration.specs.Declarations.{declarations_of, IsBounded};
+ghost use Rattle.hla_declaration.specs.Subscribers.{AreSubscribers};
 
 use crate::member::Member;
+use crate::subscribers::SubscriberSets;
 use hla_base::{AttributeNo, ClassNo, Fault, FederateNo, List};
 use std::alloc::Global;
 use std::marker::Model;
@@ -16,22 +18,26 @@ use std::marker::Model;
 /// What each federate of an execution publishes and subscribes (HLA 1.3, declaration management). Federates and classes
 /// are numbered from 1. Contracts see lists; `tables_of` reads them as tables by federate and class, which say for a
 /// number of no federate or of no class that nothing is declared. The room for declarations is taken when a federate
-/// joins, so that none takes memory later.
+/// joins, so that none takes memory later. Beside them stands who subscribes each class, so that a send need not look at
+/// each federate's declarations.
 #[derive(Debug, Drop)]
 pub struct Declarations {
     object_classes: usize,
     interaction_classes: usize,
     members: Vec<Member>,
+    object_subscribers: SubscriberSets,
+    interaction_subscribers: SubscriberSets,
 }
 
 impl Model for Declarations {
-    ghost use Rattle.hla_declaration.specs.Lists.{DeclarationLists, AreListsWhole};
+    ghost use Rattle.hla_declaration.specs.Lists.{DeclarationLists};
+    ghost use Rattle.hla_declaration.specs.Subscribers.{AreDeclarationsWhole};
 
     ghost Value = { DeclarationLists };
 
     ghost view = { λ d. record { object_classes = d.object_classes; interaction_classes = d.interaction_classes; members = d.members.items } };
 
-    ghost invariant = { λ d. AreListsWhole d.object_classes d.interaction_classes d.members.items };
+    ghost invariant = { λ d. AreDeclarationsWhole d.object_classes d.interaction_classes d.members.items d.object_subscribers d.interaction_subscribers };
 }
 
 impl Declarations {
@@ -54,6 +60,8 @@ impl Declarations {
             object_classes,
             interaction_classes,
             members: Vec::new(alloc),
+            object_subscribers: SubscriberSets::new(alloc),
+            interaction_subscribers: SubscriberSets::new(alloc),
         }
     }
 
@@ -64,6 +72,20 @@ impl Declarations {
         ensures bounds { IsBounded (declarations_of self.now) }
     {
         self.members.len()
+    }
+
+    /// The federates that subscribe each object class.
+    pub(crate) fn object_subscribers(&self) -> &SubscriberSets
+        ensures { AreSubscribers result.now (λ f k. is_some ((declarations_of self.now).subscribed f k)) }
+    {
+        &self.object_subscribers
+    }
+
+    /// The federates that subscribe each interaction class.
+    pub(crate) fn interaction_subscribers(&self) -> &SubscriberSets
+        ensures { AreSubscribers result.now (declarations_of self.now).subscribed_interaction }
+    {
+        &self.interaction_subscribers
     }
 
     /// What a federate declares; `None` where no federate has the number.
@@ -88,6 +110,9 @@ impl Declarations {
     {
         let alloc = *self.members.allocator();
         let member = Member::new(alloc, self.object_classes, self.interaction_classes)?;
+        self.object_subscribers.make_room(self.object_classes)?;
+        self.interaction_subscribers
+            .make_room(self.interaction_classes)?;
         let Ok(()) = self.members.push(member) else {
             return Err(Fault::OutOfMemory);
         };
@@ -106,6 +131,8 @@ impl Declarations {
         } }
     {
         self.members[federate as usize - 1].clear();
+        self.object_subscribers.withdraw(federate);
+        self.interaction_subscribers.withdraw(federate);
     }
 
     /// A federate publishes these attributes of an object class from now on, or does not publish it any more.
@@ -143,9 +170,11 @@ impl Declarations {
           subscribed = upd2 (declarations_of self.old).subscribed federate class attributes;
         } }
     {
+        let subscribes = attributes.is_some();
         self.members[federate as usize - 1]
             .subscribed
             .set(class, attributes);
+        self.object_subscribers.set(federate, class, subscribes);
     }
 
     /// A federate publishes an interaction class from now on, or not any more.
@@ -176,6 +205,8 @@ impl Declarations {
         self.members[federate as usize - 1]
             .subscribed_interactions
             .set(class, subscribes);
+        self.interaction_subscribers
+            .set(federate, class, subscribes);
     }
 
     /// Publish Object Class: the federate publishes just these attributes of the class from now on. It takes no memory.

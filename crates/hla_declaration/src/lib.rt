@@ -8,6 +8,7 @@ mod member;
 mod queries;
 mod receiver;
 mod receiving;
+mod subscribers;
 
 pub use declarations::Declarations;
 pub use receiver::Receiver;

@@ -67,6 +67,9 @@ impl Declarations {
 
     /// Who but the sender receives what is sent of an object class, and at which class, by rising number of the
     /// federate; `OutOfMemory` where a growth was refused.
+    ///
+    /// It looks once at each class around the class, and again for each federate that subscribes one of them, so that
+    /// federates that subscribe none cost no search.
     pub fn receivers_of_object_class(
         &self,
         alloc: Global,
@@ -79,10 +82,13 @@ impl Declarations {
             (declarations_of self.now).federates sender) }
         ensures err { IfErr result (λ e. e ≡ Fault.OutOfMemory) }
     {
+        let lineage = catalogue.object_lineage(class);
+        let sets = self.object_subscribers();
+        let subscribers = sets.subscribers_among(lineage);
         let mut receivers = List::with_room(alloc, self.federates())?;
         for place in 0..self.federates() {
             let federate = place as FederateNo + 1;
-            let served = self.object_class_served(catalogue, federate, class);
+            let served = sets.class_served_within(subscribers, lineage, federate);
             if let Some(receiver) = receiver(sender, federate, served) {
                 receivers.push(receiver)?;
             }
@@ -92,6 +98,9 @@ impl Declarations {
 
     /// Who but the sender receives an interaction of a class, and at which class, by rising number of the federate;
     /// `OutOfMemory` where a growth was refused.
+    ///
+    /// It looks once at each class around the class, and again for each federate that subscribes one of them, so that
+    /// federates that subscribe none cost no search.
     pub fn receivers_of_interaction_class(
         &self,
         alloc: Global,
@@ -104,10 +113,13 @@ impl Declarations {
             class) (declarations_of self.now).federates sender) }
         ensures err { IfErr result (λ e. e ≡ Fault.OutOfMemory) }
     {
+        let lineage = catalogue.interaction_lineage(class);
+        let sets = self.interaction_subscribers();
+        let subscribers = sets.subscribers_among(lineage);
         let mut receivers = List::with_room(alloc, self.federates())?;
         for place in 0..self.federates() {
             let federate = place as FederateNo + 1;
-            let served = self.interaction_class_served(catalogue, federate, class);
+            let served = sets.class_served_within(subscribers, lineage, federate);
             if let Some(receiver) = receiver(sender, federate, served) {
                 receivers.push(receiver)?;
             }

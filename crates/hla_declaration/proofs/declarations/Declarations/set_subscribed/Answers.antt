@@ -1,6 +1,7 @@
 use Rattle.std.proofs.Common.{◌≤◌, length, ap}
 use Rattle.hla_declaration.specs.Lists.{DeclarationLists}
 use Rattle.hla_declaration.proofs.TableLemmas.{subscribed_put}
+use Rattle.hla_declaration.proofs.WholeLemmas.{whole_subscribed}
 use Rattle.hla_declaration.proofs.declarations.Declarations.set_subscribed.Goals as goal
 
 pub returns : goal.returns
@@ -8,5 +9,14 @@ returns c =
     let joined : c.args.federate ≤ length c.self.inside.members.items = rw (ap (λ (d : DeclarationLists). length d.members) c.self.view_is) c.requires.joined in
     let defined : c.args.class ≤ c.self.inside.object_classes = rw (ap (λ (d : DeclarationLists). d.object_classes) c.self.view_is) c.requires.defined in
     rw (← c.self.view_is, c.set.ensures)
-    (subscribed_put c.self.inside.object_classes c.self.inside.interaction_classes c.self.inside.members.items c.self.invariant
+    (subscribed_put c.self.inside.object_classes c.self.inside.interaction_classes c.self.inside.members.items c.self.invariant.lists
     c.args.federate c.index_mut.result.now c.requires.some joined c.index_mut.ensures.value c.args.class c.requires.numbered c.args.attributes defined)
+
+pub invariant_of-self : goal.invariant_of-self
+invariant_of-self c =
+    let joined : c.args.federate ≤ length c.self.inside.members.items = rw (ap (λ (d : DeclarationLists). length d.members) c.self.view_is) c.requires.joined in
+    let defined : c.args.class ≤ c.self.inside.object_classes = rw (ap (λ (d : DeclarationLists). d.object_classes) c.self.view_is) c.requires.defined in
+    rw c.set.ensures
+    (whole_subscribed c.self.inside.object_classes c.self.inside.interaction_classes c.self.inside.members.items c.self.inside.object_subscribers c.self.inside.interaction_subscribers c.self.invariant
+    c.args.federate c.index_mut.result.now c.requires.some joined c.index_mut.ensures.value c.args.class c.requires.numbered c.args.attributes defined
+    c.set-2.new.self c.set-2.ensures.room (λ g k few. rw (← c.is_some-subscribes.ensures) (c.set-2.ensures.listed g k few)))
