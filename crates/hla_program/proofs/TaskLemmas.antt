@@ -1,8 +1,8 @@
 -- A task is done where the run on its opened files ends as it must.
 use Rattle.std.proofs.Common.{◌≡◌, ℕ, Bool, true, false, ◌&&◌, List, Option, codes, ap, ◌∙◌, subst}
 use Rattle.std.specs.Str.{bytes_eq}
-use Rattle.hla_program.specs.Tasks.{Listing}
-use Rattle.hla_program.specs.declared.task.ScriptTask.{ScriptTask}
+use Rattle.hla_tasks.specs.Tasks.{Listing}
+use Rattle.hla_program.specs.declared.script_task.ScriptTask.{ScriptTask}
 use Rattle.hla_transcript.specs.Watching.{Stream}
 use Rattle.hla_program.specs.Program.{opened_stream, EndsShared, EndsFiles, EndsListingFile, EndsNamed, EndsTask}
 

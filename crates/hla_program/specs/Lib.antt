@@ -1,5 +1,3 @@
--- What is to be done, with the files by their names
-pub mod Tasks
 -- Two files in one input
 pub mod Parts
 -- Readers and writers that keep in mind whether they failed

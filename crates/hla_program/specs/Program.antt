@@ -19,9 +19,9 @@ use Rattle.hla_script.specs.declared.player.PlayFault.TheVariants as unplayed
 use Rattle.hla_run.specs.Running.{IsRunFrom, IsSeen, StopsRun}
 use Rattle.hla_run.specs.declared.fault.RunFault.{RunFault}
 use Rattle.hla_run.specs.declared.fault.RunFault.TheVariants as unran
-use Rattle.hla_program.specs.Tasks.{NamedTask, Play, Check, Running, Listing}
-use Rattle.hla_program.specs.declared.task.ScriptTask.{ScriptTask}
-use Rattle.hla_program.specs.declared.task.ScriptTask.TheVariants as wanted
+use Rattle.hla_tasks.specs.Tasks.{NamedTask, Play, Check, Running, Listing}
+use Rattle.hla_program.specs.declared.script_task.ScriptTask.{ScriptTask}
+use Rattle.hla_program.specs.declared.script_task.ScriptTask.TheVariants as wanted
 use Rattle.hla_program.specs.declared.finding.Finding.{Finding}
 use Rattle.hla_program.specs.declared.finding.Finding.TheVariants.{Run, Differs}
 use Rattle.hla_program.specs.Parts.{first_part, second_part}

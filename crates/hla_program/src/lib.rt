@@ -6,18 +6,12 @@ mod finding;
 mod input;
 mod parts;
 mod running;
+mod script_task;
 mod source;
-mod task;
 mod telling;
 mod threads;
 
 pub use running::do_task;
 pub use source::{Opener, Source, System};
-pub use task::Task;
 pub use telling::{tell, tell_out_of_memory};
 pub use threads::Means;
-
-#[cfg(test)]
-mod run_tests;
-#[cfg(test)]
-mod tests;

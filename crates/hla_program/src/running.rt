@@ -3,18 +3,19 @@
 ghost use Rattle.hla_transcript.specs.Watching.{stream_of};
 ghost use Rattle.std.specs.Prelude.{◌≡◌, ◌&&◌, codes};
 ghost use Rattle.std.specs.Str.{bytes_eq};
-ghost use Rattle.hla_program.specs.Tasks.{named_task};
+ghost use Rattle.hla_tasks.specs.Tasks.{named_task};
 ghost use Rattle.hla_program.specs.Program.{EndsPlaying, EndsListing, EndsScript, EndsShared, EndsFiles, EndsListingFile, EndsNamed, EndsTask};
 
 use crate::checking::check_bytes;
 use crate::input::{FILE_LIMIT, SHARED_LIMIT, load};
 use crate::parts::parts;
+use crate::script_task::ScriptTask;
 use crate::source::Opener;
-use crate::task::{ScriptTask, Task};
 use crate::telling::{DONE, tell_list_stop, tell_load_stop, tell_play_stop};
 use crate::threads::{Means, run_bytes};
 use hla_monitor::Naming;
 use hla_script::{ListFault, PlayFault, Watched, list, play};
+use hla_tasks::Task;
 use std::alloc::Global;
 use std::io::{Read, Write};
 use std::sync::Wait;

@@ -2,7 +2,6 @@
 #![tactic(auto)]
 
 mod running;
-mod words;
 
 ghost use Rattle.std.specs.Prelude.{◌≡◌, IfOk, OnErr, map, string_bytes};
 ghost use Rattle.std.specs.Vec.Iter.{into_iter_items};
@@ -92,6 +91,3 @@ fn main(rt: HostRuntime) -> ExitCode {
         Err(error) => ExitCode::from(tell_unstarted(&mut errors, &error)),
     }
 }
-
-#[cfg(test)]
-mod tests;

@@ -5,8 +5,8 @@ ghost use Rattle.hla_transcript.specs.Watching.{stream_of};
 ghost use Rattle.clap.specs.Walk.{texts};
 ghost use Rattle.hlaplay.specs.Run.{EndsMisuse, EndsRun};
 
-use crate::words::{WordsFault, parse};
 use clap::Error;
+use hla_command_line::{WordsFault, parse};
 use hla_monitor::Naming;
 use hla_program::{Means, Opener, do_task, tell, tell_out_of_memory};
 use hla_transcript::Watched;

@@ -1,9 +1,9 @@
 use Rattle.std.proofs.Common.{refl, subst}
 use Rattle.clap.specs.Walk.{texts}
-use Rattle.hlaplay.specs.Refusals.{IsFoundIn}
-use Rattle.hlaplay.specs.declared.words.WordsFault.{WordsFault}
+use Rattle.hla_command_line.specs.Refusals.{IsFoundIn}
+use Rattle.hla_command_line.specs.declared.words.WordsFault.{WordsFault}
 use Rattle.clap.specs.Values.{kind_of}
-use Rattle.hla_program.specs.Tasks.{named_task}
+use Rattle.hla_tasks.specs.Tasks.{named_task}
 use Rattle.hlaplay.specs.Run.{TaskDone, Misused, NoMemory}
 use Rattle.hlaplay.proofs.running.do_words.Goals as goal
 
