@@ -1,7 +1,7 @@
 //! What was sent, and what has become of it at each of its receivers.
 
-use crate::receivers::Part;
-use crate::texts::{cut, handle, has_word, number, path_of, ticks};
+use crate::receivers::{Part, is_of};
+use crate::texts::{cut, handle, is_last_of_its_name, number, path_of, ticks};
 use std::alloc::{AllocError, Global};
 
 /// What a message says.
@@ -73,7 +73,7 @@ impl Message<'_> {
         is_stamped && self.is_said_by(head)
     }
 
-    /// Whether it says this, with values that its line sent.
+    /// Whether it says this, with values that its line sent, of the message's part of an update.
     fn is_said_by(self, head: &str) -> bool {
         let (kind, rest) = cut(head);
         let (subject, shown) = cut(rest);
@@ -85,9 +85,16 @@ impl Message<'_> {
             Said::Deletion { object } => kind == "remove" && number(subject) == object,
         };
         is_subject
-            && shown
-                .split_whitespace()
-                .all(|pair| has_word(self.line, pair))
+            && shown.split_whitespace().all(|pair| self.has_part_of(pair)
+                && is_last_of_its_name(self.line, pair))
+    }
+
+    /// Whether a pair goes with the message.
+    fn has_part_of(self, pair: &str) -> bool {
+        match self.said {
+            Said::Update { part, .. } => is_of(part, pair),
+            _ => true,
+        }
     }
 }
 

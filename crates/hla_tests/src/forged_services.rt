@@ -22,9 +22,8 @@ fn is_taken_with(
     let mut at = 0u32;
     for line in scene.transcript.lines() {
         at = at.saturating_add(1);
-        transcript.push_str("1 ")?;
-        transcript.push_str(if at == number { answer } else { line })?;
-        transcript.push_str("\n")?;
+        let said = if at == number { answer } else { line };
+        transcript.push_str(format!(in alloc; "{at} {said}\n")?.as_str())?;
     }
     Ok(read_services(alloc, scene.script, transcript.as_str())?.is_some())
 }
@@ -366,6 +365,68 @@ fn refuses_forged_next_events(rt: HostRuntime) -> Result<(), Fail> {
         (33, "ok 10"),
     ];
     check_forgeries(&rt, rt.alloc(), &NEXT_EVENT, &forgeries)
+}
+
+/// B is told of an object, of an update's part in receive order and then of its other part.
+const RECEIVE_ORDER: Scene = Scene {
+    script: "create
+join A
+join B
+A publishObject Car Pos Paint
+B subscribeObject Car Pos Paint
+A register Car
+carry A B
+B tick
+A update 1 Car Pos=1 Paint=blue Paint=red
+carry A B
+carry A B
+B tick
+B tick
+B tick",
+    transcript: "ok
+ok 1
+ok 2
+ok
+ok
+ok 1 object-1
+ok discovery 1
+ok discover 1 ObjectRoot.Car object-1
+ok
+ok event 1.1
+ok event 1.2
+ok reflect 1 Paint=red RO
+ok reflect 1 Pos=1 RO
+ok nothing",
+};
+
+#[test]
+fn refuses_forged_updates(rt: HostRuntime) -> Result<(), Fail> {
+    let forgeries = [
+        (8, "ok nothing"),
+        (8, "ok discover 2 ObjectRoot.Car object-1"),
+        (10, "ok event 1.2"),
+        (10, "ok event 1.3"),
+        (10, "ok removal 1.1"),
+        (11, "ok event 1.1"),
+        (12, "ok nothing"),
+        (12, "ok reflect 1 Pos=1 RO"),
+        (12, "ok reflect 1 Paint=blue RO"),
+        (12, "ok reflect 2 Paint=red RO"),
+        (12, "ok remove 1 RO"),
+        (13, "ok reflect 1 Paint=red RO"),
+        (14, "ok reflect 1 Pos=1 RO"),
+        (14, ""),
+    ];
+    check_forgeries(&rt, rt.alloc(), &RECEIVE_ORDER, &forgeries)
+}
+
+#[test]
+fn refuses_lines_of_other_numbers(rt: HostRuntime) -> Result<(), Fail> {
+    for transcript in ["", "2 ok\n", "ok\n", "1 ok\n2 ok\n"] {
+        assert!(rt; read_services(rt.alloc(), "create\n", transcript)?.is_none());
+    }
+    assert!(rt; read_services(rt.alloc(), "create\n", "1 ok\n")?.is_some());
+    Ok(())
 }
 
 /// A updates and deletes its object in both orders; B ceases to be constrained before its time comes.

@@ -3,8 +3,6 @@
 #![tactic(auto)]
 
 #[cfg(test)]
-mod books;
-#[cfg(test)]
 mod clocks;
 #[cfg(test)]
 mod copies;
@@ -34,7 +32,3 @@ mod service_scripts;
 mod texts;
 #[cfg(test)]
 mod time_books;
-#[cfg(test)]
-mod timed_books;
-#[cfg(test)]
-mod timed_scripts;

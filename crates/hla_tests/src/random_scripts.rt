@@ -1,4 +1,6 @@
-use crate::books::read_beside;
+//! Random scripts in receive order, read beside the books of all services.
+
+use crate::service_books::read_services;
 use hla_script::{Watched, play};
 use hla_text_tests::FED;
 use std::alloc::{AllocError, Global};
@@ -218,11 +220,11 @@ fn check_script(rt: &impl Abort, alloc: Global, script: &[u8]) -> Result<u32, Fa
     let whole = transcript(alloc, script)?;
     let again = transcript(alloc, script)?;
     assert!(rt; whole.as_slice() == again.as_slice());
-    let told = match (str::from_utf8(script), str::from_utf8(whole.as_slice())) {
-        (Ok(script), Ok(whole)) => read_beside(alloc, script, whole)?,
+    let tally = match (str::from_utf8(script), str::from_utf8(whole.as_slice())) {
+        (Ok(script), Ok(whole)) => read_services(alloc, script, whole)?,
         _ => None,
     };
-    let Some(told) = told else {
+    let Some(tally) = tally else {
         panic!(rt; "not by the books: {script:?}")
     };
     for (at, byte) in script.iter().enumerate() {
@@ -231,7 +233,7 @@ fn check_script(rt: &impl Abort, alloc: Global, script: &[u8]) -> Result<u32, Fa
             assert!(rt; whole.as_slice().starts_with(part.as_slice()));
         }
     }
-    Ok(told)
+    Ok(tally.told)
 }
 
 /// Checks the scripts of some seeds, in which the federates must be told of something often enough for the books to be tried.

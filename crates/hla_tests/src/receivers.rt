@@ -35,7 +35,7 @@ pub fn is_car(class: &str) -> bool {
 }
 
 /// Whether an attribute goes with a part of an update.
-fn is_of(part: Part, pair: &str) -> bool {
+pub fn is_of(part: Part, pair: &str) -> bool {
     (name_in(pair) == "Paint") == (part == Part::Receive)
 }
 

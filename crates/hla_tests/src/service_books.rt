@@ -12,6 +12,8 @@ use std::alloc::{AllocError, Global};
 /// How often the laws were tried.
 #[derive(Clone, Copy)]
 pub struct Tally {
+    /// Ticks that told something.
+    pub told: u32,
     /// Messages given in time-stamp order outside flushes, and in them.
     pub picked: u32,
     pub flushed: u32,
@@ -30,6 +32,7 @@ impl Tally {
     /// Nothing was counted yet.
     pub fn new() -> Tally {
         Tally {
+            told: 0,
             picked: 0,
             flushed: 0,
             granted: 0,
@@ -42,6 +45,7 @@ impl Tally {
 
     /// Adds the counts of another script.
     pub fn add(&mut self, other: Tally) {
+        self.told = self.told.saturating_add(other.told);
         self.picked = self.picked.saturating_add(other.picked);
         self.flushed = self.flushed.saturating_add(other.flushed);
         self.granted = self.granted.saturating_add(other.granted);
@@ -185,7 +189,12 @@ impl<'a> Books<'a> {
         answer: &str,
     ) -> Result<bool, AllocError> {
         match verb {
-            "tick" => self.tick(federate, answer),
+            "tick" => {
+                if answer != "nothing" {
+                    self.tally.told = self.tally.told.saturating_add(1);
+                }
+                self.tick(federate, answer)
+            }
             "send" => {
                 let said = Said::Interaction {
                     class: cut(words).0,
@@ -368,8 +377,8 @@ impl<'a> Books<'a> {
     }
 }
 
-/// Reads a transcript beside its script, which has no blank lines. Answers how often the laws were tried, or none where the
-/// transcript is not by the books.
+/// Reads a transcript beside its script, which has no blank lines: a line for each line, with its number. Answers how often the
+/// laws were tried, or none where the transcript is not by the books.
 pub fn read_services(
     alloc: Global,
     script: &str,
@@ -377,14 +386,22 @@ pub fn read_services(
 ) -> Result<Option<Tally>, AllocError> {
     let mut books = Books::new(alloc);
     let mut answers = transcript.lines();
+    let mut number = 0u64;
     for line in script.lines() {
+        number = number.saturating_add(1);
         let said = match answers.next() {
-            Some(answer) => cut(answer).1,
+            Some(answer) => match answer.split_once(' ') {
+                Some((at, said)) if at.parse::<u64>() == Ok(number) => said,
+                _ => return Ok(None),
+            },
             None => return Ok(None),
         };
         if !books.note(line, said)? {
             return Ok(None);
         }
+    }
+    if answers.next().is_some() {
+        return Ok(None);
     }
     Ok(Some(books.tally))
 }

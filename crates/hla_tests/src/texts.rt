@@ -55,6 +55,17 @@ pub fn name_in(pair: &str) -> &str {
     }
 }
 
+/// Whether a pair is the last one of its name in a text: of two values for one name the later is sent.
+pub fn is_last_of_its_name(text: &str, pair: &str) -> bool {
+    let mut last = "";
+    for other in text.split_whitespace() {
+        if name_in(other) == name_in(pair) {
+            last = other;
+        }
+    }
+    last == pair
+}
+
 /// The whole path of an interaction class of the FED file.
 pub fn path_of(class: &str) -> &str {
     match class {
