@@ -53,6 +53,33 @@ pub fn joined<L: Ledger + Naming, W: Publisher<L>>(
     }
 }
 
+/// The pump publishes the levels and regulates time, and is told that it does.
+fn set_up_pump<L: Ledger + Naming, W: Publisher<L>>(
+    rt: &impl Wait,
+    alloc: Global,
+    pump: &mut Federate<L, Recorder, W>,
+) -> Result<Part, Trouble> {
+    let level = pump.get_interaction_class_handle(rt, name(alloc, b"Level")?)?;
+    let litres = pump.get_parameter_handle(rt, name(alloc, b"Litres")?, level)?;
+    pump.publish_interaction_class(rt, level)?;
+    pump.enable_time_regulation(rt, 0, 1)?;
+    pump.tick(rt)?;
+    Ok(Part::Pump { level, litres })
+}
+
+/// The display subscribes the class of the levels and is constrained by time, and is told that it is.
+fn set_up_display<L: Ledger + Naming, W: Publisher<L>>(
+    rt: &impl Wait,
+    alloc: Global,
+    display: &mut Federate<L, Recorder, W>,
+) -> Result<(), Trouble> {
+    let level = display.get_interaction_class_handle(rt, name(alloc, b"Level")?)?;
+    display.subscribe_interaction_class(rt, level)?;
+    display.enable_time_constrained(rt)?;
+    display.tick(rt)?;
+    Ok(())
+}
+
 /// Says what each federate sends and receives and how it takes part in time, and gives each its part and a courier. It is done
 /// before the threads begin, so that the pump sends nothing before the display has subscribed.
 pub fn ready<L: Ledger + Naming, W: Publisher<L>>(
@@ -62,26 +89,17 @@ pub fn ready<L: Ledger + Naming, W: Publisher<L>>(
     mut pump: Federate<L, Recorder, W>,
     mut display: Federate<L, Recorder, W>,
 ) -> Result<Vec<Job<L, W>>, Trouble> {
-    let level = pump.get_interaction_class_handle(rt, name(alloc, b"Level")?)?;
-    let litres = pump.get_parameter_handle(rt, name(alloc, b"Litres")?, level)?;
-    pump.publish_interaction_class(rt, level)?;
-    pump.enable_time_regulation(rt, 0, 1)?;
-    pump.tick(rt)?;
-    display.subscribe_interaction_class(rt, level)?;
-    display.enable_time_constrained(rt)?;
-    display.tick(rt)?;
+    let part = set_up_pump(rt, alloc, &mut pump)?;
+    set_up_display(rt, alloc, &mut display)?;
     let mut jobs = Vec::new(alloc);
-    let part = Part::Pump { level, litres };
     for (federate, part) in [(pump, part), (display, Part::Display)] {
         let courier = rti.courier()?;
-        keep(
-            &mut jobs,
-            Job {
-                federate,
-                courier,
-                part,
-            },
-        )?;
+        let job = Job {
+            federate,
+            courier,
+            part,
+        };
+        keep(&mut jobs, job)?;
     }
     Ok(jobs)
 }
