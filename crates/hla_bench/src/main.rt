@@ -91,75 +91,78 @@ const USAGE: &str =
     updates RECEIVERS UPDATES | queue EVENTS | fed BYTES | bare FEDERATES ROUNDS | lent FEDERATES ROUNDS | \
     locked FEDERATES ROUNDS | run THREADS ROUNDS | watch THREADS ROUNDS | check FEDERATES EVENTS ROUNDS";
 
-/// The next word as a number.
-fn number(words: &mut Args) -> Option<u64> {
-    words.next()?.parse::<u64>().ok()
+/// The words behind the first two, each as a number; none where one is no number of 32 bits.
+fn numbers_of(alloc: Global, words: &mut Args) -> Option<Vec<u32>> {
+    let mut numbers = Vec::new(alloc);
+    for word in words {
+        let number = word.parse::<u32>().ok()?;
+        numbers.push(number).ok()?;
+    }
+    Some(numbers)
 }
 
-/// The next word as a number of 32 bits.
-fn small(words: &mut Args) -> Option<u32> {
-    words.next()?.parse::<u32>().ok()
+/// What a name asks for with these numbers, of the benchmarks of a federation's own calls.
+fn bare_benchmark(name: &str, numbers: &[u32]) -> Option<Benchmark> {
+    match (name, numbers) {
+        ("lockstep", &[federates, events, rounds]) => Some(Benchmark::Lockstep {
+            federates,
+            events,
+            rounds: rounds.into(),
+        }),
+        ("phold", &[federates, population, lookahead, delivered]) => Some(Benchmark::Phold {
+            federates,
+            population,
+            lookahead: lookahead.into(),
+            delivered: delivered.into(),
+        }),
+        ("updates", &[receivers, updates]) => Some(Benchmark::Updates {
+            receivers,
+            updates: updates.into(),
+        }),
+        ("queue", &[events]) => Some(Benchmark::Queue { events }),
+        ("fed", &[bytes]) => Some(Benchmark::Fed {
+            bytes: bytes as usize,
+        }),
+        ("bare", &[federates, rounds]) => Some(Benchmark::Bare {
+            federates,
+            rounds: rounds.into(),
+        }),
+        _ => None,
+    }
+}
+
+/// What a name asks for with these numbers, of the benchmarks of the lock and of the checker.
+fn shared_benchmark(name: &str, numbers: &[u32]) -> Option<Benchmark> {
+    match (name, numbers) {
+        ("lent", &[federates, rounds]) => Some(Benchmark::Lent {
+            federates,
+            rounds: rounds.into(),
+        }),
+        ("locked", &[federates, rounds]) => Some(Benchmark::Locked {
+            federates,
+            rounds: rounds.into(),
+        }),
+        ("run" | "watch", &[threads, rounds]) => Some(Benchmark::Run {
+            threads,
+            rounds: rounds.into(),
+            is_watched: name == "watch",
+        }),
+        ("check", &[federates, events, rounds]) => Some(Benchmark::Check {
+            federates,
+            events,
+            rounds: rounds.into(),
+        }),
+        _ => None,
+    }
 }
 
 /// What the words of the command line ask for, if they ask for anything.
-fn asked_for(words: &mut Args) -> Option<Benchmark> {
+fn asked_for(alloc: Global, words: &mut Args) -> Option<Benchmark> {
     let _program = words.next()?;
-    let asked = words.next()?;
-    let found = match asked.as_str() {
-        "lockstep" => Benchmark::Lockstep {
-            federates: small(words)?,
-            events: small(words)?,
-            rounds: number(words)?,
-        },
-        "phold" => Benchmark::Phold {
-            federates: small(words)?,
-            population: small(words)?,
-            lookahead: number(words)?,
-            delivered: number(words)?,
-        },
-        "updates" => Benchmark::Updates {
-            receivers: small(words)?,
-            updates: number(words)?,
-        },
-        "queue" => Benchmark::Queue {
-            events: small(words)?,
-        },
-        "fed" => Benchmark::Fed {
-            bytes: number(words)? as usize,
-        },
-        "bare" => Benchmark::Bare {
-            federates: small(words)?,
-            rounds: number(words)?,
-        },
-        "lent" => Benchmark::Lent {
-            federates: small(words)?,
-            rounds: number(words)?,
-        },
-        "locked" => Benchmark::Locked {
-            federates: small(words)?,
-            rounds: number(words)?,
-        },
-        "run" => Benchmark::Run {
-            threads: small(words)?,
-            rounds: number(words)?,
-            is_watched: false,
-        },
-        "watch" => Benchmark::Run {
-            threads: small(words)?,
-            rounds: number(words)?,
-            is_watched: true,
-        },
-        "check" => Benchmark::Check {
-            federates: small(words)?,
-            events: small(words)?,
-            rounds: number(words)?,
-        },
-        _ => return None,
-    };
-    match words.next() {
-        None => Some(found),
-        Some(_) => None,
-    }
+    let name = words.next()?;
+    let numbers = numbers_of(alloc, words)?;
+    let (name, numbers) = (name.as_str(), numbers.as_slice());
+    bare_benchmark(name, numbers).or_else(|| shared_benchmark(name, numbers))
 }
 
 /// The records that a benchmark is about; none where it is about other things.
@@ -243,7 +246,7 @@ fn stopped<R: Runtime>(rt: &R, fault: Fault) -> io::Result<u8> {
 /// Runs a benchmark, and prints its counts and times; the status.
 fn run<R: Runtime + AllocGlobal + Threads + Wait + Sync>(rt: &R) -> io::Result<u8> {
     let mut words = env::args(rt)?;
-    let Some(asked) = asked_for(&mut words) else {
+    let Some(asked) = asked_for(rt.alloc(), &mut words) else {
         eprintln!(rt; "{USAGE}")?;
         return Ok(2);
     };
