@@ -20,13 +20,13 @@ def build():
                    stdout=subprocess.DEVNULL, stderr=subprocess.DEVNULL)
 
 
-def play(data):
+def play(data, program=PROGRAM):
     """Seconds and peak memory in KiB of one run, and the lines that it printed."""
     with tempfile.TemporaryFile() as given, tempfile.TemporaryFile() as printed:
         given.write(data)
         given.seek(0)
         start = time.perf_counter()
-        pid = os.posix_spawn(str(PROGRAM), [str(PROGRAM)], {}, file_actions=[
+        pid = os.posix_spawn(str(program), [str(program)], {}, file_actions=[
             (os.POSIX_SPAWN_DUP2, given.fileno(), 0),
             (os.POSIX_SPAWN_DUP2, printed.fileno(), 1)])
         _, status, used = os.wait4(pid, 0)

@@ -60,11 +60,11 @@ def fed_text(size):
     return "".join(head + spaces + [" )\n (objects\n"] + classes + [" )\n"] + tail).encode()
 
 
-def seconds_of(path, status_wanted):
-    """Seconds of one run, and the status that it must end with."""
+def seconds_of(path, status_wanted, program=PROGRAM):
+    """Seconds of one run, which must end with the status."""
     with open(os.devnull, "wb") as nowhere:
         start = time.perf_counter()
-        pid = os.posix_spawn(str(PROGRAM), [str(PROGRAM), "fed", path], {}, file_actions=[
+        pid = os.posix_spawn(str(program), [str(program), "fed", path], {}, file_actions=[
             (os.POSIX_SPAWN_DUP2, nowhere.fileno(), 1), (os.POSIX_SPAWN_DUP2, nowhere.fileno(), 2)])
         _, status = os.waitpid(pid, 0)
         seconds = time.perf_counter() - start
@@ -114,4 +114,5 @@ def main():
                   f"{size / listed / 1e6:,.0f} MB/s ({listed * 1000:.2f} ms), peak memory {memory_of(path) / 1024:.1f} MiB")
 
 
-main()
+if __name__ == "__main__":
+    main()
