@@ -1,4 +1,4 @@
-use Rattle.std.proofs.Common.{arith, ap, refl, true, is_some, ◌∙◌}
+use Rattle.std.proofs.Common.{arith, ap, true, is_some, ◌∙◌}
 use Rattle.hla_machine.specs.Central.{new_central}
 use Rattle.hla_checker.specs.Table.{centrals_of}
 use Rattle.hla_checker.proofs.TableChanges.{creation_room, creation_absent, created, consistent_pushed}
@@ -13,7 +13,7 @@ overflow_add-self c =
 pub returns-clause-ok : goal.returns-clause-ok
 returns-clause-ok c =
     let now = c.args.self.now in
-    created now.creates now.present _ _ _ c.args.name.now c.args.catalogue.now c.in-Ok.ensures.items refl (c.new.ensures.new ∙ ap new_central c.in_ok-copy.ensures.ok)
+    created now.creates now.present _ _ _ c.args.name.now c.args.catalogue.now c.in-Ok.ensures.items c.in_ok-name.ensures.ok (c.new.ensures.new ∙ ap new_central c.in_ok-copy.ensures.ok)
     (creation_absent (centrals_of now.executions.items c.args.name.now) true now.creates now.present c.requires.free)
 
 pub returns-clause-consistent : goal.returns-clause-consistent
