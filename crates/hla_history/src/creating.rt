@@ -174,7 +174,13 @@ pub(crate) fn destroy_among<B: FederateAmbassador>(
             Ok(refused)
         }
         None => {
-            let made = recorded(alloc, actor, &name, Act::Destroy, Outcome::Done(Answer::Done))?;
+            let made = recorded(
+                alloc,
+                actor,
+                &name,
+                Act::Destroy,
+                Outcome::Done(Answer::Done),
+            )?;
             remove_named(executions, &name);
             counts.present = counts.present.saturating_sub(1);
             Ok(made)
