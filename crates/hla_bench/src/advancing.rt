@@ -54,15 +54,21 @@ fn round_bare(meter: &mut Meter, federates: u32, time: Ticks) -> Result<(), Faul
     Ok(())
 }
 
-/// Plays so many rounds on a bare federation.
-pub fn run_bare(alloc: Global, federates: u32, rounds: u64) -> Result<Counts, Fault> {
-    let mut meter = Meter::new(alloc, catalogue(alloc, FED)?);
+/// Plays so many rounds on a bare federation that so many federates join.
+fn play_bare(meter: &mut Meter, federates: u32, rounds: u64) -> Result<(), Fault> {
     for federate in 1..=federates {
         meter.join(federate)?;
     }
     for time in 1..=rounds {
-        round_bare(&mut meter, federates, time)?;
+        round_bare(meter, federates, time)?;
     }
+    Ok(())
+}
+
+/// Plays so many rounds on a bare federation.
+pub fn run_bare(alloc: Global, federates: u32, rounds: u64) -> Result<Counts, Fault> {
+    let mut meter = Meter::new(alloc, catalogue(alloc, FED)?);
+    play_bare(&mut meter, federates, rounds)?;
     Ok(counted(federates, rounds))
 }
 

@@ -106,6 +106,19 @@ impl Hold {
         }
         Ok(())
     }
+
+    /// All visit in turn until so many events were given.
+    fn play(&mut self, meter: &mut Meter, population: u32, delivered: u64) -> Result<(), Fault> {
+        self.join(meter)?;
+        self.begin(meter, population)?;
+        for _ in 0..u64::MAX {
+            if meter.counts.received >= delivered {
+                break;
+            }
+            self.visit_all(meter)?;
+        }
+        Ok(())
+    }
 }
 
 /// Visits the federates in turn until so many events were given.
@@ -122,13 +135,6 @@ pub fn run(
         lookahead,
         random: Random::new(),
     };
-    hold.join(&mut meter)?;
-    hold.begin(&mut meter, population)?;
-    for _ in 0..u64::MAX {
-        if meter.counts.received >= delivered {
-            break;
-        }
-        hold.visit_all(&mut meter)?;
-    }
+    hold.play(&mut meter, population, delivered)?;
     Ok(meter.counts)
 }

@@ -4,6 +4,7 @@
 
 ghost use Rattle.std.specs.Prelude.{◌≡◌, ◌<◌, IfOk};
 ghost use Rattle.hla_history.specs.Hosts.{IsPlain};
+ghost use Rattle.hla_machine.specs.declared.step.Step.TheVariants as step;
 
 use crate::advancing::{FED, HISTORY_LIMIT, counted, name_of};
 use crate::counts::Counts;
@@ -42,6 +43,38 @@ fn join<L: Ledger>(
     }
 }
 
+/// Joins so many federates.
+fn join_all<L: Ledger>(
+    alloc: Global,
+    shared: &mut Shared<L, Recorder>,
+    share: &mut Share<L>,
+    execution: ExecutionName,
+    federates: u32,
+) -> Result<(), Fault>
+    requires { 0 < share.old.parts }
+    ensures { share.new.parts ≡ share.old.parts }
+{
+    for federate in 1..=federates {
+        join(alloc, shared, share, execution, federate)?;
+    }
+    Ok(())
+}
+
+/// Creates the execution, and so many federates join it.
+fn begin<L: Ledger>(
+    alloc: Global,
+    shared: &mut Shared<L, Recorder>,
+    share: &mut Share<L>,
+    execution: ExecutionName,
+    federates: u32,
+) -> Result<(), Fault>
+    requires { 0 < share.old.parts }
+    ensures { share.new.parts ≡ share.old.parts }
+{
+    let _created = shared.create(1, execution, FED, share)?;
+    join_all(alloc, shared, share, execution, federates)
+}
+
 /// The value of an execution that so many federates have joined.
 fn open_office<L: Ledger>(alloc: Global, blank: Blank, federates: u32) -> Result<Office<L>, Fault>
     requires name { blank.name ≡ L.name }
@@ -52,15 +85,42 @@ fn open_office<L: Ledger>(alloc: Global, blank: Blank, federates: u32) -> Result
     let execution = ExecutionName::new(b"bench")?;
     let (book, mut share) = blank.open::<L>();
     let mut shared = Shared::new(alloc, book, HISTORY_LIMIT)?;
-    let _created = shared.create(1, execution, FED, &mut share)?;
-    for federate in 1..=federates {
-        join(alloc, &mut shared, &mut share, execution, federate)?;
-    }
+    begin(alloc, &mut shared, &mut share, execution, federates)?;
     Ok(Office {
         execution,
         shared,
         share,
     })
+}
+
+/// One step of the caller on the value.
+fn step<L: Ledger>(
+    shared: &mut Shared<L, Recorder>,
+    share: &mut Share<L>,
+    execution: ExecutionName,
+    step: Step,
+) -> Result<(), Fault>
+    requires parts { 0 < share.old.parts }
+    requires plain { IsPlain step }
+    ensures { share.new.parts ≡ share.old.parts }
+{
+    let _made = shared.step(1, execution, step, share)?;
+    Ok(())
+}
+
+/// One service of a federate on the value.
+fn call<L: Ledger>(
+    shared: &mut Shared<L, Recorder>,
+    share: &mut Share<L>,
+    execution: ExecutionName,
+    federate: FederateNo,
+    service: Service,
+) -> Result<(), Fault>
+    requires parts { 0 < share.old.parts }
+    requires plain { IsPlain (step.Call federate service) }
+    ensures { share.new.parts ≡ share.old.parts }
+{
+    step(shared, share, execution, Step::Call { federate, service })
 }
 
 /// One advance of a federate on the value.
@@ -74,12 +134,49 @@ fn advance<L: Ledger>(
     requires { 0 < share.old.parts }
     ensures { share.new.parts ≡ share.old.parts }
 {
-    let service = Service::TimeAdvanceRequest { time };
-    let _asked = shared.step(1, execution, Step::Call { federate, service }, share)?;
-    let _granted = shared.step(1, execution, Step::Tick { federate }, share)?;
-    let service = Service::QueryFederateTime;
-    let _told = shared.step(1, execution, Step::Call { federate, service }, share)?;
+    let request = Service::TimeAdvanceRequest { time };
+    call(shared, share, execution, federate, request)?;
+    step(shared, share, execution, Step::Tick { federate })?;
+    call(
+        shared,
+        share,
+        execution,
+        federate,
+        Service::QueryFederateTime,
+    )
+}
+
+/// One step of the caller, for which the value is locked.
+fn step_locked<L: Ledger>(
+    rt: &impl Wait,
+    shared: &Mutex<Shared<L, Recorder>>,
+    share: &mut Share<L>,
+    execution: ExecutionName,
+    step: Step,
+) -> Result<(), Fault>
+    requires parts { 0 < share.old.parts }
+    requires plain { IsPlain step }
+    ensures { share.new.parts ≡ share.old.parts }
+{
+    let _made = shared.lock(rt).step(1, execution, step, share)?;
     Ok(())
+}
+
+/// One service of a federate, for which the value is locked.
+fn call_locked<L: Ledger>(
+    rt: &impl Wait,
+    shared: &Mutex<Shared<L, Recorder>>,
+    share: &mut Share<L>,
+    execution: ExecutionName,
+    federate: FederateNo,
+    service: Service,
+) -> Result<(), Fault>
+    requires parts { 0 < share.old.parts }
+    requires plain { IsPlain (step.Call federate service) }
+    ensures { share.new.parts ≡ share.old.parts }
+{
+    let call = Step::Call { federate, service };
+    step_locked(rt, shared, share, execution, call)
 }
 
 /// One advance of a federate, the value locked anew for each step.
@@ -94,16 +191,17 @@ fn advance_locked<L: Ledger>(
     requires { 0 < share.old.parts }
     ensures { share.new.parts ≡ share.old.parts }
 {
-    let service = Service::TimeAdvanceRequest { time };
-    let asked = Step::Call { federate, service };
-    let _asked = shared.lock(rt).step(1, execution, asked, share)?;
-    let _granted = shared
-        .lock(rt)
-        .step(1, execution, Step::Tick { federate }, share)?;
-    let service = Service::QueryFederateTime;
-    let told = Step::Call { federate, service };
-    let _told = shared.lock(rt).step(1, execution, told, share)?;
-    Ok(())
+    let request = Service::TimeAdvanceRequest { time };
+    call_locked(rt, shared, share, execution, federate, request)?;
+    step_locked(rt, shared, share, execution, Step::Tick { federate })?;
+    call_locked(
+        rt,
+        shared,
+        share,
+        execution,
+        federate,
+        Service::QueryFederateTime,
+    )
 }
 
 /// One round on the value.

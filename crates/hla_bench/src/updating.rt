@@ -56,14 +56,19 @@ fn give(meter: &mut Meter, federates: u32) -> Result<(), Fault> {
     Ok(())
 }
 
+/// Plays so many updates.
+fn play(meter: &mut Meter, federates: u32, updates: u64) -> Result<(), Fault> {
+    begin(meter, federates)?;
+    for _ in 0..updates {
+        meter.update(1)?;
+        give(meter, federates)?;
+    }
+    Ok(())
+}
+
 /// Plays so many updates for so many receivers.
 pub fn run(alloc: Global, receivers: u32, updates: u64) -> Result<Counts, Fault> {
     let mut meter = Meter::new(alloc, catalogue(alloc, FED)?);
-    let federates = receivers.saturating_add(1);
-    begin(&mut meter, federates)?;
-    for _ in 0..updates {
-        meter.update(1)?;
-        give(&mut meter, federates)?;
-    }
+    play(&mut meter, receivers.saturating_add(1), updates)?;
     Ok(meter.counts)
 }
