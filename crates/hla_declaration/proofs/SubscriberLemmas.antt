@@ -11,7 +11,7 @@ use Rattle.std.proofs.lemmas.Nat.Bits.{bit_at_or, bit_at-zero}
 use Rattle.std.proofs.Math.Path.{fun_ext}
 use Rattle.hla_base.specs.Limits.{max_joins}
 use Rattle.hla_declaration.specs.Entries.{entry_at}
-use Rattle.hla_declaration.specs.Subscribers.{has_federate, is_listed, AreSubscribers, AreSetsWhole}
+use Rattle.hla_declaration.specs.Subscribers.{has_federate, is_in_set_of, AreSubscribers, AreSetsWhole}
 use Rattle.hla_declaration.proofs.EntryLemmas.{entry-set, entry-suc}
 
 -- who is in both sets together is in one of them
@@ -63,7 +63,7 @@ same_cond false x = refl
 -- a federate is taken out of each set
 pub listed_withdrawn : (old new : List ℕ) (federate : ℕ) → length new ≡ length old
     → ((k f : ℕ) → k < length old → f ≤ max_joins → has_federate (get_or new k 0) f ≡ cond (eqb federate f) false (has_federate (get_or old k 0) f))
-    → (f k : ℕ) → f ≤ max_joins → is_listed new f k ≡ cond (eqb federate f) false (is_listed old f k)
+    → (f k : ℕ) → f ≤ max_joins → is_in_set_of new f k ≡ cond (eqb federate f) false (is_in_set_of old f k)
 listed_withdrawn old new federate room each f zero few = rw (nobody f) (sym (same_cond (eqb federate f) false))
 listed_withdrawn old new federate room each f (suc k) few = rw (entry-suc 0 new k, entry-suc 0 old k) (⊎_elim
     (λ (within : k < length old). each k f within few)
@@ -73,19 +73,19 @@ listed_withdrawn old new federate room each f (suc k) few = rw (entry-suc 0 new 
 -- the set of one class changes
 pub listed_put : (sets : List ℕ) (class new federate : ℕ) (is_in : Bool) → 0 < class → class ≤ length sets
     → ((f : ℕ) → f ≤ max_joins → has_federate new f ≡ cond (eqb federate f) is_in (has_federate (entry_at 0 sets class) f))
-    → (f k : ℕ) → f ≤ max_joins → is_listed (set sets (class - 1) new) f k ≡ cond (eqb federate f && eqb class k) is_in (is_listed sets f k)
+    → (f k : ℕ) → f ≤ max_joins → is_in_set_of (set sets (class - 1) new) f k ≡ cond (eqb federate f && eqb class k) is_in (is_in_set_of sets f k)
 listed_put sets class new federate is_in first last one f k few = ⊎_elim
     (λ (e : class ≡ k). let y : eqb class class ≡ true = grind (arith, nat_tests) in
-    subst (λ k. is_listed (set sets (class - 1) new) f k ≡ cond (eqb federate f && eqb class k) is_in (is_listed sets f k)) e
-    (ap (λ x. has_federate x f) (entry-set 0 sets class new first last class ∙ rw y refl) ∙ one f few ∙ both (eqb federate f) (eqb class class) is_in (is_listed sets f class) y))
+    subst (λ k. is_in_set_of (set sets (class - 1) new) f k ≡ cond (eqb federate f && eqb class k) is_in (is_in_set_of sets f k)) e
+    (ap (λ x. has_federate x f) (entry-set 0 sets class new first last class ∙ rw y refl) ∙ one f few ∙ both (eqb federate f) (eqb class class) is_in (is_in_set_of sets f class) y))
     (λ (ne : class ≢ k). let n : eqb class k ≡ false = grind (arith, nat_tests) in
-    ap (λ x. has_federate x f) (entry-set 0 sets class new first last k ∙ rw n refl) ∙ neither (eqb federate f) (eqb class k) is_in (is_listed sets f k) n)
+    ap (λ x. has_federate x f) (entry-set 0 sets class new first last k ∙ rw n refl) ∙ neither (eqb federate f) (eqb class k) is_in (is_in_set_of sets f k) n)
     (cases_eq class k)
 
 module _ (classes federates : ℕ) (old new : List ℕ) (before after : ℕ → ℕ → Bool) (whole : AreSetsWhole classes federates old before) where
   -- one federate subscribes one class, or not any more
   pub sets_put : (federate class : ℕ) (is_in : Bool) → length new ≡ length old
-      → ((f k : ℕ) → f ≤ max_joins → is_listed new f k ≡ cond (eqb federate f && eqb class k) is_in (is_listed old f k))
+      → ((f k : ℕ) → f ≤ max_joins → is_in_set_of new f k ≡ cond (eqb federate f && eqb class k) is_in (is_in_set_of old f k))
       → ((f k : ℕ) → after f k ≡ cond (eqb federate f && eqb class k) is_in (before f k)) → AreSetsWhole classes federates new after
   sets_put federate class is_in room listed tables = record {
     room = λ some. rw room (whole.room some);
@@ -94,7 +94,7 @@ module _ (classes federates : ℕ) (old new : List ℕ) (before after : ℕ → 
 
   -- one federate subscribes nothing any more
   pub sets_withdrawn : (federate : ℕ) → length new ≡ length old
-      → ((f k : ℕ) → f ≤ max_joins → is_listed new f k ≡ cond (eqb federate f) false (is_listed old f k))
+      → ((f k : ℕ) → f ≤ max_joins → is_in_set_of new f k ≡ cond (eqb federate f) false (is_in_set_of old f k))
       → ((f k : ℕ) → after f k ≡ cond (eqb federate f) false (before f k)) → AreSetsWhole classes federates new after
   sets_withdrawn federate room listed tables = record {
     room = λ some. rw room (whole.room some);
@@ -111,5 +111,5 @@ module _ (classes federates : ℕ) (old new : List ℕ) (before after : ℕ → 
 
 -- the sets find what the table finds
 module _ (sets : List ℕ) (subscribed : ℕ → ℕ → Bool) (agree : AreSubscribers sets subscribed) where
-  pub found_same : (f : ℕ) → f ≤ max_joins → (classes : List ℕ) → find (is_listed sets f) classes ≡ find (λ k. subscribed f k) classes
+  pub found_same : (f : ℕ) → f ≤ max_joins → (classes : List ℕ) → find (is_in_set_of sets f) classes ≡ find (λ k. subscribed f k) classes
   found_same f few classes = ap (λ (p : ℕ → Bool). find p classes) (fun_ext (λ k. agree f k few))

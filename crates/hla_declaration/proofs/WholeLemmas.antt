@@ -8,7 +8,7 @@ use Rattle.hla_declaration.specs.Entries.{entry_at}
 use Rattle.hla_declaration.specs.Members.{IsMember, IsCleared, new_declarer}
 use Rattle.hla_declaration.specs.Lists.{AreListsWhole}
 use Rattle.hla_declaration.specs.Declarations.{table}
-use Rattle.hla_declaration.specs.Subscribers.{is_listed, AreSetsWhole, AreDeclarationsWhole}
+use Rattle.hla_declaration.specs.Subscribers.{is_in_set_of, AreSetsWhole, AreDeclarationsWhole}
 use Rattle.hla_declaration.specs.declared.member.Member.{Member}
 use Rattle.hla_declaration.proofs.TableLemmas.{room, published_put, subscribed_put, published_interaction_put, subscribed_interaction_put, member_cleared, member_more}
 use Rattle.hla_declaration.proofs.SubscriberLemmas.{sets_put, sets_withdrawn, sets_same}
@@ -135,7 +135,7 @@ module _ (objects interactions : ℕ) (members : List Member) (object_sets inter
 
       -- it subscribes an object class, or not any more
       pub whole_subscribed : (x : Option (List ℕ)) → class ≤ objects → (o : List ℕ) → length o ≡ length object_sets
-          → ((g k : ℕ) → g ≤ max_joins → is_listed o g k ≡ cond (eqb f g && eqb class k) (is_some x) (is_listed object_sets g k))
+          → ((g k : ℕ) → g ≤ max_joins → is_in_set_of o g k ≡ cond (eqb f g && eqb class k) (is_some x) (is_in_set_of object_sets g k))
           → AreDeclarationsWhole objects interactions (set members (f - 1) (record m { subscribed = set m.subscribed (class - 1) x })) o interaction_sets
       unfolding upd2
       whole_subscribed x last o same listed =
@@ -151,7 +151,7 @@ module _ (objects interactions : ℕ) (members : List Member) (object_sets inter
 
       -- it subscribes an interaction class, or not any more
       pub whole_subscribed_interaction : (x : Bool) → class ≤ interactions → (i : List ℕ) → length i ≡ length interaction_sets
-          → ((g k : ℕ) → g ≤ max_joins → is_listed i g k ≡ cond (eqb f g && eqb class k) x (is_listed interaction_sets g k))
+          → ((g k : ℕ) → g ≤ max_joins → is_in_set_of i g k ≡ cond (eqb f g && eqb class k) x (is_in_set_of interaction_sets g k))
           → AreDeclarationsWhole objects interactions (set members (f - 1) (record m { subscribed_interactions = set m.subscribed_interactions (class - 1) x })) object_sets i
       unfolding upd2
       whole_subscribed_interaction x last i same listed =
@@ -178,8 +178,8 @@ module _ (objects interactions : ℕ) (members : List Member) (object_sets inter
 
     -- it declares nothing any more
     pub whole_cleared : (new : Member) → IsCleared m new → (o i : List ℕ) → length o ≡ length object_sets → length i ≡ length interaction_sets
-        → ((g k : ℕ) → g ≤ max_joins → is_listed o g k ≡ cond (eqb f g) false (is_listed object_sets g k))
-        → ((g k : ℕ) → g ≤ max_joins → is_listed i g k ≡ cond (eqb f g) false (is_listed interaction_sets g k))
+        → ((g k : ℕ) → g ≤ max_joins → is_in_set_of o g k ≡ cond (eqb f g) false (is_in_set_of object_sets g k))
+        → ((g k : ℕ) → g ≤ max_joins → is_in_set_of i g k ≡ cond (eqb f g) false (is_in_set_of interaction_sets g k))
         → AreDeclarationsWhole objects interactions (set members (f - 1) new) o i
     unfolding upd
     whole_cleared new cleared o i same_o same_i listed_o listed_i =

@@ -12,12 +12,12 @@ abbrev pub has_federate : ℕ → ℕ → Bool
 has_federate set f = bit_at set f == 1
 
 -- is a federate in the set of a class; nobody is in the set of a number that has none
-abbrev pub is_listed : List ℕ → ℕ → ℕ → Bool
-is_listed sets f class = has_federate (entry_at 0 sets class) f
+abbrev pub is_in_set_of : List ℕ → ℕ → ℕ → Bool
+is_in_set_of sets f class = has_federate (entry_at 0 sets class) f
 
 -- the sets say what the tables say
 abbrev pub AreSubscribers : List ℕ → (ℕ → ℕ → Bool) → Type 0
-AreSubscribers sets subscribed = (f class : ℕ) → f ≤ max_joins → is_listed sets f class ≡ subscribed f class
+AreSubscribers sets subscribed = (f class : ℕ) → f ≤ max_joins → is_in_set_of sets f class ≡ subscribed f class
 
 -- the sets have room for each class where there is a federate, and they say who subscribes
 pub record AreSetsWhole (classes federates : ℕ) (sets : List ℕ) (subscribed : ℕ → ℕ → Bool) : Type 0 where

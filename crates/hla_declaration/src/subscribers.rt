@@ -5,7 +5,7 @@ ghost use Rattle.std.specs.List.{list_any};
 ghost use Rattle.hla_base.specs.Limits.{max_joins};
 ghost use Rattle.hla_base.specs.declared.fault.Fault.TheVariants.{OutOfMemory};
 ghost use Rattle.hla_declaration.specs.Entries.{entry_at};
-ghost use Rattle.hla_declaration.specs.Subscribers.{has_federate, is_listed};
+ghost use Rattle.hla_declaration.specs.Subscribers.{has_federate, is_in_set_of};
 
 use hla_base::{ClassNo, Fault, FederateNo};
 use std::alloc::Global;
@@ -84,7 +84,7 @@ impl SubscriberSets {
 
     /// The federates that subscribe any of these classes.
     pub fn subscribers_among(&self, classes: &[ClassNo]) -> u32
-        ensures { (f : ℕ) → f ≤ max_joins → has_federate result f ≡ list_any (is_listed self.now f) classes.now }
+        ensures { (f : ℕ) → f ≤ max_joins → has_federate result f ≡ list_any (is_in_set_of self.now f) classes.now }
     {
         let mut subscribers = 0;
         for class in classes {
@@ -102,9 +102,9 @@ impl SubscriberSets {
         federate: FederateNo,
     ) -> Option<ClassNo>
         requires few { federate ≤ max_joins }
-        requires others { has_federate subscribers federate ≡ false → find (is_listed self.now federate) classes.now
+        requires others { has_federate subscribers federate ≡ false → find (is_in_set_of self.now federate) classes.now
             ≡ None }
-        ensures { result ≡ find (is_listed self.now federate) classes.now }
+        ensures { result ≡ find (is_in_set_of self.now federate) classes.now }
     {
         if !has_federate(subscribers, federate) {
             return None;
@@ -120,8 +120,8 @@ impl SubscriberSets {
         requires few { federate ≤ max_joins }
         requires some { 0 < class }
         requires within { class ≤ length self.old }
-        ensures listed { (f k : ℕ) → f ≤ max_joins → is_listed self.new f k ≡ cond (eqb federate f && eqb class k) is_in
-            (is_listed self.old f k) }
+        ensures listed { (f k : ℕ) → f ≤ max_joins → is_in_set_of self.new f k ≡ cond (eqb federate f && eqb class k) is_in
+            (is_in_set_of self.old f k) }
         ensures room { length self.new ≡ length self.old }
     {
         let place = class as usize - 1;
@@ -131,8 +131,8 @@ impl SubscriberSets {
     /// A federate subscribes no class any more.
     pub fn withdraw(&mut self, federate: FederateNo)
         requires few { federate ≤ max_joins }
-        ensures listed { (f k : ℕ) → f ≤ max_joins → is_listed self.new f k ≡ cond (eqb federate f) false
-            (is_listed self.old f k) }
+        ensures listed { (f k : ℕ) → f ≤ max_joins → is_in_set_of self.new f k ≡ cond (eqb federate f) false
+            (is_in_set_of self.old f k) }
         ensures room { length self.new ≡ length self.old }
     {
         for set in self.sets.iter_mut() {

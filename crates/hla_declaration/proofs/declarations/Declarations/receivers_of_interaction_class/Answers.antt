@@ -2,7 +2,7 @@ use Rattle.std.proofs.Common.{◌≡◌, ℕ, ◌+◌, ◌≤◌, arith, find, O
 use Rattle.hla_base.specs.Limits.{max_joins}
 use Rattle.hla_declaration.specs.Declarations.{declarations_of}
 use Rattle.hla_declaration.specs.Receivers.{interaction_class_served}
-use Rattle.hla_declaration.specs.Subscribers.{is_listed}
+use Rattle.hla_declaration.specs.Subscribers.{is_in_set_of}
 use Rattle.hla_declaration.specs.declared.receiver.Receiver.{Receiver}
 use Rattle.hla_declaration.proofs.SubscriberLemmas.{find_of_none, found_same}
 use Rattle.hla_declaration.proofs.ReceiverLemmas.{nobody_interaction, receivers_none, one_more, none_more}
@@ -33,5 +33,5 @@ pub class_served_within-served-requires-clause-others : goal.class_served_within
 class_served_within-served-requires-clause-others c none =
     let few : c.loop-place.place + 1 ≤ max_joins = omega (arith, c.federates.ensures.few, c.loop-place-test.true) in
     let sets = c.interaction_subscribers-sets.result.now in
-    find_of_none (is_listed sets (c.loop-place.place + 1)) c.interaction_lineage-lineage.result.now
+    find_of_none (is_in_set_of sets (c.loop-place.place + 1)) c.interaction_lineage-lineage.result.now
     (sym (c.subscribers_among-subscribers.ensures (c.loop-place.place + 1) few) ∙ none)

@@ -2,7 +2,7 @@
 use Rattle.std.proofs.Common.{◌||◌, get_or, sym, ap, ◌∙◌, take}
 use Rattle.std.specs.List.{list_any}
 use Rattle.std.proofs.lemmas.List.{take_more}
-use Rattle.hla_declaration.specs.Subscribers.{has_federate, is_listed}
+use Rattle.hla_declaration.specs.Subscribers.{has_federate, is_in_set_of}
 use Rattle.hla_declaration.proofs.SubscriberLemmas.{has_federate-or, any_more}
 use Rattle.hla_declaration.proofs.subscribers.SubscriberSets.subscribers_among.Goals as goal
 
@@ -13,5 +13,5 @@ loop-class-preserved c f few =
     rw (take_more c.args.classes.now i 0 c.loop-class-test.true)
     (has_federate-or c.loop-class.subscribers c.get-subscribers.result f
     ∙ ap (λ b. b || has_federate c.get-subscribers.result f) (c.loop-class.invariant f few)
-    ∙ ap (λ x. list_any (is_listed c.args.self.now f) (take i c.args.classes.now) || has_federate x f) c.get-subscribers.ensures
-    ∙ sym (any_more (is_listed c.args.self.now f) (take i c.args.classes.now) class))
+    ∙ ap (λ x. list_any (is_in_set_of c.args.self.now f) (take i c.args.classes.now) || has_federate x f) c.get-subscribers.ensures
+    ∙ sym (any_more (is_in_set_of c.args.self.now f) (take i c.args.classes.now) class))
