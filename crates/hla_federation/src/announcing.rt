@@ -12,7 +12,7 @@ ghost use Rattle.hla_federation.specs.Steps.State.{state_of, IsWhole, Ends};
 use crate::parts::Parts;
 use hla_base::{FOREVER, Fault, FederateNo, Ticks};
 use hla_machine::Answer;
-use hla_members::{Change, Direction, Outbox};
+use hla_members::{Change, Outbox};
 use hla_null_message::Message;
 
 impl Parts {
@@ -57,12 +57,7 @@ impl Parts {
         ensures err { IfErr result (λ e. e ≡ Fault.OutOfMemory) }
         ensures unchanged { OnErr result (self.new ≡ self.old) }
     {
-        let mut outbox = Outbox::new(self.alloc)?;
-        self.address_null(&mut outbox, sender, epoch, bound)?;
-        let along = Direction::From(sender);
-        self.members.reserve_all(along, &outbox)?;
-        self.members.post_all(along, outbox);
-        Ok(())
+        self.members.send_null(sender, epoch, bound)
     }
 
     /// What a federate announces now: what it may promise, if it regulates or has asked to and that is more than it announced

@@ -12,5 +12,7 @@ pub mod Entries
 pub mod Lowering
 -- Messages put along the wires from one federate, or to one
 pub mod Posting
+-- Null messages put on the wires from one federate, one after another
+pub mod Announcing
 -- The messages of an outbox, for each federate
 pub mod Outboxes

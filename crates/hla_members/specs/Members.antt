@@ -128,6 +128,14 @@ with_component m f local = record m { local = upd m.local f local }
 abbrev pub with_null_sent : MemberTables → ℕ → ℕ → ℕ → MemberTables
 with_null_sent m f epoch bound = record m { wire = upd_row m.wire m.joined f (λ _. put_behind (message.Null epoch bound)) }
 
+-- the wires on which it lies there already, where the peers below a number were sent it
+abbrev pub nulls_below : MemberTables → ℕ → ℕ → ℕ → ℕ → ℕ → ℕ → List Message
+nulls_below m f epoch bound end = upd_row m.wire (λ h. m.joined h && ltb h end) f (λ _. put_behind (message.Null epoch bound))
+
+-- there is room for one message to each other joined federate from a number to another
+abbrev pub HasRoomForOthers : (ℕ → Bool) → ℕ → ℕ → ℕ → List (List ℕ) → Type 0
+HasRoomForOthers joined f start end rooms = (h : ℕ) → start ≤ h → h < end → is_other joined f h ≡ true → 0 < room_in rooms f h
+
 -- and so does a retraction, on the wire to each other one that is joined and was sent the message
 abbrev pub with_retraction_sent : MemberTables → ℕ → ℕ → MemberTables
 with_retraction_sent m f k = record m { wire = upd_row m.wire m.joined f (λ h ms. cond (is_other m.joined f h && (m.sent f k).receivers h) (ms ++ message.Retraction k ∷ []) ms) }

@@ -6,8 +6,8 @@ ghost use Rattle.std.specs.Str.{bytes_eq};
 ghost use Rattle.hla_base.specs.Limits.{max_joins, largest_number};
 ghost use Rattle.hla_base.specs.declared.fault.Fault.TheVariants.{OutOfMemory};
 ghost use Rattle.hla_base.specs.Rows.{bar_of};
-ghost use Rattle.hla_base.specs.Tables.{upd, upd2, greatest, numbers_below};
-ghost use Rattle.hla_members.specs.Members.{members_of, room_in, IsEnd, AreQuiet, new_member, with_member_admitted, with_member_withdrawn, with_component, HasRoom, IsLessRoom, wires_posted_below, MayArrive, HasAccepted, carried_of, with_arrival};
+ghost use Rattle.hla_base.specs.Tables.{upd, upd2, greatest, is_other, numbers_below};
+ghost use Rattle.hla_members.specs.Members.{members_of, room_in, IsEnd, AreQuiet, new_member, with_member_admitted, with_member_withdrawn, with_component, HasRoom, IsLessRoom, wires_posted_below, MayArrive, HasAccepted, carried_of, with_arrival, with_null_sent, HasRoomForOthers};
 ghost use Rattle.hla_members.specs.Outboxes.{messages_for};
 ghost use Rattle.hla_members.specs.Changes.{changed_local, local_unconstrained, entry_by, MayChange, AreLowered};
 ghost use Rattle.hla_members.specs.declared.direction.Direction.TheVariants.{From};
@@ -354,6 +354,63 @@ impl Members {
         self.note(federate, note)?;
         self.post_all(along, outbox);
         self.count_messages(federate, count);
+        Ok(())
+    }
+
+    /// Whether a federate is joined and another one than the sender.
+    fn is_other(&self, sender: FederateNo, peer: FederateNo) -> bool
+        ensures { result ≡ is_other (members_of self.now.shown).joined sender peer }
+    {
+        sender != peer && self.is_joined(peer)
+    }
+
+    /// Makes room for one more message on the wire from a federate to each other one that is joined; `OutOfMemory` where that
+    /// was refused.
+    fn reserve_others(&mut self, sender: FederateNo) -> Result<(), Fault>
+        requires some { 0 < sender }
+        requires within { sender < (members_of self.old.shown).next_federate }
+        ensures same { self.new.shown ≡ self.old.shown }
+        ensures ok { OnOk result (HasRoomForOthers (members_of self.old.shown).joined sender 1
+            (members_of self.old.shown).next_federate self.new.rooms) }
+        ensures err { IfErr result (λ e. e ≡ Fault.OutOfMemory) }
+    {
+        let end = self.next_federate();
+        for peer in 1..end {
+            if self.is_other(sender, peer) {
+                self.reserve(sender, peer, 1)?;
+            }
+        }
+        Ok(())
+    }
+
+    /// Puts a null message on the wire from a federate to each other one that is joined. It takes no memory.
+    fn post_null(&mut self, sender: FederateNo, epoch: u64, bound: Ticks)
+        requires some { 0 < sender }
+        requires within { sender < (members_of self.old.shown).next_federate }
+        requires room { HasRoomForOthers (members_of self.old.shown).joined sender 1
+            (members_of self.old.shown).next_federate self.old.rooms }
+        ensures { members_of self.new.shown ≡ with_null_sent (members_of self.old.shown) sender epoch bound }
+    {
+        let end = self.next_federate();
+        for peer in 1..end {
+            if self.is_other(sender, peer) {
+                self.put(sender, peer, Message::Null { epoch, bound });
+            }
+        }
+    }
+
+    /// Puts a null message on the wire from a federate to each other one that is joined; `OutOfMemory`, and all as it was,
+    /// where a growth was refused.
+    pub fn send_null(&mut self, sender: FederateNo, epoch: u64, bound: Ticks) -> Result<(), Fault>
+        requires some { 0 < sender }
+        requires within { sender < (members_of self.old.shown).next_federate }
+        ensures ok { OnOk result (members_of self.new.shown ≡
+            with_null_sent (members_of self.old.shown) sender epoch bound) }
+        ensures err { IfErr result (λ e. e ≡ Fault.OutOfMemory) }
+        ensures unchanged { OnErr result (self.new.shown ≡ self.old.shown) }
+    {
+        self.reserve_others(sender)?;
+        self.post_null(sender, epoch, bound);
         Ok(())
     }
 

@@ -1,12 +1,12 @@
 -- Null messages, and what each learns of who begins to regulate
-use Rattle.std.proofs.Common.{◌≡◌, ◌≢◌, ◌≤◌, ◌+◌, ℕ, min, cond, eqb, ltb, ◌&&◌, Bool, true, false, None, Some, List, [], ◌∷◌, refl, sym, ap, subst, ◌∙◌, ⊎_elim, arith}
+use Rattle.std.proofs.Common.{◌≡◌, ◌≢◌, ◌≤◌, ◌+◌, ℕ, min, cond, eqb, ltb, ◌&&◌, Bool, true, false, None, Some, List, refl, sym, ap, subst, ◌∙◌, ⊎_elim, arith}
 use Rattle.std.proofs.Math.Bool.{and-false}
 use Rattle.std.proofs.lemmas.Bool.{cases_Bool}
 use Rattle.std.proofs.lemmas.Bool.Decides.{nat_tests}
 use Rattle.std.proofs.Math.Path.{fun_ext}
 use Rattle.hla_base.specs.Limits.{max_time, max_enablings}
 use Rattle.hla_base.specs.declared.row.TimeRow.{TimeRow}
-use Rattle.hla_base.specs.Tables.{upd, upd_row, upd_column, is_other, greatest}
+use Rattle.hla_base.specs.Tables.{upd, upd_column, is_other, greatest}
 use Rattle.hla_base.specs.Rows.{is_regulator, is_constrained, row_with_entry, RowNumbers}
 use Rattle.hla_base.specs.RowRefusals.{first_fault, regulation_tests}
 use Rattle.hla_base.proofs.Tables.{upd_same, upd_other}
@@ -16,9 +16,7 @@ use Rattle.hla_object_registry.specs.Registered.{RegistryValue}
 use Rattle.hla_lbts.specs.declared.row.PeerRow.{PeerRow}
 use Rattle.hla_lbts.specs.Peers.{PeersValue, peers_of}
 use Rattle.hla_local.specs.LocalValue.{LocalValue}
-use Rattle.hla_null_message.specs.declared.message.Message.{Message}
 use Rattle.hla_null_message.specs.declared.message.Message.TheVariants as message
-use Rattle.hla_machine.specs.Directory.{Directory}
 use Rattle.hla_machine.specs.declared.service.Service.TheVariants as service
 use Rattle.hla_machine.specs.declared.step.Answer.TheVariants as answer
 use Rattle.hla_machine.specs.declared.step.Step.TheVariants.{Call, Announce}
@@ -28,40 +26,17 @@ use Rattle.hla_components.specs.Component.{promise, regulation_entry}
 use Rattle.hla_components.specs.Invariant.{Inv}
 use Rattle.hla_components.specs.Next.{Outcomes, next, answer_outcome, announce_outcome, with_null_announced, with_regulation_enabled, components_seen}
 use Rattle.hla_components.proofs.Refinement.Runs.{each_step}
-use Rattle.hla_members.specs.declared.direction.Direction.TheVariants.{From}
 use Rattle.hla_members.specs.Changes.{MayRegulate, AreLowered, peers_lowered, entry_by}
 use Rattle.hla_members.specs.MemberValue.{MemberValue}
-use Rattle.hla_members.specs.Members.{MemberTables, members_of, is_number, wires_posted_below, with_component, with_null_sent}
+use Rattle.hla_members.specs.Members.{MemberTables, members_of, with_component, with_null_sent}
 use Rattle.hla_federation.specs.Steps.Memory.{takes_memory}
-use Rattle.hla_federation.specs.Steps.Sending.{null_to, announcement}
+use Rattle.hla_federation.specs.Steps.Sending.{announcement}
 use Rattle.hla_federation.specs.FederationValue.{FederationValue}
 use Rattle.hla_federation.specs.Steps.State.{state_from, IsWhole, IsUnmet}
 use Rattle.hla_federation.proofs.Steps.Changing.{kept, announced_changed}
 use Rattle.hla_federation.proofs.Steps.Doing.{does_next}
-use Rattle.hla_federation.proofs.Steps.Resigning.{other_joined}
 use Rattle.hla_members.proofs.MemberTables.{upd-self, upd-field}
 use Rattle.hla_federation.proofs.Steps.Wholes.{whole_same, unmet_with}
-
--- ---- what is posted is what is sent
-pub null_posted : (m : MemberTables) (d : Directory) (f k v : ℕ) (o : ℕ → List Message) → d.joined ≡ m.joined → ((h : ℕ) → o h ≡ null_to d f k v h) → ((h : ℕ) → m.joined h ≡ true → is_number m.next_federate h ≡ true)
-    → wires_posted_below (From f) o m.next_federate m.wire ≡ (with_null_sent m f k v).wire
-unfolding upd_row
-null_posted m d f k v o members is numbers = fun_ext (λ g. fun_ext (λ h. at g h))
-  where
-    sends : (h : ℕ) (b : Bool) → is_other m.joined f h ≡ b → o h ≡ cond b (message.Null k v ∷ []) []
-    sends h b which = is h ∙ ap (λ (joined : ℕ → Bool). cond (is_other joined f h) (message.Null k v ∷ []) []) members ∙ ap (λ (x : Bool). cond x (message.Null k v ∷ []) []) which
-
-    at : (g h : ℕ) → wires_posted_below (From f) o m.next_federate m.wire g h ≡ (with_null_sent m f k v).wire g h
-    at g h = ⊎_elim
-        (λ (y : eqb f g ≡ true). ⊎_elim
-        (λ (z : is_other m.joined f h ≡ true). let number = numbers h (other_joined m.joined f h z) in rw (y, z, number, sends h true z) refl)
-        (λ (z : is_other m.joined f h ≡ false). ⊎_elim
-        (λ (b : is_number m.next_federate h ≡ true). rw (y, z, b, sends h false z) refl)
-        (λ (b : is_number m.next_federate h ≡ false). rw (y, z, b) refl)
-        (cases_Bool (is_number m.next_federate h)))
-        (cases_Bool (is_other m.joined f h)))
-        (λ (n : eqb f g ≡ false). rw n refl)
-        (cases_Bool (eqb f g))
 
 -- ---- an announcement
 pub announces : (s : Components) (f p : ℕ) → announcement s f ≡ Some p → announce_outcome s f ≡ answer_outcome (answer.Announced (Some p)) (with_null_announced s f p)
