@@ -1,4 +1,5 @@
-//! How far a word or a quoted name reaches, by comparing several bytes at a time: most of a FED text is names.
+//! How far a word, a quoted name or white space reaches, by comparing several bytes at a time: most of a FED text is names, and
+//! most lines begin with several blanks.
 
 ghost use Rattle.std.specs.Prelude.{◌≡◌, ◌+◌, ◌≤◌, length};
 ghost use Rattle.std.specs.List.{prefix_len};
@@ -84,6 +85,21 @@ fn quoted_run(text: &[u8], at: usize) -> usize
     first_set(ends.to_bitmask())
 }
 
+/// How many of the bytes of one load, from the first, are blanks.
+#[inline(always)]
+fn blank_run(text: &[u8], at: usize) -> usize
+    requires { at + LANES ≤ length text.now }
+    ensures { IsSpan is_blank text.now at LANES result }
+{
+    let bytes = u8x16::from_slice(&text[at..]);
+    let blank = bytes.simd_eq(u8x16::splat(b' '))
+        | bytes.simd_eq(u8x16::splat(b'\t'))
+        | bytes.simd_eq(u8x16::splat(11))
+        | bytes.simd_eq(u8x16::splat(12))
+        | bytes.simd_eq(u8x16::splat(b'\r'));
+    first_set((!blank).to_bitmask())
+}
+
 /// How many bytes in front may stand in a word, one by one.
 fn word_bytes(text: &[u8]) -> usize
     ensures count { result ≡ prefix_len is_word text.now }
@@ -106,6 +122,31 @@ pub(crate) fn word_len(text: &[u8]) -> usize
         }
     }
     at + word_bytes(&text[at..])
+}
+
+/// How many blanks are in front, one by one.
+fn blank_bytes(text: &[u8]) -> usize
+    ensures count { result ≡ prefix_len is_blank text.now }
+    ensures within { result ≤ length text.now }
+{
+    text.iter().take_while(|b| is_blank(**b)).count()
+}
+
+/// How many blanks are in front.
+#[inline(always)]
+pub(crate) fn blank_len(text: &[u8]) -> usize
+    ensures count { result ≡ prefix_len is_blank text.now }
+    ensures within { result ≤ length text.now }
+{
+    let mut at = 0;
+    while text.len() - at >= LANES {
+        let run = blank_run(text, at);
+        at += run;
+        if run < LANES {
+            return at;
+        }
+    }
+    at + blank_bytes(&text[at..])
 }
 
 /// How many bytes in front may stand in a quoted name, one by one.
