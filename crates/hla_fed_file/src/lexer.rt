@@ -92,16 +92,18 @@ fn skip(text: &[u8], line: usize) -> (&[u8], usize)
     let mut line = line;
     while let Some((byte, after)) = rest.split_first() {
         let byte = *byte;
-        if byte > b' ' {
+        if byte == b' ' {
+            rest = after;
+        } else if byte > b' ' {
             if byte != b';' {
                 break;
             }
             rest = after_comment(after);
-        } else if is_blank(byte) {
-            rest = after;
         } else if byte == b'\n' {
             line += 1;
             rest = after_blanks(after);
+        } else if is_blank(byte) {
+            rest = after;
         } else {
             break;
         }

@@ -22,7 +22,11 @@ pub(crate) fn is_blank(byte: u8) -> bool
 pub(crate) fn is_bad(byte: u8) -> bool
     ensures { result ≡ is_bad byte }
 {
-    (byte < 32 && byte != b'\n' && !is_blank(byte)) || byte == 127
+    if byte < b' ' {
+        byte != b'\n' && !is_blank(byte)
+    } else {
+        byte == 127
+    }
 }
 
 #[tactic(auto, unfolding(crate::specs::Lexical::is_word, crate::specs::Lexical::is_mark))]
