@@ -116,8 +116,8 @@ fn word_bytes(text: &[u8]) -> usize
     text.iter().take_while(|b| is_word(**b)).count()
 }
 
-/// How many bytes in front may stand in a word.
-pub(crate) fn word_len(text: &[u8]) -> usize
+/// How many bytes in front may stand in a word, load by load.
+fn word_loads(text: &[u8]) -> usize
     ensures count { result ≡ prefix_len is_word text.now }
     ensures within { result ≤ length text.now }
 {
@@ -130,6 +130,21 @@ pub(crate) fn word_len(text: &[u8]) -> usize
         }
     }
     at + word_bytes(&text[at..])
+}
+
+/// How many bytes in front may stand in a word. Most words end in the first load.
+#[inline(always)]
+pub(crate) fn word_len(text: &[u8]) -> usize
+    ensures count { result ≡ prefix_len is_word text.now }
+    ensures within { result ≤ length text.now }
+{
+    if text.len() >= LANES {
+        let run = word_run(text, 0);
+        if run < LANES {
+            return run;
+        }
+    }
+    word_loads(text)
 }
 
 /// How many blanks are in front, one by one.
