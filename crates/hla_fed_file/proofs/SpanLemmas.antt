@@ -1,8 +1,9 @@
 -- A run of bytes is as long as its lanes say.
-use Rattle.std.proofs.Common.{◌≡◌, ℕ, zero, suc, ◌+◌, ◌-◌, ◌%◌, ◌^◌, ◌<◌, ◌≤◌, Bool, true, false, not, List, [], ◌∷◌, map, length, take, drop, get_or, slice_index, Fits, w8, refl, sym, ap, ap₂, ◌∙◌, subst, arith, inl, inr}
+use Rattle.std.proofs.Common.{◌≡◌, ℕ, zero, suc, ◌+◌, ◌-◌, ◌*◌, ◌/◌, ◌%◌, ◌^◌, ◌<◌, ◌≤◌, Bool, true, false, not, List, [], ◌∷◌, map, length, take, drop, get_or, slice_index, bit_and, replicate, Fits, w8, refl, sym, ap, ap₂, ◌∙◌, subst, arith, inl, inr}
 use Rattle.std.proofs.lemmas.Bool.{agree_below, agree_below_at, not-true, not-false, cases_eq, cases_lt, eq-eqb, ne_eqb, cond-true, cond-false}
-use Rattle.std.proofs.lemmas.Simd.{map-map, mask_l-mod, length-chunk, get_or-chunk, leading_from_mask_l, trailing_mask_l}
-use Rattle.std.proofs.lemmas.List.{length-map, length-drop, take_all}
+use Rattle.std.proofs.lemmas.Simd.{map-map, mask_l-mod, length-chunk, get_or-chunk, leading_from_mask_l, trailing_mask_l, Each1-all, Each1-zip2, Each2-splat, length-zip2, swz_l, SwzOk, SwzOk-from_below, length-swz_l, get_or-swz_l_below}
+use Rattle.std.proofs.lemmas.List.{get_or-map, length-map, length-drop, take_all, ext_get_or}
+use Rattle.std.proofs.lemmas.Nat.{and_le_r}
 use Rattle.std.proofs.lemmas.List.Sums.{prefix_len-le-length, prefix_len_passes, prefix_len_stops}
 use Rattle.std.specs.List.{prefix_len}
 use lib.Lanes.{chunk, zip2, mask_l, top}
@@ -19,6 +20,35 @@ joined h f g v p q = ap₂ (zip2 h) p q ∙ zip2-map h f g v
 -- an operation on each lane of a vector that was computed lane by lane from v
 pub turned : (h : ℕ → ℕ) (f : ℕ → ℕ) (v : List ℕ) {a : List ℕ} → a ≡ map f v → map h a ≡ map (λ x. h (f x)) v
 turned h f v p = ap (map h) p ∙ map-map h f v
+
+-- an operation on the lanes of v and a vector that was computed of them
+pub with_lanes : (h : ℕ → ℕ → ℕ) (g : ℕ → ℕ) (v : List ℕ) {b : List ℕ} → b ≡ map g v → zip2 h v b ≡ map (λ x. h x (g x)) v
+with_lanes h g v p = ap (zip2 h v) p ∙ lanes v
+  where
+    lanes : (xs : List ℕ) → zip2 h xs (map g xs) ≡ map (λ x. h x (g x)) xs
+    lanes [] = refl
+    lanes (x ∷ xs) = ap (λ r. h x (g x) ∷ r) (lanes xs)
+
+abbrev pub low_bits : ℕ → ℕ
+low_bits b = bit_and b 15
+
+pub low_bits_within : (v : List ℕ) → length v ≡ 16 → SwzOk w8 16 16 0 (zip2 bit_and v (replicate 16 15))
+low_bits_within v long =
+    let small = Each1-all (λ a. bit_and a 15 < 16) (λ a. omega (arith, and_le_r a 15)) v in
+    SwzOk-from_below w8 16 1 16 0 (zip2 bit_and v (replicate 16 15)) refl (omega (arith, length-zip2 bit_and v (replicate 16 15) long))
+    (Each1-zip2 bit_and (λ j. j < 16) v (replicate 16 15) (Each2-splat (λ a b. bit_and a b < 16) v 16 15 small))
+
+-- a table that is read at the low bits of each lane
+pub looked_up : (table v js : List ℕ) → length v ≡ 16 → js ≡ map low_bits v → swz_l w8 16 table 0 js ≡ map (λ b. slice_index table (low_bits b)) v
+looked_up table v js fits e =
+    let long : length js ≡ 16 = ap length e ∙ length-map v low_bits ∙ fits in
+    ext_get_or 0 _ _ (length-swz_l w8 16 table 0 js ∙ long ∙ sym (length-map v (λ b. slice_index table (low_bits b)) ∙ fits)) (λ i h.
+    let lt : i < 16 = omega (arith, length-swz_l w8 16 table 0 js) in
+    let within : i < length v = omega (arith, fits) in
+    let is : get_or js i 0 ≡ low_bits (get_or v i 0) = ap (λ l. get_or l i 0) e ∙ get_or-map low_bits v i 0 0 within in
+    let below : get_or js i 0 < 16 = omega (arith, is, and_le_r (get_or v i 0) 15) in
+    let place : 16 * ((0 + i) / 16) + get_or js i 0 ≡ low_bits (get_or v i 0) = omega (arith, is) in
+    get_or-swz_l_below w8 16 table 0 js i (omega arith) below ∙ ap (λ k. get_or table k 0) place ∙ sym (get_or-map (λ b. slice_index table (low_bits b)) v i 0 0 within))
 
 run_is : (p : ℕ → Bool) (v : List ℕ) (n : ℕ) → length v ≡ n → n ≤ 64 → first_set (mask_l (map p v)) n ≡ prefix_len (λ x. not (p x)) v
 run_is p v n long few =

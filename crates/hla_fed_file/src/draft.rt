@@ -10,7 +10,7 @@ ghost use Rattle.hla_fed_file.specs.declared.declared.Attribute.{Attribute};
 ghost use Rattle.hla_fed_file.specs.declared.declared.Parameter.{Parameter};
 
 use crate::declared::{Attribute, InteractionClass, ObjectClass, Parameter};
-use crate::groups::{Declared, Groups};
+use crate::groups::{Declared, Groups, name_hash};
 use crate::names::FirstNumbers;
 use hla_base::{AttributeNo, ClassNo, Fault, List, ParameterNo};
 use std::alloc::Global;
@@ -131,7 +131,8 @@ impl Draft {
         ensures { result ≡ number_at (position (λ (a : Attribute). contains_number a.class classes.now &&
             bytes_eq a.name name.now) self.now.attributes) }
     {
-        self.attribute_names.first_number(name, classes)
+        self.attribute_names
+            .first_number(self.attributes.as_slice(), name, classes)
     }
 
     /// The first parameter of a name among those of some classes.
@@ -139,7 +140,8 @@ impl Draft {
         ensures { result ≡ number_at (position (λ (p : Parameter). contains_number p.class classes.now &&
             bytes_eq p.name name.now) self.now.parameters) }
     {
-        self.parameter_names.first_number(name, classes)
+        self.parameter_names
+            .first_number(self.parameters.as_slice(), name, classes)
     }
 
     /// Adds an object class; `OutOfMemory`, and the draft as it was, where a growth was refused.
@@ -199,11 +201,9 @@ impl Draft {
     {
         let number = self.attributes.len() as u32 + 1;
         let class = attribute.class;
-        let Ok(name) = Vec::from_slice(self.alloc, attribute.name.as_slice()) else {
-            return Err(Fault::OutOfMemory);
-        };
+        let hash = name_hash(attribute.name.as_slice());
         self.attributes.push(attribute)?;
-        match self.attribute_names.note(name, Declared { class, number }) {
+        match self.attribute_names.note(hash, Declared { class, number }) {
             Ok(()) => Ok(()),
             Err(fault) => {
                 let _ = self.attributes.pop();
@@ -223,11 +223,9 @@ impl Draft {
     {
         let number = self.parameters.len() as u32 + 1;
         let class = parameter.class;
-        let Ok(name) = Vec::from_slice(self.alloc, parameter.name.as_slice()) else {
-            return Err(Fault::OutOfMemory);
-        };
+        let hash = name_hash(parameter.name.as_slice());
         self.parameters.push(parameter)?;
-        match self.parameter_names.note(name, Declared { class, number }) {
+        match self.parameter_names.note(hash, Declared { class, number }) {
             Ok(()) => Ok(()),
             Err(fault) => {
                 let _ = self.parameters.pop();

@@ -5,7 +5,7 @@ ghost use Rattle.std.specs.List.{take_while};
 ghost use Rattle.hla_fed_file.specs.Lexical.{is_blank, is_bad, is_word, is_quoted, is_comment, has_bad_front, tokens_from, Between, Lexed, drop_while};
 ghost use Rattle.hla_fed_file.specs.Tokens.{view, stream, is_end, IsFront, StartsWord};
 
-use crate::spans::{is_bad, is_blank, quoted_len, word_len};
+use crate::spans::{blank_len, is_bad, is_blank, quoted_len, word_len};
 use bstr::ByteSlice;
 
 /// A token.
@@ -60,6 +60,17 @@ fn after_comment(text: &[u8]) -> &[u8]
     &text[text.find_byte(b'\n').unwrap_or(text.len())..]
 }
 
+/// What follows the blanks in front.
+#[inline(always)]
+#[tactic(auto, using(crate::proofs::Lexing::lexing))]
+fn after_blanks(text: &[u8]) -> &[u8]
+    ensures rest { result.now ≡ drop_while is_blank text.now }
+    ensures shorter { length result.now ≤ length text.now }
+{
+    let (_, rest) = text.split_at(blank_len(text));
+    rest
+}
+
 /// A token, its line and what follows it.
 #[derive(Clone, Copy, Debug)]
 pub struct Lexed<'a> {
@@ -80,13 +91,19 @@ fn skip(text: &[u8], line: usize) -> (&[u8], usize)
     let mut rest = text;
     let mut line = line;
     while let Some((byte, after)) = rest.split_first() {
-        if *byte == b'\n' {
-            line += 1;
+        let byte = *byte;
+        if byte == b' ' {
             rest = after;
-        } else if is_blank(*byte) {
-            rest = after;
-        } else if *byte == b';' {
+        } else if byte > b' ' {
+            if byte != b';' {
+                break;
+            }
             rest = after_comment(after);
+        } else if byte == b'\n' {
+            line += 1;
+            rest = after_blanks(after);
+        } else if is_blank(byte) {
+            rest = after;
         } else {
             break;
         }

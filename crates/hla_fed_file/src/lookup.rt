@@ -14,7 +14,7 @@ use crate::names::number_of;
 use hla_base::{AttributeNo, ClassNo, ParameterNo};
 
 /// The item of a number; numbers count from 1.
-fn item_numbered<T>(items: &[T], number: u32) -> Option<&T>
+pub(crate) fn item_numbered<T>(items: &[T], number: u32) -> Option<&T>
     ensures { option_copied result ≡ item_numbered items.now number }
 {
     if number == 0 {

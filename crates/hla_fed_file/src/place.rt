@@ -103,7 +103,7 @@ pub enum Place {
 fn is_spelling_of(word: &[u8], keyword: &[u8]) -> bool
     ensures { result ≡ is_spelling_of word.now keyword.now }
 {
-    word == keyword || word.eq_ignore_ascii_case(keyword)
+    word.len() == keyword.len() && (word == keyword || word.eq_ignore_ascii_case(keyword))
 }
 
 /// The meaning of a word, whatever its case.

@@ -1,19 +1,19 @@
 use Rattle.hla_base.specs.Limits.{max_attributes}
 use Rattle.std.proofs.Common.{◌+◌, ◌∷◌, [], length, ◌<◌, ap, arith}
 use Rattle.std.proofs.lemmas.List.{length-append}
-use Rattle.hla_fed_file.specs.Groups.{IsNoted}
+use Rattle.hla_fed_file.specs.Groups.{IsNoted, name_hash}
 use Rattle.hla_fed_file.specs.declared.declared.Attribute.{Attribute}
 use Rattle.hla_fed_file.specs.CatalogueValue.{CatalogueValue}
 use Rattle.hla_fed_file.proofs.GroupLemmas.{declared_added}
 use Rattle.hla_fed_file.proofs.draft.Draft.add_attribute.Goals as goal
 
-pub invariant_of-self-in-Ok-note : goal.invariant_of-self-in-Ok-note
-invariant_of-self-in-Ok-note c =
+pub invariant_of-self-in-Ok : goal.invariant_of-self-in-Ok
+invariant_of-self-in-Ok c =
     let before = c.self.inside.attributes in
     let kept = c.self.invariant in
     let room : length before < max_attributes = rw (ap (λ (t : CatalogueValue). length t.attributes) c.self.view_is) c.requires in
-    let noted : IsNoted c.self.inside.attribute_names c.note.new.self c.args.attribute.name (record { class = c.args.attribute.class; number = length before + 1 }) =
-    rw (← c.len.ensures, ← c.as_slice.ensures, ← c.in-Ok.ensures.items) c.in-Ok-note.ensures.ok in
+    let noted : IsNoted c.self.inside.attribute_names c.note.new.self (name_hash c.args.attribute.name) (record { class = c.args.attribute.class; number = length before + 1 }) =
+    rw (← c.len.ensures, ← c.as_slice.ensures, ← c.name_hash-hash.ensures) c.in-Ok.ensures.ok in
     rw c.in_ok-push.ensures.ok
     (record {
       objects = kept.objects;

@@ -1,19 +1,19 @@
 use Rattle.hla_base.specs.Limits.{max_parameters}
 use Rattle.std.proofs.Common.{◌+◌, ◌∷◌, [], length, ◌<◌, ap, arith}
 use Rattle.std.proofs.lemmas.List.{length-append}
-use Rattle.hla_fed_file.specs.Groups.{IsNoted}
+use Rattle.hla_fed_file.specs.Groups.{IsNoted, name_hash}
 use Rattle.hla_fed_file.specs.declared.declared.Parameter.{Parameter}
 use Rattle.hla_fed_file.specs.CatalogueValue.{CatalogueValue}
 use Rattle.hla_fed_file.proofs.GroupLemmas.{declared_added}
 use Rattle.hla_fed_file.proofs.draft.Draft.add_parameter.Goals as goal
 
-pub invariant_of-self-in-Ok-note : goal.invariant_of-self-in-Ok-note
-invariant_of-self-in-Ok-note c =
+pub invariant_of-self-in-Ok : goal.invariant_of-self-in-Ok
+invariant_of-self-in-Ok c =
     let before = c.self.inside.parameters in
     let kept = c.self.invariant in
     let room : length before < max_parameters = rw (ap (λ (t : CatalogueValue). length t.parameters) c.self.view_is) c.requires in
-    let noted : IsNoted c.self.inside.parameter_names c.note.new.self c.args.parameter.name (record { class = c.args.parameter.class; number = length before + 1 }) =
-    rw (← c.len.ensures, ← c.as_slice.ensures, ← c.in-Ok.ensures.items) c.in-Ok-note.ensures.ok in
+    let noted : IsNoted c.self.inside.parameter_names c.note.new.self (name_hash c.args.parameter.name) (record { class = c.args.parameter.class; number = length before + 1 }) =
+    rw (← c.len.ensures, ← c.as_slice.ensures, ← c.name_hash-hash.ensures) c.in-Ok.ensures.ok in
     rw c.in_ok-push.ensures.ok
     (record {
       objects = kept.objects;

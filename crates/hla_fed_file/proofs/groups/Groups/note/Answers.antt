@@ -1,25 +1,23 @@
-use Rattle.std.proofs.Common.{None, ◌≡◌, ap, ◌∙◌}
-use Rattle.std.specs.Map.{lookup}
+use Rattle.std.proofs.Common.{nat_eq, ap, ◌∙◌}
 use Rattle.indexmap.specs.IndexMap.{insert_entry}
-use Rattle.hla_fed_file.proofs.GroupLemmas.{noted_more, noted_first, set_same, on_ok, on_err, is_key, same_key}
+use Rattle.hla_fed_file.proofs.GroupLemmas.{noted_more, noted_first, set_same, on_ok, on_err}
 use Rattle.hla_fed_file.proofs.groups.Groups.note.Goals as goal
 
 pub returns-in-Some-clause-ok : goal.returns-in-Some-clause-ok
 returns-in-Some-clause-ok c =
     let es = c.self.inside.groups.entries in
     let written = (c.get_mut.follows.holds c.push.new.self).0 in
-    rw (← c.self.view_is, ← c.as_slice.ensures.value)
-    (on_ok c.push.result (λ e. noted_more es _ c.as_slice.result.now c.in-Some.group.now c.push.new.self c.args.place c.in-Some.ensures.value written e) c.push.ensures.ok)
+    rw (← c.self.view_is)
+    (on_ok c.push.result (λ e. noted_more es _ c.args.hash c.in-Some.group.now c.push.new.self c.args.place c.in-Some.ensures.value written e) c.push.ensures.ok)
 
 pub returns-in-Some-clause-unchanged : goal.returns-in-Some-clause-unchanged
 returns-in-Some-clause-unchanged c =
     let es = c.self.inside.groups.entries in
     let written = (c.get_mut.follows.holds c.push.new.self).0 in
-    on_err c.push.result (λ e. set_same es _ c.as_slice.result.now c.in-Some.group.now c.push.new.self c.in-Some.ensures.value written e ∙ c.self.view_is) c.push.ensures.unchanged
+    on_err c.push.result (λ e. set_same es _ c.args.hash c.in-Some.group.now c.push.new.self c.in-Some.ensures.value written e ∙ c.self.view_is) c.push.ensures.unchanged
 
 pub returns-clause-ok : goal.returns-clause-ok
 returns-clause-ok c =
     let es = c.self.inside.groups.entries in
-    let found : None ≡ lookup (is_key c.args.name.items) es = c.in_default.ensures.value ∙ ap (λ n. lookup (is_key n) es) c.as_slice.ensures.value in
-    let added = c.in-Ok.ensures.entries ∙ ap (λ m. insert_entry same_key m.entries c.args.name c.new-group.result) c.get_mut.follows.holds-at-none in
-    rw (← c.self.view_is) (noted_first es _ c.args.name c.new-group.result c.args.place found added c.new-group.ensures)
+    let added = c.in-Ok.ensures.entries ∙ ap (λ m. insert_entry nat_eq m.entries c.args.hash c.new-group.result) c.get_mut.follows.holds-at-none in
+    rw (← c.self.view_is) (noted_first es _ c.args.hash c.new-group.result c.args.place c.in_default.ensures.value added c.new-group.ensures)

@@ -1,7 +1,7 @@
 use Rattle.std.proofs.Common.{◌-◌, ◌≤◌, length}
 use Rattle.hla_fed_file.specs.Lexical.{is_word}
 use Rattle.hla_fed_file.specs.Spans.{AllPass}
-use Rattle.hla_fed_file.proofs.spans.word_len.Given as goal
+use Rattle.hla_fed_file.proofs.spans.word_loads.Given as goal
 
 abbrev pub invariant-loop-at : goal.invariant-loop-at
 invariant-loop-at l = record {
