@@ -17,10 +17,10 @@ use Rattle.hla_machine.specs.Central.{Central}
 use Rattle.hla_machine.specs.Machine.{Allowed, after}
 use Rattle.hla_machine.specs.Runs.{Executions, EndsAs, AllowedIn, create_fault, destroy_fault, after_act, after_create, after_destroy, after_step_in}
 use Rattle.hla_checker.specs.declared.table.NamedExecution.{NamedExecution}
-use Rattle.hla_checker.specs.declared.verdict.Verdict.{Verdict}
-use Rattle.hla_checker.specs.declared.verdict.Verdict.TheVariants as verdict
-use Rattle.hla_checker.specs.Verdicts.{Judged}
-use Rattle.hla_checker.specs.Kept.{IsConsistent, JudgedStep, central_of}
+use Rattle.hla_verdicts.specs.declared.verdict.Verdict.{Verdict}
+use Rattle.hla_verdicts.specs.declared.verdict.Verdict.TheVariants as verdict
+use Rattle.hla_verdicts.specs.Verdicts.{Judged}
+use Rattle.hla_verdicts.specs.Kept.{IsConsistent, JudgedStep, central_of}
 use Rattle.hla_checker.specs.declared.table.ExecutionTable.{ExecutionTable}
 use Rattle.hla_checker.specs.Table.{AreConsistent, JudgedAct, central_named, centrals_of, executions_of}
 use Rattle.hla_checker.proofs.TablePlaces.{set_central}

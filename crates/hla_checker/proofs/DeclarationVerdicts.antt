@@ -26,13 +26,13 @@ use Rattle.hla_accounts.specs.declared.account.Account.{Account}
 use Rattle.hla_accounts.specs.Accounts.{account_at, central_with}
 use Rattle.hla_checker.specs.declared.declaring.Declaration.{Declaration}
 use Rattle.hla_checker.specs.declared.declaring.Declaration.TheVariants.{UnpublishObject, UnsubscribeObject, PublishInteraction, UnpublishInteraction, SubscribeInteraction, UnsubscribeInteraction}
-use Rattle.hla_checker.specs.declared.verdict.Verdict.TheVariants as verdict
-use Rattle.hla_checker.specs.Calls.{AnswersDone, ChoosesNothing}
+use Rattle.hla_verdicts.specs.declared.verdict.Verdict.TheVariants as verdict
+use Rattle.hla_verdicts.specs.Calls.{AnswersDone, ChoosesNothing}
 use Rattle.hla_checker.specs.Declaring.{declaration_of, declaration_tests, with_declaration, IsOfClass}
-use Rattle.hla_checker.specs.Kept.{KeptValue, IsConsistent, JudgedStep, central_of, directory_kept, directory_of}
-use Rattle.hla_checker.proofs.CallVerdicts.{joined_within}
-use Rattle.hla_checker.proofs.ServiceVerdicts.{joined_refusal}
-use Rattle.hla_checker.proofs.EndingVerdicts.{ending_done}
+use Rattle.hla_verdicts.specs.Kept.{KeptValue, IsConsistent, JudgedStep, central_of, directory_kept, directory_of}
+use Rattle.hla_verdicts.proofs.CallVerdicts.{joined_within}
+use Rattle.hla_verdicts.proofs.ServiceVerdicts.{joined_refusal}
+use Rattle.hla_verdicts.proofs.EndingVerdicts.{ending_done}
 
 -- ---- a call that was done, and has no answer
 pub done_judged : (v w new : KeptValue) (f : ℕ) (x : Service) (found : Option Fault) (out : Outcome) (o : Choice) → v ≡ w → (account_at w.accounts f).is_joined ≡ true

@@ -27,8 +27,8 @@ use Rattle.hla_machine.specs.Machine.{MayAnswer, after_leaving, after_resign, ce
 use Rattle.hla_machine.proofs.Tests.{all_clear, not-is-false}
 use Rattle.hla_accounts.specs.declared.account.Account.{Account}
 use Rattle.hla_accounts.specs.Accounts.{central_with}
-use Rattle.hla_checker.specs.Kept.{KeptValue, IsConsistent, central_of, directory_kept, directory_of}
-use Rattle.hla_checker.proofs.ServiceVerdicts.{IsPlain}
+use Rattle.hla_verdicts.specs.Kept.{KeptValue, IsConsistent, central_of, directory_kept, directory_of}
+use Rattle.hla_verdicts.proofs.ServiceVerdicts.{IsPlain}
 use Rattle.hla_checker.proofs.SendingTests.{count_deletions}
 use Rattle.hla_checker.proofs.UpdateVerdicts.{after_append, after_directory, after_serial, serials_left}
 

@@ -20,10 +20,10 @@ use Rattle.hla_machine.specs.Machine.{MayDo, after_join, central_seen}
 use Rattle.hla_machine.proofs.Tests.{all_clear}
 use Rattle.hla_accounts.specs.declared.account.Account.{Account}
 use Rattle.hla_accounts.specs.Accounts.{central_with}
-use Rattle.hla_checker.specs.declared.verdict.Verdict.TheVariants as verdict
-use Rattle.hla_checker.specs.Answers.{joiner_in}
-use Rattle.hla_checker.specs.Kept.{KeptValue, IsConsistent, central_of, directory_kept, directory_of}
-use Rattle.hla_checker.proofs.StepVerdicts.{JudgedCentral}
+use Rattle.hla_verdicts.specs.declared.verdict.Verdict.TheVariants as verdict
+use Rattle.hla_verdicts.specs.Answers.{joiner_in}
+use Rattle.hla_verdicts.specs.Kept.{KeptValue, IsConsistent, central_of, directory_kept, directory_of}
+use Rattle.hla_verdicts.proofs.StepVerdicts.{JudgedCentral}
 
 -- ---- after a joining
 module _ (v : KeptValue) (decl : DeclarationLists) (accounts : List Account) (name given : List ℕ)

@@ -8,28 +8,8 @@ pub mod TableChanges
 pub mod ActVerdicts
 -- One more record of a run
 pub mod RunLemmas
--- What tests of a step tell, by how it ended
-pub mod StepVerdicts
--- What tests of a carry or a call tell
-pub mod CallVerdicts
--- What tests of a tick tell
-pub mod TickVerdicts
 -- What tests of a joining tell
 pub mod JoinVerdicts
--- What tests of a message that is given tell
-pub mod GivenVerdicts
--- What tests of a federate that becomes constrained, or ceases to be, tell
-pub mod ConstraintVerdicts
--- What tests of a query tell
-pub mod QueryVerdicts
--- What tests of a call tell, whatever the service
-pub mod ServiceVerdicts
--- What tests of a federate that asks to regulate tell
-pub mod RegulationVerdicts
--- What tests of a retraction tell
-pub mod RetractionVerdicts
--- What tests of a discovery tell
-pub mod DiscoveryVerdicts
 -- Putting a pair among pairs by rising handle
 pub mod PairPlaces
 -- What an update is cut into, and with which fault a service that sends is refused
@@ -38,8 +18,6 @@ pub mod SendingTests
 pub mod SendVerdicts
 -- What is sent by an update, one message after another
 pub mod UpdateVerdicts
--- What is told of a call that chooses nothing, whatever the service
-pub mod EndingVerdicts
 -- What tests of a look-up tell
 pub mod LookUpVerdicts
 -- What tests of a declaration tell

@@ -12,7 +12,7 @@ use Rattle.hla_accounts.specs.declared.account.Account.{Account}
 use Rattle.hla_accounts.specs.Accounts.{central_with, copy_at, copy_of, offers_from, times_listed}
 use Rattle.hla_accounts.proofs.AccountLemmas.{nothing_sent, account_at-nil}
 use Rattle.hla_accounts.proofs.BagLemmas.{waiting_at-nil}
-use Rattle.hla_checker.specs.Kept.{directory_kept}
+use Rattle.hla_verdicts.specs.Kept.{directory_kept}
 
 -- nobody has declared anything
 abbrev pub undeclared : ℕ → ℕ → DeclarationsValue

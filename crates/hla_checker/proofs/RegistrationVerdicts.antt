@@ -27,10 +27,10 @@ use Rattle.hla_accounts.specs.Accounts.{account_at, central_with}
 use Rattle.hla_accounts.proofs.CountLemmas.{same_size}
 use Rattle.hla_accounts.proofs.DiscoveryLemmas.{offers_in}
 use Rattle.hla_accounts.proofs.MessageLemmas.{joined_in}
-use Rattle.hla_checker.specs.declared.verdict.Verdict.TheVariants as verdict
-use Rattle.hla_checker.specs.Kept.{KeptValue, IsConsistent, JudgedStep, central_of, directory_kept}
+use Rattle.hla_verdicts.specs.declared.verdict.Verdict.TheVariants as verdict
+use Rattle.hla_verdicts.specs.Kept.{KeptValue, IsConsistent, JudgedStep, central_of, directory_kept}
 use Rattle.hla_checker.specs.Offering.{known_to_joined}
-use Rattle.hla_checker.proofs.ServiceVerdicts.{joined_refusal}
+use Rattle.hla_verdicts.proofs.ServiceVerdicts.{joined_refusal}
 
 -- ---- after a registration
 module _ (v : KeptValue) (q r : List Registered) (accounts : List Account) (f class : ℕ) (name : List ℕ) (attributes : List ℕ) where

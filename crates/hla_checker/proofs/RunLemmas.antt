@@ -4,7 +4,7 @@ use Rattle.std.proofs.lemmas.List.{take_more}
 use Rattle.std.proofs.lemmas.Option.{slice_get_read}
 use Rattle.hla_machine.specs.declared.step.Record.{Record}
 use Rattle.hla_machine.specs.Runs.{Executions, no_executions, AllowedAct, after_act, AreRun}
-use Rattle.hla_checker.specs.declared.verdict.Verdict.TheVariants as verdict
+use Rattle.hla_verdicts.specs.declared.verdict.Verdict.TheVariants as verdict
 use Rattle.hla_checker.specs.declared.table.ExecutionTable.{ExecutionTable}
 use Rattle.hla_checker.specs.Table.{AreConsistent, JudgedAct, executions_of}
 use Rattle.hla_checker.specs.Faults.{IsRunUpTo, IsNoStep}

@@ -17,7 +17,7 @@ use Rattle.hla_machine.specs.declared.service.Service.TheVariants as service
 use Rattle.hla_machine.specs.declared.service.ResignAction.{ResignAction}
 use Rattle.hla_machine.specs.declared.service.ResignAction.TheVariants.{DeleteObjects}
 use Rattle.hla_accounts.specs.Accounts.{account_at}
-use Rattle.hla_checker.specs.Kept.{KeptValue, central_of, directory_of}
+use Rattle.hla_verdicts.specs.Kept.{KeptValue, central_of, directory_of}
 
 -- ---- a test of handles holds of some value by handle where it does of some value
 module _ (asked : ℕ → Bool) where

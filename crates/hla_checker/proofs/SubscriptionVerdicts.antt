@@ -13,8 +13,8 @@ use Rattle.hla_accounts.specs.declared.account.Account.{Account}
 use Rattle.hla_accounts.specs.declared.offers.Offer.{Offer}
 use Rattle.hla_accounts.specs.Accounts.{central_with, offers_from}
 use Rattle.hla_accounts.proofs.CountLemmas.{same_size}
-use Rattle.hla_checker.specs.Calls.{AnswersDone}
-use Rattle.hla_checker.specs.Kept.{KeptValue, IsConsistent, central_of, directory_kept}
+use Rattle.hla_verdicts.specs.Calls.{AnswersDone}
+use Rattle.hla_verdicts.specs.Kept.{KeptValue, IsConsistent, central_of, directory_kept}
 use Rattle.hla_checker.specs.Offering.{wanted_discoveries}
 
 pub subscribing_only : (class : ℕ) (attributes : List ℕ) → AnswersDone (service.SubscribeObjectClassAttributes class attributes)

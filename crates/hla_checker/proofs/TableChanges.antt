@@ -10,7 +10,7 @@ use Rattle.hla_fed_file.specs.CatalogueValue.{CatalogueValue}
 use Rattle.hla_machine.specs.Central.{Central, new_central}
 use Rattle.hla_machine.specs.Runs.{destroy_fault, after_create, after_destroy, is_joined_by_any}
 use Rattle.hla_checker.specs.declared.table.NamedExecution.{NamedExecution}
-use Rattle.hla_checker.specs.Kept.{IsConsistent, central_of}
+use Rattle.hla_verdicts.specs.Kept.{IsConsistent, central_of}
 use Rattle.hla_checker.specs.Creating.{creation_tests}
 use Rattle.hla_checker.specs.Table.{AreConsistent, central_named, centrals_of}
 use Rattle.std.proofs.lemmas.List.Elements.{All-filter, All-push, All-set}

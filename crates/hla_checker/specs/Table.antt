@@ -9,9 +9,9 @@ use Rattle.hla_machine.specs.Central.{Central}
 use Rattle.hla_machine.specs.Runs.{Executions, AllowedAct, after_act}
 use Rattle.hla_checker.specs.declared.table.NamedExecution.{NamedExecution}
 use Rattle.hla_checker.specs.declared.table.ExecutionTable.{ExecutionTable}
-use Rattle.hla_checker.specs.declared.verdict.Verdict.{Verdict}
-use Rattle.hla_checker.specs.Verdicts.{Judged}
-use Rattle.hla_checker.specs.Kept.{central_of, IsConsistent}
+use Rattle.hla_verdicts.specs.declared.verdict.Verdict.{Verdict}
+use Rattle.hla_verdicts.specs.Verdicts.{Judged}
+use Rattle.hla_verdicts.specs.Kept.{central_of, IsConsistent}
 
 -- the state of one of them; what it is made of stays hidden where many are kept
 unfoldable pub central_named : NamedExecution → Central

@@ -4,8 +4,8 @@ ghost use Rattle.std.specs.Prelude.{IfOk, IfErr};
 ghost use Rattle.hla_checker.specs.Faults.{IsWholeRun, TellsFault};
 
 use crate::table::ExecutionTable;
-use crate::verdict::Verdict;
 use hla_machine::Record;
+use hla_verdicts::Verdict;
 use std::alloc::Global;
 use thiserror::Error;
 

@@ -6,7 +6,7 @@ ghost use Rattle.hla_base.specs.declared.content.HandleValuePair.{HandleValuePai
 ghost use Rattle.hla_base.specs.declared.fault.Fault.TheVariants.{OutOfMemory};
 ghost use Rattle.hla_fed_file.specs.Lookup.{has_parameter};
 ghost use Rattle.hla_machine.specs.Directory.{AnInteraction, AnUpdate, ADeletion, content_for, subscribed_values};
-ghost use Rattle.hla_checker.specs.Kept.{directory_of};
+ghost use Rattle.hla_verdicts.specs.Kept.{directory_of};
 ghost use Rattle.hla_checker.specs.Sending.{body_said, AreContents};
 
 use crate::kept::KeptExecution;

@@ -8,14 +8,13 @@ ghost use Rattle.hla_machine.specs.declared.service.Service.TheVariants as servi
 ghost use Rattle.hla_machine.specs.declared.step.Step.TheVariants as steps;
 ghost use Rattle.hla_accounts.specs.Accounts.{account_at};
 ghost use Rattle.hla_checker.specs.Declaring.{declaration_of, with_declaration, IsOfClass};
-ghost use Rattle.hla_checker.specs.Kept.{IsConsistent, JudgedStep};
+ghost use Rattle.hla_verdicts.specs.Kept.{IsConsistent, JudgedStep};
 
-use crate::endings::verdict_unless_done;
 use crate::kept::KeptExecution;
-use crate::verdict::Verdict;
 use hla_base::{AttributeNo, ClassNo, Fault, FederateNo, List, Plain};
 use hla_declaration::Declarations;
 use hla_machine::{Choice, Outcome, Service};
+use hla_verdicts::{Verdict, verdict_unless_done};
 
 /// What a federate declares of a class by its number alone.
 #[derive(Clone, Copy, Debug, PartialEq, Eq)]

@@ -9,16 +9,14 @@ ghost use Rattle.hla_machine.specs.Machine.{after_delete, with_central_directory
 ghost use Rattle.hla_machine.specs.declared.service.Service.TheVariants as services;
 ghost use Rattle.hla_machine.specs.declared.step.Step.TheVariants as steps;
 ghost use Rattle.hla_accounts.specs.Accounts.{account_at};
-ghost use Rattle.hla_checker.specs.Kept.{IsConsistent, JudgedStep, central_of, directory_of};
+ghost use Rattle.hla_verdicts.specs.Kept.{IsConsistent, JudgedStep, central_of, directory_of};
 ghost use Rattle.hla_checker.specs.Sending.{outgoing};
 
 use crate::contents::{Body, Message};
-use crate::endings::answer_to_test;
 use crate::kept::KeptExecution;
-use crate::outcomes::is_done;
-use crate::verdict::Verdict;
 use hla_base::{Fault, FederateNo, ObjectNo, Ticks};
 use hla_machine::{Choice, Outcome};
+use hla_verdicts::{Verdict, answer_to_test, is_done};
 
 impl KeptExecution {
     /// The message that an object is deleted.

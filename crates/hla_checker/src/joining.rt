@@ -5,14 +5,12 @@ ghost use Rattle.hla_base.specs.Limits.{max_joins};
 ghost use Rattle.hla_base.specs.declared.fault.Fault.TheVariants.{OutOfMemory};
 ghost use Rattle.hla_machine.specs.Machine.{after_join};
 ghost use Rattle.hla_machine.specs.declared.step.Step.TheVariants as steps;
-ghost use Rattle.hla_checker.specs.Kept.{IsConsistent, JudgedStep, central_of};
+ghost use Rattle.hla_verdicts.specs.Kept.{IsConsistent, JudgedStep, central_of};
 
-use crate::answers::is_number;
 use crate::kept::KeptExecution;
-use crate::outcomes::is_nothing;
-use crate::verdict::Verdict;
 use hla_base::{Fault, List, Plain};
 use hla_machine::{Choice, Outcome};
+use hla_verdicts::{Verdict, is_nothing, is_number};
 
 impl KeptExecution {
     /// A federate joins under a name. `OutOfMemory` where a growth was refused.

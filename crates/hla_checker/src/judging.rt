@@ -5,25 +5,20 @@ ghost use Rattle.hla_base.specs.declared.fault.Fault.TheVariants.{OutOfMemory};
 ghost use Rattle.hla_machine.specs.Directory.{Directory};
 ghost use Rattle.hla_machine.specs.declared.step.Step.TheVariants as steps;
 ghost use Rattle.hla_accounts.specs.Accounts.{account_at};
-ghost use Rattle.hla_checker.specs.Accounted.{JudgedWith};
-ghost use Rattle.hla_checker.specs.Kept.{IsConsistent, JudgedStep};
-ghost use Rattle.hla_checker.specs.Kinds.{IsLookUpCall, IsMovingCall, IsOtherCall};
+ghost use Rattle.hla_verdicts.specs.Accounted.{JudgedWith};
+ghost use Rattle.hla_verdicts.specs.Kept.{IsConsistent, JudgedStep};
+ghost use Rattle.hla_verdicts.specs.Kinds.{IsLookUpCall, IsMovingCall, IsOtherCall};
 
-use crate::announcing::judge_announcement;
-use crate::carrying::judge_carry;
 use crate::declaring::declaration_of;
 use crate::kept::KeptExecution;
-use crate::outcomes::is_strangers;
-use crate::queries::{judge_query, time_query_of};
-use crate::regulating::judge_regulation;
-use crate::retracting::judge_retraction;
-use crate::row_services::{judge_row_service, row_change_of};
-use crate::ticking::judge_tick;
-use crate::unconstraining::judge_unconstraining;
-use crate::verdict::Verdict;
 use hla_accounts::Accounts;
 use hla_base::{Fault, FederateNo};
 use hla_machine::{Choice, Outcome, Service, Step};
+use hla_verdicts::{
+    Verdict, is_strangers, judge_announcement, judge_carry, judge_query, judge_regulation,
+    judge_retraction, judge_row_service, judge_tick, judge_unconstraining, row_change_of,
+    time_query_of,
+};
 
 /// Whether the machine allows a call of a joined federate that ended so and chose this, of the services of time management
 /// that do more than change its row or ask for a time; where it does, the state after it is kept. `OutOfMemory` where a
@@ -59,7 +54,7 @@ fn judge_moving_call(
 
 impl KeptExecution {
     /// Whether the machine allows a look-up of a joined federate that ended so and chose this.
-    #[tactic(auto, using(crate::proofs::StepVerdicts::step_as))]
+    #[tactic(auto, using(hla_verdicts::proofs::StepVerdicts::step_as))]
     fn judge_look_up(
         &self,
         federate: FederateNo,
@@ -98,7 +93,7 @@ impl KeptExecution {
     /// Whether the machine allows a call of a joined federate that ended so and chose this, where it does more than change its
     /// row, ask for a time or change one declaration; where it does, the state after it is kept. `OutOfMemory` where a growth
     /// was refused.
-    #[tactic(auto, using(crate::proofs::StepVerdicts::called_as))]
+    #[tactic(auto, using(hla_verdicts::proofs::StepVerdicts::called_as))]
     fn judge_other_call(
         &mut self,
         federate: FederateNo,

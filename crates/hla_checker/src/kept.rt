@@ -6,7 +6,7 @@ ghost use Rattle.hla_base.specs.Tables.{numbers_below};
 ghost use Rattle.hla_accounts.specs.Accounts.{account_at};
 ghost use Rattle.hla_machine.specs.Central.{new_central};
 ghost use Rattle.hla_machine.specs.Runs.{is_joined_by_any};
-ghost use Rattle.hla_checker.specs.Kept.{central_of, IsConsistent};
+ghost use Rattle.hla_verdicts.specs.Kept.{central_of, IsConsistent};
 
 use hla_accounts::Accounts;
 use hla_declaration::Declarations;
@@ -27,7 +27,7 @@ pub(crate) struct KeptExecution {
 }
 
 impl Model for KeptExecution {
-    ghost use Rattle.hla_checker.specs.Kept.{KeptValue};
+    ghost use Rattle.hla_verdicts.specs.Kept.{KeptValue};
 
     ghost Value = { KeptValue };
 

@@ -13,15 +13,13 @@ ghost use Rattle.hla_machine.specs.declared.service.Service.TheVariants as servi
 ghost use Rattle.hla_machine.specs.declared.step.Choice.TheVariants as choices;
 ghost use Rattle.hla_machine.specs.declared.step.Step.TheVariants as steps;
 ghost use Rattle.hla_accounts.specs.Accounts.{account_at};
-ghost use Rattle.hla_checker.specs.Calls.{IsHandleIn, TestsLookUp, ToldOf};
-ghost use Rattle.hla_checker.specs.Kept.{IsConsistent, JudgedStep, central_of, directory_of};
+ghost use Rattle.hla_verdicts.specs.Calls.{IsHandleIn, TestsLookUp, ToldOf};
+ghost use Rattle.hla_verdicts.specs.Kept.{IsConsistent, JudgedStep, central_of, directory_of};
 
-use crate::answers::{found_handle_in, is_handle, is_name};
-use crate::endings::answer_to_test;
 use crate::kept::KeptExecution;
-use crate::verdict::Verdict;
 use hla_base::{ClassNo, Fault, FederateNo, List, ObjectNo};
 use hla_machine::{Answer, Choice, Outcome};
+use hla_verdicts::{Verdict, answer_to_test, found_handle_in, is_handle, is_name};
 
 /// Why a name is not looked up, by what was found.
 fn unfound_fault(found: Option<u32>) -> Option<Fault>

@@ -10,7 +10,7 @@ ghost use Rattle.hla_declaration.specs.Declarations.{declarations_of};
 ghost use Rattle.hla_object_registry.specs.Registered.{registry_of};
 ghost use Rattle.hla_machine.specs.Directory.{Directory, discoveries_of, discovery_of, with_discoveries_made};
 ghost use Rattle.hla_accounts.specs.Accounts.{account_at, central_with, offers_from};
-ghost use Rattle.hla_checker.specs.Kept.{directory_kept};
+ghost use Rattle.hla_verdicts.specs.Kept.{directory_kept};
 ghost use Rattle.hla_checker.specs.Offering.{is_wanted, known_to_joined, wanted_of, wanted_discoveries};
 
 use crate::naming::shared_name;

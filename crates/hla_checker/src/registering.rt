@@ -14,17 +14,15 @@ ghost use Rattle.hla_machine.specs.Refusals.{call_tests, is_length_in};
 ghost use Rattle.hla_machine.specs.declared.service.Service.TheVariants as services;
 ghost use Rattle.hla_machine.specs.declared.step.Step.TheVariants as steps;
 ghost use Rattle.hla_accounts.specs.Accounts.{account_at};
-ghost use Rattle.hla_checker.specs.Kept.{IsConsistent, JudgedStep, central_of};
+ghost use Rattle.hla_verdicts.specs.Kept.{IsConsistent, JudgedStep, central_of};
 
-use crate::answers::is_registered;
-use crate::endings::answer_to_test;
 use crate::kept::KeptExecution;
 use crate::naming::name_or_default;
 use crate::offering::{make_new_known, offer_new};
-use crate::verdict::Verdict;
 use hla_base::{AttributeNo, ClassNo, Fault, FederateNo, List, MAX_NAME, MAX_OBJECTS};
 use hla_declaration::Declarations;
 use hla_machine::{Choice, Outcome};
+use hla_verdicts::{Verdict, answer_to_test, is_registered};
 use std::alloc::Global;
 
 /// Whether a name has at least one byte, and at most so many.

@@ -9,16 +9,14 @@ ghost use Rattle.hla_machine.specs.Sends.{after_messages};
 ghost use Rattle.hla_machine.specs.declared.service.Service.TheVariants as services;
 ghost use Rattle.hla_machine.specs.declared.step.Step.TheVariants as steps;
 ghost use Rattle.hla_accounts.specs.Accounts.{account_at};
-ghost use Rattle.hla_checker.specs.Kept.{IsConsistent, JudgedStep, central_of, directory_of};
+ghost use Rattle.hla_verdicts.specs.Kept.{IsConsistent, JudgedStep, central_of, directory_of};
 
 use crate::contents::{Body, Message};
-use crate::endings::answer_to_test;
 use crate::kept::KeptExecution;
-use crate::outcomes::is_done;
-use crate::verdict::Verdict;
 use hla_base::{Fault, FederateNo, ObjectNo};
 use hla_fed_file::Order;
 use hla_machine::{Choice, Outcome, ResignAction};
+use hla_verdicts::{Verdict, answer_to_test, is_done};
 
 impl KeptExecution {
     /// A joined federate leaves: what is for it goes, with its objects and declarations, and what it sent stays.

@@ -10,18 +10,16 @@ ghost use Rattle.hla_machine.specs.Sends.{after_message, after_messages, is_dele
 ghost use Rattle.hla_machine.specs.declared.service.Service.TheVariants as services;
 ghost use Rattle.hla_machine.specs.declared.step.Step.TheVariants as steps;
 ghost use Rattle.hla_accounts.specs.Accounts.{account_at};
-ghost use Rattle.hla_checker.specs.Kept.{IsConsistent, JudgedStep, central_of, directory_of};
+ghost use Rattle.hla_verdicts.specs.Kept.{IsConsistent, JudgedStep, central_of, directory_of};
 ghost use Rattle.hla_checker.specs.Sending.{body_said, outgoing};
 
-use crate::answers::is_sent;
 use crate::contents::{Body, Message};
-use crate::endings::answer_to_test;
 use crate::kept::KeptExecution;
 use crate::pairs::by_handle;
-use crate::verdict::Verdict;
 use hla_base::{ClassNo, EventHandle, Fault, FederateNo, HandleValuePair, List, Ticks};
 use hla_fed_file::Order;
 use hla_machine::{Choice, Outcome};
+use hla_verdicts::{Verdict, answer_to_test, is_sent};
 
 impl Body {
     /// Whether it is a deletion.

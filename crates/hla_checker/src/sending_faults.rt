@@ -11,7 +11,7 @@ ghost use Rattle.hla_machine.specs.Machine.{central_seen};
 ghost use Rattle.hla_machine.specs.Refusals.{call_tests, is_owned, is_published};
 ghost use Rattle.hla_machine.specs.declared.service.Service.TheVariants as services;
 ghost use Rattle.hla_accounts.specs.Accounts.{account_at};
-ghost use Rattle.hla_checker.specs.Kept.{central_of, directory_of};
+ghost use Rattle.hla_verdicts.specs.Kept.{central_of, directory_of};
 ghost use Rattle.hla_checker.specs.Sending.{sending_tests};
 
 use crate::kept::KeptExecution;

@@ -8,14 +8,13 @@ ghost use Rattle.hla_machine.specs.Machine.{after_subscribe};
 ghost use Rattle.hla_machine.specs.declared.service.Service.TheVariants as services;
 ghost use Rattle.hla_machine.specs.declared.step.Step.TheVariants as steps;
 ghost use Rattle.hla_accounts.specs.Accounts.{account_at};
-ghost use Rattle.hla_checker.specs.Kept.{IsConsistent, JudgedStep, central_of};
+ghost use Rattle.hla_verdicts.specs.Kept.{IsConsistent, JudgedStep, central_of};
 
-use crate::endings::verdict_unless_done;
 use crate::kept::KeptExecution;
 use crate::offering::{make_found_known, offers_to};
-use crate::verdict::Verdict;
 use hla_base::{AttributeNo, ClassNo, Fault, FederateNo, List, Plain};
 use hla_machine::{Choice, Outcome};
+use hla_verdicts::{Verdict, verdict_unless_done};
 
 impl KeptExecution {
     /// A federate subscribes just these attributes of an object class from now on, and is to discover what fits. `OutOfMemory`

@@ -12,11 +12,10 @@ ghost use Rattle.hla_checker.specs.Table.{centrals_of, executions_of, AreConsist
 ghost use Rattle.hla_checker.specs.Creating.{creation_tests};
 
 use crate::kept::KeptExecution;
-use crate::outcomes::{ends_as, is_nothing, is_unfound};
-use crate::verdict::Verdict;
 use hla_base::{Fault, MAX_CREATES, MAX_EXECUTIONS, Plain, SharedList};
 use hla_fed_file::Catalogue;
 use hla_machine::{Act, Choice, Outcome, Record, Step};
+use hla_verdicts::{Verdict, ends_as, is_nothing, is_unfound};
 use std::alloc::Global;
 
 /// An execution and its name.

@@ -9,17 +9,15 @@ ghost use Rattle.hla_machine.specs.Sends.{after_messages};
 ghost use Rattle.hla_machine.specs.declared.service.Service.TheVariants as services;
 ghost use Rattle.hla_machine.specs.declared.step.Step.TheVariants as steps;
 ghost use Rattle.hla_accounts.specs.Accounts.{account_at};
-ghost use Rattle.hla_checker.specs.Kept.{IsConsistent, JudgedStep, central_of, directory_of};
+ghost use Rattle.hla_verdicts.specs.Kept.{IsConsistent, JudgedStep, central_of, directory_of};
 
-use crate::answers::is_sent;
 use crate::contents::{Body, Message};
-use crate::endings::answer_to_test;
 use crate::kept::KeptExecution;
 use crate::pairs::by_handle;
-use crate::verdict::Verdict;
 use hla_base::{EventHandle, Fault, FederateNo, HandleValuePair, List, ObjectNo, Plain, Ticks};
 use hla_fed_file::Order;
 use hla_machine::{Choice, Outcome};
+use hla_verdicts::{Verdict, answer_to_test, is_sent};
 
 impl KeptExecution {
     /// The values of the attributes whose updates have this order. `OutOfMemory` where a growth was refused.

@@ -6,7 +6,7 @@ use Rattle.hla_machine.specs.Directory.{Directory}
 use Rattle.hla_object_registry.specs.Registered.{registry_of}
 use Rattle.hla_accounts.specs.declared.offers.Offer.{Offer}
 use Rattle.hla_accounts.specs.Accounts.{offers_from}
-use Rattle.hla_checker.specs.Kept.{directory_kept}
+use Rattle.hla_verdicts.specs.Kept.{directory_kept}
 use Rattle.hla_checker.specs.Offering.{is_wanted, wanted_of}
 use Rattle.hla_checker.proofs.FoundObjects.{found_first, offer_more, offer_none, wanted_none, wanted_some, when_none}
 use Rattle.hla_checker.proofs.offering.offers_to.Goals as goal

@@ -4,7 +4,7 @@ use Rattle.hla_base.specs.Tables.{when}
 use Rattle.hla_declaration.specs.Declarations.{declarations_of}
 use Rattle.hla_object_registry.specs.Registered.{registry_of}
 use Rattle.hla_accounts.specs.Accounts.{offers_from}
-use Rattle.hla_checker.specs.Kept.{directory_kept}
+use Rattle.hla_verdicts.specs.Kept.{directory_kept}
 use Rattle.hla_checker.specs.Offering.{wanted_of}
 use Rattle.hla_checker.proofs.FoundObjects.{found_below}
 use Rattle.hla_checker.proofs.offering.offers_to.Given as goal

@@ -1,7 +1,7 @@
 use Rattle.std.proofs.Common.{◌≡◌, IfOk, Option, ap, sym, subst, ◌∙◌}
 use Rattle.hla_base.specs.declared.content.Content.{Content}
 use Rattle.hla_machine.specs.Directory.{Body, AnUpdate, content_for}
-use Rattle.hla_checker.specs.Kept.{directory_of}
+use Rattle.hla_verdicts.specs.Kept.{directory_of}
 use Rattle.hla_checker.specs.Sending.{body_said}
 use Rattle.hla_checker.proofs.kept.KeptExecution.content_for.Goals as goal
 

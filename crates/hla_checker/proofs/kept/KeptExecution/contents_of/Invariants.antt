@@ -1,5 +1,5 @@
 use Rattle.std.proofs.Common.{◌≡◌, ◌+◌, length}
-use Rattle.hla_checker.specs.Kept.{directory_of}
+use Rattle.hla_verdicts.specs.Kept.{directory_of}
 use Rattle.hla_checker.specs.Sending.{body_said, AreContents}
 use Rattle.hla_checker.proofs.kept.KeptExecution.contents_of.Given as goal
 

@@ -1,6 +1,6 @@
 use Rattle.std.proofs.Common.{◌≡◌, Bool, cond, true, false, refl, ap, sym, ◌∙◌}
 use mir.Val.{bool_byte}
-use Rattle.hla_checker.specs.Kept.{directory_of}
+use Rattle.hla_verdicts.specs.Kept.{directory_of}
 use Rattle.hla_checker.proofs.SendingTests.{sum_is, length-update}
 use Rattle.hla_checker.proofs.kept.KeptExecution.count_parts.Goals as goal
 

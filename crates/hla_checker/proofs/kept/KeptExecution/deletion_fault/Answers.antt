@@ -7,7 +7,7 @@ use Rattle.hla_object_registry.specs.Queries.{is_known_in}
 use Rattle.hla_object_registry.specs.Registered.{registry_of}
 use Rattle.hla_machine.specs.Directory.{ADeletion, deletion_sent, is_of_order}
 use Rattle.hla_accounts.specs.Accounts.{account_at}
-use Rattle.hla_checker.specs.Kept.{KeptValue, directory_of}
+use Rattle.hla_verdicts.specs.Kept.{KeptValue, directory_of}
 use Rattle.hla_checker.specs.Sending.{sending_tests}
 use Rattle.hla_checker.proofs.SendingTests.{one_stamped, deletion_rest}
 use Rattle.hla_checker.proofs.kept.KeptExecution.deletion_fault.Goals as goal

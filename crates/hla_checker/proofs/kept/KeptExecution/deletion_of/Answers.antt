@@ -1,7 +1,7 @@
 use Rattle.std.proofs.Common.{ap, ◌∙◌}
 use Rattle.hla_fed_file.specs.Lookup.{deletion_order}
 use Rattle.hla_object_registry.specs.Registered.{registry_of}
-use Rattle.hla_checker.specs.Kept.{KeptValue}
+use Rattle.hla_verdicts.specs.Kept.{KeptValue}
 use Rattle.hla_checker.proofs.DeletionVerdicts.{out_of_order}
 use Rattle.hla_checker.proofs.kept.KeptExecution.deletion_of.Goals as goal
 

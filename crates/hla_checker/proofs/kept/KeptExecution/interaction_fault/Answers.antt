@@ -5,7 +5,7 @@ use Rattle.hla_base.specs.RowRefusals.{first_fault}
 use Rattle.hla_declaration.specs.Declarations as declared
 use Rattle.hla_machine.specs.Directory.{AnInteraction, by_handle, interaction_sent, is_of_order}
 use Rattle.hla_accounts.specs.Accounts.{account_at}
-use Rattle.hla_checker.specs.Kept.{KeptValue, directory_of}
+use Rattle.hla_verdicts.specs.Kept.{KeptValue, directory_of}
 use Rattle.hla_checker.specs.Sending.{sending_tests}
 use Rattle.hla_checker.proofs.SendingTests.{one_stamped, interaction_rest}
 use Rattle.hla_checker.proofs.kept.KeptExecution.interaction_fault.Goals as goal

@@ -1,7 +1,7 @@
 use Rattle.std.proofs.Common.{◌≡◌, None, take}
 use Rattle.hla_machine.specs.Directory.{deletions_sent}
 use Rattle.hla_machine.specs.Sends.{after_messages}
-use Rattle.hla_checker.specs.Kept.{IsConsistent, central_of}
+use Rattle.hla_verdicts.specs.Kept.{IsConsistent, central_of}
 use Rattle.hla_checker.proofs.kept.KeptExecution.send_deletions.Given as goal
 
 -- the deletions of the objects so far are sent

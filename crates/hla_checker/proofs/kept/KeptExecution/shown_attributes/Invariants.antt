@@ -1,6 +1,6 @@
 use Rattle.std.proofs.Common.{◌≡◌, take}
 use Rattle.hla_machine.specs.Directory.{subscribed_values}
-use Rattle.hla_checker.specs.Kept.{directory_of}
+use Rattle.hla_verdicts.specs.Kept.{directory_of}
 use Rattle.hla_checker.proofs.kept.KeptExecution.shown_attributes.Given as goal
 
 -- what is shown of the values so far

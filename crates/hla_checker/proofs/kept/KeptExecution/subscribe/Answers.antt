@@ -1,7 +1,7 @@
 use Rattle.std.proofs.Common.{◌≤◌, ℕ, Some, length, arith, sym, ap, subst, ◌∙◌}
 use Rattle.hla_declaration.specs.Declarations.{declarations_of}
 use Rattle.hla_machine.specs.Machine.{after_subscribe}
-use Rattle.hla_checker.specs.Kept.{KeptValue, IsConsistent, central_of}
+use Rattle.hla_verdicts.specs.Kept.{KeptValue, IsConsistent, central_of}
 use Rattle.hla_checker.proofs.SubscriptionVerdicts.{subscribed_central, subscribed_consistent}
 use Rattle.hla_checker.proofs.kept.KeptExecution.subscribe.Goals as goal
 

@@ -7,7 +7,7 @@ use Rattle.hla_fed_file.specs.declared.declared.Order.TheVariants.{Receive, Time
 use Rattle.hla_machine.specs.Directory.{is_of_order}
 use Rattle.hla_accounts.specs.Accounts.{account_at}
 use Rattle.hla_accounts.specs.Sendings.{is_sent_in_order}
-use Rattle.hla_checker.specs.Kept.{KeptValue, directory_of}
+use Rattle.hla_verdicts.specs.Kept.{KeptValue, directory_of}
 use Rattle.hla_checker.proofs.SendingTests.{sum_is}
 use Rattle.hla_checker.proofs.UpdateVerdicts.{update_handle_is}
 use Rattle.hla_checker.proofs.kept.KeptExecution.update_handle.Goals as goal

@@ -1,6 +1,6 @@
 use Rattle.std.proofs.Common.{◌≡◌, take}
 use Rattle.hla_machine.specs.Directory.{values_of_order}
-use Rattle.hla_checker.specs.Kept.{directory_of}
+use Rattle.hla_verdicts.specs.Kept.{directory_of}
 use Rattle.hla_checker.proofs.kept.KeptExecution.values_of_order.Given as goal
 
 -- those of the order among the values so far

@@ -1,0 +1,20 @@
+-- What tests of accounts alone tell, whatever the directory says besides
+use Rattle.std.specs.Prelude.{ℕ, ◌≡◌, Some, List}
+use Rattle.hla_machine.specs.Directory.{Directory}
+use Rattle.hla_callbacks.specs.declared.callback.Callback.{Callback}
+use Rattle.hla_machine.specs.Central.{Central}
+use Rattle.hla_machine.specs.Callbacks.{MayPickUp, after_pick}
+use Rattle.hla_machine.specs.Machine.{Allowed, IsCallbackChoice, after}
+use Rattle.hla_machine.specs.declared.step.Step.{Step}
+use Rattle.hla_machine.specs.declared.step.Outcome.{Outcome}
+use Rattle.hla_machine.specs.declared.step.Choice.{Choice}
+use Rattle.hla_accounts.specs.declared.account.Account.{Account}
+use Rattle.hla_accounts.specs.Accounts.{central_with}
+use Rattle.hla_verdicts.specs.declared.verdict.Verdict.{Verdict}
+use Rattle.hla_verdicts.specs.Verdicts.{Judged}
+
+abbrev pub JudgedWith : Directory → List Account → Step → Outcome → Choice → List Account → Verdict → Type 0
+JudgedWith d old step out o new verdict = Judged (Allowed (central_with d old) step out o) (central_with d new ≡ after (central_with d old) step out o) verdict
+
+abbrev pub JudgedPick : Central → ℕ → Callback → Choice → Central → Verdict → Type 0
+JudgedPick c f k o d verdict = Judged (MayPickUp c f k o × IsCallbackChoice (Some k) o) (d ≡ after_pick c f k o) verdict
