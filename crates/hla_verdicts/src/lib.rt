@@ -1,5 +1,5 @@
-//! What the accounts of a recorded run decide of one record of it, where no catalogue and no object is looked at: announcements,
-//! carries, ticks, and the services that change their caller's row or ask for it.
+//! What the accounts of a recorded run decide of one record of it: announcements, carries, ticks, retractions, and the services of
+//! time management; and what the answers of records say.
 #![tactic(auto)]
 
 mod announcing;
