@@ -1,6 +1,6 @@
 //! Creating and destroying executions under the lock.
 
-ghost use Rattle.std.specs.Prelude.{◌≡◌, ◌∷◌, [], ◌||◌, not, ltb, is_some, filter, IfOk, IfErr, OnErr};
+ghost use Rattle.std.specs.Prelude.{◌≡◌, ◌∷◌, ◌++◌, [], ◌||◌, not, ltb, is_some, filter, IfOk, IfErr, OnOk, OnErr};
 ghost use Rattle.std.specs.Str.{bytes_eq};
 ghost use Rattle.hla_base.specs.Limits.{max_executions, max_creates};
 ghost use Rattle.hla_base.specs.RowRefusals.{first_fault, test_for};
@@ -9,8 +9,8 @@ ghost use Rattle.hla_machine.specs.Runs.{EndsAs};
 ghost use Rattle.hla_machine.specs.declared.step.Act.TheVariants as act;
 ghost use Rattle.hla_machine.specs.declared.step.Choice.TheVariants as choice;
 ghost use Rattle.hla_history.specs.Creating.{catalogue_from, creation_fault, destruction_fault};
-ghost use Rattle.hla_history.specs.Hosts.{hosts_after};
-ghost use Rattle.hla_history.specs.Hosting.{HostedValue, hosts_of, table_of};
+ghost use Rattle.hla_history.specs.Hosts.{hosts_after, new_host};
+ghost use Rattle.hla_history.specs.Hosting.{HostedValue, host_of, hosts_of, table_of};
 
 use crate::among::place_of;
 use crate::counts::Counts;
@@ -53,6 +53,25 @@ fn creation_refusal(is_there: bool, is_read: bool, counts: Counts) -> Option<Fau
     } else {
         None
     }
+}
+
+/// Adds an execution that nobody has joined. `OutOfMemory`, and none added, where a growth was refused.
+fn add<B: FederateAmbassador>(
+    executions: &mut Vec<Hosted<B>>,
+    name: &ExecutionName,
+    catalogue: Catalogue,
+) -> Result<(), Fault>
+    ensures added { OnOk result ((h : HostedValue) × (executions.new.items ≡ executions.old.items ++ h ∷ [])
+        × (h.name ≡ name.now) × (host_of h ≡ new_host catalogue)) }
+    ensures err { IfErr result (λ e. e ≡ Fault.OutOfMemory) }
+    ensures unchanged { OnErr result (executions.new.items ≡ executions.old.items) }
+{
+    if executions.reserve(1).is_err() {
+        return Err(Fault::OutOfMemory);
+    }
+    let hosted = Hosted::new(*executions.allocator(), name, catalogue)?;
+    executions.push_reserved(hosted);
+    Ok(())
 }
 
 /// Creates an execution that nobody has joined, for what its FED file was read as.
@@ -98,19 +117,18 @@ pub(crate) fn create_among<B: FederateAmbassador>(
             let Some(declared) = &catalogue else {
                 unreachable!()
             };
-            let alloc = *executions.allocator();
-            let hosted = Hosted::new(alloc, &name, declared.copy()?)?;
+            let declared = declared.copy()?;
             let made = recorded(
-                alloc,
+                *executions.allocator(),
                 actor,
                 &name,
                 Act::Create { catalogue },
                 Outcome::Done(Answer::Done),
             )?;
-            if executions.reserve(1).is_err() {
-                return Err(Fault::OutOfMemory);
+            if let Err(fault) = add(executions, &name, declared) {
+                drop(made);
+                return Err(fault);
             }
-            executions.push_reserved(hosted);
             counts.creates += 1;
             counts.present += 1;
             Ok(made)

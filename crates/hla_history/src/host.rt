@@ -100,11 +100,22 @@ impl<B: FederateAmbassador> Hosted<B> {
         ensures err { IfErr result (λ e. e ≡ Fault.OutOfMemory) }
         ensures unchanged { OnErr result (self.new ≡ self.old) }
     {
-        ready(&mut self.ears, &step)?;
-        let execution = self.name.copy()?;
+        if let Err(fault) = ready(&mut self.ears, &step) {
+            drop(step);
+            return Err(fault);
+        }
+        let Ok(execution) = self.name.copy() else {
+            drop(step);
+            return Err(Fault::OutOfMemory);
+        };
         let prepared = prepare(&self.federation, actor, execution, step)?;
-        let prepared = advance(&mut self.federation, prepared)?;
-        Ok(delivered(&mut self.ears, prepared))
+        match advance(&mut self.federation, &prepared.record.act) {
+            Ok(()) => Ok(delivered(&mut self.ears, prepared)),
+            Err(fault) => {
+                drop(prepared);
+                Err(fault)
+            }
+        }
     }
 
     /// Joins a federate with this ambassador, which comes back where the federate is refused. `OutOfMemory`, with the

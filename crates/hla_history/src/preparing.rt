@@ -1,4 +1,7 @@
 //! What a record and its answer need, made before the step, so that a step that was done can always be recorded.
+//!
+//! Where a growth is refused, what was made so far goes to `drop` by name: such a call is proved once, and what goes out of
+//! scope is taken apart, variant by variant, in the proof of each function that lets it.
 
 ghost use Rattle.std.specs.Prelude.{◌≡◌, IfOk, IfErr, MatchResult, OnErr, OnOk};
 ghost use Rattle.hla_components.specs.Next.{next};
@@ -54,9 +57,53 @@ pub(crate) fn copied(made: &Record) -> Result<Stepped, Fault>
     ensures answer { IfOk result (λ s. s.answer ≡ made.now.outcome) }
     ensures err { IfErr result (λ e. e ≡ Fault.OutOfMemory) }
 {
-    let own = made.copy()?;
     let answer = made.outcome.copy()?;
-    Ok(Stepped { own, answer })
+    match made.copy() {
+        Ok(own) => Ok(Stepped { own, answer }),
+        Err(fault) => {
+            drop(answer);
+            Err(fault)
+        }
+    }
+}
+
+/// A record, and the caller's copies of it.
+fn with_copies(made: Record) -> Result<(Record, Stepped), Fault>
+    ensures record { IfOk result (λ p. p.0 ≡ made) }
+    ensures own { IfOk result (λ p. p.1.own ≡ p.0) }
+    ensures answer { IfOk result (λ p. p.1.answer ≡ p.0.outcome) }
+    ensures err { IfErr result (λ e. e ≡ Fault.OutOfMemory) }
+{
+    match copied(&made) {
+        Ok(stepped) => Ok((made, stepped)),
+        Err(fault) => {
+            drop(made);
+            Err(fault)
+        }
+    }
+}
+
+/// A record, the caller's copies of it, and one of the callback.
+fn with_callback(made: Record) -> Result<Prepared, Fault>
+    ensures record { IfOk result (λ p. p.record ≡ made) }
+    ensures own { IfOk result (λ p. p.stepped.own ≡ p.record) }
+    ensures answer { IfOk result (λ p. p.stepped.answer ≡ p.record.outcome) }
+    ensures callback { IfOk result (λ p. p.callback ≡ callback_in p.record.outcome) }
+    ensures err { IfErr result (λ e. e ≡ Fault.OutOfMemory) }
+{
+    let (record, stepped) = with_copies(made)?;
+    match copied_callback(&record.outcome) {
+        Ok(callback) => Ok(Prepared {
+            record,
+            stepped,
+            callback,
+        }),
+        Err(fault) => {
+            drop(record);
+            drop(stepped);
+            Err(fault)
+        }
+    }
 }
 
 /// The record of an act that leaves nothing open, and the caller's copies.
@@ -78,16 +125,51 @@ pub(crate) fn recorded(
     ensures answer { IfOk result (λ p. p.1.answer ≡ p.0.outcome) }
     ensures err { IfErr result (λ e. e ≡ Fault.OutOfMemory) }
 {
-    let execution = SharedList::from_slice(alloc, name.as_slice())?;
-    let record = Record {
-        actor,
-        execution,
-        act,
-        outcome,
-        choice: Choice::None,
-    };
-    let stepped = copied(&record)?;
-    Ok((record, stepped))
+    match SharedList::from_slice(alloc, name.as_slice()) {
+        Ok(execution) => with_copies(Record {
+            actor,
+            execution,
+            act,
+            outcome,
+            choice: Choice::None,
+        }),
+        Err(fault) => {
+            drop(act);
+            drop(outcome);
+            Err(fault)
+        }
+    }
+}
+
+/// The record of a step as it is foreseen.
+fn foreseen(
+    federation: &Federation,
+    actor: u32,
+    execution: SharedList<u8>,
+    step: Step,
+) -> Result<Record, Fault>
+    ensures record { IfOk result (λ r. r ≡ record {
+      actor = actor;
+      execution = execution;
+      act = act.Step step;
+      outcome = (next (components_hosted federation.now) step).outcome;
+      choice = (next (components_hosted federation.now) step).choice;
+    }) }
+    ensures err { IfErr result (λ e. e ≡ Fault.OutOfMemory) }
+{
+    match federation.foresee(&step) {
+        Ok(Foreseen { outcome, choice }) => Ok(Record {
+            actor,
+            execution,
+            act: Act::Step(step),
+            outcome,
+            choice,
+        }),
+        Err(fault) => {
+            drop(step);
+            Err(fault)
+        }
+    }
 }
 
 /// Foresees a step, and makes its record, the caller's copies, and one of the callback.
@@ -109,37 +191,19 @@ pub(crate) fn prepare(
     ensures callback { IfOk result (λ p. p.callback ≡ callback_in p.record.outcome) }
     ensures err { IfErr result (λ e. e ≡ Fault.OutOfMemory) }
 {
-    let Foreseen { outcome, choice } = federation.foresee(&step)?;
-    let callback = copied_callback(&outcome)?;
-    let record = Record {
-        actor,
-        execution,
-        act: Act::Step(step),
-        outcome,
-        choice,
-    };
-    let stepped = copied(&record)?;
-    Ok(Prepared {
-        record,
-        stepped,
-        callback,
-    })
+    with_callback(foreseen(federation, actor, execution, step)?)
 }
 
-/// Does the step that was prepared. `OutOfMemory`, and nothing done, where a growth was refused.
-pub(crate) fn advance(federation: &mut Federation, prepared: Prepared) -> Result<Prepared, Fault>
-    requires { IsStepAct prepared.record.act }
+/// Does the step of an act that was foreseen. `OutOfMemory`, and nothing done, where a growth was refused.
+pub(crate) fn advance(federation: &mut Federation, act: &Act) -> Result<(), Fault>
+    requires { IsStepAct act.now }
     ensures state { OnOk result (components_hosted federation.new
-        ≡ components_after (components_hosted federation.old) prepared.record.act) }
-    ensures same { IfOk result (λ p. p ≡ prepared) }
+        ≡ components_after (components_hosted federation.old) act.now) }
     ensures err { IfErr result (λ e. e ≡ Fault.OutOfMemory) }
     ensures unchanged { OnErr result (federation.new ≡ federation.old) }
 {
-    let Act::Step(step) = &prepared.record.act else {
-        unreachable!()
-    };
-    done(federation, step)?;
-    Ok(prepared)
+    let Act::Step(step) = act else { unreachable!() };
+    done(federation, step)
 }
 
 /// Does a step that gives no callback: its record, and the caller's copies. `OutOfMemory`, and nothing done, where a growth
@@ -164,13 +228,15 @@ pub(crate) fn taken(
     ensures err { IfErr result (λ e. e ≡ Fault.OutOfMemory) }
     ensures unchanged { OnErr result (federation.new ≡ federation.old) }
 {
-    let prepared = prepare(federation, actor, execution, step)?;
-    let Prepared {
-        record,
-        stepped,
-        ..
-    } = advance(federation, prepared)?;
-    Ok((record, stepped))
+    let (record, stepped) = with_copies(foreseen(federation, actor, execution, step)?)?;
+    match advance(federation, &record.act) {
+        Ok(()) => Ok((record, stepped)),
+        Err(fault) => {
+            drop(record);
+            drop(stepped);
+            Err(fault)
+        }
+    }
 }
 
 /// Does a step whose answer is known.

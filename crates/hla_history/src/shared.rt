@@ -123,6 +123,7 @@ impl<L: Ledger, B: FederateAmbassador> Shared<L, B> {
         ensures parts { mine.new.parts ≡ mine.old.parts }
     {
         if self.history.len() >= self.limit {
+            drop(step);
             return Err(Fault::HistoryFull);
         }
         let (record, stepped) = step_among(&mut self.executions, actor, execution, step)?;

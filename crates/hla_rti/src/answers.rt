@@ -1,4 +1,7 @@
 //! What a call answers, out of the record of its act.
+//!
+//! An answer of which only a number is wanted is read by reference and goes to `drop` by name: such a call is proved once, and
+//! what goes out of scope is taken apart, variant by variant, in the proof of each function that lets it.
 
 ghost use Rattle.std.specs.Prelude.{◌≡◌, IfOk};
 ghost use Rattle.hla_machine.specs.declared.step.Answer.TheVariants as answer;
@@ -21,11 +24,13 @@ pub(crate) fn done_in(given: Result<Answer, Fault>) -> Result<(), Fault>
     requires { IfOk given (λ a. IsOfForm NoAnswer a) }
     ensures { said nothing result ≡ given }
 {
-    match given {
+    let told = match &given {
         Ok(Answer::Done) => Ok(()),
-        Err(fault) => Err(fault),
+        Err(fault) => Err(*fault),
         _ => unreachable!(),
-    }
+    };
+    drop(given);
+    told
 }
 
 /// What was registered.
@@ -45,11 +50,13 @@ pub(crate) fn handle_in(given: Result<Answer, Fault>) -> Result<u32, Fault>
     requires { IfOk given (λ a. IsOfForm AHandle a) }
     ensures { said answer.Handle result ≡ given }
 {
-    match given {
-        Ok(Answer::Handle(number)) => Ok(number),
-        Err(fault) => Err(fault),
+    let told = match &given {
+        Ok(Answer::Handle(number)) => Ok(*number),
+        Err(fault) => Err(*fault),
         _ => unreachable!(),
-    }
+    };
+    drop(given);
+    told
 }
 
 /// A name.
@@ -69,11 +76,13 @@ pub(crate) fn event_in(given: Result<Answer, Fault>) -> Result<Option<EventHandl
     requires { IfOk given (λ a. IsOfForm AnEvent a) }
     ensures { said answer.Sent result ≡ given }
 {
-    match given {
-        Ok(Answer::Sent(event)) => Ok(event),
-        Err(fault) => Err(fault),
+    let told = match &given {
+        Ok(Answer::Sent(event)) => Ok(*event),
+        Err(fault) => Err(*fault),
         _ => unreachable!(),
-    }
+    };
+    drop(given);
+    told
 }
 
 /// A time, in ticks.
@@ -81,11 +90,13 @@ pub(crate) fn time_in(given: Result<Answer, Fault>) -> Result<Ticks, Fault>
     requires { IfOk given (λ a. IsOfForm ATime a) }
     ensures { said answer.Time result ≡ given }
 {
-    match given {
-        Ok(Answer::Time(time)) => Ok(time),
-        Err(fault) => Err(fault),
+    let told = match &given {
+        Ok(Answer::Time(time)) => Ok(*time),
+        Err(fault) => Err(*fault),
         _ => unreachable!(),
-    }
+    };
+    drop(given);
+    told
 }
 
 /// The callback, if one was given.
@@ -105,11 +116,13 @@ pub(crate) fn carried_in(given: Result<Answer, Fault>) -> Result<Carried, Fault>
     requires { IfOk given (λ a. IsOfForm ACarriage a) }
     ensures { said answer.Carried result ≡ given }
 {
-    match given {
-        Ok(Answer::Carried(what)) => Ok(what),
-        Err(fault) => Err(fault),
+    let told = match &given {
+        Ok(Answer::Carried(what)) => Ok(*what),
+        Err(fault) => Err(*fault),
         _ => unreachable!(),
-    }
+    };
+    drop(given);
+    told
 }
 
 /// The promise, if it was announced.
@@ -117,9 +130,11 @@ pub(crate) fn announced_in(given: Result<Answer, Fault>) -> Result<Option<Ticks>
     requires { IfOk given (λ a. IsOfForm AnAnnouncement a) }
     ensures { said answer.Announced result ≡ given }
 {
-    match given {
-        Ok(Answer::Announced(promise)) => Ok(promise),
-        Err(fault) => Err(fault),
+    let told = match &given {
+        Ok(Answer::Announced(promise)) => Ok(*promise),
+        Err(fault) => Err(*fault),
         _ => unreachable!(),
-    }
+    };
+    drop(given);
+    told
 }

@@ -75,11 +75,15 @@ impl<L: Ledger + Naming, B: FederateAmbassador, W: Publisher<L>> Rti<L, B, W> {
             ⊎ ((e ≡ Fault.OutOfMemory) × (history_limit ≤ 1048576))) }
     {
         if history_limit > MAX_HISTORY_LIMIT {
+            drop(board);
             return Err(Fault::LimitReached);
         }
         let (book, mut rest) = blank.open::<L>();
         let share = rest.split_off(1, 0);
-        let shared = Shared::new(alloc, book, history_limit)?;
+        let Ok(shared) = Shared::new(alloc, book, history_limit) else {
+            drop(board);
+            return Err(Fault::OutOfMemory);
+        };
         let Ok(shared) = Arc::new(alloc, Mutex::new(Locked::new(shared, board))) else {
             return Err(Fault::OutOfMemory);
         };

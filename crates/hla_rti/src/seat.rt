@@ -98,7 +98,10 @@ fn answered(outcome: Outcome) -> Result<Answer, Fault>
     match outcome {
         Outcome::Done(answer) => Ok(answer),
         Outcome::Refused(fault) => Err(fault),
-        Outcome::Failed(_) => Err(Fault::FederateInternalError),
+        Outcome::Failed(callback) => {
+            drop(callback);
+            Err(Fault::FederateInternalError)
+        }
     }
 }
 
@@ -113,14 +116,16 @@ fn joined_as<B: FederateAmbassador>(
     ensures err { IfErr result (λ e. ended ≡ outcome.Refused e.0) }
     ensures returned { IfErr result (λ e. back ≡ Some e.1) }
 {
-    match ended {
-        Outcome::Done(Answer::Federate(number)) => Ok(number),
+    let told = match &ended {
+        Outcome::Done(Answer::Federate(number)) => Ok(*number),
         Outcome::Refused(fault) => match back {
-            Some(inner) => Err((fault, inner)),
+            Some(inner) => Err((*fault, inner)),
             None => unreachable!(),
         },
         _ => unreachable!(),
-    }
+    };
+    drop(ended);
+    told
 }
 
 /// The ambassador of a federate that resigned, or why it is refused.
@@ -131,14 +136,16 @@ fn resigned_with<B: FederateAmbassador>(ended: Outcome, back: Option<B>) -> Resu
     ensures returned { IfOk result (λ b. back ≡ Some b) }
     ensures err { IfErr result (λ e. answer_given ended ≡ Err e) }
 {
-    match ended {
+    let told = match &ended {
         Outcome::Done(Answer::Done) => match back {
             Some(inner) => Ok(inner),
             None => unreachable!(),
         },
-        Outcome::Refused(fault) => Err(fault),
+        Outcome::Refused(fault) => Err(*fault),
         _ => unreachable!(),
-    }
+    };
+    drop(ended);
+    told
 }
 
 impl<L: Ledger + Naming> Seat<L> {
@@ -156,6 +163,7 @@ impl<L: Ledger + Naming> Seat<L> {
         ensures form { IfOk result (λ a. IsOfForm (step_form step) a) }
     {
         if self.transcript.reserve(1).is_err() {
+            drop(step);
             return Err(Fault::OutOfMemory);
         }
         let number = self.number;

@@ -2,6 +2,7 @@
 
 ghost use Rattle.std.specs.Prelude.{◌≡◌, ◌<◌, ◌+◌, ◌≤◌, [], Some, None, IfOk, IfErr, OnErr, option_map, codes, vec_len, vec_capacity};
 ghost use Rattle.hla_machine.specs.declared.step.Act.TheVariants as act;
+ghost use Rattle.hla_requests.specs.Members.{member_after};
 ghost use Rattle.hla_script.specs.Playing.{act_of, created_catalogue};
 ghost use Rattle.hla_script.specs.Keeping.{components_of, standing, IsStepped, IsDestroyed, IsActed};
 
@@ -76,7 +77,7 @@ fn destroy_unless_joined(federation: &mut Option<Federation>) -> Outcome
             }
         }
     }
-    *federation = None;
+    drop(federation.take());
     Outcome::Done(Answer::Done)
 }
 
@@ -129,7 +130,10 @@ impl Execution {
         ensures catalogue { self.new.catalogue ≡ self.old.catalogue }
         ensures name { self.new.name ≡ self.old.name }
     {
-        let name = self.name.copy()?;
+        let Ok(name) = self.name.copy() else {
+            drop(request);
+            return Err(Fault::OutOfMemory);
+        };
         match request {
             Request::Create => self.create(name),
             Request::Destroy => Ok(self.destroy(name)),
@@ -169,7 +173,7 @@ impl Execution {
             ));
         }
         let used = self.catalogue.copy()?;
-        self.federation = Some(Federation::new(self.alloc, used));
+        drop(self.federation.replace(Federation::new(self.alloc, used)));
         self.creates += 1;
         self.members.clear();
         Ok(script_record(
@@ -195,6 +199,27 @@ impl Execution {
         script_record(name, Act::Destroy, outcome, Choice::None)
     }
 
+    /// Does a step, and notes who has joined or resigned by it. Where memory runs out, nothing has changed.
+    fn noted_step(&mut self, step: &Step) -> Result<Ending, Fault>
+        ensures ok { IfOk result (λ e. IsStepped (option_map components_of self.old.federation) step.now e.outcome
+            e.choice (option_map components_of self.new.federation)) }
+        ensures noted { IfOk result (λ e. self.new.members.items
+            ≡ member_after self.old.members.items (act.Step step.now) e.outcome) }
+        ensures err { OnErr result (self.new.federation ≡ self.old.federation) }
+        ensures creates { self.new.creates ≡ self.old.creates }
+        ensures members { OnErr result (self.new.members.items ≡ self.old.members.items) }
+        ensures catalogue { self.new.catalogue ≡ self.old.catalogue }
+        ensures name { self.new.name ≡ self.old.name }
+    {
+        let change = Change::of(step)?;
+        if self.members.reserve(1).is_err() {
+            return Err(Fault::OutOfMemory);
+        }
+        let ending = do_step(&mut self.federation, step)?;
+        note(&mut self.members, change, &ending.outcome);
+        Ok(ending)
+    }
+
     /// Does a step of the execution.
     fn take(&mut self, name: SharedList<u8>, step: Step) -> Result<Record, Fault>
         requires name { name ≡ codes "play" }
@@ -207,12 +232,14 @@ impl Execution {
         ensures catalogue { self.new.catalogue ≡ self.old.catalogue }
         ensures name { self.new.name ≡ self.old.name }
     {
-        let change = Change::of(&step)?;
-        if self.members.reserve(1).is_err() {
-            return Err(Fault::OutOfMemory);
+        match self.noted_step(&step) {
+            Ok(Ending { outcome, choice }) => {
+                Ok(script_record(name, Act::Step(step), outcome, choice))
+            }
+            Err(fault) => {
+                drop(step);
+                Err(fault)
+            }
         }
-        let Ending { outcome, choice } = do_step(&mut self.federation, &step)?;
-        note(&mut self.members, change, &outcome);
-        Ok(script_record(name, Act::Step(step), outcome, choice))
     }
 }

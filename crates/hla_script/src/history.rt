@@ -25,7 +25,10 @@ fn print_refusal(
 ) -> Result<(), Fault>
     ensures { OnOk result (text.new ≡ text.old ++ line_text catalogue.now number (outcome.Refused fault)) }
 {
-    print_line(text, catalogue, number as u64, &Outcome::Refused(fault))
+    let refused = Outcome::Refused(fault);
+    let printed = print_line(text, catalogue, number as u64, &refused);
+    drop(refused);
+    printed
 }
 
 /// Why there is no room for one more record.
@@ -74,7 +77,10 @@ fn request_with_room(
     ) {
         Ok(request) => match reserve_one(records) {
             Ok(()) => Ok(request),
-            Err(fault) => Err(fault),
+            Err(fault) => {
+                drop(request);
+                Err(fault)
+            }
         },
         Err(AskFault::Refused(fault)) => Err(fault),
         Err(AskFault::Memory) => Err(no_room(records.as_slice())),
@@ -105,12 +111,15 @@ pub fn play_line(
     };
     match execution.act(request) {
         Ok(record) => {
-            print_line(
+            if let Err(fault) = print_line(
                 text,
                 &execution.catalogue,
                 line.number as u64,
                 &record.outcome,
-            )?;
+            ) {
+                drop(record);
+                return Err(fault);
+            }
             records.push_reserved(record);
             Ok(())
         }

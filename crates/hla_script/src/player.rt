@@ -1,4 +1,7 @@
 //! Playing a script.
+//!
+//! Here and in the modules below what is large goes to `drop` by name: such a call is proved once, and what goes out of scope
+//! is taken apart, variant by variant, in the proof of each function that lets it.
 
 ghost use Rattle.std.specs.Prelude.{◌≡◌, ◌||◌, IfOk, IfErr};
 ghost use Rattle.std.specs.Io.KnownBytes.{Appends};
@@ -58,12 +61,15 @@ fn play_lines<W: Write>(
     for line in script.as_slice() {
         text.clear();
         let Ok(()) = play_line(&mut execution, &mut records, line, &mut text) else {
+            drop(execution);
             return Err(StopFault::Memory);
         };
         let Ok(()) = write_whole(out, text.as_slice()) else {
+            drop(execution);
             return Err(StopFault::Write);
         };
     }
+    drop(execution);
     Ok(List::from_vec(records))
 }
 

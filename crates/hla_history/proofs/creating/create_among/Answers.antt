@@ -1,4 +1,4 @@
-use Rattle.std.proofs.Common.{List, ◌++◌, ◌∷◌, [], Some, refl, sym, ◌∙◌, ap}
+use Rattle.std.proofs.Common.{List, Some, refl, sym, ◌∙◌, ap}
 use Rattle.std.specs.List.{position}
 use Rattle.std.specs.Str.{bytes_eq}
 use Rattle.hla_fed_file.specs.CatalogueValue.{CatalogueValue}
@@ -17,8 +17,8 @@ returns-in_ok-refused-in-Some-clause-ends g c =
     ∙ sym c.creation_refusal.ensures ∙ c.in-Some.is)
     (ap (λ (r : Record). r.outcome) c.in_ok-refused-in-Some.ensures.record)
 
-pub returns-else-is_err-clause-ends : goal.returns-else-is_err-clause-ends
-returns-else-is_err-clause-ends g c =
+pub returns-in_default-add-clause-ends : goal.returns-in_default-add-clause-ends
+returns-in_default-add-clause-ends g c =
     let found = c.is_some-is_there.ensures ∙ place_there c.args.executions.now.items c.args.name c.place_of.result
     (ap (λ (hs : List HostedValue). position (λ (h : HostedValue). bytes_eq c.args.name h.name) hs) (sym c.as_slice.ensures.value) ∙ sym c.place_of.ensures) in
     ends_done _ _
@@ -26,14 +26,14 @@ returns-else-is_err-clause-ends g c =
     ∙ sym c.creation_refusal.ensures ∙ c.in-None.is)
     (ap (λ (r : Record). r.outcome) c.in_ok-made-in-None.ensures.record)
 
-pub returns-else-is_err-clause-hosts : goal.returns-else-is_err-clause-hosts
-returns-else-is_err-clause-hosts g c =
+pub returns-in_default-add-clause-hosts : goal.returns-in_default-add-clause-hosts
+returns-in_default-add-clause-hosts g c =
     let found = c.is_some-is_there.ensures ∙ place_there c.args.executions.now.items c.args.name c.place_of.result
     (ap (λ (hs : List HostedValue). position (λ (h : HostedValue). bytes_eq c.args.name h.name) hs) (sym c.as_slice.ensures.value) ∙ sym c.place_of.ensures) in
-    created_hosts c.args.counts.now.creates c.args.counts.now.present _ _ c.args.executions.now.items _ c.in_ok-hosted-in-None.hosted c.args.name c.args.catalogue c.in_ok-copy-in-None.field-0 _
-    (c.in-Some-catalogue.is ∙ ap (λ (k : CatalogueValue). Some k) (sym c.in_ok-copy-in-None.ensures.ok))
-    (c.push_reserved.ensures.items ∙ ap (λ (hs : List HostedValue). hs ++ c.in_ok-hosted-in-None.hosted ∷ []) c.reserve.ensures.items)
-    c.in_ok-hosted-in-None.ensures.name c.in_ok-hosted-in-None.ensures.host
+    let added = c.in_default-add.ensures.added in
+    created_hosts c.args.counts.now.creates c.args.counts.now.present _ _ c.args.executions.now.items _ added.0 c.args.name c.args.catalogue c.in_ok-declared-in-None.declared _
+    (c.in-Some-catalogue.is ∙ ap (λ (k : CatalogueValue). Some k) (sym c.in_ok-declared-in-None.ensures.ok))
+    added.1 added.2 added.3
     (creation_absent (table_of c.args.executions.now.items c.args.name) _ _ _ (sym c.creation_refusal.ensures ∙ c.in-None.is) found)
     refl refl
     (ap (λ (r : Record). r.outcome) c.in_ok-made-in-None.ensures.record)

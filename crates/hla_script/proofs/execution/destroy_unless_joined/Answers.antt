@@ -6,4 +6,4 @@ pub returns-then-is_joined_by_any : goal.returns-then-is_joined_by_any
 returns-then-is_joined_by_any c = rw c.in-Some.is (kept_while_joined c.in-Some.here (sym c.is_joined_by_any.ensures ∙ c.if-is_joined_by_any.true))
 
 pub returns : goal.returns
-returns c = rw c.in-Some.is (destroyed_when_left c.in-Some.here (sym c.is_joined_by_any.ensures ∙ c.if-is_joined_by_any.false))
+returns c = rw (c.take.ensures.after, c.in-Some.is) (destroyed_when_left c.in-Some.here (sym c.is_joined_by_any.ensures ∙ c.if-is_joined_by_any.false))

@@ -9,15 +9,15 @@ pub returns-in-Err-clause-answered : goal.returns-in-Err-clause-answered
 returns-in-Err-clause-answered c =
     rw c.request_with_room.ensures.records (adds_none c.args.execution.now.catalogue c.args.line.now c.args.records.now.items _ _ c.print_refusal.result c.in-Err.fault c.in-Err.ensures.refused c.print_refusal.ensures)
 
-pub returns-in_ok-print_line-in-Ok-act-clause-kept : goal.returns-in_ok-print_line-in-Ok-act-clause-kept
-returns-in_ok-print_line-in-Ok-act-clause-kept c =
+pub returns-in_default-clause-kept : goal.returns-in_default-clause-kept
+returns-in_default-clause-kept c =
     rw (c.push_reserved.ensures.items, c.request_with_room.ensures.records) (keeps_more _ c.args.records.now.items _ _ c.args.execution.now.members.items _ c.in-Ok-act.record c.requires.kept c.in-Ok-act.ensures.ok)
 
-pub returns-in_ok-print_line-in-Ok-act-clause-answered : goal.returns-in_ok-print_line-in-Ok-act-clause-answered
-returns-in_ok-print_line-in-Ok-act-clause-answered c =
+pub returns-in_default-clause-answered : goal.returns-in_default-clause-answered
+returns-in_default-clause-answered c =
     let acted = c.in-Ok-act.ensures.ok in
     rw (c.push_reserved.ensures.items, c.request_with_room.ensures.records)
-    (adds_one c.args.execution.now.catalogue _ c.args.line.now c.args.records.now.items c.in-Ok.request c.in-Ok-act.record _ _ c.act.ensures.catalogue c.in-Ok.ensures.admitted acted.remembered acted.same c.in_ok-print_line-in-Ok-act.ensures.ok)
+    (adds_one c.args.execution.now.catalogue _ c.args.line.now c.args.records.now.items c.in-Ok.request c.in-Ok-act.record _ _ c.act.ensures.catalogue c.in-Ok.ensures.admitted acted.remembered acted.same c.in_default.ensures.ok)
 
 pub returns-in-Err-act-clause-answered : goal.returns-in-Err-act-clause-answered
 returns-in-Err-act-clause-answered c =

@@ -15,4 +15,5 @@ returns-clause-ok c =
     let none = none_left components_of c.args.self.now.federation (sym c.is_some.ensures ∙ c.if-is_some.false) in
     let same : c.script_record-2.result ≡ creation c.args.self.now.catalogue = c.script_record-2.ensures ∙ rw (c.requires, c.in_ok-held.ensures.ok) refl in
     let few : c.args.self.now.creates < max_creates = omega (arith, c.if-self-ge-MAX_CREATES.false) in
-    creation_acts c.args.self.now.catalogue c.args.self.now.creates _ _ c.args.self.now.members.items _ _ c.script_record-2.result few refl none (opened_components _ _ (rw c.in_ok-used.ensures.ok at c.new.ensures)) same c.clear.ensures.items
+    rw c.replace.ensures.after
+    (creation_acts c.args.self.now.catalogue c.args.self.now.creates _ _ c.args.self.now.members.items _ _ c.script_record-2.result few refl none (opened_components _ _ (rw c.in_ok-used.ensures.ok at c.new.ensures)) same c.clear.ensures.items)
