@@ -1,6 +1,6 @@
 //! Forged transcripts, which the books of all services refuse: each differs in one line from one that they take.
 
-use crate::service_books::read_services;
+use hla_service_books::read_services;
 use std::alloc::{AllocError, Global};
 use std::process::Abort;
 use std::test::Fail;
@@ -11,6 +11,31 @@ struct Scene {
     transcript: &'static str,
 }
 
+impl Scene {
+    /// Writes the transcript with another answer in place of one, by the number of its line.
+    fn write_with(
+        &self,
+        alloc: Global,
+        text: &mut String,
+        number: u32,
+        answer: &str,
+    ) -> Result<(), AllocError> {
+        let mut at = 0u32;
+        for line in self.transcript.lines() {
+            at = at.saturating_add(1);
+            let said = if at == number { answer } else { line };
+            write_line(alloc, text, at, said)?;
+        }
+        Ok(())
+    }
+}
+
+/// Adds a line of a transcript.
+fn write_line(alloc: Global, text: &mut String, at: u32, said: &str) -> Result<(), AllocError> {
+    let line = format!(in alloc; "{at} {said}\n")?;
+    text.push_str(line.as_str())
+}
+
 /// Whether a transcript is by the books with another answer in place of one, by the number of its line; 0 replaces none.
 fn is_taken_with(
     alloc: Global,
@@ -19,12 +44,7 @@ fn is_taken_with(
     answer: &str,
 ) -> Result<bool, AllocError> {
     let mut transcript = String::new(alloc);
-    let mut at = 0u32;
-    for line in scene.transcript.lines() {
-        at = at.saturating_add(1);
-        let said = if at == number { answer } else { line };
-        transcript.push_str(format!(in alloc; "{at} {said}\n")?.as_str())?;
-    }
+    scene.write_with(alloc, &mut transcript, number, answer)?;
     Ok(read_services(alloc, scene.script, transcript.as_str())?.is_some())
 }
 
