@@ -60,7 +60,8 @@ B tick
 fn is_copied(records: &List<Record>, alloc: Global) -> Result<bool, Fail> {
     let copy = records.copy()?;
     let none: List<Record> = List::new(alloc);
-    Ok(copy.is_same(records) && !copy.is_same(&none))
+    let is_same = [copy.is_same(records), copy.is_same(&none)];
+    Ok(is_same == [true, false])
 }
 
 /// How many records a script of nine lines has, and whether they are copied.
