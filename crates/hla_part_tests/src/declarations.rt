@@ -3,7 +3,7 @@ ghost use Rattle.hla_declaration.specs.Declarations.{declarations_of};
 
 use hla_base::{AttributeNo, ClassNo, FederateNo, List};
 use hla_declaration::{Declarations, Receiver};
-use hla_fed_file::read;
+use hla_fed_file::{Catalogue, read};
 use std::alloc::{AllocError, Global};
 use std::process::Abort;
 use std::test::Fail;
@@ -47,11 +47,20 @@ fn one(alloc: Global, attribute: AttributeNo) -> Result<List<AttributeNo>, Alloc
 }
 
 /// Federate 2 subscribes object classes 1 and 3, and federate 3 object class 2.
-fn subscribed(alloc: Global) -> Result<Declarations, Fail> {
-    let mut declarations = three_federates(alloc)?;
+fn subscribe(alloc: Global, declarations: &mut Declarations) -> Result<(), Fail>
+    requires federates { (declarations_of declarations.old).federates ≡ 3 }
+    requires objects { (declarations_of declarations.old).object_classes ≡ 3 }
+{
     declarations.subscribe_object_class_attributes(2, 1, one(alloc, 1)?);
     declarations.subscribe_object_class_attributes(2, 3, one(alloc, 3)?);
     declarations.subscribe_object_class_attributes(3, 2, one(alloc, 2)?);
+    Ok(())
+}
+
+/// What is declared once federates 2 and 3 have subscribed.
+fn subscribed(alloc: Global) -> Result<Declarations, Fail> {
+    let mut declarations = three_federates(alloc)?;
+    subscribe(alloc, &mut declarations)?;
     Ok(declarations)
 }
 
@@ -64,21 +73,11 @@ fn are_receivers(receivers: &[Receiver], expected: &[(FederateNo, ClassNo)]) -> 
     is_same
 }
 
-/// At which class federate 2 is served of object classes 3 and 2, and federate 1 of class 3.
-fn classes_served(alloc: Global) -> Result<[Option<ClassNo>; 3], Fail> {
-    let catalogue = read(alloc, FED)?;
-    let declarations = subscribed(alloc)?;
-    Ok([
-        declarations.object_class_served(&catalogue, 2, 3),
-        declarations.object_class_served(&catalogue, 2, 2),
-        declarations.object_class_served(&catalogue, 1, 3),
-    ])
-}
-
-#[test]
-fn is_served_at_the_most_derived_class(rt: HostRuntime) -> Result<(), Fail> {
-    assert_eq!(rt; classes_served(rt.alloc())?, [Some(3), Some(1), None]);
-    Ok(())
+/// Whether federate 2 is served of object class 3 at that class and of class 2 at class 1, and federate 1 at none.
+fn is_served(catalogue: &Catalogue, declarations: &Declarations) -> bool {
+    declarations.object_class_served(catalogue, 2, 3) == Some(3)
+        && declarations.object_class_served(catalogue, 2, 2) == Some(1)
+        && declarations.object_class_served(catalogue, 1, 3).is_none()
 }
 
 /// Whether an object of class 3 that federate 1 sends has these receivers, each at its class.
@@ -103,10 +102,17 @@ fn is_interaction_received_by(
     Ok(are_receivers(receivers.as_slice(), expected))
 }
 
+/// Whether federates 2 and 3 are served and receive what they subscribed, each at its most derived class.
+fn is_served_and_received(alloc: Global, declarations: &Declarations) -> Result<bool, Fail> {
+    let is_served = is_served(&read(alloc, FED)?, declarations);
+    Ok(is_object_received_by(alloc, declarations, &[(2, 3), (3, 2)])? && is_served)
+}
+
 #[test]
-fn receives_at_the_most_derived_class(rt: HostRuntime) -> Result<(), Fail> {
+fn is_served_at_the_most_derived_class(rt: HostRuntime) -> Result<(), Fail> {
     let declarations = subscribed(rt.alloc())?;
-    assert!(rt; is_object_received_by(rt.alloc(), &declarations, &[(2, 3), (3, 2)])?);
+    let is_right = is_served_and_received(rt.alloc(), &declarations)?;
+    assert!(rt; is_right);
     Ok(())
 }
 
@@ -115,34 +121,47 @@ fn sender_is_no_receiver(rt: HostRuntime) -> Result<(), Fail> {
     let mut declarations = three_federates(rt.alloc())?;
     declarations.subscribe_interaction_class(1, 2);
     declarations.subscribe_interaction_class(3, 1);
-    assert!(rt; is_interaction_received_by(rt.alloc(), &declarations, &[(3, 1)])?);
+    let is_received = is_interaction_received_by(rt.alloc(), &declarations, &[(3, 1)])?;
+    assert!(rt; is_received);
     Ok(())
 }
 
-/// Federate 2 has declared object class 2 and interaction class 2, and was withdrawn.
-fn withdrawn(rt: &impl Abort, alloc: Global) -> Result<Declarations, Fail> {
-    let mut declarations = three_federates(alloc)?;
+/// Federate 2 declares object class 2 and interaction class 2, and is withdrawn.
+fn withdraw(rt: &impl Abort, alloc: Global, declarations: &mut Declarations) -> Result<(), Fail>
+    requires federates { (declarations_of declarations.old).federates ≡ 3 }
+    requires objects { (declarations_of declarations.old).object_classes ≡ 3 }
+    requires interactions { (declarations_of declarations.old).interaction_classes ≡ 3 }
+{
     declarations.publish_object_class(2, 2, one(alloc, 2)?);
     declarations.subscribe_object_class_attributes(2, 2, one(alloc, 2)?);
     declarations.subscribe_interaction_class(2, 2);
     assert!(rt; declarations.publishes_attribute(2, 2, 2));
     declarations.withdraw(2);
-    Ok(declarations)
-}
-
-#[test]
-fn receives_nothing_once_withdrawn(rt: HostRuntime) -> Result<(), Fail> {
-    let declarations = withdrawn(&rt, rt.alloc())?;
-    assert!(rt; is_object_received_by(rt.alloc(), &declarations, &[])?);
-    assert!(rt; is_interaction_received_by(rt.alloc(), &declarations, &[])?);
     Ok(())
 }
 
+/// What is declared once federate 2 was withdrawn.
+fn withdrawn(rt: &impl Abort, alloc: Global) -> Result<Declarations, Fail> {
+    let mut declarations = three_federates(alloc)?;
+    withdraw(rt, alloc, &mut declarations)?;
+    Ok(declarations)
+}
+
+/// Whether neither an object nor an interaction of class 3 that federate 1 sends has a receiver.
+fn is_received_by_none(alloc: Global, declarations: &Declarations) -> Result<bool, Fail> {
+    Ok(
+        is_object_received_by(alloc, declarations, &[])?
+            && is_interaction_received_by(alloc, declarations, &[])?,
+    )
+}
+
 #[test]
-fn publishes_nothing_once_withdrawn(rt: HostRuntime) -> Result<(), Fail> {
+fn receives_and_publishes_nothing_once_withdrawn(rt: HostRuntime) -> Result<(), Fail> {
     let declarations = withdrawn(&rt, rt.alloc())?;
-    assert!(rt; !declarations.publishes_object_class(2, 2));
-    assert!(rt; declarations.federates() == 3);
+    let is_gone = is_received_by_none(rt.alloc(), &declarations)?
+        && !declarations.publishes_object_class(2, 2)
+        && declarations.federates() == 3;
+    assert!(rt; is_gone);
     Ok(())
 }
 
@@ -170,24 +189,24 @@ fn declared_at_three(declarations: &Declarations) -> [bool; 4] {
     ]
 }
 
-#[test]
-fn publishes_and_subscribes_what_was_declared(rt: HostRuntime) -> Result<(), Fail> {
-    let declarations = declared(rt.alloc())?;
-    assert_eq!(rt; declared_at_three(&declarations), [true; 4]);
-    assert!(rt; declarations.published_attributes(1, 3) == [3].as_slice());
-    assert!(rt; declarations.subscribes_attribute(1, 3, 3));
-    assert!(rt; !declarations.publishes_object_class(1, 0));
-    assert!(rt; !declarations.publishes_object_class(0, 3));
-    Ok(())
+/// Whether federate 1 has declared its attribute, and nothing of no class, and no federate 0 has.
+fn has_declared_no_more(declarations: &Declarations) -> bool {
+    declarations.published_attributes(1, 3) == [3].as_slice()
+        && declarations.subscribes_attribute(1, 3, 3)
+        && !declarations.publishes_object_class(1, 0)
+        && !declarations.publishes_object_class(0, 3)
 }
 
 #[test]
 fn declares_until_it_takes_back(rt: HostRuntime) -> Result<(), Fail> {
     let mut declarations = declared(rt.alloc())?;
+    let has_no_more = has_declared_no_more(&declarations);
+    let before = declared_at_three(&declarations);
     declarations.unpublish_object_class(1, 3);
     declarations.unpublish_interaction_class(1, 3);
     declarations.unsubscribe_object_class(1, 3);
     declarations.unsubscribe_interaction_class(1, 3);
-    assert_eq!(rt; declared_at_three(&declarations), [false; 4]);
+    let after = declared_at_three(&declarations);
+    assert!(rt; (has_no_more, before, after) == (true, [true; 4], [false; 4]));
     Ok(())
 }

@@ -1,6 +1,6 @@
 ghost use Rattle.std.specs.Prelude.{◌<◌};
 
-use hla_base::{Content, Event, FOREVER, FederateNo, Serial, Ticks};
+use hla_base::{Content, Event, FOREVER, Fault, FederateNo, Serial, Ticks};
 use hla_order_queues::{RoQueue, TsoQueue};
 use std::alloc::{AllocError, Global};
 use std::process::Abort;
@@ -84,15 +84,21 @@ fn keys_left(alloc: Global) -> Result<Vec<Key>, AllocError> {
     Ok(left)
 }
 
+/// Takes out all events of a queue, which must have these keys, in this order.
+fn take_all(rt: &impl Abort, queue: &mut TsoQueue, keys: &[Key]) {
+    assert!(rt; queue.len() == 6_666);
+    for expected in keys {
+        assert!(rt; take_least(queue) == Some(*expected));
+    }
+    assert!(rt; take_least(queue).is_none());
+}
+
 #[test]
 fn gives_what_is_left_in_the_order_of_a_sorted_list(rt: HostRuntime) -> Result<(), Fail> {
+    let keys = keys_left(rt.alloc())?;
     let mut queue = filled(rt.alloc())?;
     remove_thirds(&rt, &mut queue);
-    assert!(rt; queue.len() == 6_666);
-    for expected in &keys_left(rt.alloc())? {
-        assert!(rt; take_least(&mut queue) == Some(*expected));
-    }
-    assert!(rt; take_least(&mut queue).is_none());
+    take_all(&rt, &mut queue, keys.as_slice());
     Ok(())
 }
 
@@ -126,18 +132,6 @@ fn are_received(received: &RoQueue, expected: &[Key]) -> bool {
     is_same
 }
 
-#[test]
-fn moves_what_is_below_a_bound(rt: HostRuntime) -> Result<(), Fail> {
-    let mut queue = five_events(rt.alloc())?;
-    let mut received = one_received(rt.alloc())?;
-    assert!(rt; queue.least_stamp() == 5);
-    queue.move_below(9, &mut received)?;
-    assert!(rt; queue.len() == 1);
-    let expected = [(1, 9, 9), (5, 3, 2), (7, 1, 1), (7, 1, 2), (7, 2, 1)];
-    assert!(rt; are_received(&received, &expected));
-    Ok(())
-}
-
 /// The key of an event that is taken out of those that were received.
 fn remove_received(received: &mut RoQueue, sender: FederateNo, serial: Serial) -> Option<Key> {
     match received.remove(sender, serial) {
@@ -146,16 +140,35 @@ fn remove_received(received: &mut RoQueue, sender: FederateNo, serial: Serial) -
     }
 }
 
+/// Moves four of five events.
+fn move_four(rt: &impl Abort, queue: &mut TsoQueue, received: &mut RoQueue) -> Result<(), Fault> {
+    let least = queue.least_stamp();
+    queue.move_below(9, received)?;
+    assert!(rt; (least, queue.len()) == (5, 1));
+    let expected = [(1, 9, 9), (5, 3, 2), (7, 1, 1), (7, 1, 2), (7, 2, 1)];
+    assert!(rt; are_received(received, &expected));
+    Ok(())
+}
+
+/// Takes out one of four events, and moves the fifth.
+fn move_last(rt: &impl Abort, queue: &mut TsoQueue, received: &mut RoQueue) -> Result<(), Fault> {
+    assert!(rt; remove_received(received, 2, 1) == Some((7, 2, 1)));
+    queue.move_below(FOREVER, received)?;
+    assert!(rt; queue.least().is_none() && received.least_ordered() == 1);
+    let expected = [(1, 9, 9), (5, 3, 2), (7, 1, 1), (7, 1, 2), (9, 3, 1)];
+    assert!(rt; are_received(received, &expected));
+    Ok(())
+}
+
+/// Moves four of five events, and then the last.
+fn move_all(rt: &impl Abort, queue: &mut TsoQueue, received: &mut RoQueue) -> Result<(), Fault> {
+    move_four(rt, queue, received)?;
+    move_last(rt, queue, received)
+}
+
 #[test]
-fn moves_all_below_forever(rt: HostRuntime) -> Result<(), Fail> {
+fn moves_what_is_below_a_bound(rt: HostRuntime) -> Result<(), Fail> {
     let mut queue = five_events(rt.alloc())?;
     let mut received = one_received(rt.alloc())?;
-    queue.move_below(9, &mut received)?;
-    assert!(rt; remove_received(&mut received, 2, 1) == Some((7, 2, 1)));
-    queue.move_below(FOREVER, &mut received)?;
-    assert!(rt; queue.least().is_none());
-    assert!(rt; received.least_ordered() == 1);
-    let expected = [(1, 9, 9), (5, 3, 2), (7, 1, 1), (7, 1, 2), (9, 3, 1)];
-    assert!(rt; are_received(&received, &expected));
-    Ok(())
+    Ok(move_all(&rt, &mut queue, &mut received)?)
 }

@@ -27,24 +27,27 @@ fn take_back(sent: &mut Sent, least: Ticks, serial: Serial) -> bool {
     accepted
 }
 
+/// Which of the federates up to 39 receivers have, by a mask with a bit for each.
+fn mask(receivers: Receivers) -> u64 {
+    let mut mask = 0u64;
+    for federate in 0..40u32 {
+        if receivers.has(federate) {
+            mask |= 1 << federate;
+        }
+    }
+    mask
+}
+
 #[test]
-fn receivers_are_those_that_were_added(rt: HostRuntime) -> Result<(), Fail> {
+fn receivers_are_those_that_were_added(rt: HostRuntime) {
     let mut receivers = Receivers::new();
     receivers.add(16);
     let before = receivers;
     receivers.add(1);
     receivers.add(16);
-    let mut members = Vec::new(rt.alloc());
-    for federate in 0..40 {
-        if receivers.has(federate) {
-            members.push(federate)?;
-        }
-    }
-    assert_eq!(rt; members.as_slice(), [1, 16].as_slice());
+    assert!(rt; mask(receivers) == (1 << 16) | (1 << 1));
+    assert!(rt; mask(before) == 1 << 16);
     assert!(rt; !receivers.has(u32::MAX));
-    assert!(rt; !before.has(1));
-    assert!(rt; before.has(16));
-    Ok(())
 }
 
 #[test]
@@ -95,10 +98,13 @@ fn a_message_is_retracted_once_and_keeps_its_receivers(rt: HostRuntime) -> Resul
 fn only_a_stamp_above_the_least_is_taken_back(rt: HostRuntime) -> Result<(), Fail> {
     let mut sent = Sent::new(rt.alloc());
     sent.note(1, 20, Receivers::new())?;
-    assert!(rt; !sent.may_retract(true, 21, 1));
-    assert!(rt; !sent.may_retract(true, 20, 1));
-    assert!(rt; sent.may_retract(true, 19, 1));
-    assert!(rt; !sent.may_retract(false, 19, 1));
+    let accepted = [
+        sent.may_retract(true, 21, 1),
+        sent.may_retract(true, 20, 1),
+        sent.may_retract(true, 19, 1),
+        sent.may_retract(false, 19, 1),
+    ];
+    assert!(rt; accepted == [false, false, true, false]);
     Ok(())
 }
 

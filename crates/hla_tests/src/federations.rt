@@ -1,5 +1,5 @@
 use hla_base::{Fault, List};
-use hla_fed_file::read;
+use hla_fed_file::{Catalogue, read};
 use hla_federation::Federation;
 use hla_machine::{Answer, Service, Step};
 use hla_text_tests::FED;
@@ -11,19 +11,41 @@ fn text(alloc: Global, bytes: &[u8]) -> Result<List<u8>, Fail> {
     Ok(List::from_vec(bytes.to_vec(alloc)?))
 }
 
+/// What `FED` says.
+fn catalogue(rt: &impl Abort, alloc: Global) -> Catalogue {
+    match read(alloc, FED.as_bytes()) {
+        Ok(catalogue) => catalogue,
+        Err(_) => panic!(rt; "the FED file is refused"),
+    }
+}
+
+/// Whether a federate of this name joins.
+fn joins(federation: &mut Federation, name: List<u8>) -> bool {
+    federation.step(&Step::Join { name }).is_ok()
+}
+
+/// Two federates join.
+fn join_both(rt: &impl Abort, federation: &mut Federation, alloc: Global) -> Result<(), Fail> {
+    for name in [&b"A"[..], &b"B"[..]] {
+        let name = text(alloc, name)?;
+        assert!(rt; joins(federation, name));
+    }
+    Ok(())
+}
+
 /// A federation that two federates have joined.
 fn federation(rt: &impl Abort, alloc: Global) -> Result<Federation, Fail> {
-    let Ok(catalogue) = read(alloc, FED.as_bytes()) else {
-        panic!(rt; "the FED file is refused");
-    };
-    let mut federation = Federation::new(alloc, catalogue);
-    for name in [&b"A"[..], &b"B"[..]] {
-        let joined = federation.step(&Step::Join {
-            name: text(alloc, name)?,
-        });
-        assert!(rt; joined.is_ok());
-    }
+    let mut federation = Federation::new(alloc, catalogue(rt, alloc));
+    join_both(rt, &mut federation, alloc)?;
     Ok(federation)
+}
+
+/// The number that a look-up answers; 0 where it is refused.
+fn number_in(answer: &Result<Answer, Fault>) -> u32 {
+    match answer {
+        Ok(Answer::Handle(number)) => *number,
+        _ => 0,
+    }
 }
 
 /// The number that a look-up of the first federate answers; 0 where it is refused.
@@ -32,54 +54,86 @@ fn handle(federation: &mut Federation, service: Service) -> u32 {
         federate: 1,
         service,
     };
-    match federation.step(&step) {
-        Ok(Answer::Handle(number)) => number,
-        _ => 0,
-    }
+    number_in(&federation.step(&step))
+}
+
+fn object_class(federation: &mut Federation, alloc: Global, name: &[u8]) -> Result<u32, Fail> {
+    let name = text(alloc, name)?;
+    let service = Service::GetObjectClassHandle { name };
+    Ok(handle(federation, service))
+}
+
+fn attribute(
+    federation: &mut Federation,
+    alloc: Global,
+    name: &[u8],
+    class: u32,
+) -> Result<u32, Fail> {
+    let name = text(alloc, name)?;
+    let service = Service::GetAttributeHandle { name, class };
+    Ok(handle(federation, service))
+}
+
+fn interaction_class(federation: &mut Federation, alloc: Global, name: &[u8]) -> Result<u32, Fail> {
+    let name = text(alloc, name)?;
+    let service = Service::GetInteractionClassHandle { name };
+    Ok(handle(federation, service))
+}
+
+fn parameter(
+    federation: &mut Federation,
+    alloc: Global,
+    name: &[u8],
+    class: u32,
+) -> Result<u32, Fail> {
+    let name = text(alloc, name)?;
+    let service = Service::GetParameterHandle { name, class };
+    Ok(handle(federation, service))
+}
+
+/// The numbers of a class, an attribute of it, an interaction class and a parameter of that.
+fn looked_up(federation: &mut Federation, alloc: Global) -> Result<[u32; 4], Fail> {
+    let car = object_class(federation, alloc, b"Car")?;
+    let paint = attribute(federation, alloc, b"Paint", 2)?;
+    let hit = interaction_class(federation, alloc, b"Hit")?;
+    let force = parameter(federation, alloc, b"Force", 4)?;
+    Ok([car, paint, hit, force])
 }
 
 #[test]
 fn looks_names_up(rt: HostRuntime) -> Result<(), Fail> {
-    let alloc = rt.alloc();
-    let mut federation = federation(&rt, alloc)?;
-    let name = text(alloc, b"Car")?;
-    let car = handle(&mut federation, Service::GetObjectClassHandle { name });
-    let name = text(alloc, b"Paint")?;
-    let paint = handle(
-        &mut federation,
-        Service::GetAttributeHandle { name, class: 2 },
-    );
-    let name = text(alloc, b"Hit")?;
-    let hit = handle(&mut federation, Service::GetInteractionClassHandle { name });
-    let name = text(alloc, b"Force")?;
-    let force = handle(
-        &mut federation,
-        Service::GetParameterHandle { name, class: 4 },
-    );
-    assert!(&rt; car == 2);
-    assert!(&rt; paint == 3);
-    assert!(&rt; hit == 4);
-    assert!(&rt; force == 3);
+    let mut federation = federation(&rt, rt.alloc())?;
+    let numbers = looked_up(&mut federation, rt.alloc())?;
+    assert!(rt; numbers == [2, 3, 4, 3]);
     Ok(())
+}
+
+/// Whether a federate that joins again is refused, as is the tick of one that never joined, and the other is told nothing.
+fn are_answers(answers: &[Result<Answer, Fault>]) -> bool {
+    answers.len() == 3
+        && matches!(&answers[0], Err(Fault::FederateAlreadyExecutionMember))
+        && matches!(&answers[1], Ok(Answer::Ticked(None)))
+        && matches!(&answers[2], Err(Fault::FederateNotExecutionMember))
+}
+
+/// Whether the first federate's joining again and the ticks of the second and of a third are answered as they should be.
+fn runs(rt: &impl Abort, federation: &mut Federation, alloc: Global) -> Result<bool, Fail> {
+    let name = text(alloc, b"A")?;
+    let steps = [
+        Step::Join { name },
+        Step::Tick { federate: 2 },
+        Step::Tick { federate: 3 },
+    ];
+    match federation.run(&steps) {
+        Ok(answers) => Ok(are_answers(answers.as_slice())),
+        Err(_) => panic!(rt; "no room for the answers"),
+    }
 }
 
 #[test]
 fn runs_a_list_of_steps(rt: HostRuntime) -> Result<(), Fail> {
-    let alloc = rt.alloc();
-    let mut federation = federation(&rt, alloc)?;
-    let steps = [
-        Step::Join {
-            name: text(alloc, b"A")?,
-        },
-        Step::Tick { federate: 2 },
-        Step::Tick { federate: 3 },
-    ];
-    let Ok(answers) = federation.run(&steps) else {
-        panic!(&rt; "no room for the answers");
-    };
-    assert!(&rt; answers.len() == 3);
-    assert!(&rt; matches!(answers[0], Err(Fault::FederateAlreadyExecutionMember)));
-    assert!(&rt; matches!(answers[1], Ok(Answer::Ticked(None))));
-    assert!(&rt; matches!(answers[2], Err(Fault::FederateNotExecutionMember)));
+    let mut federation = federation(&rt, rt.alloc())?;
+    let is_right = runs(&rt, &mut federation, rt.alloc())?;
+    assert!(rt; is_right);
     Ok(())
 }

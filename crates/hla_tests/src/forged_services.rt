@@ -1,6 +1,6 @@
 //! Forged transcripts, which the books of all services refuse: each differs in one line from one that they take.
 
-use crate::service_books::read_services;
+use hla_service_books::read_services;
 use std::alloc::{AllocError, Global};
 use std::process::Abort;
 use std::test::Fail;
@@ -11,6 +11,31 @@ struct Scene {
     transcript: &'static str,
 }
 
+impl Scene {
+    /// Writes the transcript with another answer in place of one, by the number of its line.
+    fn write_with(
+        &self,
+        alloc: Global,
+        text: &mut String,
+        number: u32,
+        answer: &str,
+    ) -> Result<(), AllocError> {
+        let mut at = 0u32;
+        for line in self.transcript.lines() {
+            at = at.saturating_add(1);
+            let said = if at == number { answer } else { line };
+            write_line(alloc, text, at, said)?;
+        }
+        Ok(())
+    }
+}
+
+/// Adds a line of a transcript.
+fn write_line(alloc: Global, text: &mut String, at: u32, said: &str) -> Result<(), AllocError> {
+    let line = format!(in alloc; "{at} {said}\n")?;
+    text.push_str(line.as_str())
+}
+
 /// Whether a transcript is by the books with another answer in place of one, by the number of its line; 0 replaces none.
 fn is_taken_with(
     alloc: Global,
@@ -19,12 +44,7 @@ fn is_taken_with(
     answer: &str,
 ) -> Result<bool, AllocError> {
     let mut transcript = String::new(alloc);
-    let mut at = 0u32;
-    for line in scene.transcript.lines() {
-        at = at.saturating_add(1);
-        let said = if at == number { answer } else { line };
-        transcript.push_str(format!(in alloc; "{at} {said}\n")?.as_str())?;
-    }
+    scene.write_with(alloc, &mut transcript, number, answer)?;
     Ok(read_services(alloc, scene.script, transcript.as_str())?.is_some())
 }
 
@@ -100,34 +120,35 @@ ok requestRetraction 1.3
 ok nothing",
 };
 
+const RETRACTION_FORGERIES: [(u32, &str); 23] = [
+    (9, "error 33 InvalidRetractionHandle"),
+    (10, "ok"),
+    (12, "ok"),
+    (13, "ok 1.2"),
+    (15, "ok retraction 1.1"),
+    (16, "ok event 1.2"),
+    (16, "ok none"),
+    (20, "ok receive InteractionRoot.Hit TSO 9 1.1"),
+    (20, "ok receive InteractionRoot.Hit TSO 9 1.3"),
+    (20, "ok receive InteractionRoot.Hit TSO 2 1.2"),
+    (20, "ok receive InteractionRoot.Hit RO 1 1.2"),
+    (20, "ok receive InteractionRoot.Hit Force=1 TSO 1 1.2"),
+    (20, "ok nothing"),
+    (21, "ok receive InteractionRoot.Hit TSO 1 1.2"),
+    (21, "ok receive InteractionRoot.Hit TSO 9 1.1"),
+    (21, "ok grant 1"),
+    (22, "ok grant 9"),
+    (22, "ok grant 50"),
+    (22, "ok receive InteractionRoot.Hit TSO 9 1.1"),
+    (23, "error 33 InvalidRetractionHandle"),
+    (25, "ok nothing"),
+    (25, "ok requestRetraction 1.2"),
+    (26, "ok requestRetraction 1.3"),
+];
+
 #[test]
 fn refuses_forged_retractions(rt: HostRuntime) -> Result<(), Fail> {
-    let forgeries = [
-        (9, "error 33 InvalidRetractionHandle"),
-        (10, "ok"),
-        (12, "ok"),
-        (13, "ok 1.2"),
-        (15, "ok retraction 1.1"),
-        (16, "ok event 1.2"),
-        (16, "ok none"),
-        (20, "ok receive InteractionRoot.Hit TSO 9 1.1"),
-        (20, "ok receive InteractionRoot.Hit TSO 9 1.3"),
-        (20, "ok receive InteractionRoot.Hit TSO 2 1.2"),
-        (20, "ok receive InteractionRoot.Hit RO 1 1.2"),
-        (20, "ok receive InteractionRoot.Hit Force=1 TSO 1 1.2"),
-        (20, "ok nothing"),
-        (21, "ok receive InteractionRoot.Hit TSO 1 1.2"),
-        (21, "ok receive InteractionRoot.Hit TSO 9 1.1"),
-        (21, "ok grant 1"),
-        (22, "ok grant 9"),
-        (22, "ok grant 50"),
-        (22, "ok receive InteractionRoot.Hit TSO 9 1.1"),
-        (23, "error 33 InvalidRetractionHandle"),
-        (25, "ok nothing"),
-        (25, "ok requestRetraction 1.2"),
-        (26, "ok requestRetraction 1.3"),
-    ];
-    check_forgeries(&rt, rt.alloc(), &RETRACTION, &forgeries)
+    check_forgeries(&rt, rt.alloc(), &RETRACTION, &RETRACTION_FORGERIES)
 }
 
 /// A leaves regulation and comes back while its FOREVER is still under way: B may not take that for the new epoch's.
@@ -190,32 +211,33 @@ ok receive InteractionRoot.Hit TSO 20 1.1
 ok grant 20",
 };
 
+const EPOCH_FORGERIES: [(u32, &str); 21] = [
+    (5, "ok regulationEnabled 1"),
+    (6, "ok null 2"),
+    (11, "error 27 TimeRegulationWasNotEnabled"),
+    (13, "ok forever"),
+    (15, "ok null 1"),
+    (16, "ok forever"),
+    (17, "ok receive InteractionRoot.Hit TSO 20 1.1"),
+    (17, "ok grant 20"),
+    (18, "ok null forever"),
+    (21, "ok 20"),
+    (21, "ok 22"),
+    (21, "ok none"),
+    (22, "ok 1.2"),
+    (23, "ok 1.3"),
+    (23, "error 21 InvalidFederationTime"),
+    (25, "ok forever"),
+    (26, "ok 21"),
+    (27, "ok nothing"),
+    (27, "ok grant 20"),
+    (28, "ok grant 21"),
+    (28, "ok receive InteractionRoot.Hit TSO 20 1.1"),
+];
+
 #[test]
 fn refuses_forged_epochs(rt: HostRuntime) -> Result<(), Fail> {
-    let forgeries = [
-        (5, "ok regulationEnabled 1"),
-        (6, "ok null 2"),
-        (11, "error 27 TimeRegulationWasNotEnabled"),
-        (13, "ok forever"),
-        (15, "ok null 1"),
-        (16, "ok forever"),
-        (17, "ok receive InteractionRoot.Hit TSO 20 1.1"),
-        (17, "ok grant 20"),
-        (18, "ok null forever"),
-        (21, "ok 20"),
-        (21, "ok 22"),
-        (21, "ok none"),
-        (22, "ok 1.2"),
-        (23, "ok 1.3"),
-        (23, "error 21 InvalidFederationTime"),
-        (25, "ok forever"),
-        (26, "ok 21"),
-        (27, "ok nothing"),
-        (27, "ok grant 20"),
-        (28, "ok grant 21"),
-        (28, "ok receive InteractionRoot.Hit TSO 20 1.1"),
-    ];
-    check_forgeries(&rt, rt.alloc(), &EPOCH, &forgeries)
+    check_forgeries(&rt, rt.alloc(), &EPOCH, &EPOCH_FORGERIES)
 }
 
 /// A announces twice before anything is carried: its second null message takes the place of the first, and the third lies behind
@@ -253,19 +275,20 @@ ok null 8
 ok none",
 };
 
+const NEWEST_NULL_FORGERIES: [(u32, &str); 8] = [
+    (12, "ok null 1"),
+    (12, "ok null 8"),
+    (12, "ok event 1.1"),
+    (13, "ok null 6"),
+    (13, "ok null 8"),
+    (14, "ok null 6"),
+    (14, "ok none"),
+    (15, "ok null 8"),
+];
+
 #[test]
 fn refuses_forged_nulls(rt: HostRuntime) -> Result<(), Fail> {
-    let forgeries = [
-        (12, "ok null 1"),
-        (12, "ok null 8"),
-        (12, "ok event 1.1"),
-        (13, "ok null 6"),
-        (13, "ok null 8"),
-        (14, "ok null 6"),
-        (14, "ok none"),
-        (15, "ok null 8"),
-    ];
-    check_forgeries(&rt, rt.alloc(), &NEWEST_NULL, &forgeries)
+    check_forgeries(&rt, rt.alloc(), &NEWEST_NULL, &NEWEST_NULL_FORGERIES)
 }
 
 /// A and B wait for each other's next events, each by bounds that are stale, and C comes to regulate.
@@ -338,33 +361,34 @@ ok grant 6
 ok 6",
 };
 
+const NEXT_EVENT_FORGERIES: [(u32, &str); 22] = [
+    (11, "ok nothing"),
+    (17, "ok 5"),
+    (17, "ok 7"),
+    (19, "ok 12"),
+    (19, "ok 7"),
+    (19, "ok none"),
+    (21, "ok nothing"),
+    (21, "ok grant 6"),
+    (22, "ok 1.1"),
+    (23, "ok 1.2"),
+    (23, "ok"),
+    (25, "ok grant 10"),
+    (25, "ok grant 6"),
+    (25, "ok receive InteractionRoot.Hit Force=7 TSO 6 1.1"),
+    (29, "ok grant 6"),
+    (29, "ok receive InteractionRoot.Hit Force=8 TSO 6 1.1"),
+    (29, "ok receive InteractionRoot.Hit Force=7 TSO 7 1.1"),
+    (31, "ok regulationEnabled 0"),
+    (31, "ok regulationEnabled 7"),
+    (32, "ok grant 10"),
+    (32, "ok nothing"),
+    (33, "ok 10"),
+];
+
 #[test]
 fn refuses_forged_next_events(rt: HostRuntime) -> Result<(), Fail> {
-    let forgeries = [
-        (11, "ok nothing"),
-        (17, "ok 5"),
-        (17, "ok 7"),
-        (19, "ok 12"),
-        (19, "ok 7"),
-        (19, "ok none"),
-        (21, "ok nothing"),
-        (21, "ok grant 6"),
-        (22, "ok 1.1"),
-        (23, "ok 1.2"),
-        (23, "ok"),
-        (25, "ok grant 10"),
-        (25, "ok grant 6"),
-        (25, "ok receive InteractionRoot.Hit Force=7 TSO 6 1.1"),
-        (29, "ok grant 6"),
-        (29, "ok receive InteractionRoot.Hit Force=8 TSO 6 1.1"),
-        (29, "ok receive InteractionRoot.Hit Force=7 TSO 7 1.1"),
-        (31, "ok regulationEnabled 0"),
-        (31, "ok regulationEnabled 7"),
-        (32, "ok grant 10"),
-        (32, "ok nothing"),
-        (33, "ok 10"),
-    ];
-    check_forgeries(&rt, rt.alloc(), &NEXT_EVENT, &forgeries)
+    check_forgeries(&rt, rt.alloc(), &NEXT_EVENT, &NEXT_EVENT_FORGERIES)
 }
 
 /// B is told of an object, of an update's part in receive order and then of its other part.
@@ -399,25 +423,26 @@ ok reflect 1 Pos=1 RO
 ok nothing",
 };
 
+const RECEIVE_ORDER_FORGERIES: [(u32, &str); 14] = [
+    (8, "ok nothing"),
+    (8, "ok discover 2 ObjectRoot.Car object-1"),
+    (10, "ok event 1.2"),
+    (10, "ok event 1.3"),
+    (10, "ok removal 1.1"),
+    (11, "ok event 1.1"),
+    (12, "ok nothing"),
+    (12, "ok reflect 1 Pos=1 RO"),
+    (12, "ok reflect 1 Paint=blue RO"),
+    (12, "ok reflect 2 Paint=red RO"),
+    (12, "ok remove 1 RO"),
+    (13, "ok reflect 1 Paint=red RO"),
+    (14, "ok reflect 1 Pos=1 RO"),
+    (14, ""),
+];
+
 #[test]
 fn refuses_forged_updates(rt: HostRuntime) -> Result<(), Fail> {
-    let forgeries = [
-        (8, "ok nothing"),
-        (8, "ok discover 2 ObjectRoot.Car object-1"),
-        (10, "ok event 1.2"),
-        (10, "ok event 1.3"),
-        (10, "ok removal 1.1"),
-        (11, "ok event 1.1"),
-        (12, "ok nothing"),
-        (12, "ok reflect 1 Pos=1 RO"),
-        (12, "ok reflect 1 Paint=blue RO"),
-        (12, "ok reflect 2 Paint=red RO"),
-        (12, "ok remove 1 RO"),
-        (13, "ok reflect 1 Paint=red RO"),
-        (14, "ok reflect 1 Pos=1 RO"),
-        (14, ""),
-    ];
-    check_forgeries(&rt, rt.alloc(), &RECEIVE_ORDER, &forgeries)
+    check_forgeries(&rt, rt.alloc(), &RECEIVE_ORDER, &RECEIVE_ORDER_FORGERIES)
 }
 
 #[test]
@@ -477,27 +502,28 @@ ok remove 1 RO 7 1.3
 ok nothing",
 };
 
+const OBJECT_FORGERIES: [(u32, &str); 18] = [
+    (4, "ok 2 object-2"),
+    (7, "ok null 1"),
+    (10, "ok constrainedEnabled 0"),
+    (10, "ok discover 2 ObjectRoot.Car object-1"),
+    (12, "ok 1.1"),
+    (12, "ok"),
+    (14, "ok event 1.2"),
+    (16, "ok event 1.3"),
+    (16, "ok none"),
+    (17, "ok reflect 1 Paint=red RO"),
+    (19, "ok nothing"),
+    (19, "ok reflect 1 Pos=3 RO 5 1.2"),
+    (20, "ok reflect 1 Pos=3 TSO 5 1.2"),
+    (20, "ok reflect 1 Pos=3 RO 6 1.2"),
+    (20, "ok reflect 2 Pos=3 RO 5 1.2"),
+    (21, "ok remove 1 RO"),
+    (21, "ok receive InteractionRoot.Hit RO 7 1.3"),
+    (22, "ok remove 1 RO 7 1.3"),
+];
+
 #[test]
 fn refuses_forged_objects(rt: HostRuntime) -> Result<(), Fail> {
-    let forgeries = [
-        (4, "ok 2 object-2"),
-        (7, "ok null 1"),
-        (10, "ok constrainedEnabled 0"),
-        (10, "ok discover 2 ObjectRoot.Car object-1"),
-        (12, "ok 1.1"),
-        (12, "ok"),
-        (14, "ok event 1.2"),
-        (16, "ok event 1.3"),
-        (16, "ok none"),
-        (17, "ok reflect 1 Paint=red RO"),
-        (19, "ok nothing"),
-        (19, "ok reflect 1 Pos=3 RO 5 1.2"),
-        (20, "ok reflect 1 Pos=3 TSO 5 1.2"),
-        (20, "ok reflect 1 Pos=3 RO 6 1.2"),
-        (20, "ok reflect 2 Pos=3 RO 5 1.2"),
-        (21, "ok remove 1 RO"),
-        (21, "ok receive InteractionRoot.Hit RO 7 1.3"),
-        (22, "ok remove 1 RO 7 1.3"),
-    ];
-    check_forgeries(&rt, rt.alloc(), &OBJECT, &forgeries)
+    check_forgeries(&rt, rt.alloc(), &OBJECT, &OBJECT_FORGERIES)
 }

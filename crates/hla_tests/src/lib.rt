@@ -3,32 +3,16 @@
 #![tactic(auto)]
 
 #[cfg(test)]
-mod clocks;
-#[cfg(test)]
-mod copies;
-#[cfg(test)]
 mod federations;
 #[cfg(test)]
 mod forged_services;
 #[cfg(test)]
-mod members;
-#[cfg(test)]
 mod newcomer_run;
-#[cfg(test)]
-mod object_books;
 #[cfg(test)]
 mod playing;
 #[cfg(test)]
 mod random_scripts;
 #[cfg(test)]
-mod receivers;
-#[cfg(test)]
 mod scenarios;
 #[cfg(test)]
-mod service_books;
-#[cfg(test)]
 mod service_scripts;
-#[cfg(test)]
-mod texts;
-#[cfg(test)]
-mod time_books;

@@ -7,6 +7,7 @@ use hla_federation::Federation;
 use hla_machine::{Answer, Carried, Service, Step};
 use hla_text_tests::FED;
 use std::alloc::{AllocError, Global};
+use std::process::Abort;
 use std::test::Fail;
 
 /// The number of the interaction class `Hit`.
@@ -117,26 +118,44 @@ impl Scene {
         };
         self.step(step, Ok(Answer::Time(50)))
     }
+
+    fn play(&mut self) -> Result<(), AllocError> {
+        self.begin()?;
+        self.enter()
+    }
 }
 
-#[test]
-fn runs_the_newcomer(rt: HostRuntime) -> Result<(), Fail> {
-    let alloc = rt.alloc();
+/// The scene of the newcomer.
+fn newcomer(alloc: Global) -> Result<Scene, AllocError> {
     let mut scene = Scene {
         alloc,
         steps: Vec::new(alloc),
         answers: Vec::new(alloc),
     };
-    scene.begin()?;
-    scene.enter()?;
-    let Ok(catalogue) = read(alloc, FED.as_bytes()) else {
-        panic!(&rt; "the FED file is refused");
-    };
-    let mut federation = Federation::new(alloc, catalogue);
+    scene.play()?;
+    Ok(scene)
+}
+
+/// A federation with `FED`.
+fn federation(rt: &impl Abort, alloc: Global) -> Federation {
+    match read(alloc, FED.as_bytes()) {
+        Ok(catalogue) => Federation::new(alloc, catalogue),
+        Err(_) => panic!(rt; "the FED file is refused"),
+    }
+}
+
+/// Gives a federation the steps of a scene, which it must answer as the scene says.
+fn check_scene(rt: &impl Abort, scene: &Scene, federation: &mut Federation) {
     let Ok(answers) = federation.run(scene.steps.as_slice()) else {
-        panic!(&rt; "no room for the answers");
+        panic!(rt; "no room for the answers");
     };
-    assert_eq!(&rt; answers.len(), 21);
-    assert_eq!(&rt; answers.as_slice(), scene.answers.as_slice());
+    assert_eq!(rt; answers.len(), 21);
+    assert!(rt; answers.as_slice() == scene.answers.as_slice());
+}
+
+#[test]
+fn runs_the_newcomer(rt: HostRuntime) -> Result<(), Fail> {
+    let scene = newcomer(rt.alloc())?;
+    check_scene(&rt, &scene, &mut federation(&rt, rt.alloc()));
     Ok(())
 }

@@ -1,4 +1,5 @@
 use hla_base::{List, MAX_HISTORY, Plain};
+use hla_machine::Record;
 use hla_script::{PlayFault, Watched, play};
 use hla_text_tests::FED;
 use std::alloc::Global;
@@ -8,7 +9,7 @@ use std::process::Abort;
 use std::test::Fail;
 
 /// What a script prints over `FED`.
-pub fn transcript_of(rt: &impl Abort, alloc: Global, script: &str) -> Result<String, Fail> {
+fn transcript_of(rt: &impl Abort, alloc: Global, script: &str) -> Result<String, Fail> {
     let mut out = Vec::new(alloc);
     let _ = play(
         alloc,
@@ -22,9 +23,16 @@ pub fn transcript_of(rt: &impl Abort, alloc: Global, script: &str) -> Result<Str
     }
 }
 
+/// A script over `FED` must print this.
+pub fn prints(rt: &impl Abort, alloc: Global, script: &str, transcript: &str) -> Result<(), Fail> {
+    let text = transcript_of(rt, alloc, script)?;
+    assert_eq!(rt; text.as_str(), transcript);
+    Ok(())
+}
+
 #[test]
 fn receives_at_the_subscribed_ancestor(rt: HostRuntime) -> Result<(), Fail> {
-    let text = transcript_of(
+    prints(
         &rt,
         rt.alloc(),
         "create
@@ -36,9 +44,6 @@ A send Memo Text=a Extra=b
 carry A B
 B tick
 ",
-    )?;
-    assert_eq!(rt;
-        text.as_str(),
         "1 ok
 2 ok 1
 3 ok 2
@@ -47,31 +52,42 @@ B tick
 6 ok
 7 ok event 1.1
 8 ok receive InteractionRoot.Note Text=a RO
-"
-    );
-    Ok(())
+",
+    )
 }
 
-#[test]
-fn copies_its_records(rt: HostRuntime) -> Result<(), Fail> {
-    let mut out = Vec::new(rt.alloc());
+/// Whether a copy of a list of records is the same, and an empty list is not.
+fn is_copied(records: &List<Record>, alloc: Global) -> Result<bool, Fail> {
+    let copy = records.copy()?;
+    let none: List<Record> = List::new(alloc);
+    let is_same = [copy.is_same(records), copy.is_same(&none)];
+    Ok(is_same == [true, false])
+}
+
+/// How many records a script of nine lines has, and whether they are copied.
+fn played_and_copied(alloc: Global) -> Result<(usize, bool), Fail> {
+    let mut out = Vec::new(alloc);
     let records = play(
-        rt.alloc(),
+        alloc,
         FED.as_bytes(),
         b"create\ncreate\njoin A\njoin B\nA publishInteraction Hit\nB subscribeInteraction Hit\nA send Hit Force=7\ncarry A B\nB tick\n",
         &mut Watched::new(&mut out),
     )?;
-    assert_eq!(rt; records.len(), 9);
-    let copy = records.copy()?;
-    assert!(rt; copy.is_same(&records));
-    let other: List<hla_machine::Record> = List::new(rt.alloc());
-    assert!(rt; !copy.is_same(&other));
+    let is_copied = is_copied(&records, alloc)?;
+    Ok((records.len(), is_copied))
+}
+
+#[test]
+fn copies_its_records(rt: HostRuntime) -> Result<(), Fail> {
+    let (count, is_copied) = played_and_copied(rt.alloc())?;
+    assert_eq!(rt; count, 9);
+    assert!(rt; is_copied);
     Ok(())
 }
 
 #[test]
 fn gives_nothing_back_to_the_sender(rt: HostRuntime) -> Result<(), Fail> {
-    let text = transcript_of(
+    prints(
         &rt,
         rt.alloc(),
         "create
@@ -86,9 +102,6 @@ A tick
 B tick
 B tick
 ",
-    )?;
-    assert_eq!(rt;
-        text.as_str(),
         "1 ok
 2 ok 1
 3 ok 2
@@ -100,14 +113,13 @@ B tick
 9 ok nothing
 10 ok receive InteractionRoot.Hit RO
 11 ok nothing
-"
-    );
-    Ok(())
+",
+    )
 }
 
 #[test]
 fn refuses_by_number_and_name(rt: HostRuntime) -> Result<(), Fail> {
-    let text = transcript_of(
+    prints(
         &rt,
         rt.alloc(),
         "# a comment
@@ -129,9 +141,6 @@ C send Wrong
 A send Hit Force=\r
 carry\tA  A
 ",
-    )?;
-    assert_eq!(rt;
-        text.as_str(),
         "3 error 2 FederationExecutionDoesNotExist
 4 error 6 FederateNotExecutionMember
 5 error 6 FederateNotExecutionMember
@@ -148,14 +157,13 @@ carry\tA  A
 16 error 6 FederateNotExecutionMember
 17 ok
 18 error 6 FederateNotExecutionMember
-"
-    );
-    Ok(())
+",
+    )
 }
 
 #[test]
 fn tests_names_before_the_step(rt: HostRuntime) -> Result<(), Fail> {
-    let text = transcript_of(
+    prints(
         &rt,
         rt.alloc(),
         "create
@@ -174,21 +182,28 @@ A update 1 Car Text=a
 A update 1 ObjectRoot Pos=1
 B update 1 Car Text=a
 ",
-    )?;
-    for (at, line) in text.as_str().lines().enumerate() {
-        let want = match at {
-            0..=1 => "ok",
-            14 => "error 6 FederateNotExecutionMember",
-            _ => "error 34 NameNotFound",
-        };
-        assert!(rt; line.contains(want), "{line}");
-    }
-    Ok(())
+        "1 ok
+2 ok 1
+3 error 34 NameNotFound
+4 error 34 NameNotFound
+5 error 34 NameNotFound
+6 error 34 NameNotFound
+7 error 34 NameNotFound
+8 error 34 NameNotFound
+9 error 34 NameNotFound
+10 error 34 NameNotFound
+11 error 34 NameNotFound
+12 error 34 NameNotFound
+13 error 34 NameNotFound
+14 error 34 NameNotFound
+15 error 6 FederateNotExecutionMember
+",
+    )
 }
 
 #[test]
 fn creates_and_destroys(rt: HostRuntime) -> Result<(), Fail> {
-    let text = transcript_of(
+    prints(
         &rt,
         rt.alloc(),
         "destroy
@@ -204,9 +219,6 @@ destroy
 create
 A tick
 ",
-    )?;
-    assert_eq!(rt;
-        text.as_str(),
         "1 error 2 FederationExecutionDoesNotExist
 2 ok
 3 ok
@@ -219,30 +231,51 @@ A tick
 10 error 3 FederatesCurrentlyJoined
 11 error 1 FederationExecutionAlreadyExists
 12 ok nothing
-"
-    );
+",
+    )
+}
+
+/// A script must print a text that ends with this.
+fn prints_last(rt: &impl Abort, alloc: Global, script: &str, last: &str) -> Result<(), Fail> {
+    let text = transcript_of(rt, alloc, script)?;
+    assert!(rt; text.as_str().ends_with(last), "not at the end: {last}");
     Ok(())
 }
 
-#[test]
-fn creates_sixty_four_times(rt: HostRuntime) -> Result<(), Fail> {
-    let mut script = String::new(rt.alloc());
+/// A script that creates 65 times, and destroys but for the last time, which is refused.
+fn sixty_five_creations(alloc: Global) -> Result<String, Fail> {
+    let mut script = String::new(alloc);
     for _ in 0..64 {
         script.push_str("create\ncreate\ndestroy\n")?;
     }
     script.push_str("create\njoin A\n")?;
-    let text = transcript_of(&rt, rt.alloc(), script.as_str())?;
-    assert!(rt;
-        text.as_str().ends_with(
-            "190 ok
+    Ok(script)
+}
+
+#[test]
+fn creates_sixty_four_times(rt: HostRuntime) -> Result<(), Fail> {
+    let script = sixty_five_creations(rt.alloc())?;
+    prints_last(
+        &rt,
+        rt.alloc(),
+        script.as_str(),
+        "190 ok
 191 error 1 FederationExecutionAlreadyExists
 192 ok
 193 error 36 LimitReached
 194 error 2 FederationExecutionDoesNotExist
-"
-        )
-    );
-    Ok(())
+",
+    )
+}
+
+/// A script whose last line is this, with a value of so many bytes.
+fn script_of_value(alloc: Global, line: &str, len: usize) -> Result<String, Fail> {
+    let mut script = String::from_str(alloc, "create\njoin A\njoin B\nA publishInteraction Hit\n")?;
+    script.push_str(line)?;
+    for _ in 0..len {
+        script.push_str("x")?;
+    }
+    Ok(script)
 }
 
 #[test]
@@ -253,79 +286,88 @@ fn refuses_values_of_1025_bytes(rt: HostRuntime) -> Result<(), Fail> {
         (1025, "A update 9 Car Pos=", "5 error 36 LimitReached\n"),
         (1025, "A update 9 Car Text=", "5 error 34 NameNotFound\n"),
     ] {
-        let mut script = String::from_str(
-            rt.alloc(),
-            "create\njoin A\njoin B\nA publishInteraction Hit\n",
-        )?;
-        script.push_str(line)?;
-        for _ in 0..len {
-            script.push_str("x")?;
-        }
-        let text = transcript_of(&rt, rt.alloc(), script.as_str())?;
-        assert!(rt; text.as_str().ends_with(want), "{line} at {len}");
+        let script = script_of_value(rt.alloc(), line, len)?;
+        prints_last(&rt, rt.alloc(), script.as_str(), want)?;
     }
     Ok(())
 }
 
-#[test]
-fn fills_the_history(rt: HostRuntime) -> Result<(), Fail> {
-    let mut script = String::from_str(rt.alloc(), "create\n")?;
+/// A script of as many steps as the history has room for, and a joining, a tick and a send of a class that there is not.
+fn full_history(alloc: Global) -> Result<String, Fail> {
+    let mut script = String::from_str(alloc, "create\n")?;
     for _ in 0..MAX_HISTORY {
         script.push_str("join \x41\n")?;
     }
     script.push_str("B tick\nA send Wrong")?;
+    Ok(script)
+}
+
+/// Whether a text has this beginning and this end.
+fn is_between(text: &str, first: &str, last: &str) -> bool {
+    text.starts_with(first) && text.ends_with(last)
+}
+
+#[test]
+fn fills_the_history(rt: HostRuntime) -> Result<(), Fail> {
+    let script = full_history(rt.alloc())?;
     let text = transcript_of(&rt, rt.alloc(), script.as_str())?;
-    assert!(rt;
-        text.as_str()
-            .starts_with("1 ok\n2 ok 1\n3 error 5 FederateAlreadyExecutionMember\n")
-    );
-    assert!(rt;
-        text.as_str().ends_with(
-            "32768 error 5 FederateAlreadyExecutionMember
+    let is_filled = is_between(
+        text.as_str(),
+        "1 ok\n2 ok 1\n3 error 5 FederateAlreadyExecutionMember\n",
+        "32768 error 5 FederateAlreadyExecutionMember
 32769 error 37 HistoryFull
 32770 error 6 FederateNotExecutionMember
 32771 error 34 NameNotFound
-"
-        )
+",
     );
+    assert!(rt; is_filled);
     Ok(())
+}
+
+/// How many records a script has over a FED file, and how many bytes it prints.
+fn counts_of(alloc: Global, fed: &[u8], script: &[u8]) -> Result<(usize, usize), Fail> {
+    let mut out = Vec::new(alloc);
+    let records = play(alloc, fed, script, &mut Watched::new(&mut out))?;
+    Ok((records.len(), out.len()))
 }
 
 #[test]
 fn plays_nothing(rt: HostRuntime) -> Result<(), Fail> {
-    let mut out = Vec::new(rt.alloc());
-    let records = play(rt.alloc(), b"(FED)", b"", &mut Watched::new(&mut out))?;
-    assert_eq!(rt; records.len(), 0);
-    assert_eq!(rt; out.len(), 0);
+    let (records, bytes) = counts_of(rt.alloc(), b"(FED)", b"")?;
+    assert_eq!(rt; records, 0);
+    assert_eq!(rt; bytes, 0);
     Ok(())
 }
 
-#[test]
-fn tests_the_fed_file_first(rt: HostRuntime) -> Result<(), Fail> {
-    let mut out = Vec::new(rt.alloc());
-    match play(
-        rt.alloc(),
-        b"(FED\n(objects\n(class Ob",
-        b"frobnicate",
-        &mut Watched::new(&mut out),
-    ) {
-        Err(PlayFault::Fed(fault)) => {
-            assert_eq!(rt; fault.line, 3);
-            assert_eq!(rt; fault.kind.name(), "UnexpectedEnd");
-        }
+/// In which line a FED file is refused, and how the fault is called.
+fn fed_fault(
+    rt: &impl Abort,
+    alloc: Global,
+    out: &mut Vec<u8>,
+    fed: &[u8],
+) -> (usize, &'static str) {
+    match play(alloc, fed, b"frobnicate", &mut Watched::new(out)) {
+        Err(PlayFault::Fed(fault)) => (fault.line, fault.kind.name()),
         _ => panic!(rt; "the FED file is not refused"),
     }
-    match play(
-        rt.alloc(),
-        b"(FED)",
-        b"create\ntick",
-        &mut Watched::new(&mut out),
-    ) {
-        Err(PlayFault::Script(fault)) => assert_eq!(rt; fault.line, 2),
+}
+
+/// In which line a script is refused.
+fn script_fault(rt: &impl Abort, alloc: Global, out: &mut Vec<u8>, script: &[u8]) -> usize {
+    match play(alloc, b"(FED)", script, &mut Watched::new(out)) {
+        Err(PlayFault::Script(fault)) => fault.line,
         _ => panic!(rt; "the script is not refused"),
     }
+}
+
+#[test]
+fn tests_the_fed_file_first(rt: HostRuntime) {
+    let mut out = Vec::new(rt.alloc());
+    let (line, kind) = fed_fault(&rt, rt.alloc(), &mut out, b"(FED\n(objects\n(class Ob");
+    assert_eq!(rt; line, 3);
+    assert_eq!(rt; kind, "UnexpectedEnd");
+    assert_eq!(rt; script_fault(&rt, rt.alloc(), &mut out, b"create\ntick"), 2);
     assert_eq!(rt; out.len(), 0);
-    Ok(())
 }
 
 /// A writer that takes at most three bytes at a time, and fails once it has taken so many.
@@ -350,32 +392,32 @@ impl Write for Narrow {
     }
 }
 
-#[test]
-fn writes_all_or_says_so(rt: HostRuntime) -> Result<(), Fail> {
+/// How many records a script of three lines has that is printed to a narrow writer; none where that fails.
+fn count_narrow(rt: &impl Abort, alloc: Global, out: &mut Narrow) -> Option<usize> {
     let script = b"create\njoin A\ncreate";
+    match play(
+        alloc,
+        FED.as_bytes(),
+        script.as_slice(),
+        &mut Watched::new(out),
+    ) {
+        Ok(records) => Some(records.len()),
+        Err(PlayFault::Write) => None,
+        Err(_) => panic!(rt; "refused"),
+    }
+}
+
+#[test]
+fn writes_all_or_says_so(rt: HostRuntime) {
     let mut out = Narrow {
         taken: 0,
         room: 1000,
     };
-    let records = play(
-        rt.alloc(),
-        FED.as_bytes(),
-        script.as_slice(),
-        &mut Watched::new(&mut out),
-    )?;
-    assert_eq!(rt; records.len(), 3);
+    assert!(rt; count_narrow(&rt, rt.alloc(), &mut out) == Some(3));
     assert_eq!(rt;
         out.taken,
         "1 ok\n2 ok 1\n3 error 1 FederationExecutionAlreadyExists\n".len()
     );
     let mut full = Narrow { taken: 0, room: 8 };
-    match play(
-        rt.alloc(),
-        FED.as_bytes(),
-        script.as_slice(),
-        &mut Watched::new(&mut full),
-    ) {
-        Err(PlayFault::Write) => Ok(()),
-        _ => panic!(rt; "the failed write is not told"),
-    }
+    assert!(rt; count_narrow(&rt, rt.alloc(), &mut full).is_none());
 }

@@ -1,7 +1,7 @@
 //! Random scripts in receive order, read beside the books of all services.
 
-use crate::service_books::read_services;
 use hla_script::{Watched, play};
+use hla_service_books::read_services;
 use hla_text_tests::FED;
 use std::alloc::{AllocError, Global};
 use std::ops::Range;
@@ -180,31 +180,47 @@ fn add_line(script: &mut String, numbers: &mut Numbers, line: &str) -> Result<()
     script.push_str("\n")
 }
 
-/// The script of a seed, of some thirty lines.
-fn script_of(alloc: Global, seed: u64) -> Result<String, AllocError> {
+/// Adds lines, in their order.
+fn add_lines(script: &mut String, numbers: &mut Numbers, lines: &[&str]) -> Result<(), AllocError> {
+    for line in lines {
+        add_line(script, numbers, line)?;
+    }
+    Ok(())
+}
+
+/// Adds so many of some lines, as they are picked.
+fn add_picked(
+    script: &mut String,
+    numbers: &mut Numbers,
+    lines: &'static [&'static str],
+    count: u32,
+) -> Result<(), AllocError> {
+    for _ in 0..count {
+        let line = numbers.pick(lines);
+        add_line(script, numbers, line)?;
+    }
+    Ok(())
+}
+
+/// Adds the lines of a seed, some thirty.
+fn add_all(script: &mut String, seed: u64) -> Result<(), AllocError> {
     let mut numbers = Numbers::of(seed);
-    let mut script = String::new(alloc);
-    for line in OPENING {
-        add_line(&mut script, &mut numbers, line)?;
-    }
+    add_lines(script, &mut numbers, &OPENING)?;
     if seed % 2 == 1 {
-        for line in SETTING {
-            add_line(&mut script, &mut numbers, line)?;
-        }
+        add_lines(script, &mut numbers, &SETTING)?;
     }
-    for _ in 0..9 {
-        let line = numbers.pick(DECLARATIONS);
-        add_line(&mut script, &mut numbers, line)?;
-    }
-    for _ in 0..24 {
-        let line = numbers.pick(LINES);
-        add_line(&mut script, &mut numbers, line)?;
-    }
+    add_picked(script, &mut numbers, DECLARATIONS, 9)?;
+    add_picked(script, &mut numbers, LINES, 24)?;
     if seed % 4 == 0 {
-        for line in ENDING {
-            add_line(&mut script, &mut numbers, line)?;
-        }
+        add_lines(script, &mut numbers, &ENDING)?;
     }
+    Ok(())
+}
+
+/// The script of a seed.
+fn script_of(alloc: Global, seed: u64) -> Result<String, AllocError> {
+    let mut script = String::new(alloc);
+    add_all(&mut script, seed)?;
     Ok(script)
 }
 
@@ -215,33 +231,57 @@ pub fn transcript(alloc: Global, script: &[u8]) -> Result<Vec<u8>, Fail> {
     Ok(out)
 }
 
-/// Plays a script twice, and then up to each of its lines. Answers how many callbacks it told.
-fn check_script(rt: &impl Abort, alloc: Global, script: &[u8]) -> Result<u32, Fail> {
-    let whole = transcript(alloc, script)?;
-    let again = transcript(alloc, script)?;
-    assert!(rt; whole.as_slice() == again.as_slice());
-    let tally = match (str::from_utf8(script), str::from_utf8(whole.as_slice())) {
+/// Whether a script prints this.
+fn is_printed(alloc: Global, script: &[u8], text: &[u8]) -> Result<bool, Fail> {
+    Ok(transcript(alloc, script)?.as_slice() == text)
+}
+
+/// Whether a script prints what a text begins with.
+fn is_beginning(alloc: Global, script: &[u8], text: &[u8]) -> Result<bool, Fail> {
+    Ok(text.starts_with(transcript(alloc, script)?.as_slice()))
+}
+
+/// Plays a script up to each of its lines, which must print what its transcript begins with.
+fn check_parts(rt: &impl Abort, alloc: Global, script: &[u8], whole: &[u8]) -> Result<(), Fail> {
+    for (at, byte) in script.iter().enumerate() {
+        if *byte == b'\n' {
+            assert!(rt; is_beginning(alloc, &script[..at + 1], whole)?);
+        }
+    }
+    Ok(())
+}
+
+/// How many callbacks a transcript tells, which must be by the books.
+fn count_told(rt: &impl Abort, alloc: Global, script: &[u8], whole: &[u8]) -> Result<u32, Fail> {
+    let tally = match (str::from_utf8(script), str::from_utf8(whole)) {
         (Ok(script), Ok(whole)) => read_services(alloc, script, whole)?,
         _ => None,
     };
-    let Some(tally) = tally else {
-        panic!(rt; "not by the books: {script:?}")
-    };
-    for (at, byte) in script.iter().enumerate() {
-        if *byte == b'\n' {
-            let part = transcript(alloc, &script[..at + 1])?;
-            assert!(rt; whole.as_slice().starts_with(part.as_slice()));
-        }
+    match tally {
+        Some(tally) => Ok(tally.told),
+        None => panic!(rt; "not by the books: {script:?}"),
     }
-    Ok(tally.told)
+}
+
+/// Plays a script twice, and then up to each of its lines. Answers how many callbacks it told.
+fn check_script(rt: &impl Abort, alloc: Global, script: &[u8]) -> Result<u32, Fail> {
+    let whole = transcript(alloc, script)?;
+    assert!(rt; is_printed(alloc, script, whole.as_slice())?);
+    check_parts(rt, alloc, script, whole.as_slice())?;
+    count_told(rt, alloc, script, whole.as_slice())
+}
+
+/// Plays the script of a seed.
+fn check_seed(rt: &impl Abort, alloc: Global, seed: u64) -> Result<u32, Fail> {
+    let script = script_of(alloc, seed)?;
+    check_script(rt, alloc, script.as_bytes())
 }
 
 /// Checks the scripts of some seeds, in which the federates must be told of something often enough for the books to be tried.
 fn check_scripts(rt: &impl Abort, alloc: Global, seeds: Range<u64>) -> Result<(), Fail> {
     let mut told = 0u32;
     for seed in seeds {
-        let script = script_of(alloc, seed)?;
-        told = told.saturating_add(check_script(rt, alloc, script.as_bytes())?);
+        told = told.saturating_add(check_seed(rt, alloc, seed)?);
     }
     assert!(rt; told >= LEAST_TOLD, "only {told} callbacks");
     Ok(())

@@ -1,9 +1,9 @@
-use crate::playing::transcript_of;
+use crate::playing::prints;
 use std::test::Fail;
 
 #[test]
 fn refusals(rt: HostRuntime) -> Result<(), Fail> {
-    let text = transcript_of(
+    prints(
         &rt,
         rt.alloc(),
         "create
@@ -20,9 +20,6 @@ A tick
 destroy
 join A
 ",
-    )?;
-    assert_eq!(rt;
-        text.as_str(),
         "1 ok
 2 error 1 FederationExecutionAlreadyExists
 3 ok 1
@@ -36,14 +33,13 @@ join A
 11 error 6 FederateNotExecutionMember
 12 ok
 13 error 2 FederationExecutionDoesNotExist
-"
-    );
-    Ok(())
+",
+    )
 }
 
 #[test]
 fn late_subscriber(rt: HostRuntime) -> Result<(), Fail> {
-    let text = transcript_of(
+    prints(
         &rt,
         rt.alloc(),
         "create
@@ -69,9 +65,6 @@ B subscribeInteraction Note
 B unsubscribeInteraction Note
 B unsubscribeInteraction Note
 ",
-    )?;
-    assert_eq!(rt;
-        text.as_str(),
         "1 ok
 2 ok 1
 3 ok 2
@@ -94,14 +87,13 @@ B unsubscribeInteraction Note
 20 ok
 21 ok
 22 error 16 InteractionClassNotSubscribed
-"
-    );
-    Ok(())
+",
+    )
 }
 
 #[test]
 fn sender_is_given_nothing_of_its_own(rt: HostRuntime) -> Result<(), Fail> {
-    let text = transcript_of(
+    prints(
         &rt,
         rt.alloc(),
         "create
@@ -115,9 +107,6 @@ carry A B
 A tick
 B tick
 ",
-    )?;
-    assert_eq!(rt;
-        text.as_str(),
         "1 ok
 2 ok 1
 3 ok 2
@@ -128,14 +117,13 @@ B tick
 8 ok event 1.1
 9 ok nothing
 10 ok receive InteractionRoot.Hit RO
-"
-    );
-    Ok(())
+",
+    )
 }
 
 #[test]
 fn nearest_subscribed_ancestor(rt: HostRuntime) -> Result<(), Fail> {
-    let text = transcript_of(
+    prints(
         &rt,
         rt.alloc(),
         "create
@@ -156,9 +144,6 @@ B tick
 A unpublishInteraction Memo
 A send Memo
 ",
-    )?;
-    assert_eq!(rt;
-        text.as_str(),
         "1 ok
 2 ok 1
 3 ok 2
@@ -176,14 +161,13 @@ A send Memo
 15 ok receive InteractionRoot RO
 16 ok
 17 error 15 InteractionClassNotPublished
-"
-    );
-    Ok(())
+",
+    )
 }
 
 #[test]
 fn update_and_removal(rt: HostRuntime) -> Result<(), Fail> {
-    let text = transcript_of(
+    prints(
         &rt,
         rt.alloc(),
         "create
@@ -219,9 +203,6 @@ B objectName 1
 A objectHandle x
 A register Car x
 ",
-    )?;
-    assert_eq!(rt;
-        text.as_str(),
         "1 ok
 2 ok 1
 3 ok 2
@@ -254,14 +235,13 @@ A register Car x
 30 error 18 ObjectNotKnown
 31 error 18 ObjectNotKnown
 32 error 17 ObjectAlreadyRegistered
-"
-    );
-    Ok(())
+",
+    )
 }
 
 #[test]
 fn names_are_used_once(rt: HostRuntime) -> Result<(), Fail> {
-    let text = transcript_of(
+    prints(
         &rt,
         rt.alloc(),
         "create
@@ -278,9 +258,6 @@ A register Car
 A objectHandle object-3
 A objectName 004
 ",
-    )?;
-    assert_eq!(rt;
-        text.as_str(),
         "1 ok
 2 ok 1
 3 error 5 FederateAlreadyExecutionMember
@@ -294,14 +271,13 @@ A objectName 004
 11 ok 4 object-4
 12 ok 2
 13 ok object-4
-"
-    );
-    Ok(())
+",
+    )
 }
 
 #[test]
 fn objects_that_are_not_known(rt: HostRuntime) -> Result<(), Fail> {
-    let text = transcript_of(
+    prints(
         &rt,
         rt.alloc(),
         "create
@@ -326,9 +302,6 @@ A update 1 Car Pos=1
 A unpublishObject Car
 A unsubscribeObject Car
 ",
-    )?;
-    assert_eq!(rt;
-        text.as_str(),
         "1 ok
 2 ok 1
 3 ok 2
@@ -350,14 +323,13 @@ A unsubscribeObject Car
 19 error 11 AttributeNotPublished
 20 error 10 ObjectClassNotPublished
 21 error 12 ObjectClassNotSubscribed
-"
-    );
-    Ok(())
+",
+    )
 }
 
 #[test]
 fn names_of_those_that_resigned(rt: HostRuntime) -> Result<(), Fail> {
-    let text = transcript_of(
+    prints(
         &rt,
         rt.alloc(),
         "create
@@ -387,9 +359,6 @@ create
 carry A B
 join A
 ",
-    )?;
-    assert_eq!(rt;
-        text.as_str(),
         "1 ok
 2 ok 1
 3 ok 2
@@ -416,7 +385,6 @@ join A
 24 ok
 25 error 6 FederateNotExecutionMember
 26 ok 1
-"
-    );
-    Ok(())
+",
+    )
 }

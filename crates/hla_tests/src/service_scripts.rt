@@ -1,7 +1,7 @@
 //! Random scripts of all words, read beside the books of all services.
 
 use crate::random_scripts::{Numbers, transcript};
-use crate::service_books::{Tally, read_services};
+use hla_service_books::{Tally, read_services};
 use std::alloc::{AllocError, Global};
 use std::ops::Range;
 use std::process::Abort;
@@ -272,9 +272,24 @@ impl Author {
         let drawn = self.numbers.below(u64::MAX);
         self.add_lines(scenes[(drawn % scenes.len() as u64) as usize])
     }
+
+    /// Adds the setting of a seed, and thirty-two things that happen, of which each fourth is a rare one.
+    fn add_all(&mut self, seed: u64) -> Result<(), AllocError> {
+        self.add_lines(&SETTING)?;
+        match seed % 3 {
+            0 => self.add_lines(&CONSTRAINED)?,
+            1 => self.add_lines(&BOTH)?,
+            _ => {}
+        }
+        for place in 0..32u64 {
+            self.now = place / 2;
+            self.add_one(if place % 4 == 3 { RARE } else { COMMON })?;
+        }
+        Ok(())
+    }
 }
 
-/// The script of a seed: its setting, and forty things that happen, of which each fourth is a rare one.
+/// The script of a seed.
 fn script_of(alloc: Global, seed: u64) -> Result<String, AllocError> {
     let mut author = Author {
         alloc,
@@ -282,38 +297,38 @@ fn script_of(alloc: Global, seed: u64) -> Result<String, AllocError> {
         script: String::new(alloc),
         now: 0,
     };
-    author.add_lines(&SETTING)?;
-    match seed % 3 {
-        0 => author.add_lines(&CONSTRAINED)?,
-        1 => author.add_lines(&BOTH)?,
-        _ => {}
-    }
-    for place in 0..32u64 {
-        author.now = place / 2;
-        author.add_one(if place % 4 == 3 { RARE } else { COMMON })?;
-    }
+    author.add_all(seed)?;
     Ok(author.script)
+}
+
+/// How often the transcript of a script tries the laws, if it is by the books.
+fn tally_of(alloc: Global, script: &str, played: &[u8]) -> Result<Option<Tally>, Fail> {
+    match str::from_utf8(played) {
+        Ok(played) => Ok(read_services(alloc, script, played)?),
+        Err(_) => Ok(None),
+    }
 }
 
 /// Plays a script, and answers how often its transcript tried the laws.
 fn check_script(rt: &impl Abort, alloc: Global, script: &str) -> Result<Tally, Fail> {
     let played = transcript(alloc, script.as_bytes())?;
-    let tally = match str::from_utf8(played.as_slice()) {
-        Ok(played) => read_services(alloc, script, played)?,
-        Err(_) => None,
-    };
-    match tally {
+    match tally_of(alloc, script, played.as_slice())? {
         Some(tally) => Ok(tally),
         None => panic!(rt; "not by the books: {script}"),
     }
+}
+
+/// Plays the script of a seed.
+fn check_seed(rt: &impl Abort, alloc: Global, seed: u64) -> Result<Tally, Fail> {
+    let script = script_of(alloc, seed)?;
+    check_script(rt, alloc, script.as_str())
 }
 
 /// Checks the scripts of some seeds, which must try each law often enough.
 fn check_scripts(rt: &impl Abort, alloc: Global, seeds: Range<u64>) -> Result<(), Fail> {
     let mut all = Tally::new();
     for seed in seeds {
-        let script = script_of(alloc, seed)?;
-        all.add(check_script(rt, alloc, script.as_str())?);
+        all.add(check_seed(rt, alloc, seed)?);
     }
     assert!(rt; all.picked >= 40, "only {} picked", all.picked);
     assert!(rt; all.flushed >= 40, "only {} flushed", all.flushed);

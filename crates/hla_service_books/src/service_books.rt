@@ -160,6 +160,22 @@ impl<'a> Books<'a> {
         }
     }
 
+    /// Notes the lines of a script and their answers in a transcript, and says whether that is by the books.
+    fn read(&mut self, script: &'a str, transcript: &str) -> Result<bool, AllocError> {
+        let mut answers = transcript.lines();
+        let mut number = 0u64;
+        for line in script.lines() {
+            number = number.saturating_add(1);
+            let Some(said) = said_in(answers.next(), number) else {
+                return Ok(false);
+            };
+            if !self.note(line, said)? {
+                return Ok(false);
+            }
+        }
+        Ok(answers.next().is_none())
+    }
+
     /// A send is refused for its stamp only below the least one that may be sent, and a retraction only where the books refuse it;
     /// a federate that has joined may always tick.
     fn may_refuse(&mut self, name: &str, rest: &str, fault: u32) -> bool {
@@ -230,12 +246,17 @@ impl<'a> Books<'a> {
     /// A federate that joins knows at once what each other one announced last.
     fn join(&mut self, name: &'a str, federate: u32) -> Result<bool, AllocError> {
         let mut newcomer = Member::new(self.alloc, federate, name);
+        self.introduce(&mut newcomer)?;
+        self.members.push(newcomer)?;
+        Ok(federate as usize == self.members.len())
+    }
+
+    fn introduce(&self, newcomer: &mut Member<'a>) -> Result<(), AllocError> {
         for member in self.members.as_slice() {
             let clock = member.clock;
             newcomer.hear_entry(member.number, clock.epoch, clock.last_announced)?;
         }
-        self.members.push(newcomer)?;
-        Ok(federate as usize == self.members.len())
+        Ok(())
     }
 
     /// The other federates that are joined.
@@ -377,6 +398,14 @@ impl<'a> Books<'a> {
     }
 }
 
+/// What the answer with this number says.
+fn said_in(answer: Option<&str>, number: u64) -> Option<&str> {
+    match answer?.split_once(' ') {
+        Some((at, said)) if at.parse::<u64>() == Ok(number) => Some(said),
+        _ => None,
+    }
+}
+
 /// Reads a transcript beside its script, which has no blank lines: a line for each line, with its number. Answers how often the
 /// laws were tried, or none where the transcript is not by the books.
 pub fn read_services(
@@ -385,23 +414,6 @@ pub fn read_services(
     transcript: &str,
 ) -> Result<Option<Tally>, AllocError> {
     let mut books = Books::new(alloc);
-    let mut answers = transcript.lines();
-    let mut number = 0u64;
-    for line in script.lines() {
-        number = number.saturating_add(1);
-        let said = match answers.next() {
-            Some(answer) => match answer.split_once(' ') {
-                Some((at, said)) if at.parse::<u64>() == Ok(number) => said,
-                _ => return Ok(None),
-            },
-            None => return Ok(None),
-        };
-        if !books.note(line, said)? {
-            return Ok(None);
-        }
-    }
-    if answers.next().is_some() {
-        return Ok(None);
-    }
-    Ok(Some(books.tally))
+    let is_by_the_books = books.read(script, transcript)?;
+    Ok(is_by_the_books.then_some(books.tally))
 }

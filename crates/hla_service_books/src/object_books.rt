@@ -11,8 +11,7 @@ use std::alloc::AllocError;
 impl<'a> Books<'a> {
     /// An object takes the next number, and is known to its owner.
     pub fn register(&mut self, owner: u32, class: &str, object: u32) -> Result<bool, AllocError> {
-        let mut known = Vec::new(self.alloc);
-        known.push(owner)?;
+        let known = vec![in self.alloc; owner]?;
         self.objects.push(Object {
             owner,
             is_car: is_car(class),
