@@ -4,7 +4,7 @@ use Rattle.std.proofs.Math.Path.{fun_ext}
 use Rattle.hla_base.specs.Tables.{upd, one_if}
 use Rattle.hla_base.specs.Rows.{is_none_of}
 use Rattle.hla_base.specs.declared.number.EventHandle.{EventHandle}
-use Rattle.hla_fed_file.specs.CatalogueValue.{empty_catalogue}
+use Rattle.hla_catalogue.specs.CatalogueValue.{empty_catalogue}
 use Rattle.hla_retraction.specs.SentRows.{sent_of}
 use Rattle.hla_machine.specs.Directory.{Directory, new_directory}
 use Rattle.hla_machine.specs.Central.{Central, Copy, at_key, at3, is_key}

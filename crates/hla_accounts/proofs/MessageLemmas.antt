@@ -12,9 +12,9 @@ use Rattle.hla_base.specs.Rows.{is_enabled}
 use Rattle.hla_base.specs.Tables.{upd, upd2, is_other, or_else, when}
 use Rattle.hla_base.proofs.Tables.{upd_same}
 use Rattle.hla_callbacks.specs.declared.callback.Delivery.{Delivery}
-use Rattle.hla_fed_file.specs.CatalogueValue.{empty_catalogue}
-use Rattle.hla_fed_file.specs.declared.declared.Order.{Order}
-use Rattle.hla_fed_file.specs.declared.declared.Order.TheVariants.{Timestamp}
+use Rattle.hla_catalogue.specs.CatalogueValue.{empty_catalogue}
+use Rattle.hla_catalogue.specs.declared.declared.Order.{Order}
+use Rattle.hla_catalogue.specs.declared.declared.Order.TheVariants.{Timestamp}
 use Rattle.hla_retraction.specs.SentEvents.{SentEvent, no_event}
 use Rattle.hla_machine.specs.Directory.{Directory, Outgoing, new_directory, content_for, is_of_order}
 use Rattle.hla_machine.specs.Central.{Central, Copy, Ro, Tso, at_key, with_copies, is_key}

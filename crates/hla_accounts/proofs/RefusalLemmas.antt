@@ -11,7 +11,7 @@ use Rattle.hla_base.specs.declared.row.TimeRow.{TimeRow}
 use Rattle.hla_base.specs.RowRefusals.{first_fault, regulation_tests}
 use Rattle.hla_base.specs.Rows.{bar_of, is_enabled, least_stamp}
 use Rattle.hla_base.specs.Tables.{numbers_below, greatest}
-use Rattle.hla_fed_file.specs.declared.declared.Order.TheVariants.{Timestamp}
+use Rattle.hla_catalogue.specs.declared.declared.Order.TheVariants.{Timestamp}
 use Rattle.hla_machine.specs.Directory.{Directory, Outgoing, is_of_order}
 use Rattle.hla_machine.specs.Central.{low_entry}
 use Rattle.hla_machine.specs.Sends.{is_some_ordered}

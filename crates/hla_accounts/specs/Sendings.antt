@@ -6,8 +6,8 @@ use Rattle.hla_base.specs.Rows.{is_enabled}
 use Rattle.hla_base.specs.Tables.{is_other, when}
 use Rattle.hla_callbacks.specs.declared.callback.Delivery.{Delivery}
 use Rattle.hla_callbacks.specs.declared.callback.Delivery.TheVariants.{Receive, TimeStamp}
-use Rattle.hla_fed_file.specs.declared.declared.Order.{Order}
-use Rattle.hla_fed_file.specs.declared.declared.Order.TheVariants.{Timestamp}
+use Rattle.hla_catalogue.specs.declared.declared.Order.{Order}
+use Rattle.hla_catalogue.specs.declared.declared.Order.TheVariants.{Timestamp}
 use Rattle.hla_retraction.specs.SentEvents.{SentEvent, no_event}
 use Rattle.hla_machine.specs.Directory.{Outgoing, content_for, is_of_order}
 use Rattle.hla_machine.specs.Sends.{is_deletion}

@@ -17,7 +17,7 @@ use crate::accounts::Accounts;
 use crate::bag::Waiting;
 use hla_base::{Content, EventHandle, Fault, FederateNo, Serial, Ticks};
 use hla_callbacks::Delivery;
-use hla_fed_file::Order;
+use hla_catalogue::Order;
 use hla_retraction::Receivers;
 
 /// Whether there is a content for a federate. The contents are by number, counted from 1.

@@ -3,7 +3,7 @@
 ghost use Rattle.std.specs.Prelude.{◌≡◌, ◌&&◌, ltb, List, length};
 ghost use Rattle.std.specs.List.{list_any};
 ghost use Rattle.hla_base.specs.Rows.{is_enabled, least_stamp};
-ghost use Rattle.hla_fed_file.specs.declared.declared.Order.TheVariants.{Timestamp};
+ghost use Rattle.hla_catalogue.specs.declared.declared.Order.TheVariants.{Timestamp};
 ghost use Rattle.hla_machine.specs.Directory.{Outgoing, is_of_order};
 ghost use Rattle.hla_machine.specs.Refusals.{is_bad_stamp, is_out_of_serials};
 ghost use Rattle.hla_accounts.specs.Accounts.{account_at};

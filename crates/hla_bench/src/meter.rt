@@ -6,7 +6,7 @@ use hla_base::{
     AttributeNo, ClassNo, Fault, FederateNo, HandleValuePair, List, Plain, SharedList, Ticks, Value,
 };
 use hla_callbacks::Callback;
-use hla_fed_file::Catalogue;
+use hla_catalogue::Catalogue;
 use hla_federation::Federation;
 use hla_machine::{Act, Answer, Carried, Choice, Outcome, Record, Service, Step};
 use std::alloc::Global;

@@ -2,7 +2,8 @@
 
 use crate::counts::Counts;
 use hla_base::Fault;
-use hla_fed_file::{Catalogue, read};
+use hla_catalogue::Catalogue;
+use hla_fed_file::read;
 use std::alloc::Global;
 use std::fmt::Write;
 

@@ -4,8 +4,8 @@ use Rattle.std.proofs.lemmas.Bool.{cases_lt}
 use mathlib.Core.Bool.{false≢true}
 use Rattle.hla_base.specs.declared.fault.Fault.{Fault}
 use Rattle.hla_base.specs.RowRefusals.{Test, first_fault}
-use Rattle.hla_fed_file.specs.CatalogueValue.{CatalogueValue}
-use Rattle.hla_fed_file.specs.Lookup.{item_numbered, is_interaction_class, is_object_class}
+use Rattle.hla_catalogue.specs.CatalogueValue.{CatalogueValue}
+use Rattle.hla_catalogue.specs.Lookup.{item_numbered, is_interaction_class, is_object_class}
 use Rattle.hla_declaration.specs.Lists.{DeclarationLists}
 use Rattle.hla_declaration.specs.Declarations.{DeclarationsValue, declarations_of}
 use Rattle.hla_declaration.proofs.EntryLemmas.{item_numbered_past}

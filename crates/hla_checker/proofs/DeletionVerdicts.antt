@@ -6,8 +6,8 @@ use Rattle.std.proofs.lemmas.List.{take_more, length-take-le}
 use mathlib.Core.Bool.{false≢true}
 use Rattle.hla_base.specs.Limits.{max_serial}
 use Rattle.hla_base.specs.RowRefusals.{first_fault}
-use Rattle.hla_fed_file.specs.declared.declared.Order.{Order}
-use Rattle.hla_fed_file.specs.declared.declared.Order.TheVariants.{Receive}
+use Rattle.hla_catalogue.specs.declared.declared.Order.{Order}
+use Rattle.hla_catalogue.specs.declared.declared.Order.TheVariants.{Receive}
 use Rattle.hla_declaration.specs.Lists.{DeclarationLists}
 use Rattle.hla_declaration.specs.Declarations.{DeclarationsValue, declarations_of}
 use Rattle.hla_object_registry.specs.Registered.{Registered, RegistryValue, registry_of, unregistered_object}

@@ -1,7 +1,7 @@
 -- Nobody has joined, and nothing is declared
 use Rattle.std.proofs.Common.{◌≡◌, ℕ, List, [], None, option_map, false, refl, ◌∙◌, ap}
 use Rattle.hla_base.specs.Rows.{new_row}
-use Rattle.hla_fed_file.specs.CatalogueValue.{CatalogueValue}
+use Rattle.hla_catalogue.specs.CatalogueValue.{CatalogueValue}
 use Rattle.hla_retraction.specs.SentEvents.{no_event}
 use Rattle.hla_retraction.specs.SentRows.{sent_of}
 use Rattle.hla_declaration.specs.Declarations.{DeclarationsValue}

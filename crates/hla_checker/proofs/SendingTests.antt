@@ -6,9 +6,9 @@ use Rattle.std.proofs.lemmas.Bool.Decides.{nat_tests}
 use Rattle.hla_base.specs.declared.content.HandleValuePair.{HandleValuePair}
 use Rattle.hla_base.specs.declared.fault.Fault.{Fault}
 use Rattle.hla_base.specs.declared.fault.Fault.TheVariants as fault
-use Rattle.hla_fed_file.specs.Lookup.{attribute_order}
-use Rattle.hla_fed_file.specs.declared.declared.Order.{Order}
-use Rattle.hla_fed_file.specs.declared.declared.Order.TheVariants.{Receive, Timestamp}
+use Rattle.hla_catalogue.specs.Lookup.{attribute_order}
+use Rattle.hla_catalogue.specs.declared.declared.Order.{Order}
+use Rattle.hla_catalogue.specs.declared.declared.Order.TheVariants.{Receive, Timestamp}
 use Rattle.hla_base.specs.RowRefusals.{first_fault}
 use Rattle.hla_machine.specs.Directory.{Directory, Outgoing, put_pair, put_pairs, by_handle, is_of_order, part_sent, values_of_order, update_sent, deletions_sent, objects_of}
 use Rattle.hla_machine.specs.Machine.{central_seen}

@@ -6,7 +6,7 @@ use Rattle.std.proofs.lemmas.Bool.Decides.{nat_tests}
 use Rattle.hla_base.specs.Limits.{max_executions, max_creates}
 use Rattle.hla_base.specs.RowRefusals.{first_fault, test_for}
 use Rattle.hla_base.specs.declared.fault.Fault.TheVariants as fault
-use Rattle.hla_fed_file.specs.CatalogueValue.{CatalogueValue}
+use Rattle.hla_catalogue.specs.CatalogueValue.{CatalogueValue}
 use Rattle.hla_machine.specs.Central.{Central, new_central}
 use Rattle.hla_machine.specs.Runs.{destroy_fault, after_create, after_destroy, is_joined_by_any}
 use Rattle.hla_checker.specs.declared.table.NamedExecution.{NamedExecution}

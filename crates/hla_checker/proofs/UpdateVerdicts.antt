@@ -9,8 +9,8 @@ use Rattle.hla_base.specs.declared.content.HandleValuePair.{HandleValuePair}
 use Rattle.hla_base.specs.declared.number.EventHandle.{EventHandle}
 use Rattle.hla_base.specs.declared.row.TimeRow.{TimeRow}
 use Rattle.hla_base.proofs.Tables.{upd_same}
-use Rattle.hla_fed_file.specs.Lookup.{attribute_order}
-use Rattle.hla_fed_file.specs.declared.declared.Order.TheVariants.{Receive, Timestamp}
+use Rattle.hla_catalogue.specs.Lookup.{attribute_order}
+use Rattle.hla_catalogue.specs.declared.declared.Order.TheVariants.{Receive, Timestamp}
 use Rattle.hla_machine.specs.declared.service.Service.TheVariants as service
 use Rattle.hla_machine.specs.Directory.{Directory, Outgoing, by_handle, is_of_order, part_sent, values_of_order, update_sent}
 use Rattle.hla_machine.specs.Central.{Central}

@@ -4,7 +4,7 @@ ghost use Rattle.std.specs.Prelude.{◌≡◌, ◌≤◌, filter, length, IfOk, 
 ghost use Rattle.hla_base.specs.Limits.{max_joins};
 ghost use Rattle.hla_base.specs.declared.content.HandleValuePair.{HandleValuePair};
 ghost use Rattle.hla_base.specs.declared.fault.Fault.TheVariants.{OutOfMemory};
-ghost use Rattle.hla_fed_file.specs.Lookup.{has_parameter};
+ghost use Rattle.hla_catalogue.specs.Lookup.{has_parameter};
 ghost use Rattle.hla_machine.specs.Directory.{AnInteraction, AnUpdate, ADeletion, content_for, subscribed_values};
 ghost use Rattle.hla_verdicts.specs.Kept.{directory_of};
 ghost use Rattle.hla_checker.specs.Sending.{body_said, AreContents};
@@ -13,7 +13,7 @@ use crate::kept::KeptExecution;
 use hla_base::{
     ClassNo, Content, Fault, FederateNo, HandleValuePair, List, ObjectNo, Plain, SharedList,
 };
-use hla_fed_file::Order;
+use hla_catalogue::Order;
 
 /// What a service sends, before it is cut to what each receiver is shown. The values are by rising handle.
 #[derive(Debug, Drop)]

@@ -3,7 +3,7 @@
 ghost use Rattle.std.specs.Prelude.{◌≡◌, ◌∷◌, [], not};
 ghost use Rattle.std.specs.List.{list_any};
 ghost use Rattle.hla_base.specs.RowRefusals.{first_fault, test_for};
-ghost use Rattle.hla_fed_file.specs.Lookup.{has_attribute};
+ghost use Rattle.hla_catalogue.specs.Lookup.{has_attribute};
 ghost use Rattle.hla_machine.specs.Refusals.{no_attribute, no_interaction_class, no_object_class};
 ghost use Rattle.hla_checker.specs.Declaring.{declaration_tests};
 ghost use Rattle.hla_verdicts.specs.Kept.{directory_of};

@@ -9,8 +9,8 @@ ghost use Rattle.hla_machine.specs.Runs.{is_joined_by_any};
 ghost use Rattle.hla_verdicts.specs.Kept.{central_of, IsConsistent};
 
 use hla_accounts::Accounts;
+use hla_catalogue::Catalogue;
 use hla_declaration::Declarations;
-use hla_fed_file::Catalogue;
 use hla_object_registry::Registry;
 use std::alloc::Global;
 use std::marker::Model;

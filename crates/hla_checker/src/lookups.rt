@@ -3,7 +3,7 @@
 ghost use Rattle.std.specs.Prelude.{◌≡◌, ◌∷◌, [], ℕ, Option, true};
 ghost use Rattle.std.specs.Bool.{Decides};
 ghost use Rattle.hla_base.specs.RowRefusals.{first_fault};
-ghost use Rattle.hla_fed_file.specs.Lookup.{attribute_named, parameter_named};
+ghost use Rattle.hla_catalogue.specs.Lookup.{attribute_named, parameter_named};
 ghost use Rattle.hla_machine.specs.Central.{Central};
 ghost use Rattle.hla_machine.specs.Machine.{MayAnswer};
 ghost use Rattle.hla_machine.specs.Refusals.{call_tests, no_interaction_class, no_object_class, not_found, refusal};

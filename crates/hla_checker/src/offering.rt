@@ -16,8 +16,8 @@ ghost use Rattle.hla_checker.specs.Offering.{is_wanted, known_to_joined, wanted_
 use crate::naming::shared_name;
 use hla_accounts::{Accounts, Offer};
 use hla_base::{ClassNo, Discovery, Fault, FederateNo, ObjectNo};
+use hla_catalogue::Catalogue;
 use hla_declaration::Declarations;
-use hla_fed_file::Catalogue;
 use hla_object_registry::Registry;
 use std::alloc::Global;
 

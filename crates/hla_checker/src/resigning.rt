@@ -14,7 +14,7 @@ ghost use Rattle.hla_verdicts.specs.Kept.{IsConsistent, JudgedStep, central_of, 
 use crate::contents::{Body, Message};
 use crate::kept::KeptExecution;
 use hla_base::{Fault, FederateNo, ObjectNo};
-use hla_fed_file::Order;
+use hla_catalogue::Order;
 use hla_machine::{Choice, Outcome, ResignAction};
 use hla_verdicts::{Verdict, answer_to_test, is_done};
 

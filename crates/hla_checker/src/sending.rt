@@ -17,7 +17,7 @@ use crate::contents::{Body, Message};
 use crate::kept::KeptExecution;
 use crate::pairs::by_handle;
 use hla_base::{ClassNo, EventHandle, Fault, FederateNo, HandleValuePair, List, Ticks};
-use hla_fed_file::Order;
+use hla_catalogue::Order;
 use hla_machine::{Choice, Outcome};
 use hla_verdicts::{Verdict, answer_to_test, is_sent};
 

@@ -4,8 +4,8 @@ ghost use Rattle.std.specs.Prelude.{◌≡◌, ℕ, List, not, length};
 ghost use Rattle.std.specs.List.{list_any};
 ghost use Rattle.hla_base.specs.declared.content.HandleValuePair.{HandleValuePair};
 ghost use Rattle.hla_base.specs.RowRefusals.{first_fault};
-ghost use Rattle.hla_fed_file.specs.Lookup.{attribute_order, has_attribute, has_parameter};
-ghost use Rattle.hla_fed_file.specs.declared.declared.Order.TheVariants.{Timestamp};
+ghost use Rattle.hla_catalogue.specs.Lookup.{attribute_order, has_attribute, has_parameter};
+ghost use Rattle.hla_catalogue.specs.declared.declared.Order.TheVariants.{Timestamp};
 ghost use Rattle.hla_machine.specs.Directory.{Outgoing, is_of_order, update_sent};
 ghost use Rattle.hla_machine.specs.Machine.{central_seen};
 ghost use Rattle.hla_machine.specs.Refusals.{call_tests, is_owned, is_published};
@@ -17,7 +17,7 @@ ghost use Rattle.hla_checker.specs.Sending.{sending_tests};
 use crate::kept::KeptExecution;
 use hla_accounts::Accounts;
 use hla_base::{ClassNo, Fault, FederateNo, HandleValuePair, ObjectNo, Ticks};
-use hla_fed_file::Order;
+use hla_catalogue::Order;
 use hla_machine::ResignAction;
 
 /// Whether messages of this order go in time-stamp order, where their sender gives a stamp and regulates.

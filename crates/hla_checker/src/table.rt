@@ -13,7 +13,7 @@ ghost use Rattle.hla_checker.specs.Creating.{creation_tests};
 
 use crate::kept::KeptExecution;
 use hla_base::{Fault, MAX_CREATES, MAX_EXECUTIONS, Plain, SharedList};
-use hla_fed_file::Catalogue;
+use hla_catalogue::Catalogue;
 use hla_machine::{Act, Choice, Outcome, Record, Step};
 use hla_verdicts::{Verdict, ends_as, is_nothing, is_unfound};
 use std::alloc::Global;

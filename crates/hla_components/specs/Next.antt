@@ -17,7 +17,7 @@ use Rattle.hla_null_message.specs.Wires.{put_behind}
 use Rattle.hla_base.specs.Tables.{forever, upd, upd2, upd_row, upd_column, upd_new, upd_whole_column, or_else, numbers_below}
 use Rattle.hla_base.specs.Rows.{is_regulator, is_disabled, is_none_of, row_after_request, row_with_entry, row_after_regulation_enabled, row_after_constraint_enabled, row_after_pick, row_after_grant, new_row}
 use Rattle.hla_lbts.specs.Peers.{null_bound}
-use Rattle.hla_fed_file.specs.Lookup.{object_class_named, interaction_class_named, attribute_named, parameter_named}
+use Rattle.hla_catalogue.specs.Lookup.{object_class_named, interaction_class_named, attribute_named, parameter_named}
 use Rattle.hla_retraction.specs.SentEvents.{SentEvent}
 use Rattle.hla_callbacks.specs.declared.callback.Callback.{Callback}
 use Rattle.hla_callbacks.specs.declared.callback.Callback.TheVariants as callback

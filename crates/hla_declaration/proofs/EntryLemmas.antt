@@ -5,7 +5,7 @@ use Rattle.std.proofs.lemmas.Option.{slice_get-get_or, slice_get_past, slice_get
 use Rattle.std.proofs.lemmas.List.{get_or-replicate, get_or_past, length-replicate}
 use Rattle.std.proofs.lemmas.Bool.{cases_eq, cases_lt}
 use Rattle.std.proofs.lemmas.Bool.Decides.{nat_tests}
-use Rattle.hla_fed_file.specs.Lookup.{item_numbered}
+use Rattle.hla_catalogue.specs.Lookup.{item_numbered}
 use Rattle.hla_declaration.specs.Entries.{entry_at}
 
 pub item_numbered-suc : {X : Type 0} (xs : List X) (k : ℕ) → item_numbered xs (suc k) ≡ slice_get xs k

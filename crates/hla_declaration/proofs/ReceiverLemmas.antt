@@ -6,8 +6,8 @@ use Rattle.std.proofs.lemmas.List.{append-nil}
 use Rattle.std.proofs.lemmas.List.Elements.{filter_map-append, All-append, All-cons, All-nil, All-weaker}
 use Rattle.std.proofs.lemmas.Bool.Decides.{nat_tests}
 use Rattle.hla_base.specs.Tables.{numbers_below, when}
-use Rattle.hla_fed_file.specs.CatalogueValue.{CatalogueValue}
-use Rattle.hla_fed_file.specs.Lookup.{object_lineage, interaction_lineage}
+use Rattle.hla_catalogue.specs.CatalogueValue.{CatalogueValue}
+use Rattle.hla_catalogue.specs.Lookup.{object_lineage, interaction_lineage}
 use Rattle.hla_declaration.specs.Lists.{DeclarationLists}
 use Rattle.hla_declaration.specs.Declarations.{declarations_of}
 use Rattle.hla_declaration.specs.Receivers.{object_class_served, interaction_class_served, receivers_of, IsReceiver}

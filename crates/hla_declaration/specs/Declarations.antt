@@ -1,7 +1,7 @@
 -- What the federates of an execution publish and subscribe (HLA 1.3, declaration management)
 use Rattle.std.specs.Prelude.{◌≡◌, ℕ, ◌<◌, Bool, false, Option, None, List, length}
 use Rattle.std.specs.Option.{option_map_or}
-use Rattle.hla_fed_file.specs.Lookup.{item_numbered}
+use Rattle.hla_catalogue.specs.Lookup.{item_numbered}
 use Rattle.hla_declaration.specs.Entries.{entry_at}
 use Rattle.hla_declaration.specs.Lists.{DeclarationLists}
 use Rattle.hla_declaration.specs.declared.member.Member.{Member}

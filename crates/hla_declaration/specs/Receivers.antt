@@ -2,8 +2,8 @@
 use Rattle.std.specs.Prelude.{ℕ, ◌+◌, ◌<◌, ◌≤◌, ◌≢◌, eqb, not, Bool, Option, is_some, option_map, List, find}
 use Rattle.std.specs.List.{filter_map}
 use Rattle.hla_base.specs.Tables.{numbers_below, when}
-use Rattle.hla_fed_file.specs.CatalogueValue.{CatalogueValue}
-use Rattle.hla_fed_file.specs.Lookup.{object_lineage, interaction_lineage}
+use Rattle.hla_catalogue.specs.CatalogueValue.{CatalogueValue}
+use Rattle.hla_catalogue.specs.Lookup.{object_lineage, interaction_lineage}
 use Rattle.hla_declaration.specs.declared.receiver.Receiver.{Receiver}
 
 -- at which class a federate is served: the most derived one that it subscribes

@@ -5,7 +5,7 @@ ghost use Rattle.std.specs.Option.{option_map_or, option_copied};
 ghost use Rattle.hla_base.specs.Limits.{max_classes, max_joins};
 ghost use Rattle.hla_base.specs.declared.fault.Fault.TheVariants.{OutOfMemory};
 ghost use Rattle.hla_base.specs.Tables.{upd, upd2};
-ghost use Rattle.hla_fed_file.specs.Lookup.{item_numbered, contains_number};
+ghost use Rattle.hla_catalogue.specs.Lookup.{item_numbered, contains_number};
 ghost use Rattle.hla_declaration.specs.Declarations.{declarations_of, IsBounded};
 ghost use Rattle.hla_declaration.specs.Subscribers.{AreSubscribers};
 

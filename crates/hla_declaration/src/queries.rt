@@ -2,7 +2,7 @@
 
 ghost use Rattle.std.specs.Prelude.{◌≡◌, [], false, is_some};
 ghost use Rattle.std.specs.Option.{option_map_or, option_copied};
-ghost use Rattle.hla_fed_file.specs.Lookup.{contains_number};
+ghost use Rattle.hla_catalogue.specs.Lookup.{contains_number};
 ghost use Rattle.hla_declaration.specs.Declarations.{declarations_of};
 
 use crate::declarations::Declarations;

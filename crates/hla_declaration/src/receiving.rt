@@ -9,7 +9,7 @@ ghost use Rattle.hla_declaration.specs.Receivers.{object_class_served, interacti
 use crate::declarations::Declarations;
 use crate::receiver::Receiver;
 use hla_base::{ClassNo, Fault, FederateNo, List};
-use hla_fed_file::Catalogue;
+use hla_catalogue::Catalogue;
 use std::alloc::Global;
 
 /// A federate as a receiver, where it is served and is not the sender.

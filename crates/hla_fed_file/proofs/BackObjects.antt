@@ -4,15 +4,15 @@ use Rattle.std.proofs.Common.{◌≡◌, ℕ, ◌+◌, ◌<◌, ◌≤◌, Bool,
 use Rattle.hla_fed_file.specs.Lexical as text
 use Rattle.hla_fed_file.specs.Lexical.{Lexed, tokens}
 use Rattle.hla_fed_file.specs.Keywords.{keyword_of}
-use Rattle.hla_fed_file.specs.CatalogueValue.{CatalogueValue}
-use Rattle.hla_fed_file.specs.Declaring.{innermost, with_object_class, with_attribute, has_attribute_named}
+use Rattle.hla_catalogue.specs.CatalogueValue.{CatalogueValue}
+use Rattle.hla_catalogue.specs.Declaring.{innermost, with_object_class, with_attribute, has_attribute_named}
 use Rattle.hla_fed_file.specs.Reading.{reading, after_token, after_open, after_close, after_word, after_quoted, after_name_at, place_behind_keyword, attribute_option, is_done}
 use Rattle.hla_fed_file.specs.Grammar.{Symbol, LeftParen, RightParen, Means, Named, AnyName, Fits, Options, Bare, Ordered, SecLevels, NoLevel, ALevel, ObjectItems, NoItem, AnAttribute, ASecLevel, AClass, space_then, options_then, levels_then, object_items_then, transport_of, order_of, object_items_declare, IsShort, levels_fit, AttributeFits, object_items_fit}
-use Rattle.hla_fed_file.specs.declared.declared.Attribute.{Attribute}
-use Rattle.hla_fed_file.specs.declared.declared.Order.{Order}
-use Rattle.hla_fed_file.specs.declared.declared.Order.TheVariants as order
-use Rattle.hla_fed_file.specs.declared.declared.Transport.{Transport}
-use Rattle.hla_fed_file.specs.declared.declared.Transport.TheVariants as transport
+use Rattle.hla_catalogue.specs.declared.declared.Attribute.{Attribute}
+use Rattle.hla_catalogue.specs.declared.declared.Order.{Order}
+use Rattle.hla_catalogue.specs.declared.declared.Order.TheVariants as order
+use Rattle.hla_catalogue.specs.declared.declared.Transport.{Transport}
+use Rattle.hla_catalogue.specs.declared.declared.Transport.TheVariants as transport
 use Rattle.hla_fed_file.specs.declared.place.Keyword.{Keyword}
 use Rattle.hla_fed_file.specs.declared.place.Keyword.TheVariants as word
 use Rattle.hla_fed_file.specs.declared.place.Head.TheVariants as head

@@ -3,7 +3,7 @@ use Rattle.hla_base.specs.Limits.{max_fed_file}
 use Rattle.std.proofs.Common.{◌≡◌, ℕ, false, List, [], ◌∷◌, length, Ok, nat_lt, refl, ap, ◌∙◌, arith, le-ltb}
 use Rattle.hla_fed_file.specs.Lexical as text
 use Rattle.hla_fed_file.specs.Lexical.{Lexed, tokens}
-use Rattle.hla_fed_file.specs.CatalogueValue.{CatalogueValue, empty_catalogue}
+use Rattle.hla_catalogue.specs.CatalogueValue.{CatalogueValue, empty_catalogue}
 use Rattle.hla_fed_file.specs.Reading.{reading, after_open, after_close, after_word, start, reading_of}
 use Rattle.hla_fed_file.specs.Grammar.{Symbol, TheEnd, Fits, Spells, Parts, NoPart, ALabel, AnIgnored, Objects, Interactions, parts_then, file_of, object_classes_declare, interaction_classes_declare, parts_declare, parts_fit, Describes}
 use Rattle.hla_fed_file.specs.declared.place.Keyword.TheVariants as word

@@ -1,5 +1,3 @@
--- Names and their numbers.
-pub mod NameLemmas
 -- A word, a comment and a quoted name end where their bytes end.
 pub mod Lexing
 -- A run of bytes is as long as its lanes say.
@@ -24,5 +22,3 @@ pub mod BackObjects
 pub mod BackInteractions
 -- What is read is in the grammar.
 pub mod Sound
--- Where names are declared.
-pub mod GroupLemmas

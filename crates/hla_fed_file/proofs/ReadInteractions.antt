@@ -2,15 +2,15 @@
 use Rattle.hla_base.specs.Limits.{max_classes, max_parameters}
 use Rattle.std.proofs.Common.{◌≡◌, ℕ, ◌+◌, ◌<◌, ◌==◌, Bool, true, false, List, [], ◌∷◌, ◌++◌, length, Option, None, Some, Ok, Err, nat_le, cond, refl, sym, ap, ◌∙◌, arith}
 use Rattle.hla_fed_file.specs.Lexical.{Lexed}
-use Rattle.hla_fed_file.specs.CatalogueValue.{CatalogueValue}
-use Rattle.hla_fed_file.specs.Declaring.{interaction_class, with_interaction_class, with_parameter, has_parameter_named}
+use Rattle.hla_catalogue.specs.CatalogueValue.{CatalogueValue}
+use Rattle.hla_catalogue.specs.Declaring.{interaction_class, with_interaction_class, with_parameter, has_parameter_named}
 use Rattle.hla_fed_file.specs.Reading.{reading, after_open, after_close, after_word, after_quoted, after_name_at, Step}
 use Rattle.hla_fed_file.specs.Grammar.{Symbol, LeftParen, RightParen, Means, Named, Spells, Options, Bare, Ordered, SecLevels, NoLevel, ALevel, InteractionItems, NoEntry, AParameter, ALevelList, ASubclass, InteractionClasses, NoTop, ATop, transport_then, space_then, options_then, levels_then, interaction_items_then, interaction_classes_then, transport_of, order_of, interaction_items_declare, interaction_classes_declare, IsShort, levels_fit, ParameterFits, interaction_items_fit, interaction_classes_fit}
-use Rattle.hla_fed_file.specs.declared.declared.InteractionClass.{InteractionClass}
-use Rattle.hla_fed_file.specs.declared.declared.Order.{Order}
-use Rattle.hla_fed_file.specs.declared.declared.Order.TheVariants as order
-use Rattle.hla_fed_file.specs.declared.declared.Transport.{Transport}
-use Rattle.hla_fed_file.specs.declared.declared.Transport.TheVariants as transport
+use Rattle.hla_catalogue.specs.declared.declared.InteractionClass.{InteractionClass}
+use Rattle.hla_catalogue.specs.declared.declared.Order.{Order}
+use Rattle.hla_catalogue.specs.declared.declared.Order.TheVariants as order
+use Rattle.hla_catalogue.specs.declared.declared.Transport.{Transport}
+use Rattle.hla_catalogue.specs.declared.declared.Transport.TheVariants as transport
 use Rattle.hla_fed_file.specs.declared.fault.FedFaultKind.TheVariants as kind
 use Rattle.hla_fed_file.specs.declared.place.Keyword.TheVariants as word
 use Rattle.hla_fed_file.specs.declared.place.Head.TheVariants as head

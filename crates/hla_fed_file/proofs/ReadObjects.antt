@@ -3,15 +3,15 @@ use Rattle.hla_base.specs.Limits.{max_attributes, max_classes}
 use Rattle.std.proofs.Common.{◌≡◌, ℕ, ◌+◌, ◌<◌, ◌==◌, Bool, true, false, List, [], ◌∷◌, ◌++◌, length, Option, None, Some, Ok, Err, nat_le, cond, refl, ap, ◌∙◌, arith}
 use Rattle.std.specs.Option.{option_map}
 use Rattle.hla_fed_file.specs.Lexical.{Lexed}
-use Rattle.hla_fed_file.specs.CatalogueValue.{CatalogueValue}
-use Rattle.hla_fed_file.specs.Declaring.{innermost, with_object_class, with_attribute, has_attribute_named}
+use Rattle.hla_catalogue.specs.CatalogueValue.{CatalogueValue}
+use Rattle.hla_catalogue.specs.Declaring.{innermost, with_object_class, with_attribute, has_attribute_named}
 use Rattle.hla_fed_file.specs.Reading.{reading, after_open, after_open_at, after_close, after_close_at, after_word, after_quoted, after_name_at, place_behind_keyword, with_paren_opened, with_paren_closed, with_attribute_declared, head_in, Step}
 use Rattle.hla_fed_file.specs.Grammar.{Symbol, LeftParen, RightParen, Means, Named, Spells, Options, Bare, Ordered, SecLevels, NoLevel, ALevel, ObjectItems, NoItem, AnAttribute, ASecLevel, AClass, ObjectClasses, NoClass, TopClass, transport_then, space_then, options_then, levels_then, object_items_then, object_classes_then, transport_of, order_of, object_items_declare, object_classes_declare, IsShort, levels_fit, AttributeFits, object_items_fit, object_classes_fit}
-use Rattle.hla_fed_file.specs.declared.declared.Attribute.{Attribute}
-use Rattle.hla_fed_file.specs.declared.declared.Order.{Order}
-use Rattle.hla_fed_file.specs.declared.declared.Order.TheVariants as order
-use Rattle.hla_fed_file.specs.declared.declared.Transport.{Transport}
-use Rattle.hla_fed_file.specs.declared.declared.Transport.TheVariants as transport
+use Rattle.hla_catalogue.specs.declared.declared.Attribute.{Attribute}
+use Rattle.hla_catalogue.specs.declared.declared.Order.{Order}
+use Rattle.hla_catalogue.specs.declared.declared.Order.TheVariants as order
+use Rattle.hla_catalogue.specs.declared.declared.Transport.{Transport}
+use Rattle.hla_catalogue.specs.declared.declared.Transport.TheVariants as transport
 use Rattle.hla_fed_file.specs.declared.fault.FedFaultKind.TheVariants as kind
 use Rattle.hla_fed_file.specs.declared.place.Keyword.{Keyword}
 use Rattle.hla_fed_file.specs.declared.place.Keyword.TheVariants as word

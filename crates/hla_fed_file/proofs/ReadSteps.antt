@@ -6,11 +6,11 @@ use Rattle.hla_fed_file.specs.Lexical as text
 use Rattle.hla_fed_file.specs.Lexical.{Lexed, tokens}
 use Rattle.hla_fed_file.specs.Tokens.{is_end}
 use Rattle.hla_fed_file.specs.Keywords.{keyword_of}
-use Rattle.hla_fed_file.specs.CatalogueValue.{CatalogueValue}
+use Rattle.hla_catalogue.specs.CatalogueValue.{CatalogueValue}
 use Rattle.hla_fed_file.specs.Reading.{reading, after_token, after_open, after_close, after_word, after_quoted, after_name, after_name_at, place_behind_keyword, with_paren_opened, place_behind}
 use Rattle.hla_fed_file.specs.Grammar.{Symbol, LeftParen, RightParen, Means, Named, AnyName, Fits, Spells, Ignored, NoMore, AName, AList, ignored_then, IsShort, ignored_fit}
-use Rattle.hla_fed_file.specs.declared.declared.Attribute.{Attribute}
-use Rattle.hla_fed_file.specs.declared.declared.InteractionClass.{InteractionClass}
+use Rattle.hla_catalogue.specs.declared.declared.Attribute.{Attribute}
+use Rattle.hla_catalogue.specs.declared.declared.InteractionClass.{InteractionClass}
 use Rattle.hla_fed_file.specs.declared.place.Keyword.{Keyword}
 use Rattle.hla_fed_file.specs.declared.place.Head.{Head}
 use Rattle.hla_fed_file.specs.declared.place.Naming.{Naming}

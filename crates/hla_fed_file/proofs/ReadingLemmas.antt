@@ -5,7 +5,7 @@ use Rattle.hla_fed_file.specs.Lexical as text
 use Rattle.hla_fed_file.specs.Lexical.{Lexed, tokens, tokens_from, Between}
 use Rattle.hla_fed_file.specs.Tokens.{stream, is_end}
 use Rattle.hla_fed_file.specs.Reading.{reading, after_token, ending_of, start, reading_of, ReadsAs, Fails, IsFirstFault}
-use Rattle.hla_fed_file.specs.CatalogueValue.{CatalogueValue}
+use Rattle.hla_catalogue.specs.CatalogueValue.{CatalogueValue}
 use Rattle.hla_fed_file.specs.declared.fault.FedFaultKind.{FedFaultKind}
 use Rattle.hla_fed_file.specs.declared.fault.FedFaultKind.TheVariants as kind
 use Rattle.hla_fed_file.specs.declared.fault.FedFault.{FedFault}

@@ -5,8 +5,8 @@ use Rattle.std.proofs.lemmas.Bool.Decides.{nat_tests}
 use Rattle.hla_fed_file.specs.Lexical as text
 use Rattle.hla_fed_file.specs.Lexical.{Lexed, tokens}
 use Rattle.hla_fed_file.specs.Tokens.{is_end}
-use Rattle.hla_fed_file.specs.CatalogueValue.{CatalogueValue, empty_catalogue}
-use Rattle.hla_fed_file.specs.Declaring.{with_object_class, with_interaction_class}
+use Rattle.hla_catalogue.specs.CatalogueValue.{CatalogueValue, empty_catalogue}
+use Rattle.hla_catalogue.specs.Declaring.{with_object_class, with_interaction_class}
 use Rattle.hla_fed_file.specs.Reading.{reading, after_token, after_open, after_close, after_word, after_quoted, after_name_at, place_behind_keyword, outcome_after, Outcome, start, reading_of, Step}
 use Rattle.hla_fed_file.specs.Grammar.{LeftParen, RightParen, Means, Named, TheEnd, Fits, Spells, ObjectClasses, NoClass, TopClass, InteractionClasses, NoTop, ATop, Parts, NoPart, ALabel, AnIgnored, Objects, Interactions, object_classes_then, interaction_classes_then, parts_then, file_of, transport_of, order_of, object_items_declare, interaction_items_declare, object_classes_declare, interaction_classes_declare, parts_declare, IsShort, object_classes_fit, interaction_classes_fit, parts_fit, Describes}
 use Rattle.hla_fed_file.specs.declared.fault.FedFaultKind.TheVariants as kind

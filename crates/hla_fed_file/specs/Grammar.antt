@@ -4,12 +4,12 @@ use Rattle.hla_base.specs.Limits.{max_fed_file, max_fed_nesting, max_name, max_c
 use Rattle.hla_fed_file.specs.Lexical as text
 use Rattle.hla_fed_file.specs.Lexical.{Lexed, tokens}
 use Rattle.hla_fed_file.specs.Keywords.{keyword_of}
-use Rattle.hla_fed_file.specs.CatalogueValue.{CatalogueValue, empty_catalogue}
-use Rattle.hla_fed_file.specs.Declaring.{with_object_class, with_interaction_class, with_attribute, with_parameter, has_attribute_named, has_parameter_named}
-use Rattle.hla_fed_file.specs.declared.declared.Order.{Order}
-use Rattle.hla_fed_file.specs.declared.declared.Order.TheVariants as order
-use Rattle.hla_fed_file.specs.declared.declared.Transport.{Transport}
-use Rattle.hla_fed_file.specs.declared.declared.Transport.TheVariants as transport
+use Rattle.hla_catalogue.specs.CatalogueValue.{CatalogueValue, empty_catalogue}
+use Rattle.hla_catalogue.specs.Declaring.{with_object_class, with_interaction_class, with_attribute, with_parameter, has_attribute_named, has_parameter_named}
+use Rattle.hla_catalogue.specs.declared.declared.Order.{Order}
+use Rattle.hla_catalogue.specs.declared.declared.Order.TheVariants as order
+use Rattle.hla_catalogue.specs.declared.declared.Transport.{Transport}
+use Rattle.hla_catalogue.specs.declared.declared.Transport.TheVariants as transport
 use Rattle.hla_fed_file.specs.declared.place.Keyword.{Keyword}
 use Rattle.hla_fed_file.specs.declared.place.Keyword.TheVariants as word
 

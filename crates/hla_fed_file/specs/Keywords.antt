@@ -1,8 +1,8 @@
 -- The words with a meaning, whatever their case
 use Rattle.std.specs.Prelude.{ℕ, Bool, ◌||◌, List, Option, None, Some, if◌then◌else◌, codes}
 use Rattle.std.specs.Str.{bytes_eq, str_to_ascii_lowercase}
-use Rattle.hla_fed_file.specs.declared.declared.Order.TheVariants.{Receive, Timestamp}
-use Rattle.hla_fed_file.specs.declared.declared.Transport.TheVariants.{Reliable, BestEffort}
+use Rattle.hla_catalogue.specs.declared.declared.Order.TheVariants.{Receive, Timestamp}
+use Rattle.hla_catalogue.specs.declared.declared.Transport.TheVariants.{Reliable, BestEffort}
 use Rattle.hla_fed_file.specs.declared.place.Keyword.{Keyword}
 use Rattle.hla_fed_file.specs.declared.place.Keyword.TheVariants as word
 

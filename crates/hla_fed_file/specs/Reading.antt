@@ -6,15 +6,15 @@ use Rattle.hla_fed_file.specs.Lexical as text
 use Rattle.hla_fed_file.specs.Lexical.{Lexed, tokens}
 use Rattle.hla_fed_file.specs.Tokens.{is_end}
 use Rattle.hla_fed_file.specs.Keywords.{keyword_of}
-use Rattle.hla_fed_file.specs.CatalogueValue.{CatalogueValue, empty_catalogue}
-use Rattle.hla_fed_file.specs.Declaring.{innermost, interaction_class, with_object_class, has_attribute_named, has_parameter_named, with_parameter}
+use Rattle.hla_catalogue.specs.CatalogueValue.{CatalogueValue, empty_catalogue}
+use Rattle.hla_catalogue.specs.Declaring.{innermost, interaction_class, with_object_class, has_attribute_named, has_parameter_named, with_parameter}
 use Rattle.hla_fed_file.specs.declared.fault.FedFault.{FedFault}
 use Rattle.hla_fed_file.specs.declared.fault.FedFaultKind.{FedFaultKind}
 use Rattle.hla_fed_file.specs.declared.fault.FedFaultKind.TheVariants as kind
-use Rattle.hla_fed_file.specs.declared.declared.Attribute.{Attribute}
-use Rattle.hla_fed_file.specs.declared.declared.InteractionClass.{InteractionClass}
-use Rattle.hla_fed_file.specs.declared.declared.Order.TheVariants as order
-use Rattle.hla_fed_file.specs.declared.declared.Transport.TheVariants as transport
+use Rattle.hla_catalogue.specs.declared.declared.Attribute.{Attribute}
+use Rattle.hla_catalogue.specs.declared.declared.InteractionClass.{InteractionClass}
+use Rattle.hla_catalogue.specs.declared.declared.Order.TheVariants as order
+use Rattle.hla_catalogue.specs.declared.declared.Transport.TheVariants as transport
 use Rattle.hla_fed_file.specs.declared.place.Keyword.{Keyword}
 use Rattle.hla_fed_file.specs.declared.place.Keyword.TheVariants as word
 use Rattle.hla_fed_file.specs.declared.place.Head.{Head}

@@ -3,7 +3,7 @@
 ghost use Rattle.std.specs.Prelude.{◌≡◌};
 ghost use Rattle.hla_fed_file.specs.Keywords.{keyword_of, is_spelling_of};
 
-use crate::declared::{Order, Transport};
+use hla_catalogue::{Order, Transport};
 
 /// What a bare word means where a keyword may stand.
 #[derive(Clone, Copy, Debug, PartialEq, Eq)]

@@ -2,12 +2,10 @@
 
 ghost use Rattle.std.specs.Prelude.{◌≡◌, ◌∷◌, ◌+◌, Ok, Err, IfOk, IfErr, drop, length};
 ghost use Rattle.hla_fed_file.specs.Reading.{Moves, with_paren_opened, with_paren_closed, with_attribute_declared, with_class_declared, head_in, after_open, with_class_left, with_list_closed, place_behind, after_close, after_name_at, after_name, place_behind_keyword, with_place, attribute_option, class_option, after_word, after_quoted, after_token, start, ending_of};
-ghost use Rattle.hla_fed_file.specs.Declaring.{innermost, extended_path};
+ghost use Rattle.hla_catalogue.specs.Declaring.{innermost, extended_path};
 ghost use Rattle.hla_fed_file.specs.Keywords.{keyword_of};
 ghost use Rattle.hla_fed_file.specs.Tokens.{view};
 
-use crate::declared::{Attribute, InteractionClass, ObjectClass, Order, Parameter, Transport};
-use crate::draft::Draft;
 use crate::fault::{FedFault, FedFaultKind};
 use crate::lexer::Token;
 use crate::place::{Head, Keyword, Lists, Naming, Place, Stage, Within, meaning};
@@ -15,6 +13,7 @@ use hla_base::{
     ClassNo, Fault, List, MAX_ATTRIBUTES, MAX_CLASSES, MAX_FED_NESTING, MAX_NAME, MAX_PARAMETERS,
     Plain,
 };
+use hla_catalogue::{Attribute, Draft, InteractionClass, ObjectClass, Order, Parameter, Transport};
 use std::alloc::Global;
 
 /// What was read so far.

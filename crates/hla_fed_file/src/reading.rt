@@ -5,13 +5,13 @@ ghost use Rattle.hla_base.specs.Limits.{max_fed_file};
 ghost use Rattle.hla_fed_file.specs.Reading.{ending_of, reading, reading_of, ReadsAs, Takes};
 ghost use Rattle.hla_fed_file.specs.Lexical.{tokens};
 ghost use Rattle.hla_fed_file.specs.Grammar.{Describes};
-ghost use Rattle.hla_fed_file.specs.CatalogueValue.{CatalogueValue};
+ghost use Rattle.hla_catalogue.specs.CatalogueValue.{CatalogueValue};
 
-use crate::catalogue::Catalogue;
 use crate::fault::{FedFault, FedFaultKind};
 use crate::lexer::next;
 use crate::reader::Reader;
 use hla_base::MAX_FED_FILE;
+use hla_catalogue::Catalogue;
 use std::alloc::Global;
 
 /// Takes all tokens of a text, and gives the line of its end.

@@ -1,6 +1,6 @@
 -- What contracts see of a federation
 use Rattle.std.specs.Prelude.{ℕ, List}
-use Rattle.hla_fed_file.specs.CatalogueValue.{CatalogueValue}
+use Rattle.hla_catalogue.specs.CatalogueValue.{CatalogueValue}
 use Rattle.hla_declaration.specs.Lists.{DeclarationLists}
 use Rattle.hla_object_registry.specs.Registered.{Registered}
 use Rattle.hla_members.specs.MemberValue.{MemberValue}

@@ -3,7 +3,7 @@
 use crate::foreseeing::Foreseen;
 use crate::parts::Parts;
 use hla_base::Fault;
-use hla_fed_file::Catalogue;
+use hla_catalogue::Catalogue;
 use hla_machine::{Answer, Choice, Step};
 use std::alloc::Global;
 use std::marker::Model;

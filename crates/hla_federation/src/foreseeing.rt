@@ -21,7 +21,7 @@ ghost use Rattle.hla_federation.specs.Steps.State.{state_of, IsQuestion, IsTimeS
 use crate::parts::Parts;
 use hla_base::{ClassNo, EventHandle, Fault, FederateNo, HandleValuePair, List, Plain, Ticks};
 use hla_callbacks::Callback;
-use hla_fed_file::Order;
+use hla_catalogue::Order;
 use hla_machine::{Answer, Carried, Choice, Outcome, Service, Step};
 use hla_members::callback_of;
 use hla_time_roles::TimeState;

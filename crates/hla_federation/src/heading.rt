@@ -2,12 +2,12 @@
 
 ghost use Rattle.std.specs.Prelude.{◌≡◌};
 ghost use Rattle.std.specs.Option.{option_and_then};
-ghost use Rattle.hla_fed_file.specs.declared.declared.Order.TheVariants.{Timestamp};
+ghost use Rattle.hla_catalogue.specs.declared.declared.Order.TheVariants.{Timestamp};
 ghost use Rattle.hla_machine.specs.Directory.{is_of_order};
 ghost use Rattle.hla_federation.specs.Steps.Sending.{event_under, handle_under, note_under};
 
 use hla_base::{Content, Event, EventHandle, FederateNo, Serial, Ticks};
-use hla_fed_file::Order;
+use hla_catalogue::Order;
 use hla_members::Note;
 use hla_null_message::Message;
 use hla_retraction::Receivers;

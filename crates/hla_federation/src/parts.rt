@@ -6,8 +6,8 @@ ghost use Rattle.hla_object_registry.specs.Registered.{registry_of, new_registry
 ghost use Rattle.hla_federation.specs.Steps.State.{nothing_declared};
 
 use hla_base::List;
+use hla_catalogue::Catalogue;
 use hla_declaration::Declarations;
-use hla_fed_file::Catalogue;
 use hla_members::Members;
 use hla_object_registry::Registry;
 use std::alloc::Global;

@@ -3,7 +3,7 @@
 ghost use Rattle.std.specs.Prelude.{◌≡◌, ◌<◌, ◌≤◌, ℕ, not, length, ◌∷◌, []};
 ghost use Rattle.std.specs.List.{list_any};
 ghost use Rattle.hla_base.specs.declared.content.HandleValuePair.{HandleValuePair};
-ghost use Rattle.hla_fed_file.specs.Lookup.{attribute_order, has_attribute, has_parameter};
+ghost use Rattle.hla_catalogue.specs.Lookup.{attribute_order, has_attribute, has_parameter};
 ghost use Rattle.hla_machine.specs.Directory.{is_of_order, update_sent};
 ghost use Rattle.hla_base.specs.RowRefusals.{first_fault};
 ghost use Rattle.hla_machine.specs.Refusals.{refusal, joined_test, no_object_class, no_interaction_class, no_attribute, is_length_in, is_owned, is_published};
@@ -20,7 +20,7 @@ use hla_base::{
     AttributeNo, ClassNo, Fault, FederateNo, HandleValuePair, List, MAX_FEDERATE_NAME, MAX_JOINS,
     MAX_NAME, MAX_OBJECTS, MAX_SERIAL, MAX_TIME, ObjectNo, Ticks,
 };
-use hla_fed_file::Order;
+use hla_catalogue::Order;
 use hla_machine::ResignAction;
 
 /// Whether a name has at least one byte, and at most so many.

@@ -5,7 +5,7 @@ ghost use Rattle.std.specs.Option.{option_map_or};
 ghost use Rattle.hla_base.specs.declared.content.Discovery.{Discovery};
 ghost use Rattle.hla_base.specs.Limits.{max_joins};
 ghost use Rattle.hla_base.specs.declared.fault.Fault.TheVariants.{OutOfMemory};
-ghost use Rattle.hla_fed_file.specs.Lookup.{object_lineage};
+ghost use Rattle.hla_catalogue.specs.Lookup.{object_lineage};
 ghost use Rattle.hla_null_message.specs.declared.message.Message.TheVariants as message;
 ghost use Rattle.hla_machine.specs.Directory.{discovery_of, discoveries_of, with_discoveries_made, with_subscribed};
 ghost use Rattle.hla_machine.specs.declared.service.Service.TheVariants as service;

@@ -6,8 +6,8 @@ ghost use Rattle.hla_base.specs.declared.fault.Fault.TheVariants.{OutOfMemory};
 ghost use Rattle.hla_base.specs.Tables.{is_other, one_if};
 ghost use Rattle.std.specs.List.{list_all};
 ghost use Rattle.std.specs.Option.{option_map_or};
-ghost use Rattle.hla_fed_file.specs.Lookup.{contains_number, has_parameter};
-ghost use Rattle.hla_fed_file.specs.declared.declared.Order.TheVariants.{Receive};
+ghost use Rattle.hla_catalogue.specs.Lookup.{contains_number, has_parameter};
+ghost use Rattle.hla_catalogue.specs.declared.declared.Order.TheVariants.{Receive};
 ghost use Rattle.hla_retraction.specs.Receivers.{receiver_set};
 ghost use Rattle.hla_machine.specs.Directory.{AnInteraction, AnUpdate, ADeletion, is_receiver, subscribed_values, values_of_order, part_sent};
 ghost use Rattle.hla_machine.specs.declared.service.Service.TheVariants as service;
@@ -24,7 +24,7 @@ use hla_base::{
     ClassNo, Content, EventHandle, Fault, FederateNo, HandleValuePair, List, ObjectNo, Plain,
     Serial, SharedList, Ticks,
 };
-use hla_fed_file::Order;
+use hla_catalogue::Order;
 use hla_machine::Answer;
 use hla_members::{Note, Outbox};
 use hla_retraction::Receivers;

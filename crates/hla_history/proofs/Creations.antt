@@ -9,7 +9,7 @@ use Rattle.hla_base.specs.Limits.{max_executions, max_creates}
 use Rattle.hla_base.specs.RowRefusals.{first_fault, test_for}
 use Rattle.hla_base.specs.declared.fault.Fault.{Fault}
 use Rattle.hla_base.specs.declared.fault.Fault.TheVariants as fault
-use Rattle.hla_fed_file.specs.CatalogueValue.{CatalogueValue}
+use Rattle.hla_catalogue.specs.CatalogueValue.{CatalogueValue}
 use Rattle.hla_callbacks.specs.declared.callback.Callback.{Callback}
 use Rattle.hla_machine.specs.Runs.{EndsAs, create_fault, destroy_fault, is_joined_by_any}
 use Rattle.hla_machine.specs.declared.step.Act.{Act}

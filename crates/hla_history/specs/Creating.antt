@@ -3,7 +3,7 @@ use Rattle.std.specs.Prelude.{ℕ, Bool, true, false, List, Option, None, Some, 
 use Rattle.std.specs.Result.{result_ok}
 use Rattle.hla_base.specs.declared.fault.Fault.{Fault}
 use Rattle.hla_callbacks.specs.declared.callback.Callback.{Callback}
-use Rattle.hla_fed_file.specs.CatalogueValue.{CatalogueValue}
+use Rattle.hla_catalogue.specs.CatalogueValue.{CatalogueValue}
 use Rattle.hla_fed_file.specs.Reading.{reading_of}
 use Rattle.hla_machine.specs.Runs.{create_fault, destroy_fault}
 use Rattle.hla_machine.specs.declared.step.Answer.TheVariants as answer

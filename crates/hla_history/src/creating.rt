@@ -18,7 +18,8 @@ use crate::host::Hosted;
 use crate::preparing::{Stepped, recorded};
 use hla_base::{ExecutionName, Fault, MAX_CREATES, MAX_EXECUTIONS, Plain};
 use hla_callbacks::FederateAmbassador;
-use hla_fed_file::{Catalogue, FedFaultKind, read};
+use hla_catalogue::Catalogue;
+use hla_fed_file::{FedFaultKind, read};
 use hla_machine::{Act, Answer, Outcome, Record};
 use std::alloc::Global;
 

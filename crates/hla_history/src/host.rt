@@ -18,7 +18,7 @@ use crate::preparing::{Stepped, advance, prepare, taken};
 use crate::seating::{seated, unseated};
 use hla_base::{ExecutionName, Fault, FederateNo, List, MAX_JOINS, Plain, SharedList};
 use hla_callbacks::{Ear, FederateAmbassador};
-use hla_fed_file::Catalogue;
+use hla_catalogue::Catalogue;
 use hla_federation::Federation;
 use hla_machine::{Record, ResignAction, Service, Step};
 use std::alloc::Global;

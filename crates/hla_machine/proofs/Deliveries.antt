@@ -10,7 +10,7 @@ use Rattle.std.specs.List.{All}
 use Rattle.hla_base.specs.Rows.{is_disabled}
 use Rattle.hla_base.specs.Tables.{upd, is_other}
 use Rattle.hla_base.proofs.Tables.{by_number, upd_same, upd_other, upd_each}
-use Rattle.hla_fed_file.specs.CatalogueValue.{CatalogueValue}
+use Rattle.hla_catalogue.specs.CatalogueValue.{CatalogueValue}
 use Rattle.hla_callbacks.specs.declared.callback.Callback.{Callback}
 use Rattle.hla_callbacks.specs.declared.callback.Callback.TheVariants as callback
 use Rattle.hla_callbacks.specs.declared.callback.Delivery.{Delivery}

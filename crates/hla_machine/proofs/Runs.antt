@@ -12,7 +12,7 @@ use Rattle.hla_base.specs.declared.row.Role.TheVariants.{Disabled, Pending, Enab
 use Rattle.hla_base.specs.declared.row.TimeRow.{TimeRow}
 use Rattle.hla_base.specs.Tables.{upd}
 use Rattle.hla_base.specs.Rows.{is_next, is_flush, is_constrained, is_disabled, is_pending, row_after_regulation_enabled, row_after_constraint_enabled, row_after_pick, row_after_grant, bar_after, first_or, reach}
-use Rattle.hla_fed_file.specs.CatalogueValue.{CatalogueValue}
+use Rattle.hla_catalogue.specs.CatalogueValue.{CatalogueValue}
 use Rattle.hla_callbacks.specs.declared.callback.Callback.{Callback}
 use Rattle.hla_callbacks.specs.declared.callback.Callback.TheVariants as callback
 use Rattle.hla_callbacks.specs.declared.callback.Delivery.{Delivery}

@@ -9,7 +9,7 @@ use Rattle.hla_base.specs.declared.row.TimeRow.{TimeRow}
 use Rattle.hla_base.specs.declared.number.EventHandle.{EventHandle}
 use Rattle.hla_base.specs.Tables.{upd, upd2, is_other, greatest, or_else, when}
 use Rattle.hla_base.specs.Rows.{is_enabled, is_regulator, is_constrained, next_request, width, new_row, reach, bar_of}
-use Rattle.hla_fed_file.specs.CatalogueValue.{CatalogueValue}
+use Rattle.hla_catalogue.specs.CatalogueValue.{CatalogueValue}
 use Rattle.hla_retraction.specs.SentEvents.{SentEvent, no_event}
 use Rattle.hla_machine.specs.Directory.{Directory, new_directory}
 

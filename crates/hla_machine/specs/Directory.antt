@@ -10,10 +10,10 @@ use Rattle.hla_base.specs.declared.content.Content.{Content}
 use Rattle.hla_base.specs.declared.content.Content.TheVariants as content
 use Rattle.hla_base.specs.declared.content.Discovery.{Discovery}
 use Rattle.hla_base.specs.Tables.{upd, upd2, is_other, numbers_below, when}
-use Rattle.hla_fed_file.specs.CatalogueValue.{CatalogueValue}
-use Rattle.hla_fed_file.specs.declared.declared.Order.{Order}
-use Rattle.hla_fed_file.specs.declared.declared.Order.TheVariants.{Receive, Timestamp}
-use Rattle.hla_fed_file.specs.Lookup.{contains_number, object_lineage, interaction_lineage, has_parameter, attribute_order, interaction_order, deletion_order}
+use Rattle.hla_catalogue.specs.CatalogueValue.{CatalogueValue}
+use Rattle.hla_catalogue.specs.declared.declared.Order.{Order}
+use Rattle.hla_catalogue.specs.declared.declared.Order.TheVariants.{Receive, Timestamp}
+use Rattle.hla_catalogue.specs.Lookup.{contains_number, object_lineage, interaction_lineage, has_parameter, attribute_order, interaction_order, deletion_order}
 
 -- an object that was registered; a deleted one no longer exists
 pub record Object : Type 0 where

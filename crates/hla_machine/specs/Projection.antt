@@ -1,7 +1,7 @@
 -- What the records of all executions say of one of them
 use Rattle.std.specs.Prelude.{ℕ, cond, Option, Some, None, List, [], ◌∷◌, ◌++◌}
 use Rattle.std.specs.Str.{bytes_eq}
-use Rattle.hla_fed_file.specs.CatalogueValue.{CatalogueValue}
+use Rattle.hla_catalogue.specs.CatalogueValue.{CatalogueValue}
 use Rattle.hla_machine.specs.declared.step.Act.{Act}
 use Rattle.hla_machine.specs.declared.step.Act.TheVariants as act
 use Rattle.hla_machine.specs.declared.step.Outcome.{Outcome}

@@ -11,7 +11,7 @@ use Rattle.hla_base.specs.declared.row.TimeRow.{TimeRow}
 use Rattle.hla_base.specs.Tables.{numbers_below}
 use Rattle.hla_base.specs.Rows.{least_stamp}
 use Rattle.hla_base.specs.RowRefusals.{Test, test_for, first_fault, request_tests, regulation_tests, unregulate_tests, constrain_tests, unconstrain_tests, lookahead_tests, asynchronous_on_tests, asynchronous_off_tests}
-use Rattle.hla_fed_file.specs.Lookup.{is_object_class, is_interaction_class, has_attribute, has_parameter, contains_number, object_class_named, interaction_class_named, attribute_named, parameter_named}
+use Rattle.hla_catalogue.specs.Lookup.{is_object_class, is_interaction_class, has_attribute, has_parameter, contains_number, object_class_named, interaction_class_named, attribute_named, parameter_named}
 use Rattle.hla_retraction.specs.SentEvents.{SentEvent, may_retract}
 use Rattle.hla_machine.specs.declared.service.Service.{Service}
 use Rattle.hla_machine.specs.declared.service.Service.TheVariants as service

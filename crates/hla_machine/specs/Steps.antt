@@ -4,7 +4,7 @@ use Rattle.std.proofs.Common.{inl, inr, ap, rules}
 use Rattle.std.proofs.lemmas.Bool.{and_left, and_right}
 use Rattle.hla_base.specs.contracts.plain.U32Plain.TheImpl.Laws.{exact-law as same_number}
 use Rattle.hla_base.specs.contracts.plain.U8Plain.TheImpl.Laws.{lists-law as same_name}
-use Rattle.hla_fed_file.specs.contracts.catalogue.CataloguePlain.TheImpl.Laws.{options-law as same_catalogue}
+use Rattle.hla_catalogue.specs.contracts.catalogue.CataloguePlain.TheImpl.Laws.{options-law as same_catalogue}
 use Rattle.hla_callbacks.specs.contracts.callback.CallbackPlain.TheImpl.Laws.{exact-law as same_callback}
 use Rattle.hla_machine.specs.Services.{same_service}
 use Rattle.hla_machine.specs.contracts.step.AnswerPlain.TheImpl.Laws.{exact-law as same_answer}

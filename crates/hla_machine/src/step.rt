@@ -6,7 +6,7 @@ ghost use Rattle.std.proofs.Common.{rules};
 use crate::service::Service;
 use hla_base::{EventHandle, Fault, FederateNo, List, ObjectNo, Plain, SharedList, Ticks};
 use hla_callbacks::Callback;
-use hla_fed_file::Catalogue;
+use hla_catalogue::Catalogue;
 
 /// One step of a federation execution.
 #[derive(Clone, PartialEq, Eq, Debug, Drop)]

@@ -9,7 +9,7 @@ use Rattle.std.proofs.lemmas.List.{length-append}
 use Rattle.std.proofs.lemmas.Option.{unwrap_or-slice_get}
 use Rattle.std.proofs.Math.Path.{fun_ext}
 use Rattle.hla_base.specs.Tables.{upd, upd2}
-use Rattle.hla_fed_file.specs.Lookup.{item_numbered}
+use Rattle.hla_catalogue.specs.Lookup.{item_numbered}
 use Rattle.hla_object_registry.specs.Registered.{item_at, is_in}
 
 pub upd_same : {X : Type 0} (t : ℕ → X) (i : ℕ) (x : X) → upd t i x i ≡ x

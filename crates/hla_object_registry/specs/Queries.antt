@@ -3,7 +3,7 @@ use Rattle.std.specs.Prelude.{ℕ, ◌+◌, eqb, not, ◌&&◌, Bool, true, Opti
 use Rattle.std.specs.List.{list_any}
 use Rattle.std.specs.Str.{bytes_eq}
 use Rattle.hla_base.specs.Tables.{upd, upd2, numbers_below}
-use Rattle.hla_fed_file.specs.Lookup.{contains_number}
+use Rattle.hla_catalogue.specs.Lookup.{contains_number}
 use Rattle.hla_object_registry.specs.Registered.{RegistryValue}
 
 -- was the name ever given to an object

@@ -1,6 +1,6 @@
 -- What contracts see of a registry of objects, and the tables that it stands for
 use Rattle.std.specs.Prelude.{ℕ, ◌+◌, Bool, false, List, [], length, unwrap_or}
-use Rattle.hla_fed_file.specs.Lookup.{item_numbered}
+use Rattle.hla_catalogue.specs.Lookup.{item_numbered}
 use Rattle.hla_machine.specs.Directory.{Object, no_object}
 
 -- an object that was registered, and a flag for each federate in the order of their numbers: is it known there

@@ -6,7 +6,7 @@ ghost use Rattle.std.specs.Map.Iter.{deref_pair};
 ghost use Rattle.hla_base.specs.Limits.{max_joins, max_objects};
 ghost use Rattle.hla_base.specs.Tables.{upd, upd2};
 ghost use Rattle.hla_base.specs.declared.fault.Fault.TheVariants.{OutOfMemory};
-ghost use Rattle.hla_fed_file.specs.Lookup.{item_numbered};
+ghost use Rattle.hla_catalogue.specs.Lookup.{item_numbered};
 ghost use Rattle.hla_object_registry.specs.Registered.{registry_of, new_registry};
 ghost use Rattle.hla_object_registry.specs.Queries.{is_name_used_in, is_known_in, is_owned_in, is_object_of, objects_owned, object_found, with_registered, without_owned};
 ghost use Rattle.hla_object_registry.specs.Entries.{registered_object, IsUnused, IsNumberOf, AreOwned};

@@ -2,8 +2,9 @@ ghost use Rattle.std.specs.Prelude.{◌≡◌, IfOk};
 ghost use Rattle.hla_declaration.specs.Declarations.{declarations_of};
 
 use hla_base::{AttributeNo, ClassNo, FederateNo, List};
+use hla_catalogue::Catalogue;
 use hla_declaration::{Declarations, Receiver};
-use hla_fed_file::{Catalogue, read};
+use hla_fed_file::read;
 use std::alloc::{AllocError, Global};
 use std::process::Abort;
 use std::test::Fail;

@@ -4,8 +4,8 @@ use Rattle.hla_base.specs.Limits.{max_value}
 use Rattle.hla_base.specs.declared.fault.Fault.{Fault}
 use Rattle.hla_base.specs.declared.fault.Fault.TheVariants as fault
 use Rattle.hla_base.specs.declared.content.HandleValuePair.{HandleValuePair}
-use Rattle.hla_fed_file.specs.CatalogueValue.{CatalogueValue}
-use Rattle.hla_fed_file.specs.Lookup.{object_class_named, interaction_class_named, attribute_named, parameter_named}
+use Rattle.hla_catalogue.specs.CatalogueValue.{CatalogueValue}
+use Rattle.hla_catalogue.specs.Lookup.{object_class_named, interaction_class_named, attribute_named, parameter_named}
 use Rattle.hla_machine.specs.declared.service.Service.{Service}
 use Rattle.hla_machine.specs.declared.service.Service.TheVariants as service
 use Rattle.hla_machine.specs.declared.step.Step.{Step}

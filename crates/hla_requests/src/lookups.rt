@@ -7,8 +7,8 @@ ghost use Rattle.hla_requests.specs.Requests.{Asks, Finds, number_or, known_fede
 
 use crate::members::{Member, federate_named, joined_federate_named};
 use hla_base::{AttributeNo, ClassNo, Fault, FederateNo, HandleValuePair, List, ObjectNo, Value};
+use hla_catalogue::Catalogue;
 use hla_commands::NameValuePair;
-use hla_fed_file::Catalogue;
 use std::alloc::Global;
 
 /// Why nothing is asked.

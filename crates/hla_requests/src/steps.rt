@@ -10,8 +10,8 @@ use crate::lookups::{
 };
 use crate::members::Member;
 use hla_base::{AdvanceKind, EventHandle, List, Plain, Ticks};
+use hla_catalogue::Catalogue;
 use hla_commands::{Call, Command, Declaration, NameValuePair};
-use hla_fed_file::Catalogue;
 use hla_machine::{Service, Step};
 use std::alloc::Global;
 

@@ -2,7 +2,7 @@
 use Rattle.std.specs.Prelude.{◌≡◌, ◌≤◌, ◌++◌, ℕ, List, [], length, take, Option, None, Some, Ok, Err, Bool, true, false, Result, slice_index_or}
 use Rattle.std.specs.List.{flat_map, enumerate_from}
 use Rattle.std.specs.Io.KnownBytes.{Appends}
-use Rattle.hla_fed_file.specs.CatalogueValue.{CatalogueValue}
+use Rattle.hla_catalogue.specs.CatalogueValue.{CatalogueValue}
 use Rattle.hla_fed_file.specs.Reading as reading
 use Rattle.hla_fed_file.specs.Grammar.{Describes}
 use Rattle.hla_machine.specs.declared.step.Outcome.{Outcome}

@@ -7,8 +7,8 @@ ghost use Rattle.hla_run.specs.Running.{told_at, told_text};
 
 use hla_base::{Fault, List};
 use hla_callbacks::Callback;
+use hla_catalogue::Catalogue;
 use hla_commands::Line;
-use hla_fed_file::Catalogue;
 use hla_machine::{Answer, Outcome};
 use hla_transcript::{Text, print_line};
 use std::alloc::Global;

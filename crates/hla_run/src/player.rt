@@ -3,8 +3,8 @@
 use crate::outcomes::{outcome_of, outcome_of_tick};
 use hla_base::Fault;
 use hla_callbacks::Recorder;
+use hla_catalogue::Catalogue;
 use hla_commands::Call;
-use hla_fed_file::Catalogue;
 use hla_machine::{Answer, Outcome, ResignAction, Service};
 use hla_monitor::{Naming, Publisher};
 use hla_requests::{AskFault, service_of};

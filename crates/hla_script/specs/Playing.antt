@@ -4,7 +4,7 @@ use Rattle.std.specs.Io.KnownBytes.{Appends}
 use Rattle.hla_base.specs.Limits.{max_history}
 use Rattle.hla_base.specs.declared.fault.Fault.{Fault}
 use Rattle.hla_base.specs.declared.fault.Fault.TheVariants as fault
-use Rattle.hla_fed_file.specs.CatalogueValue.{CatalogueValue}
+use Rattle.hla_catalogue.specs.CatalogueValue.{CatalogueValue}
 use Rattle.hla_fed_file.specs.Reading as reading
 use Rattle.hla_fed_file.specs.Grammar.{Describes}
 use Rattle.hla_machine.specs.declared.step.Act.{Act}

@@ -7,7 +7,7 @@ ghost use Rattle.hla_script.specs.Playing.{act_of, created_catalogue};
 ghost use Rattle.hla_script.specs.Keeping.{components_of, standing, IsStepped, IsDestroyed, IsActed};
 
 use hla_base::{Fault, MAX_CREATES, Plain, SharedList};
-use hla_fed_file::Catalogue;
+use hla_catalogue::Catalogue;
 use hla_federation::Federation;
 use hla_machine::{Act, Answer, Choice, Outcome, Record, Step};
 use hla_requests::{Change, Member, Request, note};

@@ -10,8 +10,8 @@ ghost use Rattle.hla_machine.specs.declared.step.Outcome.TheVariants as outcome;
 
 use crate::execution::Execution;
 use hla_base::{Fault, MAX_HISTORY};
+use hla_catalogue::Catalogue;
 use hla_commands::{Command, Line};
-use hla_fed_file::Catalogue;
 use hla_machine::{Outcome, Record};
 use hla_requests::{AskFault, Request};
 use hla_transcript::{Text, print_line};

@@ -13,8 +13,9 @@ ghost use Rattle.hla_script.specs.Playing.{IsPlayed, IsPlayedFrom, StopsBy, is_u
 use crate::execution::Execution;
 use crate::history::play_line;
 use hla_base::{Fault, List, SharedList};
+use hla_catalogue::Catalogue;
 use hla_commands::{Script, ScriptFault, parse};
-use hla_fed_file::{Catalogue, FedFault, read};
+use hla_fed_file::{FedFault, read};
 use hla_machine::Record;
 use hla_transcript::{Text, Watched, WriteFailed, write_whole};
 use std::alloc::Global;

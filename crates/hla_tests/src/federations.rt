@@ -1,5 +1,6 @@
 use hla_base::{Fault, List};
-use hla_fed_file::{Catalogue, read};
+use hla_catalogue::Catalogue;
+use hla_fed_file::read;
 use hla_federation::Federation;
 use hla_machine::{Answer, Service, Step};
 use hla_text_tests::FED;

@@ -1,6 +1,7 @@
 use crate::FED;
 use hla_base::Plain;
-use hla_fed_file::{Catalogue, FedFault, FedFaultKind, Order, Transport, read};
+use hla_catalogue::{Catalogue, Order, Transport};
+use hla_fed_file::{FedFault, FedFaultKind, read};
 use std::alloc::{AllocError, Global};
 use std::test::Fail;
 

@@ -2,17 +2,17 @@
 use Rattle.std.specs.Prelude.{◌≡◌, ℕ, ◌+◌, ◌<◌, ◌≤◌, length, get_or, ◌==◌, Bool, true, false, List, [], ◌++◌, Option, Result, Ok, Err, codes, decimal, if◌then◌else◌}
 use Rattle.std.specs.List.{flat_map, enumerate_from}
 use Rattle.std.specs.Io.KnownBytes.{Appends}
-use Rattle.hla_fed_file.specs.declared.declared.Attribute.{Attribute}
-use Rattle.hla_fed_file.specs.declared.declared.InteractionClass.{InteractionClass}
-use Rattle.hla_fed_file.specs.declared.declared.ObjectClass.{ObjectClass}
-use Rattle.hla_fed_file.specs.declared.declared.Order.{Order}
-use Rattle.hla_fed_file.specs.declared.declared.Order.TheVariants as order
-use Rattle.hla_fed_file.specs.declared.declared.Parameter.{Parameter}
-use Rattle.hla_fed_file.specs.declared.declared.Transport.{Transport}
-use Rattle.hla_fed_file.specs.declared.declared.Transport.TheVariants as transport
+use Rattle.hla_catalogue.specs.declared.declared.Attribute.{Attribute}
+use Rattle.hla_catalogue.specs.declared.declared.InteractionClass.{InteractionClass}
+use Rattle.hla_catalogue.specs.declared.declared.ObjectClass.{ObjectClass}
+use Rattle.hla_catalogue.specs.declared.declared.Order.{Order}
+use Rattle.hla_catalogue.specs.declared.declared.Order.TheVariants as order
+use Rattle.hla_catalogue.specs.declared.declared.Parameter.{Parameter}
+use Rattle.hla_catalogue.specs.declared.declared.Transport.{Transport}
+use Rattle.hla_catalogue.specs.declared.declared.Transport.TheVariants as transport
 use Rattle.hla_fed_file.specs.Grammar.{Describes}
 use Rattle.hla_fed_file.specs.Reading as reading
-use Rattle.hla_fed_file.specs.CatalogueValue.{CatalogueValue}
+use Rattle.hla_catalogue.specs.CatalogueValue.{CatalogueValue}
 use Rattle.hla_transcript.specs.declared.listing.ListFault.{ListFault}
 use Rattle.hla_transcript.specs.declared.listing.ListFault.TheVariants as stop
 

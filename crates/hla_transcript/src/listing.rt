@@ -8,10 +8,10 @@ use crate::text::Text;
 use crate::watched::Watched;
 use crate::writing::write_whole;
 use hla_base::{ClassNo, Fault};
-use hla_fed_file::{
-    Attribute, Catalogue, FedFault, InteractionClass, ObjectClass, Order, Parameter, Transport,
-    read,
+use hla_catalogue::{
+    Attribute, Catalogue, InteractionClass, ObjectClass, Order, Parameter, Transport,
 };
+use hla_fed_file::{FedFault, read};
 use std::alloc::Global;
 use std::io::Write;
 

@@ -2,13 +2,13 @@
 
 ghost use Rattle.std.specs.Prelude.{◌≡◌, ◌++◌, OnOk, IfErr, decimal};
 ghost use Rattle.std.specs.List.{flat_map};
-ghost use Rattle.hla_fed_file.specs.Lookup.{attribute_name, parameter_name};
+ghost use Rattle.hla_catalogue.specs.Lookup.{attribute_name, parameter_name};
 ghost use Rattle.hla_transcript.specs.Printed.{pair_text, delivery_text, callback_text, carried_text, answer_text, fault_text, outcome_text, line_text};
 
 use crate::text::Text;
 use hla_base::{EventHandle, Fault, HandleValuePair};
 use hla_callbacks::{Callback, Delivery};
-use hla_fed_file::Catalogue;
+use hla_catalogue::Catalogue;
 use hla_machine::{Answer, Carried, Outcome};
 
 /// Adds attributes with their values.

@@ -1,6 +1,6 @@
 -- What is kept of one execution, and the central machine's state that it stands for
 use Rattle.std.specs.Prelude.{◌≡◌, false, List, [], length}
-use Rattle.hla_fed_file.specs.CatalogueValue.{CatalogueValue}
+use Rattle.hla_catalogue.specs.CatalogueValue.{CatalogueValue}
 use Rattle.hla_declaration.specs.Lists.{DeclarationLists}
 use Rattle.hla_declaration.specs.Declarations as declared
 use Rattle.hla_declaration.specs.Declarations.{DeclarationsValue}

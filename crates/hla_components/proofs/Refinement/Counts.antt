@@ -5,7 +5,7 @@ use Rattle.hla_base.specs.declared.row.TimeRow.{TimeRow}
 use Rattle.hla_base.specs.Tables.{upd}
 use Rattle.hla_base.specs.Rows.{new_row, row_with_entry, is_regulator}
 use Rattle.hla_base.proofs.Tables.{upd_each, upd_same, upd_other, by_number}
-use Rattle.hla_fed_file.specs.CatalogueValue.{CatalogueValue}
+use Rattle.hla_catalogue.specs.CatalogueValue.{CatalogueValue}
 use Rattle.hla_null_message.specs.declared.message.Message.{Message}
 use Rattle.hla_null_message.specs.declared.message.Message.TheVariants as message
 use Rattle.hla_order_queues.specs.declared.control.Control.TheVariants.{ToDiscover, ToRetract}

@@ -1,6 +1,6 @@
 -- What a list of steps leads to, and that what happens from there is lawful
 use Rattle.std.proofs.Common.{◌≡◌, refl, sym, subst, ap, ◌∙◌, List, [], ◌∷◌, ◌++◌}
-use Rattle.hla_fed_file.specs.CatalogueValue.{CatalogueValue}
+use Rattle.hla_catalogue.specs.CatalogueValue.{CatalogueValue}
 use Rattle.hla_machine.specs.declared.step.Step.{Step}
 use Rattle.hla_machine.specs.History.{HasHistory}
 use Rattle.hla_machine.specs.Lawful.{IsLawful}

@@ -5,7 +5,7 @@ use Rattle.hla_null_message.specs.declared.message.Message.{Message}
 use Rattle.hla_null_message.specs.declared.message.Message.TheVariants as message
 use Rattle.hla_base.specs.Tables.{forever, is_other, numbers_below, or_else, upd, upd_row, upd_whole_column}
 use Rattle.hla_base.specs.Rows.{is_regulator, least_stamp, new_row}
-use Rattle.hla_fed_file.specs.declared.declared.Order.TheVariants.{Receive, Timestamp}
+use Rattle.hla_catalogue.specs.declared.declared.Order.TheVariants.{Receive, Timestamp}
 use Rattle.hla_machine.specs.declared.service.Service.TheVariants as service
 use Rattle.hla_machine.specs.declared.service.ResignAction.{ResignAction}
 use Rattle.hla_machine.specs.declared.service.ResignAction.TheVariants.{ReleaseAttributes, DeleteObjects, DeleteObjectsAndReleaseAttributes, NoAction}

@@ -8,9 +8,9 @@ use Rattle.hla_base.specs.declared.content.Content.TheVariants as content
 use Rattle.hla_base.specs.declared.content.HandleValuePair.{HandleValuePair}
 use Rattle.hla_base.specs.Tables.{is_other}
 use Rattle.hla_base.specs.Rows.{least_stamp}
-use Rattle.hla_fed_file.specs.declared.declared.Order.{Order}
-use Rattle.hla_fed_file.specs.declared.declared.Order.TheVariants.{Receive, Timestamp}
-use Rattle.hla_fed_file.specs.Lookup.{deletion_order}
+use Rattle.hla_catalogue.specs.declared.declared.Order.{Order}
+use Rattle.hla_catalogue.specs.declared.declared.Order.TheVariants.{Receive, Timestamp}
+use Rattle.hla_catalogue.specs.Lookup.{deletion_order}
 use Rattle.hla_machine.specs.declared.service.Service.TheVariants as service
 use Rattle.hla_machine.specs.declared.step.Step.TheVariants.{Call}
 use Rattle.hla_machine.specs.Directory.{Directory, Outgoing, AnUpdate, ADeletion, content_for, reflection_of, subscribed_values, served_object, part_sent, values_of_order, by_handle, update_sent, deletion_sent, without_object}

@@ -3,8 +3,8 @@ use Rattle.std.proofs.Common.{◌≡◌, ◌≢◌, ◌⊎◌, ℕ, ◌+◌, ◌
 use Rattle.std.proofs.lemmas.Bool.{cond_both, cases_Bool, and_parts, and_from}
 use Rattle.std.specs.List.{find}
 use Rattle.hla_base.specs.Tables.{upd, upd2}
-use Rattle.hla_fed_file.specs.CatalogueValue.{CatalogueValue}
-use Rattle.hla_fed_file.specs.Lookup.{object_lineage}
+use Rattle.hla_catalogue.specs.CatalogueValue.{CatalogueValue}
+use Rattle.hla_catalogue.specs.Lookup.{object_lineage}
 use Rattle.hla_machine.specs.Directory.{Directory, Object, new_directory, served_object, discovery_at, discovery_of, with_discoveries_made, with_object_discovered, with_member, without_member, with_published, with_subscribed, with_published_interaction, with_subscribed_interaction, with_object, without_object}
 use Rattle.hla_components.specs.Invariant.{DirectoryInv}
 use Rattle.hla_base.proofs.Tables.{upd_each, by_number, upd_same, upd_other, upd2_other, upd2_each}

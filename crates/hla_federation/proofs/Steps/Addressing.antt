@@ -12,8 +12,8 @@ use Rattle.hla_base.specs.declared.content.Content.{Content}
 use Rattle.hla_base.specs.declared.content.Content.TheVariants as content
 use Rattle.hla_base.specs.declared.content.HandleValuePair.{HandleValuePair}
 use Rattle.hla_base.specs.Tables.{numbers_below, when, is_other, upd}
-use Rattle.hla_fed_file.specs.CatalogueValue.{CatalogueValue}
-use Rattle.hla_fed_file.specs.Lookup.{has_parameter, object_lineage, interaction_lineage}
+use Rattle.hla_catalogue.specs.CatalogueValue.{CatalogueValue}
+use Rattle.hla_catalogue.specs.Lookup.{has_parameter, object_lineage, interaction_lineage}
 use Rattle.hla_declaration.specs.Declarations as declared
 use Rattle.hla_declaration.specs.Receivers.{receivers_of, object_class_served, interaction_class_served}
 use Rattle.hla_declaration.specs.declared.receiver.Receiver.{Receiver}

@@ -10,7 +10,7 @@ use Rattle.hla_base.specs.Tables.{upd, upd_column, is_other, greatest}
 use Rattle.hla_base.specs.Rows.{is_regulator, is_constrained, row_with_entry, RowNumbers}
 use Rattle.hla_base.specs.RowRefusals.{first_fault, regulation_tests}
 use Rattle.hla_base.proofs.Tables.{upd_same, upd_other}
-use Rattle.hla_fed_file.specs.CatalogueValue.{CatalogueValue}
+use Rattle.hla_catalogue.specs.CatalogueValue.{CatalogueValue}
 use Rattle.hla_declaration.specs.Declarations.{DeclarationsValue}
 use Rattle.hla_object_registry.specs.Registered.{RegistryValue}
 use Rattle.hla_lbts.specs.declared.row.PeerRow.{PeerRow}

@@ -8,7 +8,7 @@ use Rattle.hla_base.specs.declared.fault.Fault.TheVariants as fault
 use Rattle.hla_base.specs.declared.row.TimeRow.{TimeRow}
 use Rattle.hla_base.specs.Tables.{forever, upd, upd2, upd_new, is_other}
 use Rattle.hla_base.proofs.Tables.{upd_other, upd_each}
-use Rattle.hla_fed_file.specs.CatalogueValue.{CatalogueValue}
+use Rattle.hla_catalogue.specs.CatalogueValue.{CatalogueValue}
 use Rattle.hla_declaration.specs.Declarations.{DeclarationsValue}
 use Rattle.hla_object_registry.specs.Registered.{RegistryValue}
 use Rattle.hla_lbts.specs.Peers.{PeersValue, peers_of}

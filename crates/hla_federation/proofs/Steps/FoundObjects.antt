@@ -9,7 +9,7 @@ use Rattle.std.proofs.lemmas.List.Elements.{filter_map-append}
 use Rattle.std.proofs.Math.Path.{fun_ext}
 use Rattle.hla_base.specs.declared.content.Discovery.{Discovery}
 use Rattle.hla_base.specs.Tables.{numbers_below, upd, upd2, when}
-use Rattle.hla_fed_file.specs.Lookup.{object_lineage}
+use Rattle.hla_catalogue.specs.Lookup.{object_lineage}
 use Rattle.hla_machine.specs.Directory.{Directory, served_object, discovery_at, discovery_of, with_subscribed}
 
 -- ---- the class of a discovery

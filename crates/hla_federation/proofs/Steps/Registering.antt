@@ -9,7 +9,7 @@ use Rattle.std.proofs.lemmas.List.Elements.{filter_map-append}
 use Rattle.std.proofs.Math.Path.{fun_ext}
 use Rattle.hla_base.specs.Tables.{numbers_below, upd2, upd_row, when}
 use Rattle.hla_base.specs.declared.content.Discovery.{Discovery}
-use Rattle.hla_fed_file.specs.Lookup.{object_lineage}
+use Rattle.hla_catalogue.specs.Lookup.{object_lineage}
 use Rattle.hla_null_message.specs.declared.message.Message.{Message}
 use Rattle.hla_null_message.specs.declared.message.Message.TheVariants as message
 use Rattle.hla_null_message.specs.Wires.{put_all_behind}
@@ -20,7 +20,7 @@ use Rattle.hla_declaration.specs.Receivers.{receivers_of}
 use Rattle.hla_declaration.specs.Receivers as receivers
 use Rattle.hla_object_registry.specs.Queries as registry
 use Rattle.hla_object_registry.specs.Registered.{RegistryValue}
-use Rattle.hla_fed_file.specs.CatalogueValue.{CatalogueValue}
+use Rattle.hla_catalogue.specs.CatalogueValue.{CatalogueValue}
 use Rattle.hla_declaration.specs.declared.receiver.Receiver.{Receiver}
 use Rattle.hla_declaration.proofs.ReceiverLemmas.{receiver_at}
 use Rattle.hla_machine.specs.Directory.{Directory, Object, served_object, discovery_at, discovery_of, discoveries_of, with_object_discovered, with_object}

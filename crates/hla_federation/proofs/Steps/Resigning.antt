@@ -12,7 +12,7 @@ use Rattle.hla_base.specs.Rows.{is_regulator}
 use Rattle.hla_lbts.specs.Peers.{peers_of}
 use Rattle.hla_local.specs.LocalValue.{LocalValue, resigned_local}
 use Rattle.hla_null_message.specs.declared.message.Message.TheVariants as message
-use Rattle.hla_fed_file.specs.CatalogueValue.{CatalogueValue}
+use Rattle.hla_catalogue.specs.CatalogueValue.{CatalogueValue}
 use Rattle.hla_base.specs.declared.row.TimeRow.{TimeRow}
 use Rattle.hla_declaration.specs.Declarations.{DeclarationsValue}
 use Rattle.hla_object_registry.specs.Registered.{RegistryValue}

@@ -3,7 +3,7 @@ use Rattle.std.proofs.Common.{◌≡◌, ℕ, zero, suc, List, [], length, false
 use Rattle.std.proofs.Math.Path.{fun_ext}
 use Rattle.hla_base.specs.declared.fault.Fault.{Fault}
 use Rattle.hla_null_message.specs.declared.message.Message.{Message}
-use Rattle.hla_fed_file.specs.CatalogueValue.{CatalogueValue}
+use Rattle.hla_catalogue.specs.CatalogueValue.{CatalogueValue}
 use Rattle.hla_declaration.specs.Declarations as declared
 use Rattle.hla_declaration.specs.Declarations.{DeclarationsValue}
 use Rattle.hla_object_registry.specs.Registered.{registry_of, new_registry}

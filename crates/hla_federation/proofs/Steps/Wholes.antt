@@ -4,7 +4,7 @@ use Rattle.std.proofs.lemmas.Bool.{cases_Bool, cases_eq}
 use Rattle.std.proofs.lemmas.Bool.Decides.{nat_tests}
 use Rattle.hla_base.specs.declared.fault.Fault.TheVariants as fault
 use Rattle.hla_base.specs.Tables.{upd, upd2}
-use Rattle.hla_fed_file.specs.CatalogueValue.{CatalogueValue}
+use Rattle.hla_catalogue.specs.CatalogueValue.{CatalogueValue}
 use Rattle.hla_declaration.specs.Declarations.{DeclarationsValue}
 use Rattle.hla_lbts.specs.Peers.{peers_of}
 use Rattle.hla_local.specs.LocalValue.{LocalValue, resigned_local}

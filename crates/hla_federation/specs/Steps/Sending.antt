@@ -10,8 +10,8 @@ use Rattle.hla_base.specs.Rows.{is_enabled, is_regulator}
 use Rattle.hla_components.specs.Components.{Components}
 use Rattle.hla_components.specs.Component.{promise}
 use Rattle.hla_declaration.specs.declared.receiver.Receiver.{Receiver}
-use Rattle.hla_fed_file.specs.declared.declared.Order.{Order}
-use Rattle.hla_fed_file.specs.declared.declared.Order.TheVariants.{Timestamp}
+use Rattle.hla_catalogue.specs.declared.declared.Order.{Order}
+use Rattle.hla_catalogue.specs.declared.declared.Order.TheVariants.{Timestamp}
 use Rattle.hla_null_message.specs.declared.message.Message.{Message}
 use Rattle.hla_null_message.specs.declared.message.Message.TheVariants as message
 use Rattle.hla_machine.specs.Directory.{Directory, Outgoing, Body, AnUpdate, content_for, is_of_order}

@@ -6,7 +6,7 @@ use Rattle.hla_base.specs.declared.fault.Fault.{Fault}
 use Rattle.hla_base.specs.declared.row.AdvanceKind.TheVariants as kind
 use Rattle.hla_base.specs.declared.row.Role.TheVariants.{Disabled, Pending}
 use Rattle.hla_base.specs.Rows.{is_regulator, new_row, row_after_regulation_enabled, row_after_constraint_enabled, row_after_pick, row_after_grant}
-use Rattle.hla_fed_file.specs.CatalogueValue.{CatalogueValue}
+use Rattle.hla_catalogue.specs.CatalogueValue.{CatalogueValue}
 use Rattle.hla_local.specs.Picking.{Pick, NoPick, PickControl, PickRo, PickRegulates, PickConstrains, PickTso, PickGrant}
 use Rattle.hla_order_queues.specs.declared.control.Control.TheVariants.{ToDiscover, ToRetract}
 use Rattle.hla_null_message.specs.declared.message.Message.{Message}

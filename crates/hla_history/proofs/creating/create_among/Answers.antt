@@ -1,7 +1,7 @@
 use Rattle.std.proofs.Common.{List, Some, refl, sym, ◌∙◌, ap}
 use Rattle.std.specs.List.{position}
 use Rattle.std.specs.Str.{bytes_eq}
-use Rattle.hla_fed_file.specs.CatalogueValue.{CatalogueValue}
+use Rattle.hla_catalogue.specs.CatalogueValue.{CatalogueValue}
 use Rattle.hla_machine.specs.declared.step.Record.{Record}
 use Rattle.hla_history.specs.Hosting.{HostedValue, hosts_of, table_of}
 use Rattle.hla_history.proofs.Creations.{creation_is, creation_absent, created_hosts, ends_refused, ends_done}

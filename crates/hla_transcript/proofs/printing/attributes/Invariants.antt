@@ -1,6 +1,6 @@
 use Rattle.std.proofs.Common.{◌≡◌, ◌++◌, take}
 use Rattle.std.specs.List.{flat_map}
-use Rattle.hla_fed_file.specs.Lookup.{attribute_name}
+use Rattle.hla_catalogue.specs.Lookup.{attribute_name}
 use Rattle.hla_transcript.specs.Printed.{pair_text}
 use Rattle.hla_transcript.proofs.printing.attributes.Given as goal
 

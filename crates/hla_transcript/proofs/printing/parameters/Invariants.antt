@@ -1,6 +1,6 @@
 use Rattle.std.proofs.Common.{◌≡◌, ◌++◌, take}
 use Rattle.std.specs.List.{flat_map}
-use Rattle.hla_fed_file.specs.Lookup.{parameter_name}
+use Rattle.hla_catalogue.specs.Lookup.{parameter_name}
 use Rattle.hla_transcript.specs.Printed.{pair_text}
 use Rattle.hla_transcript.proofs.printing.parameters.Given as goal
 

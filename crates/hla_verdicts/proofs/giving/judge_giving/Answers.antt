@@ -1,6 +1,6 @@
 use Rattle.std.proofs.Common.{sym, ap, ◌∙◌}
 use mathlib.Core.Bool.{false≢true}
-use Rattle.hla_fed_file.specs.CatalogueValue.{empty_catalogue}
+use Rattle.hla_catalogue.specs.CatalogueValue.{empty_catalogue}
 use Rattle.hla_machine.specs.Directory.{new_directory}
 use Rattle.hla_machine.specs.Central.{Central}
 use Rattle.hla_accounts.specs.Accounts.{central_with}

@@ -1,5 +1,5 @@
 use Rattle.std.proofs.Common.{rules, sym, ◌∙◌}
-use Rattle.hla_fed_file.specs.CatalogueValue.{empty_catalogue}
+use Rattle.hla_catalogue.specs.CatalogueValue.{empty_catalogue}
 use Rattle.hla_machine.specs.Directory.{new_directory}
 use Rattle.hla_machine.specs.declared.step.Step.TheVariants as steps
 use Rattle.hla_accounts.specs.Accounts.{central_with}

@@ -2,7 +2,7 @@
 use Rattle.std.proofs.Common.{◌+◌, length, arith}
 use Rattle.hla_base.specs.Rows.{bar_of}
 use Rattle.hla_base.specs.Tables.{greatest}
-use Rattle.hla_fed_file.specs.CatalogueValue.{empty_catalogue}
+use Rattle.hla_catalogue.specs.CatalogueValue.{empty_catalogue}
 use Rattle.hla_machine.specs.Directory.{new_directory}
 use Rattle.hla_machine.specs.Central.{low_entry}
 use Rattle.hla_accounts.specs.Accounts.{account_at}

@@ -1,7 +1,7 @@
 -- What is owed is written first; what was sent stays the same under it.
 use Rattle.std.proofs.Common.{◌∙◌, ap, true, arith}
 use Rattle.hla_base.specs.Tables.{upd2}
-use Rattle.hla_fed_file.specs.CatalogueValue.{empty_catalogue}
+use Rattle.hla_catalogue.specs.CatalogueValue.{empty_catalogue}
 use Rattle.hla_machine.specs.Directory.{new_directory}
 use Rattle.hla_machine.specs.Central.{Central}
 use Rattle.hla_accounts.proofs.CountLemmas.{same_size}

@@ -1,8 +1,8 @@
 use Rattle.std.proofs.Common.{◌≡◌, eqb, true, ap, sym, refl, ◌∙◌, arith}
 use Rattle.std.proofs.lemmas.Bool.Decides.{nat_tests}
 use Rattle.hla_base.specs.RowRefusals.{first_fault}
-use Rattle.hla_fed_file.specs.Lookup.{deletion_order}
-use Rattle.hla_fed_file.specs.declared.declared.Order.TheVariants.{Timestamp}
+use Rattle.hla_catalogue.specs.Lookup.{deletion_order}
+use Rattle.hla_catalogue.specs.declared.declared.Order.TheVariants.{Timestamp}
 use Rattle.hla_object_registry.specs.Queries.{is_known_in}
 use Rattle.hla_object_registry.specs.Registered.{registry_of}
 use Rattle.hla_machine.specs.Directory.{ADeletion, deletion_sent, is_of_order}

@@ -1,5 +1,5 @@
 use Rattle.std.proofs.Common.{ap, sym, ◌∙◌}
-use Rattle.hla_fed_file.specs.Lookup.{interaction_order}
+use Rattle.hla_catalogue.specs.Lookup.{interaction_order}
 use Rattle.hla_machine.specs.Directory.{AnInteraction, by_handle}
 use Rattle.hla_verdicts.specs.Kept.{KeptValue}
 use Rattle.hla_checker.proofs.kept.KeptExecution.interaction_handle.Goals as goal

@@ -1,6 +1,6 @@
 use Rattle.std.proofs.Common.{ℕ, List, Option, [], ◌∷◌, sym, ap, ◌∙◌}
 use Rattle.hla_base.specs.RowRefusals.{first_fault}
-use Rattle.hla_fed_file.specs.Lookup.{attribute_named}
+use Rattle.hla_catalogue.specs.Lookup.{attribute_named}
 use Rattle.hla_machine.specs.declared.service.Service.TheVariants as services
 use Rattle.hla_machine.specs.Refusals.{not_found, no_object_class}
 use Rattle.hla_verdicts.specs.Kept.{KeptValue, central_of, directory_of}

@@ -1,6 +1,6 @@
 use Rattle.std.proofs.Common.{ℕ, List, Option, [], ◌∷◌, ap, ◌∙◌}
 use Rattle.hla_base.specs.RowRefusals.{first_fault}
-use Rattle.hla_fed_file.specs.Lookup.{object_class_named}
+use Rattle.hla_catalogue.specs.Lookup.{object_class_named}
 use Rattle.hla_machine.specs.declared.service.Service.TheVariants as services
 use Rattle.hla_machine.specs.Refusals.{not_found}
 use Rattle.hla_verdicts.specs.Kept.{KeptValue, central_of}

@@ -1,6 +1,6 @@
 use Rattle.std.proofs.Common.{List, length, sym, ap, ◌∙◌, length-append}
 use Rattle.hla_base.specs.declared.content.HandleValuePair.{HandleValuePair}
-use Rattle.hla_fed_file.specs.declared.declared.Order.TheVariants.{Receive, Timestamp}
+use Rattle.hla_catalogue.specs.declared.declared.Order.TheVariants.{Receive, Timestamp}
 use Rattle.hla_machine.specs.Central.{Central}
 use Rattle.hla_machine.specs.Directory.{Directory, Outgoing, part_sent, values_of_order}
 use Rattle.hla_machine.specs.Sends.{after_messages}

@@ -2,7 +2,7 @@ use Rattle.std.proofs.Common.{ℕ, not, true, false, ap, sym, ◌∙◌}
 use Rattle.std.specs.List.{list_any}
 use Rattle.hla_base.specs.declared.content.HandleValuePair.{HandleValuePair}
 use Rattle.hla_base.specs.RowRefusals.{first_fault}
-use Rattle.hla_fed_file.specs.Lookup.{has_attribute}
+use Rattle.hla_catalogue.specs.Lookup.{has_attribute}
 use Rattle.hla_object_registry.specs.Queries.{is_known_in}
 use Rattle.hla_object_registry.specs.Registered.{registry_of}
 use Rattle.hla_machine.specs.Directory.{update_sent}

@@ -2,8 +2,8 @@ use Rattle.std.proofs.Common.{◌≡◌, ◌+◌, Bool, cond, true, false, refl,
 use Rattle.std.specs.List.{list_any}
 use mir.Val.{bool_byte}
 use Rattle.hla_base.specs.declared.content.HandleValuePair.{HandleValuePair}
-use Rattle.hla_fed_file.specs.Lookup.{attribute_order}
-use Rattle.hla_fed_file.specs.declared.declared.Order.TheVariants.{Receive, Timestamp}
+use Rattle.hla_catalogue.specs.Lookup.{attribute_order}
+use Rattle.hla_catalogue.specs.declared.declared.Order.TheVariants.{Receive, Timestamp}
 use Rattle.hla_machine.specs.Directory.{is_of_order}
 use Rattle.hla_accounts.specs.Accounts.{account_at}
 use Rattle.hla_accounts.specs.Sendings.{is_sent_in_order}

@@ -2,7 +2,7 @@ use Rattle.std.proofs.Common.{◌≡◌, Bool, true, false, sym, ap, ◌∙◌}
 use Rattle.std.specs.List.{list_all}
 use Rattle.hla_base.specs.declared.content.HandleValuePair.{HandleValuePair}
 use Rattle.std.specs.Option.{option_map_or}
-use Rattle.hla_fed_file.specs.Lookup.{contains_number}
+use Rattle.hla_catalogue.specs.Lookup.{contains_number}
 use Rattle.hla_federation.specs.Steps.State.{state_of}
 use Rattle.hla_federation.proofs.Steps.Pairs.{all_kept}
 use Rattle.hla_federation.proofs.parts.Parts.attributes_for.Goals as goal

@@ -2,8 +2,8 @@ use Rattle.hla_base.specs.Limits.{largest_number}
 use Rattle.std.proofs.Common.{◌≡◌, ◌+◌, ◌≤◌, [], ◌++◌, length, Bool, true, false, not, ◌&&◌, ltb, None, refl, ap, sym, subst, ◌∙◌, arith}
 use Rattle.std.proofs.lemmas.Bool.Decides.{nat_tests}
 use Rattle.hla_base.specs.Tables.{upd, max_time}
-use Rattle.hla_fed_file.specs.Lookup.{deletion_order}
-use Rattle.hla_fed_file.specs.declared.declared.Order.{Order}
+use Rattle.hla_catalogue.specs.Lookup.{deletion_order}
+use Rattle.hla_catalogue.specs.declared.declared.Order.{Order}
 use Rattle.hla_object_registry.specs.Registered.{RegistryValue, registry_of}
 use Rattle.hla_machine.specs.Directory.{Outgoing, ADeletion, deletion_sent}
 use Rattle.hla_machine.specs.Refusals.{refusal, tests}

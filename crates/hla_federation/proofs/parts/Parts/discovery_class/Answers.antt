@@ -1,7 +1,7 @@
 use Rattle.std.proofs.Common.{◌≡◌, ◌||◌, ℕ, List, true, false, eqb, is_some, sym, arith}
 use Rattle.std.specs.Prelude.{find}
 use Rattle.std.proofs.lemmas.Bool.Decides.{nat_tests}
-use Rattle.hla_fed_file.specs.Lookup.{object_lineage}
+use Rattle.hla_catalogue.specs.Lookup.{object_lineage}
 use Rattle.hla_machine.specs.Directory.{Directory}
 use Rattle.hla_federation.specs.contracts.parts.Parts.{the_view}
 use Rattle.hla_federation.specs.Steps.State.{state_of}

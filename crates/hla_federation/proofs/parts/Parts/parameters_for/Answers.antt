@@ -1,7 +1,7 @@
 use Rattle.std.proofs.Common.{◌≡◌, Bool, true, sym, ap, ◌∙◌}
 use Rattle.std.specs.List.{list_all}
 use Rattle.hla_base.specs.declared.content.HandleValuePair.{HandleValuePair}
-use Rattle.hla_fed_file.specs.Lookup.{has_parameter}
+use Rattle.hla_catalogue.specs.Lookup.{has_parameter}
 use Rattle.hla_federation.proofs.Steps.Pairs.{all_kept}
 use Rattle.hla_federation.proofs.parts.Parts.parameters_for.Goals as goal
 

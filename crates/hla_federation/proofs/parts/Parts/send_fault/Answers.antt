@@ -1,6 +1,6 @@
 use Rattle.std.proofs.Common.{ap, sym, refl, ◌∙◌, arith}
-use Rattle.hla_fed_file.specs.Lookup.{interaction_order, is_interaction_class}
-use Rattle.hla_fed_file.specs.declared.declared.Order.TheVariants.{Timestamp}
+use Rattle.hla_catalogue.specs.Lookup.{interaction_order, is_interaction_class}
+use Rattle.hla_catalogue.specs.declared.declared.Order.TheVariants.{Timestamp}
 use Rattle.hla_declaration.specs.Declarations as declared
 use Rattle.hla_machine.specs.Directory.{AnInteraction, by_handle, interaction_sent, is_of_order}
 use Rattle.hla_federation.specs.FederationValue.{FederationValue}

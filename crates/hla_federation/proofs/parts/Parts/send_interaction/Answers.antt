@@ -4,8 +4,8 @@ use Rattle.std.proofs.lemmas.Bool.Decides.{nat_tests}
 use Rattle.hla_base.specs.declared.content.HandleValuePair.{HandleValuePair}
 use Rattle.hla_base.specs.declared.number.EventHandle.{EventHandle}
 use Rattle.hla_base.specs.Tables.{upd, max_time}
-use Rattle.hla_fed_file.specs.Lookup.{interaction_order}
-use Rattle.hla_fed_file.specs.declared.declared.Order.{Order}
+use Rattle.hla_catalogue.specs.Lookup.{interaction_order}
+use Rattle.hla_catalogue.specs.declared.declared.Order.{Order}
 use Rattle.hla_retraction.specs.Receivers.{receiver_set}
 use Rattle.hla_machine.specs.Directory.{Outgoing, AnInteraction, by_handle, interaction_sent, is_receiver}
 use Rattle.hla_machine.specs.Refusals.{refusal, tests}

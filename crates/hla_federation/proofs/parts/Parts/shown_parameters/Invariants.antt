@@ -1,6 +1,6 @@
 use Rattle.std.proofs.Common.{◌≡◌, take, filter}
 use Rattle.hla_base.specs.declared.content.HandleValuePair.{HandleValuePair}
-use Rattle.hla_fed_file.specs.Lookup.{has_parameter}
+use Rattle.hla_catalogue.specs.Lookup.{has_parameter}
 use Rattle.hla_federation.proofs.parts.Parts.shown_parameters.Given as goal
 
 -- what is shown of the values so far

@@ -6,7 +6,7 @@ use mir.Val.{bool_byte}
 use Rattle.hla_base.specs.declared.content.HandleValuePair.{HandleValuePair}
 use Rattle.hla_base.specs.declared.number.EventHandle.{EventHandle}
 use Rattle.hla_base.specs.Tables.{upd, one_if, max_time}
-use Rattle.hla_fed_file.specs.declared.declared.Order.TheVariants.{Receive, Timestamp}
+use Rattle.hla_catalogue.specs.declared.declared.Order.TheVariants.{Receive, Timestamp}
 use Rattle.hla_retraction.specs.Receivers.{receiver_set}
 use Rattle.hla_machine.specs.Directory.{AnUpdate, is_receiver, part_sent, values_of_order, update_sent}
 use Rattle.hla_machine.specs.Refusals.{refusal, tests}
