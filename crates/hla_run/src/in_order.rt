@@ -1,9 +1,12 @@
 //! Playing a script behind the lock, line by line on one thread.
+//!
+//! Here and in the modules beside it what is large goes to `drop` by name: such a call is proved once, and what goes out of
+//! scope is taken apart, variant by variant, in the proof of each function that lets it.
 
 ghost use Rattle.std.specs.Prelude.{◌≡◌, ◌||◌, ◌+◌, ◌≤◌, OnOk, IfErr, length, vec_len, vec_capacity};
 ghost use Rattle.hla_run.specs.Running.{IsRunFrom, StopsRun, is_unwritten_run};
 
-use crate::fault::RunFault;
+use crate::fault::{RunFault, close_fault};
 use crate::outcomes::{Outcomes, Told, outcome_of_done};
 use crate::player::{Acted, Deed, Player, do_deed};
 use crate::texts::{Texts, read_texts, write_outcomes};
@@ -71,6 +74,7 @@ impl<L: Ledger + Naming, P: Publisher<L>> Cast<L, P> {
     /// Has the joined federate of a number do something. An error is want of memory outside the step.
     fn act(&mut self, rt: &impl Wait, number: FederateNo, deed: Deed) -> Result<Outcome, Fault> {
         let Some(place) = self.joined.iter().position(|f| f.number() == number) else {
+            drop(deed);
             return Ok(Outcome::Refused(Fault::FederateNotExecutionMember));
         };
         let Acted { player, outcome } = do_deed(rt, self.joined.swap_remove(place), deed);
@@ -81,6 +85,7 @@ impl<L: Ledger + Naming, P: Publisher<L>> Cast<L, P> {
         if kept {
             Ok(outcome)
         } else {
+            drop(outcome);
             Err(Fault::OutOfMemory)
         }
     }
@@ -118,9 +123,16 @@ impl<L: Ledger + Naming, P: Publisher<L>> Cast<L, P> {
         rti: &mut Rti<L, Recorder, P>,
         step: Step,
     ) -> Result<Outcome, Fault> {
-        let change = Change::of(&step)?;
+        let change = match Change::of(&step) {
+            Ok(change) => change,
+            Err(fault) => {
+                drop(step);
+                return Err(fault);
+            }
+        };
         let outcome = self.step(rt, rti, step)?;
         if self.members.reserve(1).is_err() {
+            drop(outcome);
             return Err(Fault::OutOfMemory);
         }
         note(&mut self.members, change, &outcome);
@@ -152,6 +164,25 @@ impl<L: Ledger + Naming, P: Publisher<L>> Cast<L, P> {
             Err(AskFault::Refused(fault)) => Ok(Outcome::Refused(fault)),
             Err(AskFault::Memory) => Ok(Outcome::Refused(Fault::OutOfMemory)),
         }
+    }
+
+    /// Does the lines of a script one after another. An error is want of memory outside the steps.
+    fn lines(
+        &mut self,
+        rt: &impl Wait,
+        rti: &mut Rti<L, Recorder, P>,
+        fed: &[u8],
+        catalogue: &Catalogue,
+        lines: &[Line],
+        outcomes: &mut Outcomes,
+    ) -> Result<(), Fault>
+        ensures { length outcomes.new ≡ length outcomes.old }
+    {
+        for (place, line) in lines.iter().enumerate() {
+            let outcome = self.line(rt, rti, fed, catalogue, &line.command)?;
+            outcomes.note(Told { place, outcome });
+        }
+        Ok(())
     }
 
     /// Ends all callers: what they leave behind. Federates that have not resigned stay joined.
@@ -188,11 +219,13 @@ fn played<L: Ledger + Naming, P: Publisher<L>>(
 {
     let execution = ExecutionName::new(b"play")?;
     let mut cast = Cast::new(alloc, execution, rti.courier()?);
-    for (place, line) in lines.iter().enumerate() {
-        let outcome = cast.line(rt, rti, fed, catalogue, &line.command)?;
-        outcomes.note(Told { place, outcome });
+    match cast.lines(rt, rti, fed, catalogue, lines, outcomes) {
+        Ok(()) => cast.leave(),
+        Err(fault) => {
+            drop(cast);
+            Err(fault)
+        }
     }
-    cast.leave()
 }
 
 /// Plays a script over a FED file behind the lock of a run-time infrastructure, line by line on one thread, in an execution
@@ -237,6 +270,6 @@ pub fn run_in_order<L: Ledger + Naming, R: Wait, W: Write>(
     write_outcomes(alloc, &catalogue, lines, &outcomes, out)?;
     match rti.close(rt, lefts) {
         Ok(closed) => Ok(closed),
-        Err(not_closed) => Err(RunFault::Close(not_closed.fault)),
+        Err(not_closed) => Err(close_fault(not_closed)),
     }
 }

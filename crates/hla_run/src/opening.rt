@@ -30,7 +30,13 @@ fn joined<L: Ledger + Naming, P: Publisher<L>>(
         Err((fault, _)) => return Ok(Outcome::Refused(fault)),
     };
     let number = federate.number();
-    let courier = rti.courier()?;
+    let courier = match rti.courier() {
+        Ok(courier) => courier,
+        Err(fault) => {
+            drop(federate);
+            return Err(fault);
+        }
+    };
     let Ok(()) = lives.push(Life {
         name: own,
         number,

@@ -117,8 +117,9 @@ impl Outcomes {
     pub fn note(&mut self, told: Told)
         ensures { length self.new ≡ length self.old }
     {
-        if let Some(slot) = self.by_place.get_mut(told.place) {
-            *slot = Some(told.outcome);
+        match self.by_place.get_mut(told.place) {
+            Some(slot) => drop(slot.replace(told.outcome)),
+            None => drop(told),
         }
     }
 

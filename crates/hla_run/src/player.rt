@@ -72,7 +72,9 @@ fn served<L: Ledger + Naming, P: Publisher<L>>(
     mut federate: Federate<L, Recorder, P>,
     service: Service,
 ) -> Acted<L, P> {
-    if let Service::Resign { action } = service {
+    if let Service::Resign { action } = &service {
+        let action = *action;
+        drop(service);
         return resigned(rt, federate, action);
     }
     let outcome = outcome_of(federate.serve(rt, service));

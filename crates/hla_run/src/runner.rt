@@ -3,7 +3,7 @@
 ghost use Rattle.std.specs.Prelude.{◌≡◌, ◌||◌, IfOk, OnOk, IfErr, length, vec_len};
 ghost use Rattle.hla_run.specs.Running.{IsRunFrom, IsSeen, StopsRun, is_unwritten_run};
 
-use crate::fault::RunFault;
+use crate::fault::{RunFault, close_fault};
 use crate::gate::Gate;
 use crate::life::{Life, Stage, live};
 use crate::opening::{destroy, open, refuse_strangers};
@@ -40,10 +40,9 @@ fn gathered<L: Ledger + Naming, P: Publisher<L>>(
         ..
     } = life;
     outcomes.note_all(told);
-    let is_whole = !lacks_memory
-        && lefts.push(player.leave()).is_ok()
-        && lefts.push(courier.leave()).is_ok();
-    if is_whole {
+    let has_player = lefts.push(player.leave()).is_ok();
+    let has_courier = lefts.push(courier.leave()).is_ok();
+    if has_player && has_courier && !lacks_memory {
         Ok(())
     } else {
         Err(Fault::OutOfMemory)
@@ -178,13 +177,13 @@ pub fn run_scripts<
         gate,
         &mut outcomes,
     );
+    let seen = last_read(monitor);
     let Ok(lefts) = ran else {
         return Err(RunFault::Memory);
     };
-    let seen = last_read(monitor);
     write_outcomes(alloc, &catalogue, lines, &outcomes, out)?;
     match rti.close(rt, lefts) {
         Ok(closed) => to_the_end(closed, seen),
-        Err(not_closed) => Err(RunFault::Close(not_closed.fault)),
+        Err(not_closed) => Err(close_fault(not_closed)),
     }
 }

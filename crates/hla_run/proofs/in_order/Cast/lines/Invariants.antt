@@ -1,5 +1,5 @@
 use Rattle.std.proofs.Common.{◌≡◌, length}
-use Rattle.hla_run.proofs.in_order.played.Given as goal
+use Rattle.hla_run.proofs.in_order.Cast.lines.Given as goal
 
 abbrev pub invariant-loop-place : goal.invariant-loop-place
 invariant-loop-place g l = length l.outcomes ≡ length l.fn.outcomes
