@@ -11,119 +11,119 @@ use Rattle.hla_machine.specs.declared.service.Service.TheVariants.{Resign, Publi
 use Rattle.hla_machine.specs.contracts.service.ServicePartialEq.TheImpl.{ghosts as services}
 
 -- a service is told from every other
-abbrev pub Tells : Service → Service → Type 0
-Tells x other = (services.eq x other ≡ false) ⊎ (x ≡ other)
+abbrev pub IsToldApart : Service → Service → Type 0
+IsToldApart x other = (services.eq x other ≡ false) ⊎ (x ≡ other)
 
 abbrev pub Known : Service → Type 0
-Known x = (other : Service) → Tells x other
+Known x = (other : Service) → IsToldApart x other
 
 at_resign : (chosen : ResignAction) → Known (Resign chosen)
-at_resign chosen other = elim other as (λ o. Tells (Resign chosen) o) [ Resign a ↦ search rules | _ ↦ inl refl ]
+at_resign chosen other = elim other as (λ o. IsToldApart (Resign chosen) o) [ Resign a ↦ search rules | _ ↦ inl refl ]
 
 at_publish_object_class : (class : ℕ) (attributes : List ℕ) → Known (PublishObjectClass class attributes)
-at_publish_object_class class attributes other = elim other as (λ o. Tells (PublishObjectClass class attributes) o) [ PublishObjectClass a b ↦ search rules | _ ↦ inl refl ]
+at_publish_object_class class attributes other = elim other as (λ o. IsToldApart (PublishObjectClass class attributes) o) [ PublishObjectClass a b ↦ search rules | _ ↦ inl refl ]
 
 at_unpublish_object_class : (class : ℕ) → Known (UnpublishObjectClass class)
-at_unpublish_object_class class other = elim other as (λ o. Tells (UnpublishObjectClass class) o) [ UnpublishObjectClass a ↦ search rules | _ ↦ inl refl ]
+at_unpublish_object_class class other = elim other as (λ o. IsToldApart (UnpublishObjectClass class) o) [ UnpublishObjectClass a ↦ search rules | _ ↦ inl refl ]
 
 at_subscribe_object_class_attributes : (class : ℕ) (attributes : List ℕ) → Known (SubscribeObjectClassAttributes class attributes)
-at_subscribe_object_class_attributes class attributes other = elim other as (λ o. Tells (SubscribeObjectClassAttributes class attributes) o) [ SubscribeObjectClassAttributes a b ↦ search rules | _ ↦ inl refl ]
+at_subscribe_object_class_attributes class attributes other = elim other as (λ o. IsToldApart (SubscribeObjectClassAttributes class attributes) o) [ SubscribeObjectClassAttributes a b ↦ search rules | _ ↦ inl refl ]
 
 at_unsubscribe_object_class : (class : ℕ) → Known (UnsubscribeObjectClass class)
-at_unsubscribe_object_class class other = elim other as (λ o. Tells (UnsubscribeObjectClass class) o) [ UnsubscribeObjectClass a ↦ search rules | _ ↦ inl refl ]
+at_unsubscribe_object_class class other = elim other as (λ o. IsToldApart (UnsubscribeObjectClass class) o) [ UnsubscribeObjectClass a ↦ search rules | _ ↦ inl refl ]
 
 at_publish_interaction_class : (class : ℕ) → Known (PublishInteractionClass class)
-at_publish_interaction_class class other = elim other as (λ o. Tells (PublishInteractionClass class) o) [ PublishInteractionClass a ↦ search rules | _ ↦ inl refl ]
+at_publish_interaction_class class other = elim other as (λ o. IsToldApart (PublishInteractionClass class) o) [ PublishInteractionClass a ↦ search rules | _ ↦ inl refl ]
 
 at_unpublish_interaction_class : (class : ℕ) → Known (UnpublishInteractionClass class)
-at_unpublish_interaction_class class other = elim other as (λ o. Tells (UnpublishInteractionClass class) o) [ UnpublishInteractionClass a ↦ search rules | _ ↦ inl refl ]
+at_unpublish_interaction_class class other = elim other as (λ o. IsToldApart (UnpublishInteractionClass class) o) [ UnpublishInteractionClass a ↦ search rules | _ ↦ inl refl ]
 
 at_subscribe_interaction_class : (class : ℕ) → Known (SubscribeInteractionClass class)
-at_subscribe_interaction_class class other = elim other as (λ o. Tells (SubscribeInteractionClass class) o) [ SubscribeInteractionClass a ↦ search rules | _ ↦ inl refl ]
+at_subscribe_interaction_class class other = elim other as (λ o. IsToldApart (SubscribeInteractionClass class) o) [ SubscribeInteractionClass a ↦ search rules | _ ↦ inl refl ]
 
 at_unsubscribe_interaction_class : (class : ℕ) → Known (UnsubscribeInteractionClass class)
-at_unsubscribe_interaction_class class other = elim other as (λ o. Tells (UnsubscribeInteractionClass class) o) [ UnsubscribeInteractionClass a ↦ search rules | _ ↦ inl refl ]
+at_unsubscribe_interaction_class class other = elim other as (λ o. IsToldApart (UnsubscribeInteractionClass class) o) [ UnsubscribeInteractionClass a ↦ search rules | _ ↦ inl refl ]
 
 at_register_object_instance : (class : ℕ) (name : Option (List ℕ)) → Known (RegisterObjectInstance class name)
-at_register_object_instance class name other = elim other as (λ o. Tells (RegisterObjectInstance class name) o) [ RegisterObjectInstance a b ↦ search rules | _ ↦ inl refl ]
+at_register_object_instance class name other = elim other as (λ o. IsToldApart (RegisterObjectInstance class name) o) [ RegisterObjectInstance a b ↦ search rules | _ ↦ inl refl ]
 
 at_update_attribute_values : (object : ℕ) (values : List HandleValuePair) (stamp : Option ℕ) → Known (UpdateAttributeValues object values stamp)
-at_update_attribute_values object values stamp other = elim other as (λ o. Tells (UpdateAttributeValues object values stamp) o) [ UpdateAttributeValues a b c ↦ search (rules, same_pairs) | _ ↦ inl refl ]
+at_update_attribute_values object values stamp other = elim other as (λ o. IsToldApart (UpdateAttributeValues object values stamp) o) [ UpdateAttributeValues a b c ↦ search (rules, same_pairs) | _ ↦ inl refl ]
 
 at_send_interaction : (class : ℕ) (values : List HandleValuePair) (stamp : Option ℕ) → Known (SendInteraction class values stamp)
-at_send_interaction class values stamp other = elim other as (λ o. Tells (SendInteraction class values stamp) o) [ SendInteraction a b c ↦ search (rules, same_pairs) | _ ↦ inl refl ]
+at_send_interaction class values stamp other = elim other as (λ o. IsToldApart (SendInteraction class values stamp) o) [ SendInteraction a b c ↦ search (rules, same_pairs) | _ ↦ inl refl ]
 
 at_delete_object_instance : (object : ℕ) (stamp : Option ℕ) → Known (DeleteObjectInstance object stamp)
-at_delete_object_instance object stamp other = elim other as (λ o. Tells (DeleteObjectInstance object stamp) o) [ DeleteObjectInstance a b ↦ search rules | _ ↦ inl refl ]
+at_delete_object_instance object stamp other = elim other as (λ o. IsToldApart (DeleteObjectInstance object stamp) o) [ DeleteObjectInstance a b ↦ search rules | _ ↦ inl refl ]
 
 at_retract : (event : EventHandle) → Known (Retract event)
-at_retract event other = elim other as (λ o. Tells (Retract event) o) [ Retract a ↦ search rules | _ ↦ inl refl ]
+at_retract event other = elim other as (λ o. IsToldApart (Retract event) o) [ Retract a ↦ search rules | _ ↦ inl refl ]
 
 at_enable_time_regulation : (time : ℕ) (lookahead : ℕ) → Known (EnableTimeRegulation time lookahead)
-at_enable_time_regulation time lookahead other = elim other as (λ o. Tells (EnableTimeRegulation time lookahead) o) [ EnableTimeRegulation a b ↦ search rules | _ ↦ inl refl ]
+at_enable_time_regulation time lookahead other = elim other as (λ o. IsToldApart (EnableTimeRegulation time lookahead) o) [ EnableTimeRegulation a b ↦ search rules | _ ↦ inl refl ]
 
 at_disable_time_regulation : Known DisableTimeRegulation
-at_disable_time_regulation other = elim other as (λ o. Tells DisableTimeRegulation o) [ DisableTimeRegulation ↦ search rules | _ ↦ inl refl ]
+at_disable_time_regulation other = elim other as (λ o. IsToldApart DisableTimeRegulation o) [ DisableTimeRegulation ↦ search rules | _ ↦ inl refl ]
 
 at_enable_time_constrained : Known EnableTimeConstrained
-at_enable_time_constrained other = elim other as (λ o. Tells EnableTimeConstrained o) [ EnableTimeConstrained ↦ search rules | _ ↦ inl refl ]
+at_enable_time_constrained other = elim other as (λ o. IsToldApart EnableTimeConstrained o) [ EnableTimeConstrained ↦ search rules | _ ↦ inl refl ]
 
 at_disable_time_constrained : Known DisableTimeConstrained
-at_disable_time_constrained other = elim other as (λ o. Tells DisableTimeConstrained o) [ DisableTimeConstrained ↦ search rules | _ ↦ inl refl ]
+at_disable_time_constrained other = elim other as (λ o. IsToldApart DisableTimeConstrained o) [ DisableTimeConstrained ↦ search rules | _ ↦ inl refl ]
 
 at_time_advance_request : (time : ℕ) → Known (TimeAdvanceRequest time)
-at_time_advance_request time other = elim other as (λ o. Tells (TimeAdvanceRequest time) o) [ TimeAdvanceRequest a ↦ search rules | _ ↦ inl refl ]
+at_time_advance_request time other = elim other as (λ o. IsToldApart (TimeAdvanceRequest time) o) [ TimeAdvanceRequest a ↦ search rules | _ ↦ inl refl ]
 
 at_time_advance_request_available : (time : ℕ) → Known (TimeAdvanceRequestAvailable time)
-at_time_advance_request_available time other = elim other as (λ o. Tells (TimeAdvanceRequestAvailable time) o) [ TimeAdvanceRequestAvailable a ↦ search rules | _ ↦ inl refl ]
+at_time_advance_request_available time other = elim other as (λ o. IsToldApart (TimeAdvanceRequestAvailable time) o) [ TimeAdvanceRequestAvailable a ↦ search rules | _ ↦ inl refl ]
 
 at_next_event_request : (time : ℕ) → Known (NextEventRequest time)
-at_next_event_request time other = elim other as (λ o. Tells (NextEventRequest time) o) [ NextEventRequest a ↦ search rules | _ ↦ inl refl ]
+at_next_event_request time other = elim other as (λ o. IsToldApart (NextEventRequest time) o) [ NextEventRequest a ↦ search rules | _ ↦ inl refl ]
 
 at_next_event_request_available : (time : ℕ) → Known (NextEventRequestAvailable time)
-at_next_event_request_available time other = elim other as (λ o. Tells (NextEventRequestAvailable time) o) [ NextEventRequestAvailable a ↦ search rules | _ ↦ inl refl ]
+at_next_event_request_available time other = elim other as (λ o. IsToldApart (NextEventRequestAvailable time) o) [ NextEventRequestAvailable a ↦ search rules | _ ↦ inl refl ]
 
 at_flush_queue_request : (time : ℕ) → Known (FlushQueueRequest time)
-at_flush_queue_request time other = elim other as (λ o. Tells (FlushQueueRequest time) o) [ FlushQueueRequest a ↦ search rules | _ ↦ inl refl ]
+at_flush_queue_request time other = elim other as (λ o. IsToldApart (FlushQueueRequest time) o) [ FlushQueueRequest a ↦ search rules | _ ↦ inl refl ]
 
 at_modify_lookahead : (lookahead : ℕ) → Known (ModifyLookahead lookahead)
-at_modify_lookahead lookahead other = elim other as (λ o. Tells (ModifyLookahead lookahead) o) [ ModifyLookahead a ↦ search rules | _ ↦ inl refl ]
+at_modify_lookahead lookahead other = elim other as (λ o. IsToldApart (ModifyLookahead lookahead) o) [ ModifyLookahead a ↦ search rules | _ ↦ inl refl ]
 
 at_enable_asynchronous_delivery : Known EnableAsynchronousDelivery
-at_enable_asynchronous_delivery other = elim other as (λ o. Tells EnableAsynchronousDelivery o) [ EnableAsynchronousDelivery ↦ search rules | _ ↦ inl refl ]
+at_enable_asynchronous_delivery other = elim other as (λ o. IsToldApart EnableAsynchronousDelivery o) [ EnableAsynchronousDelivery ↦ search rules | _ ↦ inl refl ]
 
 at_disable_asynchronous_delivery : Known DisableAsynchronousDelivery
-at_disable_asynchronous_delivery other = elim other as (λ o. Tells DisableAsynchronousDelivery o) [ DisableAsynchronousDelivery ↦ search rules | _ ↦ inl refl ]
+at_disable_asynchronous_delivery other = elim other as (λ o. IsToldApart DisableAsynchronousDelivery o) [ DisableAsynchronousDelivery ↦ search rules | _ ↦ inl refl ]
 
 at_query_lbts : Known QueryLbts
-at_query_lbts other = elim other as (λ o. Tells QueryLbts o) [ QueryLbts ↦ search rules | _ ↦ inl refl ]
+at_query_lbts other = elim other as (λ o. IsToldApart QueryLbts o) [ QueryLbts ↦ search rules | _ ↦ inl refl ]
 
 at_query_federate_time : Known QueryFederateTime
-at_query_federate_time other = elim other as (λ o. Tells QueryFederateTime o) [ QueryFederateTime ↦ search rules | _ ↦ inl refl ]
+at_query_federate_time other = elim other as (λ o. IsToldApart QueryFederateTime o) [ QueryFederateTime ↦ search rules | _ ↦ inl refl ]
 
 at_query_min_next_event_time : Known QueryMinNextEventTime
-at_query_min_next_event_time other = elim other as (λ o. Tells QueryMinNextEventTime o) [ QueryMinNextEventTime ↦ search rules | _ ↦ inl refl ]
+at_query_min_next_event_time other = elim other as (λ o. IsToldApart QueryMinNextEventTime o) [ QueryMinNextEventTime ↦ search rules | _ ↦ inl refl ]
 
 at_query_lookahead : Known QueryLookahead
-at_query_lookahead other = elim other as (λ o. Tells QueryLookahead o) [ QueryLookahead ↦ search rules | _ ↦ inl refl ]
+at_query_lookahead other = elim other as (λ o. IsToldApart QueryLookahead o) [ QueryLookahead ↦ search rules | _ ↦ inl refl ]
 
 at_get_object_class_handle : (name : List ℕ) → Known (GetObjectClassHandle name)
-at_get_object_class_handle name other = elim other as (λ o. Tells (GetObjectClassHandle name) o) [ GetObjectClassHandle a ↦ search rules | _ ↦ inl refl ]
+at_get_object_class_handle name other = elim other as (λ o. IsToldApart (GetObjectClassHandle name) o) [ GetObjectClassHandle a ↦ search rules | _ ↦ inl refl ]
 
 at_get_interaction_class_handle : (name : List ℕ) → Known (GetInteractionClassHandle name)
-at_get_interaction_class_handle name other = elim other as (λ o. Tells (GetInteractionClassHandle name) o) [ GetInteractionClassHandle a ↦ search rules | _ ↦ inl refl ]
+at_get_interaction_class_handle name other = elim other as (λ o. IsToldApart (GetInteractionClassHandle name) o) [ GetInteractionClassHandle a ↦ search rules | _ ↦ inl refl ]
 
 at_get_attribute_handle : (name : List ℕ) (class : ℕ) → Known (GetAttributeHandle name class)
-at_get_attribute_handle name class other = elim other as (λ o. Tells (GetAttributeHandle name class) o) [ GetAttributeHandle a b ↦ search rules | _ ↦ inl refl ]
+at_get_attribute_handle name class other = elim other as (λ o. IsToldApart (GetAttributeHandle name class) o) [ GetAttributeHandle a b ↦ search rules | _ ↦ inl refl ]
 
 at_get_parameter_handle : (name : List ℕ) (class : ℕ) → Known (GetParameterHandle name class)
-at_get_parameter_handle name class other = elim other as (λ o. Tells (GetParameterHandle name class) o) [ GetParameterHandle a b ↦ search rules | _ ↦ inl refl ]
+at_get_parameter_handle name class other = elim other as (λ o. IsToldApart (GetParameterHandle name class) o) [ GetParameterHandle a b ↦ search rules | _ ↦ inl refl ]
 
 at_get_object_instance_handle : (name : List ℕ) → Known (GetObjectInstanceHandle name)
-at_get_object_instance_handle name other = elim other as (λ o. Tells (GetObjectInstanceHandle name) o) [ GetObjectInstanceHandle a ↦ search rules | _ ↦ inl refl ]
+at_get_object_instance_handle name other = elim other as (λ o. IsToldApart (GetObjectInstanceHandle name) o) [ GetObjectInstanceHandle a ↦ search rules | _ ↦ inl refl ]
 
 at_get_object_instance_name : (object : ℕ) → Known (GetObjectInstanceName object)
-at_get_object_instance_name object other = elim other as (λ o. Tells (GetObjectInstanceName object) o) [ GetObjectInstanceName a ↦ search rules | _ ↦ inl refl ]
+at_get_object_instance_name object other = elim other as (λ o. IsToldApart (GetObjectInstanceName object) o) [ GetObjectInstanceName a ↦ search rules | _ ↦ inl refl ]
 
 pub same_service : (x : Service) → Known x
 same_service (Resign chosen) = at_resign chosen
