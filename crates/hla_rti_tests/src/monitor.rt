@@ -3,7 +3,7 @@ ghost use Rattle.std.specs.Prelude.{◌≡◌, []};
 use hla_base::{ExecutionName, Fault, List};
 use hla_callbacks::Recorder;
 use hla_monitor::{Monitor, Naming, Opened, Publisher, Status};
-use hla_rti::{Courier, Federate, Left, Rti, open_rti};
+use hla_rti::{Courier, Federate, Rti, open_rti};
 use std::alloc::Global;
 use std::marker::Brand;
 use std::process::Abort;
@@ -47,13 +47,20 @@ fn joined<L: Ledger + Naming, W: Publisher<L>>(
     }
 }
 
-/// The name of the class that is sent.
-fn hit(alloc: Global) -> Result<List<u8>, Fault> {
-    let mut name = List::new(alloc);
-    for letter in b"Hit" {
-        name.push(*letter)?;
-    }
-    Ok(name)
+/// The first federate sends an interaction in receive order, and a courier carries it to the second, which is told of it.
+fn send_hit<L: Ledger + Naming, W: Publisher<L>>(
+    rt: &impl Wait,
+    alloc: Global,
+    a: &mut Federate<L, Recorder, W>,
+    b: &mut Federate<L, Recorder, W>,
+    courier: &mut Courier<L, Recorder, W>,
+) -> Result<(), Fault> {
+    a.publish_interaction_class(rt, 2)?;
+    b.subscribe_interaction_class(rt, 2)?;
+    a.send_interaction(rt, 2, List::new(alloc), None)?;
+    courier.carry(rt, ExecutionName::new(b"play")?, a.number(), b.number())?;
+    b.tick(rt)?;
+    Ok(())
 }
 
 /// One interaction in receive order, from the first federate to the second.
@@ -62,17 +69,11 @@ fn hit_once<L: Ledger + Naming, W: Publisher<L>>(
     alloc: Global,
     rti: &mut Rti<L, Recorder, W>,
 ) -> Result<(), Fault> {
-    let play = ExecutionName::new(b"play")?;
-    rti.create(rt, play, FED)?;
+    rti.create(rt, ExecutionName::new(b"play")?, FED)?;
     let mut a = joined(rt, alloc, rti, b'A')?;
     let mut b = joined(rt, alloc, rti, b'B')?;
-    a.publish_interaction_class(rt, 2)?;
-    b.subscribe_interaction_class(rt, 2)?;
-    a.send_interaction(rt, 2, List::new(alloc), None)?;
     let mut courier = rti.courier()?;
-    courier.carry(rt, play, a.number(), b.number())?;
-    b.tick(rt)?;
-    Ok(())
+    send_hit(rt, alloc, &mut a, &mut b, &mut courier)
 }
 
 /// What a monitor reads that learnt what was told after a run of eight steps, and what it reads once the infrastructure is
@@ -200,11 +201,10 @@ fn parties<L: Ledger + Naming, W: Publisher<L>>(
     rti: &mut Rti<L, Recorder, W>,
 ) -> Result<Vec<Party<L, W>>, Fail> {
     rti.create(rt, ExecutionName::new(b"play")?, FED)?;
-    let mut parties = Vec::new(alloc);
-    parties.push(Party::Watcher(rti.monitor(rt)?))?;
-    parties.push(Party::Caller(joined(rt, alloc, rti, b'A')?))?;
-    parties.push(Party::Caller(joined(rt, alloc, rti, b'B')?))?;
-    Ok(parties)
+    let watcher = Party::Watcher(rti.monitor(rt)?);
+    let a = Party::Caller(joined(rt, alloc, rti, b'A')?);
+    let b = Party::Caller(joined(rt, alloc, rti, b'B')?);
+    Ok(vec![in alloc; watcher, a, b]?)
 }
 
 /// Each party on a thread of its own.
@@ -216,6 +216,18 @@ fn all_lived<L: Ledger + Naming + Send + Sync, W: Publisher<L> + Send, R: Thread
         return Err(Fault::OutOfMemory);
     };
     Ok(all)
+}
+
+/// How each party ended, and what a monitor of later reads.
+fn parties_lived<
+    L: Ledger + Naming + Send + Sync,
+    W: Publisher<L> + Send,
+    R: Threads + Wait + Sync,
+>(rt: &R, alloc: Global, rti: &mut Rti<L, Recorder, W>) -> Result<(Vec<Ended>, u64), Fail> {
+    let parties = parties(rt, alloc, rti)?;
+    let all = all_lived(rt, parties)?;
+    let mut last = rti.monitor(rt)?;
+    Ok((all, last.read().steps))
 }
 
 /// Two callers on a thread each, and a monitor on a third; then what a second monitor reads that knows what was shown.
@@ -231,10 +243,7 @@ fn beside_two<L: Ledger + Naming + Send + Sync, R: Threads + Wait + Sync>(
     requires book { opened.seen.book ≡ L.book }
 {
     let mut rti = open_rti::<L, Recorder, &R>(alloc, rt, blank, opened, 1_000)?;
-    let parties = parties(rt, alloc, &mut rti)?;
-    let all = all_lived(rt, parties)?;
-    let mut last = rti.monitor(rt)?;
-    Ok((all, last.read().steps))
+    parties_lived(rt, alloc, &mut rti)
 }
 
 fn beside_two_at_a_brand<R: Threads + Wait + Sync>(

@@ -2,12 +2,12 @@
 
 ghost use Rattle.std.specs.Prelude.{◌≡◌};
 
-use crate::runs::{FED, closed, joined, letter};
+use crate::runs::{closed, created, is_told, joined_as};
 use hla_base::{ExecutionName, Fault, Ticks};
 use hla_callbacks::{Callback, Recorder};
 use hla_monitor::{Naming, Opened, Publisher};
 use hla_rti::{Courier, Federate, Left, Rti, open_rti};
-use std::alloc::Global;
+use std::alloc::{AllocError, Global};
 use std::marker::Brand;
 use std::process::Abort;
 use std::sync::Wait;
@@ -149,7 +149,22 @@ fn live<L: Ledger + Naming, W: Publisher<L>>(
     Returned { pair, stop }
 }
 
-/// A federate that regulates from time 0 on, with lookahead 1, and a courier.
+/// A federate regulates from time 0 on, with lookahead 1.
+fn regulate<L: Ledger + Naming, W: Publisher<L>>(
+    rt: &(impl Wait + Abort),
+    federate: &mut Federate<L, Recorder, W>,
+) {
+    assert!(rt; federate.enable_time_regulation(rt, 0, 1) == Ok(()));
+    assert!(rt;
+        is_told(
+            rt,
+            federate,
+            Some(Callback::TimeRegulationEnabled { time: 0 })
+        )
+    );
+}
+
+/// A federate that regulates, and a courier.
 fn regulating<L: Ledger + Naming, W: Publisher<L>>(
     rt: &(impl Wait + Abort),
     alloc: Global,
@@ -157,10 +172,8 @@ fn regulating<L: Ledger + Naming, W: Publisher<L>>(
     name: u8,
     play: ExecutionName,
 ) -> Result<Pair<L, W>, Fail> {
-    let name = letter(alloc, name)?;
-    let mut federate = joined(rt, rti, name, play, Recorder::new(alloc));
-    assert!(rt; federate.enable_time_regulation(rt, 0, 1) == Ok(()));
-    assert!(rt; federate.tick(rt) == Ok(Some(Callback::TimeRegulationEnabled { time: 0 })));
+    let mut federate = joined_as(rt, alloc, rti, play, name)?;
+    regulate(rt, &mut federate);
     let courier = rti.courier()?;
     Ok(Pair { federate, courier })
 }
@@ -171,7 +184,63 @@ fn constrain<L: Ledger + Naming, W: Publisher<L>>(
     federate: &mut Federate<L, Recorder, W>,
 ) {
     assert!(rt; federate.enable_time_constrained(rt) == Ok(()));
-    assert!(rt; federate.tick(rt) == Ok(Some(Callback::TimeConstrainedEnabled { time: 0 })));
+    assert!(rt;
+        is_told(
+            rt,
+            federate,
+            Some(Callback::TimeConstrainedEnabled { time: 0 })
+        )
+    );
+}
+
+/// Makes both constrained, once each knows what the other announced.
+fn constrain_both<L: Ledger + Naming, W: Publisher<L>>(
+    rt: &(impl Wait + Abort),
+    a: &mut Pair<L, W>,
+    b: &mut Pair<L, W>,
+    play: ExecutionName,
+) -> Result<(), Fault> {
+    exchange(rt, &mut a.courier, play)?;
+    constrain(rt, &mut a.federate);
+    constrain(rt, &mut b.federate);
+    Ok(())
+}
+
+/// Two federates that regulate and are constrained.
+fn two_pairs<L: Ledger + Naming, W: Publisher<L>>(
+    rt: &(impl Wait + Abort),
+    alloc: Global,
+    rti: &mut Rti<L, Recorder, W>,
+    play: ExecutionName,
+) -> Result<Vec<Pair<L, W>>, Fail> {
+    let mut a = regulating(rt, alloc, rti, b'A', play)?;
+    let mut b = regulating(rt, alloc, rti, b'B', play)?;
+    constrain_both(rt, &mut a, &mut b, play)?;
+    Ok(vec![in alloc; a, b]?)
+}
+
+/// Adds what both callers of a pair leave behind that was granted all its times.
+fn leave<L: Ledger + Naming, W: Publisher<L>>(
+    lefts: &mut Vec<Left<L, Recorder>>,
+    pair: Pair<L, W>,
+) -> Result<(), AllocError> {
+    lefts.push(pair.federate.leave())?;
+    lefts.push(pair.courier.leave())?;
+    Ok(())
+}
+
+/// What all callers of some pairs leave behind.
+fn all_left<L: Ledger + Naming, W: Publisher<L>>(
+    rt: &impl Abort,
+    alloc: Global,
+    all: Vec<Returned<L, W>>,
+) -> Result<Vec<Left<L, Recorder>>, Fail> {
+    let mut lefts = Vec::new(alloc);
+    for Returned { pair, stop } in all {
+        assert!(rt; stop == None);
+        leave(&mut lefts, pair)?;
+    }
+    Ok(lefts)
 }
 
 /// Two federates that regulate and are constrained, each on a thread, are granted each time that they ask for. What all leave
@@ -181,24 +250,10 @@ fn both_granted<
     W: Publisher<L> + Send,
     R: Threads + Wait + Abort + Sync,
 >(rt: &R, alloc: Global, rti: &mut Rti<L, Recorder, W>) -> Result<Vec<Left<L, Recorder>>, Fail> {
-    let play = ExecutionName::new(b"play")?;
-    assert!(rt; rti.create(rt, play, FED) == Ok(()));
-    let mut a = regulating(rt, alloc, rti, b'A', play)?;
-    let mut b = regulating(rt, alloc, rti, b'B', play)?;
-    exchange(rt, &mut a.courier, play)?;
-    constrain(rt, &mut a.federate);
-    constrain(rt, &mut b.federate);
-    let mut pairs = Vec::new(alloc);
-    pairs.push(a)?;
-    pairs.push(b)?;
+    let play = created(rt, rti)?;
+    let pairs = two_pairs(rt, alloc, rti, play)?;
     let returned = thread::map_vec(rt, pairs, &|pair| live(rt, pair, play))?;
-    let mut lefts = Vec::new(alloc);
-    for Returned { pair, stop } in returned {
-        assert!(rt; stop == None);
-        lefts.push(pair.federate.leave())?;
-        lefts.push(pair.courier.leave())?;
-    }
-    Ok(lefts)
+    all_left(rt, alloc, returned)
 }
 
 /// Two callers on threads, from the opening to the close.
