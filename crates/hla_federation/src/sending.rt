@@ -6,10 +6,10 @@ ghost use Rattle.hla_base.specs.declared.fault.Fault.TheVariants.{OutOfMemory};
 ghost use Rattle.hla_base.specs.Tables.{is_other, one_if};
 ghost use Rattle.std.specs.List.{list_all};
 ghost use Rattle.std.specs.Option.{option_map_or};
-ghost use Rattle.hla_catalogue.specs.Lookup.{contains_number, has_parameter};
+ghost use Rattle.hla_catalogue.specs.Lookup.{attribute_order, contains_number, has_parameter};
 ghost use Rattle.hla_catalogue.specs.declared.declared.Order.TheVariants.{Receive};
 ghost use Rattle.hla_retraction.specs.Receivers.{receiver_set};
-ghost use Rattle.hla_machine.specs.Directory.{AnInteraction, AnUpdate, ADeletion, is_receiver, subscribed_values, values_of_order, part_sent};
+ghost use Rattle.hla_machine.specs.Directory.{AnInteraction, AnUpdate, ADeletion, is_receiver, subscribed_values, values_of_order, part_sent, is_of_order};
 ghost use Rattle.hla_machine.specs.declared.service.Service.TheVariants as service;
 ghost use Rattle.hla_machine.specs.declared.step.Step.TheVariants as step;
 ghost use Rattle.hla_members.specs.Noting.{handle_noted};
@@ -18,7 +18,7 @@ ghost use Rattle.hla_federation.specs.Steps.Soundness.{MayCall};
 ghost use Rattle.hla_federation.specs.Steps.State.{state_of, IsWhole, Ends};
 
 use crate::heading::{Heading, is_timestamp};
-use crate::pairs::{by_handle, shared_by_handle};
+use crate::pairs::shared_by_handle;
 use crate::parts::Parts;
 use hla_base::{
     ClassNo, Content, EventHandle, Fault, FederateNo, HandleValuePair, List, ObjectNo, Plain,
@@ -150,22 +150,50 @@ impl Parts {
         Ok(shared)
     }
 
-    /// The values of the attributes whose updates have this order, shared.
-    fn values_of_order(
+    /// Whether all these values are of attributes whose updates have this order.
+    fn are_of_order(&self, order: Order, values: &[HandleValuePair]) -> bool
+        ensures { result ≡ list_all (λ (v : HandleValuePair). is_of_order order
+            (attribute_order self.now.catalogue v.handle)) values.now }
+    {
+        values
+            .iter()
+            .all(|v| self.catalogue.attribute_order(v.handle) == order)
+    }
+
+    /// Copies of the values of the attributes whose updates have this order.
+    fn picked_of_order(
         &self,
         order: Order,
         values: &[HandleValuePair],
-    ) -> Result<SharedList<HandleValuePair>, Fault>
+    ) -> Result<List<HandleValuePair>, Fault>
         ensures ok { IfOk result (λ part. part ≡ values_of_order (state_of self.now).directory order
             values.now) }
         ensures err { IfErr result (λ e. e ≡ Fault.OutOfMemory) }
     {
-        let mut part = List::new(self.alloc);
+        let mut part = List::with_room(self.alloc, values.len())?;
         for value in values {
             if self.catalogue.attribute_order(value.handle) == order {
                 part.push(value.copy()?)?;
             }
         }
+        Ok(part)
+    }
+
+    /// The values of the attributes whose updates have this order, shared: those that are given, where all of them have it.
+    fn values_of_order(
+        &self,
+        order: Order,
+        values: &SharedList<HandleValuePair>,
+    ) -> Result<SharedList<HandleValuePair>, Fault>
+        ensures ok { IfOk result (λ part. part ≡ values_of_order (state_of self.now).directory order
+            values.now) }
+        ensures err { IfErr result (λ e. e ≡ Fault.OutOfMemory) }
+    {
+        if self.are_of_order(order, values.as_slice()) {
+            let same = values.copy()?;
+            return Ok(same);
+        }
+        let part = self.picked_of_order(order, values.as_slice())?;
         let shared = SharedList::from_list(part)?;
         Ok(shared)
     }
@@ -290,8 +318,7 @@ impl Parts {
         Ok(())
     }
 
-    /// Adds the part of an update that has one order, and answers who receives it; none where the part has no values, and so
-    /// makes no message.
+    /// Adds a part of an update, and answers who receives it; none where the part has no values, and so makes no message.
     fn address_part(
         &self,
         outbox: &mut Outbox,
@@ -312,6 +339,33 @@ impl Parts {
         }
         let told = self.address_update(outbox, heading, object, values)?;
         Ok(Some(told))
+    }
+
+    /// Adds the part of an update that has one order, and answers who receives it. Where no value has that order, there is no
+    /// such part, and no list of it is made.
+    fn address_order(
+        &self,
+        outbox: &mut Outbox,
+        heading: Heading,
+        object: ObjectNo,
+        order: Order,
+        values: &SharedList<HandleValuePair>,
+    ) -> Result<Option<Receivers>, Fault>
+        requires { IsWhole self.now }
+        ensures count { IfOk result (λ told. one_if (is_some told) ≡ length (part_sent Receive object
+            (values_of_order (state_of self.now).directory order values.now))) }
+        ensures receivers { IfOk result (λ told. IfSome told (λ rs. receiver_set rs ≡ is_receiver
+            (state_of self.now).directory heading.sender (AnUpdate object
+            (values_of_order (state_of self.now).directory order values.now)))) }
+        ensures ok { OnOk result (HasAdded (part_to (state_of self.now).directory heading object
+            (values_of_order (state_of self.now).directory order values.now)) outbox.old outbox.new) }
+        ensures err { IfErr result (λ e. e ≡ Fault.OutOfMemory) }
+    {
+        if !self.has_order(order, values.as_slice()) {
+            return Ok(None);
+        }
+        let part = self.values_of_order(order, values)?;
+        self.address_part(outbox, heading, object, &part)
     }
 
     /// Send Interaction, with a stamp in ticks or without one. It goes in time-stamp order if its class has that order, a
@@ -362,15 +416,19 @@ impl Parts {
             return Err(fault);
         }
         let serial = self.members.next_serial(federate);
-        let values = by_handle(self.alloc, values)?;
-        let received = self.values_of_order(Order::Receive, values.as_slice())?;
-        let stamped = self.values_of_order(Order::Timestamp, values.as_slice())?;
+        let values = shared_by_handle(self.alloc, values)?;
         let mut outbox = Outbox::new(self.alloc)?;
         let first = self.heading(federate, serial, Order::Receive, stamp);
-        let received_by = self.address_part(&mut outbox, first, object, &received)?;
+        let received_by = self.address_order(&mut outbox, first, object, Order::Receive, &values)?;
         let first_count = u64::from(received_by.is_some());
         let second = self.heading(federate, serial + first_count, Order::Timestamp, stamp);
-        let stamped_by = self.address_part(&mut outbox, second, object, &stamped)?;
+        let stamped_by = self.address_order(
+            &mut outbox,
+            second,
+            object,
+            Order::Timestamp,
+            &values,
+        )?;
         let count = first_count + u64::from(stamped_by.is_some());
         let note = second.note_part(stamped_by);
         let handle = handle_noted(federate, &note);

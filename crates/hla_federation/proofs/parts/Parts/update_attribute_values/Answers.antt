@@ -62,12 +62,14 @@ send_all-requires-clause-serials c =
     let d = (state_of now).directory in
     let r = (state_of now).row f in
     let outs = update_sent d c.args.object c.args.values.now in
-    let received = c.in_ok-received.ensures.ok ∙ ap (λ (vs : List HandleValuePair). values_of_order d Receive vs) (c.as_slice.ensures ∙ c.in_ok-values.ensures.ok) in
-    let stamped = c.in_ok-stamped.ensures.ok ∙ ap (λ (vs : List HandleValuePair). values_of_order d Timestamp vs) (c.as_slice-2.ensures ∙ c.in_ok-values.ensures.ok) in
+    let first_values = values_of_order d Receive c.in_ok-values.values in
+    let second_values = values_of_order d Timestamp c.in_ok-values.values in
+    let received = ap (λ (vs : List HandleValuePair). values_of_order d Receive vs) c.in_ok-values.ensures.ok in
+    let stamped = ap (λ (vs : List HandleValuePair). values_of_order d Timestamp vs) c.in_ok-values.ensures.ok in
     let same = c.next_serial-serial.ensures ∙ ap (λ (v : FederationValue). (members_of v.members).serial f) c.self.view_is in
-    let one : c.from-first_count.result ≡ length (part_sent Receive c.args.object c.in_ok-received.received) = c.from-first_count.ensures ∙ byte_is c.is_some.result ∙ ap one_if c.is_some.ensures ∙ c.in_ok-received_by.ensures.count in
-    let two : c.from.result ≡ length (part_sent Receive c.args.object c.in_ok-stamped.stamped) = c.from.ensures ∙ byte_is c.is_some-2.result ∙ ap one_if c.is_some-2.ensures ∙ c.in_ok-stamped_by.ensures.count in
-    let many = parts_counted d f c.next_serial-serial.result ((members_of now.members).serial f) r c.args.stamp c.args.object c.args.values.now c.in_ok-received.received c.in_ok-stamped.stamped c.from-first_count.result received stamped same one c.from.result two in
+    let one : c.from-first_count.result ≡ length (part_sent Receive c.args.object first_values) = c.from-first_count.ensures ∙ byte_is c.is_some.result ∙ ap one_if c.is_some.ensures ∙ c.in_ok-received_by.ensures.count in
+    let two : c.from.result ≡ length (part_sent Receive c.args.object second_values) = c.from.ensures ∙ byte_is c.is_some-2.result ∙ ap one_if c.is_some-2.ensures ∙ c.in_ok-stamped_by.ensures.count in
+    let many = parts_counted d f c.next_serial-serial.result ((members_of now.members).serial f) r c.args.stamp c.args.object c.args.values.now first_values second_values c.from-first_count.result received stamped same one c.from.result two in
     let none : refusal (components_seen (state_of now)) (Call f (service.UpdateAttributeValues c.args.object c.args.values.now c.args.stamp)) ≡ None = sym c.update_fault.ensures ∙ c.in_default.is in
     let left : ltb (max_time + 1) ((members_of now.members).serial f + length outs) ≡ false = (none_applies (tests (components_seen (state_of now)) (Call f (service.UpdateAttributeValues c.args.object c.args.values.now c.args.stamp))) none).1.1.1.1.1.1.0 in
     let serial = ap (λ (v : FederationValue). (members_of v.members).serial f) c.self.view_is in
@@ -95,22 +97,24 @@ returns-clause-whole c =
     let m = (members_of now.members).serial f in
     let n = c.next_serial-serial.result in
     let outs = update_sent d c.args.object c.args.values.now in
-    let received = c.in_ok-received.ensures.ok ∙ ap (λ (vs : List HandleValuePair). values_of_order d Receive vs) (c.as_slice.ensures ∙ c.in_ok-values.ensures.ok) in
-    let stamped = c.in_ok-stamped.ensures.ok ∙ ap (λ (vs : List HandleValuePair). values_of_order d Timestamp vs) (c.as_slice-2.ensures ∙ c.in_ok-values.ensures.ok) in
+    let first_values = values_of_order d Receive c.in_ok-values.values in
+    let second_values = values_of_order d Timestamp c.in_ok-values.values in
+    let received = ap (λ (vs : List HandleValuePair). values_of_order d Receive vs) c.in_ok-values.ensures.ok in
+    let stamped = ap (λ (vs : List HandleValuePair). values_of_order d Timestamp vs) c.in_ok-values.ensures.ok in
     let same = c.next_serial-serial.ensures ∙ ap (λ (v : FederationValue). (members_of v.members).serial f) c.self.view_is in
-    let one : c.from-first_count.result ≡ length (part_sent Receive c.args.object c.in_ok-received.received) = c.from-first_count.ensures ∙ byte_is c.is_some.result ∙ ap one_if c.is_some.ensures ∙ c.in_ok-received_by.ensures.count in
-    let two : c.from.result ≡ length (part_sent Receive c.args.object c.in_ok-stamped.stamped) = c.from.ensures ∙ byte_is c.is_some-2.result ∙ ap one_if c.is_some-2.ensures ∙ c.in_ok-stamped_by.ensures.count in
-    let many = parts_counted d f n m r c.args.stamp c.args.object c.args.values.now c.in_ok-received.received c.in_ok-stamped.stamped c.from-first_count.result received stamped same one c.from.result two in
-    let o = item [] c.address_part-2.new.outbox in
+    let one : c.from-first_count.result ≡ length (part_sent Receive c.args.object first_values) = c.from-first_count.ensures ∙ byte_is c.is_some.result ∙ ap one_if c.is_some.ensures ∙ c.in_ok-received_by.ensures.count in
+    let two : c.from.result ≡ length (part_sent Receive c.args.object second_values) = c.from.ensures ∙ byte_is c.is_some-2.result ∙ ap one_if c.is_some-2.ensures ∙ c.in_ok-stamped_by.ensures.count in
+    let many = parts_counted d f n m r c.args.stamp c.args.object c.args.values.now first_values second_values c.from-first_count.result received stamped same one c.from.result two in
+    let o = item [] c.address_order-2.new.outbox in
     let is = c.in_ok-send_all.ensures.ok
     ∙ ap (λ (v : FederationValue). record (members_of v.members) { serial = upd (members_of v.members).serial f ((members_of v.members).serial f + (c.from-first_count.result + c.from.result)); wire = wires_posted_below (From f) o (members_of v.members).next_federate (members_of v.members).wire; sent = with_noted (members_of v.members).sent f c.note_part-note.result }) c.self.view_is in
-    let first = subst (λ (x : Heading). HasAdded (part_to d x c.args.object c.in_ok-received.received) c.in_ok-outbox.outbox c.address_part.new.outbox) c.heading-first.ensures c.in_ok-received_by.ensures.ok in
-    let second = subst (λ (x : Heading). HasAdded (part_to d x c.args.object c.in_ok-stamped.stamped) c.address_part.new.outbox c.address_part-2.new.outbox) c.heading-second.ensures c.in_ok-stamped_by.ensures.ok in
-    let added = parts_added d f n m r c.args.stamp c.args.object c.args.values.now c.in_ok-received.received c.in_ok-stamped.stamped c.from-first_count.result received stamped same one
-    c.in_ok-outbox.outbox c.address_part.new.outbox c.address_part-2.new.outbox c.in_ok-outbox.ensures.ok first second in
-    let told = subst (λ (x : Heading). IfSome c.in_ok-stamped_by.stamped_by (λ rs. receiver_set rs ≡ is_receiver d x.sender (AnUpdate c.args.object c.in_ok-stamped.stamped))) c.heading-second.ensures c.in_ok-stamped_by.ensures.receivers in
+    let first = subst (λ (x : Heading). HasAdded (part_to d x c.args.object first_values) c.in_ok-outbox.outbox c.address_order.new.outbox) c.heading-first.ensures c.in_ok-received_by.ensures.ok in
+    let second = subst (λ (x : Heading). HasAdded (part_to d x c.args.object second_values) c.address_order.new.outbox c.address_order-2.new.outbox) c.heading-second.ensures c.in_ok-stamped_by.ensures.ok in
+    let added = parts_added d f n m r c.args.stamp c.args.object c.args.values.now first_values second_values c.from-first_count.result received stamped same one
+    c.in_ok-outbox.outbox c.address_order.new.outbox c.address_order-2.new.outbox c.in_ok-outbox.ensures.ok first second in
+    let told = subst (λ (x : Heading). IfSome c.in_ok-stamped_by.stamped_by (λ rs. receiver_set rs ≡ is_receiver d x.sender (AnUpdate c.args.object second_values))) c.heading-second.ensures c.in_ok-stamped_by.ensures.receivers in
     let note = c.note_part-note.ensures ∙ ap (λ (x : Heading). option_and_then (λ rs. note_under x rs) c.in_ok-stamped_by.stamped_by) c.heading-second.ensures in
-    let noted = update_noted d f n m r c.args.stamp c.args.object c.args.values.now c.in_ok-received.received c.in_ok-stamped.stamped c.from-first_count.result received stamped same one c.in_ok-stamped_by.stamped_by c.in_ok-stamped_by.ensures.count
+    let noted = update_noted d f n m r c.args.stamp c.args.object c.args.values.now first_values second_values c.from-first_count.result received stamped same one c.in_ok-stamped_by.stamped_by c.in_ok-stamped_by.ensures.count
     (members_of now.members).sent (unsent_from now f c.requires.sound.kept) told ∙ ap (λ (x : Option Note). with_noted (members_of now.members).sent f x) (sym note) in
     subst (λ (v : FederationValue). IsWhole (record v { members = c.send_all.new.self.shown })) (sym c.self.view_is)
     (sent_whole now f (c.from-first_count.result + c.from.result) c.args.stamp outs c.note_part-note.result o c.send_all.new.self.shown is many added noted c.requires.sound.whole now.objects refl)
@@ -124,24 +128,26 @@ returns-clause-done c =
     let m = (members_of now.members).serial f in
     let n = c.next_serial-serial.result in
     let outs = update_sent d c.args.object c.args.values.now in
-    let received = c.in_ok-received.ensures.ok ∙ ap (λ (vs : List HandleValuePair). values_of_order d Receive vs) (c.as_slice.ensures ∙ c.in_ok-values.ensures.ok) in
-    let stamped = c.in_ok-stamped.ensures.ok ∙ ap (λ (vs : List HandleValuePair). values_of_order d Timestamp vs) (c.as_slice-2.ensures ∙ c.in_ok-values.ensures.ok) in
+    let first_values = values_of_order d Receive c.in_ok-values.values in
+    let second_values = values_of_order d Timestamp c.in_ok-values.values in
+    let received = ap (λ (vs : List HandleValuePair). values_of_order d Receive vs) c.in_ok-values.ensures.ok in
+    let stamped = ap (λ (vs : List HandleValuePair). values_of_order d Timestamp vs) c.in_ok-values.ensures.ok in
     let same = c.next_serial-serial.ensures ∙ ap (λ (v : FederationValue). (members_of v.members).serial f) c.self.view_is in
-    let one : c.from-first_count.result ≡ length (part_sent Receive c.args.object c.in_ok-received.received) = c.from-first_count.ensures ∙ byte_is c.is_some.result ∙ ap one_if c.is_some.ensures ∙ c.in_ok-received_by.ensures.count in
-    let two : c.from.result ≡ length (part_sent Receive c.args.object c.in_ok-stamped.stamped) = c.from.ensures ∙ byte_is c.is_some-2.result ∙ ap one_if c.is_some-2.ensures ∙ c.in_ok-stamped_by.ensures.count in
-    let many = parts_counted d f n m r c.args.stamp c.args.object c.args.values.now c.in_ok-received.received c.in_ok-stamped.stamped c.from-first_count.result received stamped same one c.from.result two in
-    let o = item [] c.address_part-2.new.outbox in
+    let one : c.from-first_count.result ≡ length (part_sent Receive c.args.object first_values) = c.from-first_count.ensures ∙ byte_is c.is_some.result ∙ ap one_if c.is_some.ensures ∙ c.in_ok-received_by.ensures.count in
+    let two : c.from.result ≡ length (part_sent Receive c.args.object second_values) = c.from.ensures ∙ byte_is c.is_some-2.result ∙ ap one_if c.is_some-2.ensures ∙ c.in_ok-stamped_by.ensures.count in
+    let many = parts_counted d f n m r c.args.stamp c.args.object c.args.values.now first_values second_values c.from-first_count.result received stamped same one c.from.result two in
+    let o = item [] c.address_order-2.new.outbox in
     let is = c.in_ok-send_all.ensures.ok
     ∙ ap (λ (v : FederationValue). record (members_of v.members) { serial = upd (members_of v.members).serial f ((members_of v.members).serial f + (c.from-first_count.result + c.from.result)); wire = wires_posted_below (From f) o (members_of v.members).next_federate (members_of v.members).wire; sent = with_noted (members_of v.members).sent f c.note_part-note.result }) c.self.view_is in
-    let first = subst (λ (x : Heading). HasAdded (part_to d x c.args.object c.in_ok-received.received) c.in_ok-outbox.outbox c.address_part.new.outbox) c.heading-first.ensures c.in_ok-received_by.ensures.ok in
-    let second = subst (λ (x : Heading). HasAdded (part_to d x c.args.object c.in_ok-stamped.stamped) c.address_part.new.outbox c.address_part-2.new.outbox) c.heading-second.ensures c.in_ok-stamped_by.ensures.ok in
-    let added = parts_added d f n m r c.args.stamp c.args.object c.args.values.now c.in_ok-received.received c.in_ok-stamped.stamped c.from-first_count.result received stamped same one
-    c.in_ok-outbox.outbox c.address_part.new.outbox c.address_part-2.new.outbox c.in_ok-outbox.ensures.ok first second in
-    let told = subst (λ (x : Heading). IfSome c.in_ok-stamped_by.stamped_by (λ rs. receiver_set rs ≡ is_receiver d x.sender (AnUpdate c.args.object c.in_ok-stamped.stamped))) c.heading-second.ensures c.in_ok-stamped_by.ensures.receivers in
+    let first = subst (λ (x : Heading). HasAdded (part_to d x c.args.object first_values) c.in_ok-outbox.outbox c.address_order.new.outbox) c.heading-first.ensures c.in_ok-received_by.ensures.ok in
+    let second = subst (λ (x : Heading). HasAdded (part_to d x c.args.object second_values) c.address_order.new.outbox c.address_order-2.new.outbox) c.heading-second.ensures c.in_ok-stamped_by.ensures.ok in
+    let added = parts_added d f n m r c.args.stamp c.args.object c.args.values.now first_values second_values c.from-first_count.result received stamped same one
+    c.in_ok-outbox.outbox c.address_order.new.outbox c.address_order-2.new.outbox c.in_ok-outbox.ensures.ok first second in
+    let told = subst (λ (x : Heading). IfSome c.in_ok-stamped_by.stamped_by (λ rs. receiver_set rs ≡ is_receiver d x.sender (AnUpdate c.args.object second_values))) c.heading-second.ensures c.in_ok-stamped_by.ensures.receivers in
     let note = c.note_part-note.ensures ∙ ap (λ (x : Heading). option_and_then (λ rs. note_under x rs) c.in_ok-stamped_by.stamped_by) c.heading-second.ensures in
-    let noted = update_noted d f n m r c.args.stamp c.args.object c.args.values.now c.in_ok-received.received c.in_ok-stamped.stamped c.from-first_count.result received stamped same one c.in_ok-stamped_by.stamped_by c.in_ok-stamped_by.ensures.count
+    let noted = update_noted d f n m r c.args.stamp c.args.object c.args.values.now first_values second_values c.from-first_count.result received stamped same one c.in_ok-stamped_by.stamped_by c.in_ok-stamped_by.ensures.count
     (members_of now.members).sent (unsent_from now f c.requires.sound.kept) told ∙ ap (λ (x : Option Note). with_noted (members_of now.members).sent f x) (sym note) in
-    let handle = update_handle d f n m r c.args.stamp c.args.object c.args.values.now c.in_ok-received.received c.in_ok-stamped.stamped c.from-first_count.result received stamped same one c.in_ok-stamped_by.stamped_by c.in_ok-stamped_by.ensures.count in
+    let handle = update_handle d f n m r c.args.stamp c.args.object c.args.values.now first_values second_values c.from-first_count.result received stamped same one c.in_ok-stamped_by.stamped_by c.in_ok-stamped_by.ensures.count in
     let none : refusal (components_seen (state_of now)) (Call f (service.UpdateAttributeValues c.args.object c.args.values.now c.args.stamp)) ≡ None = sym c.update_fault.ensures ∙ c.in_default.is in
     rw none (sends_done now f (c.from-first_count.result + c.from.result) c.args.stamp outs c.note_part-note.result o c.send_all.new.self.shown is many added noted (handle ∙ ap (handle_noted f) (sym note))
     ∙ ap (λ (x : Option EventHandle). answer_outcome (answer.Sent x) (state_of (record now { members = c.send_all.new.self.shown }))) (sym c.handle_noted-handle.ensures)
