@@ -1,12 +1,18 @@
 //! Joining and resigning.
 
-ghost use Rattle.hla_base.specs.Limits.{largest_number};
-ghost use Rattle.std.specs.Prelude.{◌≡◌, ◌+◌, ◌≤◌, length, None, OnOk, IfErr};
+ghost use Rattle.hla_base.specs.Limits.{max_joins, largest_number};
+ghost use Rattle.std.specs.Prelude.{◌≡◌, ◌+◌, ◌<◌, ◌≤◌, ◌++◌, ℕ, [], length, None, OnOk, IfOk, IfErr};
 ghost use Rattle.hla_base.specs.declared.fault.Fault.TheVariants.{OutOfMemory};
+ghost use Rattle.hla_lbts.specs.Peers.{peers_of};
+ghost use Rattle.hla_local.specs.LocalValue.{new_local};
+ghost use Rattle.hla_members.specs.MemberValue.{item};
+ghost use Rattle.hla_members.specs.Members.{members_of, new_member, AreQuiet};
+ghost use Rattle.hla_retraction.specs.SentEvents.{no_event};
+ghost use Rattle.hla_retraction.specs.SentRows.{sent_of};
 ghost use Rattle.hla_machine.specs.Directory.{deletions_sent};
 ghost use Rattle.hla_machine.specs.declared.service.Service.TheVariants as service;
 ghost use Rattle.hla_machine.specs.declared.step.Step.TheVariants as step;
-ghost use Rattle.hla_federation.specs.Steps.Sending.{HasAdded, messages_to};
+ghost use Rattle.hla_federation.specs.Steps.Sending.{HasAdded, messages_to, last_null_to};
 ghost use Rattle.hla_federation.specs.Steps.Soundness.{IsSound, MayCall};
 ghost use Rattle.hla_federation.specs.Steps.State.{state_of, IsWhole, Ends};
 
@@ -18,6 +24,28 @@ use hla_machine::{Answer, ResignAction};
 use hla_members::{Member, Outbox};
 
 impl Parts {
+    /// A federate of this name that has just joined and knows what each other one announced last.
+    fn newcomer(&self, name: &[u8]) -> Result<Member, Fault>
+        requires few { (members_of self.now.members).next_federate ≤ max_joins }
+        ensures new { IfOk result (λ m. m.shown ≡ record (new_member name.now [] m.shown.incoming) {
+          local = m.shown.local;
+          sent = m.shown.sent;
+        }) }
+        ensures local { IfOk result (λ m. m.shown.local ≡ new_local m.shown.local.peers) }
+        ensures peers { IfOk result (λ m. peers_of m.shown.local.peers ≡ record {
+          bound = λ g. ((members_of self.now.members).local g).last_announced;
+          known_epoch = λ g. ((members_of self.now.members).local g).epoch;
+        }) }
+        ensures unsent { IfOk result (λ m. sent_of m.shown.sent ≡ (λ _. no_event)) }
+        ensures quiet { IfOk result (λ m. AreQuiet m.shown.incoming) }
+        ensures err { IfErr result (λ e. e ≡ Fault.OutOfMemory) }
+    {
+        let name = name_copy(self.alloc, name)?;
+        let mut member = Member::new(self.alloc, name)?;
+        self.members.introduce(&mut member);
+        Ok(member)
+    }
+
     /// Join Federation Execution.
     pub fn join(&mut self, name: &[u8]) -> Result<Answer, Fault>
         requires { IsSound self.old }
@@ -28,11 +56,13 @@ impl Parts {
             return Err(fault);
         }
         let federate = self.members.next_federate();
-        let mut member = Member::new(self.alloc, name_copy(self.alloc, name)?)?;
-        self.members.introduce(&mut member);
-        let next_name = default_name(self.alloc, self.registry.next_object())?;
         self.members.reserve_one()?;
-        self.declarations.admit()?;
+        let next_name = default_name(self.alloc, self.registry.next_object())?;
+        let member = self.newcomer(name)?;
+        let Ok(()) = self.declarations.admit() else {
+            drop(member);
+            return Err(Fault::OutOfMemory);
+        };
         self.members.admit(member);
         self.next_name = next_name;
         Ok(Answer::Federate(federate))
@@ -65,6 +95,34 @@ impl Parts {
         Ok(())
     }
 
+    /// What a federate that resigns sends, from its next serial on: the removals of its objects, and what it announces last.
+    fn parting(
+        &self,
+        federate: FederateNo,
+        serial: Serial,
+        objects: &[ObjectNo],
+    ) -> Result<Outbox, Fault>
+        requires whole { IsWhole self.now }
+        requires some { 0 < federate }
+        requires within { federate < (members_of self.now.members).next_federate }
+        requires serials { serial + length objects.now ≤ largest_number }
+        ensures ok { IfOk result (λ outbox. (h : ℕ) → item [] outbox h ≡ messages_to (state_of self.now).directory
+            federate serial ((state_of self.now).row federate) None (deletions_sent objects.now) h
+            ++ last_null_to (state_of self.now) federate h) }
+        ensures err { IfErr result (λ e. e ≡ Fault.OutOfMemory) }
+    {
+        let mut outbox = Outbox::new(self.alloc)?;
+        let Ok(()) = self.address_removals(&mut outbox, federate, serial, objects) else {
+            drop(outbox);
+            return Err(Fault::OutOfMemory);
+        };
+        let Ok(()) = self.address_last_null(&mut outbox, federate) else {
+            drop(outbox);
+            return Err(Fault::OutOfMemory);
+        };
+        Ok(outbox)
+    }
+
     /// Resign Federation Execution.
     pub fn resign(&mut self, federate: FederateNo, action: ResignAction) -> Result<Answer, Fault>
         requires { MayCall self.old federate }
@@ -76,11 +134,10 @@ impl Parts {
         }
         let serial = self.members.next_serial(federate);
         let objects = self.registry.objects_owned_by(self.alloc, federate)?;
-        let mut outbox = Outbox::new(self.alloc)?;
-        self.address_removals(&mut outbox, federate, serial, objects.as_slice())?;
-        self.address_last_null(&mut outbox, federate)?;
-        self.members
-            .send_all(federate, outbox, objects.len() as u64, None)?;
+        let count = objects.len() as u64;
+        let parting = self.parting(federate, serial, objects.as_slice());
+        drop(objects);
+        self.members.send_all(federate, parting?, count, None)?;
         self.registry.delete_owned_by(federate);
         self.declarations.withdraw(federate);
         self.members.resign(federate);

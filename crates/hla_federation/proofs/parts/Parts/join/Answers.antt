@@ -1,11 +1,10 @@
-use Rattle.std.proofs.Common.{[], ◌≡◌, ◌+◌, ℕ, sym, ap, ◌∙◌}
+use Rattle.std.proofs.Common.{◌≡◌, ◌+◌, ℕ, sym, ap, ◌∙◌}
 use Rattle.hla_machine.specs.declared.step.Step.TheVariants.{Join}
 use Rattle.hla_machine.specs.declared.step.Answer.TheVariants as answer
 use Rattle.hla_declaration.specs.Declarations as declared
 use Rattle.hla_declaration.specs.Declarations.{DeclarationsValue}
 use Rattle.hla_object_registry.specs.Registered.{registry_of}
-use Rattle.hla_local.specs.LocalValue.{LocalValue, new_local}
-use Rattle.hla_members.specs.MemberValue.{item, MemberValue, RoomyMember}
+use Rattle.hla_members.specs.MemberValue.{MemberValue}
 use Rattle.hla_members.specs.Members.{MemberTables, members_of, with_member_admitted}
 use Rattle.hla_components.specs.Next.{answer_outcome}
 use Rattle.hla_federation.specs.Steps.State.{state_from}
@@ -21,12 +20,13 @@ pub returns-clause-whole : goal.returns-clause-whole
 returns-clause-whole c =
     let whole = rw (← c.self.view_is) at c.requires.whole in
     let fault_is = rw (← c.self.view_is) at c.join_fault.ensures in
-    let name : c.introduce.new.newcomer.shown.name ≡ c.args.name.now = ap (λ (m : RoomyMember). m.shown.name) c.introduce.ensures.same ∙ ap (λ (m : MemberValue). m.name) c.in_ok-member.ensures.ok ∙ c.in_ok-name_copy.ensures.ok in
+    let name : c.in_ok-member.member.shown.name ≡ c.args.name.now = ap (λ (m : MemberValue). m.name) c.in_ok-member.ensures.new in
     let members = rw (c.in_ok-reserve_one.ensures.same, name) at c.admit-2.ensures in
     let few = few_joined _ _ _ (sym fault_is ∙ c.in_default.is) in
+    let peers = rw c.in_ok-reserve_one.ensures.same at c.in_ok-member.ensures.peers in
     record {
-      parts = rw (c.in_ok-admit.ensures.ok, members) (whole_admitted _ _ _ c.args.name.now c.introduce.new.newcomer.shown.local whole.parts few
-          (λ g beyond. rw c.introduce.ensures.peers (nobody_yet c.self.inside.members.shown g beyond)));
+      parts = rw (c.in-Ok.ensures.ok, members) (whole_admitted _ _ _ c.args.name.now c.in_ok-member.member.shown.local whole.parts few
+          (λ g beyond. rw peers (nobody_yet c.self.inside.members.shown g beyond)));
       named = λ f y. c.in_ok-next_name.ensures.ok ∙ ap default_name c.next_object.ensures.next;
     }
 
@@ -34,17 +34,14 @@ pub returns-clause-done : goal.returns-clause-done
 returns-clause-done c =
     let sound = rw (← c.self.view_is) at c.requires in
     let fault_is = rw (← c.self.view_is) at c.join_fault.ensures in
-    let name : c.introduce.new.newcomer.shown.name ≡ c.args.name.now = ap (λ (m : RoomyMember). m.shown.name) c.introduce.ensures.same ∙ ap (λ (m : MemberValue). m.name) c.in_ok-member.ensures.ok ∙ c.in_ok-name_copy.ensures.ok in
-    let local = c.introduce.new.newcomer.shown.local in
-    let new : local ≡ new_local local.peers = ap (λ (m : RoomyMember). m.shown.local) c.introduce.ensures.same ∙ ap (λ (l : LocalValue). record l { peers = local.peers }) c.in_ok-member.ensures.local in
+    let name : c.in_ok-member.member.shown.name ≡ c.args.name.now = ap (λ (m : MemberValue). m.name) c.in_ok-member.ensures.new in
+    let local = c.in_ok-member.member.shown.local in
+    let peers = rw c.in_ok-reserve_one.ensures.same at c.in_ok-member.ensures.peers in
     let members = rw (c.in_ok-reserve_one.ensures.same, name) at c.admit-2.ensures in
     let old = members_of c.self.inside.members.shown in
     let after = with_member_admitted old c.args.name.now local in
     rw (← c.self.view_is) (does_next (state_from c.self.inside.catalogue (declared.declarations_of c.self.inside.declarations) (registry_of c.self.inside.registry) (members_of c.self.inside.members.shown)) (Join c.args.name.now) (sym fault_is ∙ c.in_default.is)
-    ∙ ap (λ (s : Components). answer_outcome (answer.Federate old.next_federate) s) (joined_state c.self.inside.catalogue (declared.declarations_of c.self.inside.declarations) (registry_of c.self.inside.registry) (members_of c.self.inside.members.shown) c.args.name.now local sound.kept sound.whole.parts.unmet (nobody_at c.self.inside.members.shown) new c.introduce.ensures.peers)
+    ∙ ap (λ (s : Components). answer_outcome (answer.Federate old.next_federate) s) (joined_state c.self.inside.catalogue (declared.declarations_of c.self.inside.declarations) (registry_of c.self.inside.registry) (members_of c.self.inside.members.shown) c.args.name.now local sound.kept sound.whole.parts.unmet (nobody_at c.self.inside.members.shown) c.in_ok-member.ensures.local peers)
     ∙ ap (λ (n : ℕ). answer_outcome (answer.Federate n) (state_from c.self.inside.catalogue (record (declared.declarations_of c.self.inside.declarations) { federates = (declared.declarations_of c.self.inside.declarations).federates + 1 }) (registry_of c.self.inside.registry) after)) (sym c.next_federate-federate.ensures.number)
-    ∙ ap (λ (d : DeclarationsValue). answer_outcome (answer.Federate c.next_federate-federate.result) (state_from c.self.inside.catalogue d (registry_of c.self.inside.registry) after)) (sym c.in_ok-admit.ensures.ok)
+    ∙ ap (λ (d : DeclarationsValue). answer_outcome (answer.Federate c.next_federate-federate.result) (state_from c.self.inside.catalogue d (registry_of c.self.inside.registry) after)) (sym c.in-Ok.ensures.ok)
     ∙ ap (λ (t : MemberTables). answer_outcome (answer.Federate c.next_federate-federate.result) (state_from c.self.inside.catalogue (declared.declarations_of c.admit.new.self) (registry_of c.self.inside.registry) t)) (sym members))
-
-pub admit-requires-2-clause-quiet : goal.admit-requires-2-clause-quiet
-admit-requires-2-clause-quiet c = λ g. ap (λ (m : RoomyMember). item [] m.shown.incoming g) c.introduce.ensures.same ∙ c.in_ok-member.ensures.quiet g

@@ -1,6 +1,5 @@
 use Rattle.hla_base.specs.Limits.{largest_number}
 use Rattle.std.proofs.Common.{◌≡◌, ◌+◌, ◌≤◌, ◌++◌, None, List, [], ℕ, Bool, length, sym, ap, subst, ◌∙◌, arith}
-use Rattle.hla_null_message.specs.declared.message.Message.{Message}
 use Rattle.hla_declaration.specs.Declarations as declared
 use Rattle.hla_declaration.specs.Declarations.{DeclarationsValue}
 use Rattle.hla_object_registry.specs.Registered.{registry_of, RegistryValue}
@@ -15,7 +14,7 @@ use Rattle.hla_members.specs.MemberValue.{item}
 use Rattle.hla_members.specs.Members.{MemberTables, members_of, with_member_withdrawn}
 use Rattle.hla_components.specs.Next.{answer_outcome, components_seen, with_federate_gone, with_messages_sent}
 use Rattle.hla_members.specs.Noting.{IsUnsentFrom}
-use Rattle.hla_federation.specs.Steps.Sending.{HasAdded, messages_to, last_null_to}
+use Rattle.hla_federation.specs.Steps.Sending.{messages_to, last_null_to}
 use Rattle.hla_federation.specs.Steps.State.{state_of, state_from, directory_from}
 use Rattle.hla_federation.proofs.Steps.Doing.{does_next}
 use Rattle.hla_federation.proofs.Steps.Noting.{unsent_from}
@@ -40,14 +39,10 @@ returns-clause-done c =
     let none : refusal (components_seen (state_of c.args.self.now)) (Call f (service.Resign c.args.action)) ≡ None = sym c.resign_fault.ensures ∙ c.in_default.is in
     let old = members_of c.self.inside.members.shown in
     let hs = c.in_ok-objects.objects in
-    let o = item [] c.address_last_null.new.outbox in
-    let posted = subst (λ (v : FederationValue). HasAdded (messages_to (state_of v).directory f (old.serial f) ((state_of v).row f) None (deletions_sent hs)) c.in_ok-outbox.outbox c.address_removals.new.outbox) (sym c.self.view_is)
-    (rw (c.as_slice.ensures, c.next_serial-serial.ensures) at c.in_ok-address_removals.ensures.ok) in
-    let last = subst (λ (v : FederationValue). HasAdded (last_null_to (state_of v) f) c.address_removals.new.outbox c.address_last_null.new.outbox) (sym c.self.view_is) c.in_ok-address_last_null.ensures.ok in
-    let is : (h : ℕ) → o h ≡ messages_to (directory_from c.self.inside.catalogue (declared.declarations_of c.self.inside.declarations) (registry_of c.self.inside.registry) (members_of c.self.inside.members.shown)) f (old.serial f) (old.local f).row None (deletions_sent hs) h ++ last_null_to (state_from c.self.inside.catalogue (declared.declarations_of c.self.inside.declarations) (registry_of c.self.inside.registry) (members_of c.self.inside.members.shown)) f h = λ h. last h
-    ∙ ap (λ (ms : List Message). ms ++ last_null_to (state_from c.self.inside.catalogue (declared.declarations_of c.self.inside.declarations) (registry_of c.self.inside.registry) (members_of c.self.inside.members.shown)) f h) (posted h
-    ∙ ap (λ (ms : List Message). ms ++ messages_to (directory_from c.self.inside.catalogue (declared.declarations_of c.self.inside.declarations) (registry_of c.self.inside.registry) (members_of c.self.inside.members.shown)) f (old.serial f) (old.local f).row None (deletions_sent hs) h) (c.in_ok-outbox.ensures.ok h)) in
-    let sent = rw c.len.ensures at c.in_ok-send_all.ensures.ok in
+    let o = item [] c.in_ok-parting.field-0 in
+    let is : (h : ℕ) → o h ≡ messages_to (directory_from c.self.inside.catalogue (declared.declarations_of c.self.inside.declarations) (registry_of c.self.inside.registry) (members_of c.self.inside.members.shown)) f (old.serial f) (old.local f).row None (deletions_sent hs) h ++ last_null_to (state_from c.self.inside.catalogue (declared.declarations_of c.self.inside.declarations) (registry_of c.self.inside.registry) (members_of c.self.inside.members.shown)) f h = subst (λ (v : FederationValue). (h : ℕ) → o h ≡ messages_to (state_of v).directory f (old.serial f) ((state_of v).row f) None (deletions_sent hs) h ++ last_null_to (state_of v) f h) (sym c.self.view_is)
+    (rw (c.as_slice.ensures, c.next_serial-serial.ensures) at c.in_ok-parting.ensures.ok) in
+    let sent = rw c.len-count.ensures at c.in_ok-send_all.ensures.ok in
     let unsent = subst (λ (v : FederationValue). IsUnsentFrom ((members_of v.members).sent f) ((members_of v.members).serial f)) (sym c.self.view_is) (unsent_from c.args.self.now f c.requires.sound.kept) in
     let members = c.resign.ensures ∙ ap (λ (t : MemberTables). with_member_withdrawn t f) sent in
     let new = state_from c.self.inside.catalogue (declared.declarations_of c.withdraw.new.self) (registry_of c.delete_owned_by.new.self) (members_of c.resign.new.self.shown) in
@@ -59,8 +54,8 @@ returns-clause-done c =
     ∙ ap (λ (s : Components). answer_outcome answer.Done s) (resign_ways (state_of c.args.self.now) f c.args.action none
     ∙ subst (λ (v : FederationValue). with_federate_gone (with_messages_sent (state_of v) f None (deletions_sent (objects_of (state_of v).directory f))) f ≡ new) c.self.view_is left)
 
-pub address_removals-requires-clause-serials : goal.address_removals-requires-clause-serials
-address_removals-requires-clause-serials c =
+pub parting-parting-requires-clause-serials : goal.parting-parting-requires-clause-serials
+parting-parting-requires-clause-serials c =
     let f = c.args.federate in
     let none : refusal (components_seen (state_of c.args.self.now)) (Call f (service.Resign c.args.action)) ≡ None = sym c.resign_fault.ensures ∙ c.in_default.is in
     let small : (members_of c.self.inside.members.shown).serial f ≤ largest_number = rw (← c.next_serial-serial.ensures) (omega (arith, c.next_serial-serial.type_inv)) in
@@ -75,4 +70,4 @@ send_all-requires-clause-serials c =
     let small : (members_of c.self.inside.members.shown).serial f ≤ largest_number = rw (← c.next_serial-serial.ensures) (omega (arith, c.next_serial-serial.type_inv)) in
     let now = resign_serials (components_seen (state_of c.args.self.now)) f c.args.action (subst (λ (v : FederationValue). (members_of v.members).serial f ≤ largest_number) c.self.view_is small) none in
     let inside = subst (λ (v : FederationValue). (members_of v.members).serial f + length (objects_of (state_of v).directory f) ≤ largest_number) (sym c.self.view_is) now in
-    rw (c.len.ensures, c.in_ok-objects.ensures.ok) inside
+    rw (c.len-count.ensures, c.in_ok-objects.ensures.ok) inside
