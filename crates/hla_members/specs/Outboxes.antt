@@ -1,5 +1,5 @@
 -- The messages of an outbox, by the federate that each is for
-use Rattle.std.specs.Prelude.{ℕ, zero, suc, ◌+◌, eqb, List, [], ◌∷◌, filter, map}
+use Rattle.std.specs.Prelude.{ℕ, zero, suc, ◌+◌, ◌≡◌, ◌≤◌, eqb, List, [], ◌∷◌, filter, map, length, get_or}
 use Rattle.hla_base.specs.Limits.{max_joins}
 use Rattle.hla_null_message.specs.declared.message.Message.{Message}
 use Rattle.hla_members.specs.declared.addressed.Addressed.{Addressed}
@@ -16,3 +16,7 @@ lists_from (suc n) peer addressed = messages_for peer addressed ∷ lists_from n
 -- those for each that may join
 abbrev pub by_peer : List Addressed → List (List Message)
 by_peer addressed = lists_from max_joins 1 addressed
+
+-- how many there are for each
+abbrev pub AreCounted : List ℕ → List Addressed → Type 0
+AreCounted counts addressed = (g : ℕ) → g ≤ max_joins → get_or counts g 0 ≡ length (messages_for g addressed)

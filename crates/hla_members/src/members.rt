@@ -260,6 +260,7 @@ impl Members {
     }
 
     /// Puts a message on a wire. It takes no memory.
+    #[inline(always)]
     fn put(&mut self, from: FederateNo, to: FederateNo, message: Message)
         requires some_from { 0 < from }
         requires within_from { from ≤ max_joins }

@@ -1,13 +1,12 @@
 //! Messages that are made and not yet on their wires.
 
-ghost use Rattle.std.specs.Prelude.{◌≡◌, ◌<◌, ◌≤◌, ◌++◌, ◌∷◌, [], length, eqb, count_by, IfOk, IfErr, OnOk};
+ghost use Rattle.std.specs.Prelude.{◌≡◌, ◌<◌, ◌≤◌, ◌++◌, ◌∷◌, [], length, IfOk, IfErr, OnOk};
 ghost use Rattle.hla_base.specs.Limits.{max_joins};
 ghost use Rattle.hla_base.specs.declared.fault.Fault.TheVariants.{OutOfMemory};
 ghost use Rattle.hla_base.specs.Tables.{upd};
 ghost use Rattle.hla_members.specs.MemberValue.{item};
 ghost use Rattle.hla_members.specs.Members.{AreQuiet};
 ghost use Rattle.hla_members.specs.Outboxes.{by_peer};
-ghost use Rattle.hla_members.specs.declared.addressed.Addressed.{Addressed};
 
 use crate::addressed::Addressed;
 use hla_base::{Fault, FederateNo, MAX_JOINS};
@@ -15,28 +14,28 @@ use hla_null_message::Message;
 use std::alloc::Global;
 use std::marker::Model;
 
+/// How many counts there are: one for each number of a federate, which are counted from 1, and one for 0.
+const COUNTS: usize = MAX_JOINS + 1;
+
 /// The messages that a step sends, in the order in which they were made. They are made before anything changes, so that a
 /// step for which memory runs out leaves all as it was. Contracts see them by the federate at the other end of their wire.
 #[derive(Debug, Drop)]
 pub struct Outbox {
     messages: Vec<Addressed>,
+    /// How many there are for each federate, so that making room for them looks at none.
+    counts: [usize; COUNTS],
 }
 
 impl Model for Outbox {
     ghost use Rattle.std.specs.Prelude.{List};
     ghost use Rattle.hla_null_message.specs.declared.message.Message.{Message};
-    ghost use Rattle.hla_members.specs.Outboxes.{by_peer};
+    ghost use Rattle.hla_members.specs.Outboxes.{by_peer, AreCounted};
 
     ghost Value = { List (List Message) };
 
     ghost view = { λ o. by_peer o.messages.items };
-}
 
-/// How many of these are for a federate.
-fn count_for(addressed: &[Addressed], peer: FederateNo) -> usize
-    ensures { result ≡ count_by (λ (a : Addressed). eqb a.peer peer) addressed.now }
-{
-    addressed.iter().filter(|a| a.peer == peer).count()
+    ghost invariant = { λ o. AreCounted o.counts o.messages.items };
 }
 
 impl Outbox {
@@ -47,12 +46,16 @@ impl Outbox {
         ensures err { IfErr result (λ e. e ≡ Fault.OutOfMemory) }
     {
         match Vec::with_capacity(alloc, MAX_JOINS) {
-            Ok(messages) => Ok(Outbox { messages }),
+            Ok(messages) => Ok(Outbox {
+                messages,
+                counts: [0; COUNTS],
+            }),
             Err(_) => Err(Fault::OutOfMemory),
         }
     }
 
     /// Adds a message for a federate, behind the others; `OutOfMemory` where a growth was refused.
+    #[inline(always)]
     pub fn put(&mut self, peer: FederateNo, message: Message) -> Result<(), Fault>
         requires some { 0 < peer }
         requires within { peer ≤ max_joins }
@@ -63,16 +66,18 @@ impl Outbox {
         let Ok(()) = self.messages.push(Addressed { peer, message }) else {
             return Err(Fault::OutOfMemory);
         };
+        let count = &mut self.counts[peer as usize];
+        *count += 1;
         Ok(())
     }
 
-    /// How many messages there are for a federate.
+    /// How many messages there are for a federate. It is at hand, and no message is looked at.
     pub fn count(&self, peer: FederateNo) -> usize
         requires some { 0 < peer }
         requires within { peer ≤ max_joins }
         ensures { result ≡ length (item [] self.now peer) }
     {
-        count_for(&self.messages, peer)
+        self.counts[peer as usize]
     }
 
     /// The messages, in the order in which they were made.
