@@ -1,5 +1,6 @@
-ghost use Rattle.std.specs.Prelude.{◌≡◌, []};
+ghost use Rattle.std.specs.Prelude.{◌≡◌};
 
+use crate::runs::{courier_of, created_from, joined_as, keep};
 use hla_base::{ExecutionName, Fault, List};
 use hla_callbacks::Recorder;
 use hla_monitor::{Monitor, Naming, Opened, Publisher, Status};
@@ -32,18 +33,28 @@ const STEPS: u64 = 3 + 2 * 3 * ROUNDS;
 /// How often a reader reads at most.
 const READS: u32 = 100_000;
 
-/// A federate that joined.
-fn joined<L: Ledger + Naming, W: Publisher<L>>(
-    rt: &impl Wait,
-    alloc: Global,
+/// A monitor; it must not be refused.
+fn monitor_of<L: Ledger + Naming, W: Publisher<L>>(
+    rt: &(impl Wait + Abort),
     rti: &mut Rti<L, Recorder, W>,
-    letter: u8,
-) -> Result<Federate<L, Recorder, W>, Fault> {
-    let mut name = List::new(alloc);
-    name.push(letter)?;
-    match rti.join(rt, name, ExecutionName::new(b"play")?, Recorder::new(alloc)) {
-        Ok(federate) => Ok(federate),
-        Err((fault, _)) => Err(fault),
+) -> Monitor<L> {
+    match rti.monitor(rt) {
+        Ok(monitor) => monitor,
+        Err(fault) => panic!(rt; "no monitor: {fault}"),
+    }
+}
+
+/// Ticks, whatever it gives.
+fn tick<L: Ledger + Naming, W: Publisher<L>>(
+    rt: &impl Wait,
+    federate: &mut Federate<L, Recorder, W>,
+) -> Result<(), Fault> {
+    match federate.tick(rt) {
+        Ok(told) => {
+            drop(told);
+            Ok(())
+        }
+        Err(fault) => Err(fault),
     }
 }
 
@@ -51,6 +62,7 @@ fn joined<L: Ledger + Naming, W: Publisher<L>>(
 fn send_hit<L: Ledger + Naming, W: Publisher<L>>(
     rt: &impl Wait,
     alloc: Global,
+    play: ExecutionName,
     a: &mut Federate<L, Recorder, W>,
     b: &mut Federate<L, Recorder, W>,
     courier: &mut Courier<L, Recorder, W>,
@@ -58,42 +70,56 @@ fn send_hit<L: Ledger + Naming, W: Publisher<L>>(
     a.publish_interaction_class(rt, 2)?;
     b.subscribe_interaction_class(rt, 2)?;
     a.send_interaction(rt, 2, List::new(alloc), None)?;
-    courier.carry(rt, ExecutionName::new(b"play")?, a.number(), b.number())?;
-    b.tick(rt)?;
-    Ok(())
+    courier.carry(rt, play, a.number(), b.number())?;
+    tick(rt, b)
 }
 
 /// One interaction in receive order, from the first federate to the second.
 fn hit_once<L: Ledger + Naming, W: Publisher<L>>(
-    rt: &impl Wait,
+    rt: &(impl Wait + Abort),
     alloc: Global,
     rti: &mut Rti<L, Recorder, W>,
-) -> Result<(), Fault> {
-    rti.create(rt, ExecutionName::new(b"play")?, FED)?;
-    let mut a = joined(rt, alloc, rti, b'A')?;
-    let mut b = joined(rt, alloc, rti, b'B')?;
-    let mut courier = rti.courier()?;
-    send_hit(rt, alloc, &mut a, &mut b, &mut courier)
+) {
+    let play = created_from(rt, rti, FED);
+    let mut a = joined_as(rt, alloc, rti, play, b'A');
+    let mut b = joined_as(rt, alloc, rti, play, b'B');
+    let mut courier = courier_of(rt, rti);
+    assert!(rt; send_hit(rt, alloc, play, &mut a, &mut b, &mut courier) == Ok(()));
+    drop(a);
+    drop(b);
+    drop(courier);
+}
+
+/// A monitor learns what is told now.
+fn learn<L: Ledger + Naming, W: Publisher<L>>(
+    rt: &impl Wait,
+    rti: &mut Rti<L, Recorder, W>,
+    monitor: &mut Monitor<L>,
+) {
+    let told = rti.tell(rt);
+    monitor.learn(&told);
+    drop(told);
 }
 
 /// What a monitor reads that learnt what was told after a run of eight steps, and what it reads once the infrastructure is
 /// gone.
 fn counted_run<L: Ledger + Naming, W: Publisher<L>>(
-    rt: &impl Wait,
+    rt: &(impl Wait + Abort),
     alloc: Global,
     mut rti: Rti<L, Recorder, W>,
-) -> Result<(Status, Status), Fail> {
-    let mut monitor = rti.monitor(rt)?;
-    hit_once(rt, alloc, &mut rti)?;
-    let told = rti.tell(rt);
-    monitor.learn(&told);
+) -> (Status, Status) {
+    let mut monitor = monitor_of(rt, &mut rti);
+    hit_once(rt, alloc, &mut rti);
+    learn(rt, &mut rti, &mut monitor);
     let read = monitor.read();
     drop(rti);
-    Ok((read, monitor.read()))
+    let later = monitor.read();
+    drop(monitor);
+    (read, later)
 }
 
 /// A run of eight steps that is watched.
-fn eight_steps<L: Ledger + Naming, R: Wait>(
+fn eight_steps<L: Ledger + Naming, R: Wait + Abort>(
     rt: &R,
     alloc: Global,
     blank: Blank,
@@ -105,10 +131,13 @@ fn eight_steps<L: Ledger + Naming, R: Wait>(
     requires book { opened.seen.book ≡ L.book }
 {
     let rti = open_rti::<L, Recorder, &R>(alloc, rt, blank, opened, 100)?;
-    counted_run(rt, alloc, rti)
+    Ok(counted_run(rt, alloc, rti))
 }
 
-fn eight_steps_at_a_brand<R: Wait>(rt: &R, alloc: Global) -> Result<(Status, Status), Fail> {
+fn eight_steps_at_a_brand<R: Wait + Abort>(
+    rt: &R,
+    alloc: Global,
+) -> Result<(Status, Status), Fail> {
     eight_steps::<Brand, R>(rt, alloc, Blank::new(2049), Opened::new())
 }
 
@@ -152,7 +181,7 @@ fn advance<L: Ledger + Naming, W: Publisher<L>>(
     time: u64,
 ) -> Result<(), Fault> {
     federate.time_advance_request(rt, time)?;
-    federate.tick(rt)?;
+    tick(rt, federate)?;
     federate.query_federate_time(rt)?;
     Ok(())
 }
@@ -160,10 +189,10 @@ fn advance<L: Ledger + Naming, W: Publisher<L>>(
 /// All advances of a federate.
 fn called<L: Ledger + Naming, W: Publisher<L>>(
     rt: &impl Wait,
-    mut federate: Federate<L, Recorder, W>,
+    federate: &mut Federate<L, Recorder, W>,
 ) -> Ended {
     for time in 1..=ROUNDS {
-        if advance(rt, &mut federate, time).is_err() {
+        if advance(rt, federate, time).is_err() {
             return Ended::Refused;
         }
     }
@@ -171,7 +200,7 @@ fn called<L: Ledger + Naming, W: Publisher<L>>(
 }
 
 /// Reads until all steps are there.
-fn watched<L: Naming>(mut monitor: Monitor<L>) -> Ended {
+fn watched<L: Naming>(monitor: &mut Monitor<L>) -> Ended {
     let mut steps = 0;
     for _ in 0..READS {
         let now = monitor.read().steps;
@@ -187,24 +216,35 @@ fn watched<L: Naming>(mut monitor: Monitor<L>) -> Ended {
     Ended::Watched(steps)
 }
 
-fn lived<L: Ledger + Naming, W: Publisher<L>>(rt: &impl Wait, party: Party<L, W>) -> Ended {
-    match party {
+fn lived<L: Ledger + Naming, W: Publisher<L>>(rt: &impl Wait, mut party: Party<L, W>) -> Ended {
+    let ended = match &mut party {
         Party::Caller(federate) => called(rt, federate),
         Party::Watcher(monitor) => watched(monitor),
-    }
+    };
+    drop(party);
+    ended
 }
 
 /// The threads' parties: two callers and a monitor.
 fn parties<L: Ledger + Naming, W: Publisher<L>>(
-    rt: &impl Wait,
+    rt: &(impl Wait + Abort),
     alloc: Global,
     rti: &mut Rti<L, Recorder, W>,
-) -> Result<Vec<Party<L, W>>, Fail> {
-    rti.create(rt, ExecutionName::new(b"play")?, FED)?;
-    let watcher = Party::Watcher(rti.monitor(rt)?);
-    let a = Party::Caller(joined(rt, alloc, rti, b'A')?);
-    let b = Party::Caller(joined(rt, alloc, rti, b'B')?);
-    Ok(vec![in alloc; watcher, a, b]?)
+) -> Vec<Party<L, W>> {
+    let play = created_from(rt, rti, FED);
+    let mut parties = Vec::new(alloc);
+    keep(rt, &mut parties, Party::Watcher(monitor_of(rt, rti)));
+    keep(
+        rt,
+        &mut parties,
+        Party::Caller(joined_as(rt, alloc, rti, play, b'A')),
+    );
+    keep(
+        rt,
+        &mut parties,
+        Party::Caller(joined_as(rt, alloc, rti, play, b'B')),
+    );
+    parties
 }
 
 /// Each party on a thread of its own.
@@ -218,49 +258,62 @@ fn all_lived<L: Ledger + Naming + Send + Sync, W: Publisher<L> + Send, R: Thread
     Ok(all)
 }
 
-/// How each party ended, and what a monitor of later reads.
+/// Whether the monitor, which stands first, saw no count fall, and both callers made all their calls.
+fn are_ended_well(all: &[Ended]) -> bool {
+    matches!(all, [Ended::Watched(_), Ended::Called, Ended::Called])
+}
+
+/// Whether all parties ended well, and what a monitor of later reads.
 fn parties_lived<
     L: Ledger + Naming + Send + Sync,
     W: Publisher<L> + Send,
-    R: Threads + Wait + Sync,
->(rt: &R, alloc: Global, rti: &mut Rti<L, Recorder, W>) -> Result<(Vec<Ended>, u64), Fail> {
-    let parties = parties(rt, alloc, rti)?;
-    let all = all_lived(rt, parties)?;
-    let mut last = rti.monitor(rt)?;
-    Ok((all, last.read().steps))
+    R: Threads + Wait + Abort + Sync,
+>(rt: &R, alloc: Global, rti: &mut Rti<L, Recorder, W>) -> Result<(bool, u64), Fail> {
+    let all = all_lived(rt, parties(rt, alloc, rti))?;
+    let mut last = monitor_of(rt, rti);
+    let steps = last.read().steps;
+    drop(last);
+    Ok((are_ended_well(&all), steps))
+}
+
+/// How the parties lived in an infrastructure that is let go then: here its publisher has no lifetime, so `drop` takes it.
+fn lived_in<
+    L: Ledger + Naming + Send + Sync,
+    W: Publisher<L> + Send,
+    R: Threads + Wait + Abort + Sync,
+>(rt: &R, alloc: Global, mut rti: Rti<L, Recorder, W>) -> Result<(bool, u64), Fail> {
+    let lived = parties_lived(rt, alloc, &mut rti);
+    drop(rti);
+    lived
 }
 
 /// Two callers on a thread each, and a monitor on a third; then what a second monitor reads that knows what was shown.
-fn beside_two<L: Ledger + Naming + Send + Sync, R: Threads + Wait + Sync>(
+fn beside_two<L: Ledger + Naming + Send + Sync, R: Threads + Wait + Abort + Sync>(
     rt: &R,
     alloc: Global,
     blank: Blank,
     opened: Opened,
-) -> Result<(Vec<Ended>, u64), Fail>
+) -> Result<(bool, u64), Fail>
     requires name { blank.name ≡ L.name }
     requires parts { blank.parts ≡ L.parts }
     requires all { blank.parts ≡ 2049 }
     requires book { opened.seen.book ≡ L.book }
 {
-    let mut rti = open_rti::<L, Recorder, &R>(alloc, rt, blank, opened, 1_000)?;
-    parties_lived(rt, alloc, &mut rti)
+    let rti = open_rti::<L, Recorder, &R>(alloc, rt, blank, opened, 1_000)?;
+    lived_in(rt, alloc, rti)
 }
 
-fn beside_two_at_a_brand<R: Threads + Wait + Sync>(
+fn beside_two_at_a_brand<R: Threads + Wait + Abort + Sync>(
     rt: &R,
     alloc: Global,
-) -> Result<(Vec<Ended>, u64), Fail> {
+) -> Result<(bool, u64), Fail> {
     beside_two::<Brand, R>(rt, alloc, Blank::new(2049), Opened::new())
 }
 
 #[test]
 fn no_count_falls_beside_two_callers(rt: HostRuntime) -> Result<(), Fail> {
-    let (all, last) = beside_two_at_a_brand(&rt, rt.alloc())?;
-    assert_eq!(rt; all.len(), 3);
-    assert!(rt; matches!(all.first(), Some(Ended::Watched(_))));
-    for end in all.iter().skip(1) {
-        assert_eq!(rt; *end, Ended::Called);
-    }
+    let (is_well, last) = beside_two_at_a_brand(&rt, rt.alloc())?;
+    assert!(rt; is_well);
     assert_eq!(rt; last, STEPS);
     Ok(())
 }

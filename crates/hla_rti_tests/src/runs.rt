@@ -24,7 +24,7 @@ pub const FED: &[u8] = b"(FED
 ";
 
 /// A federate that joined; it must not be refused.
-pub fn joined<L: Ledger + Naming, W: Publisher<L>>(
+fn joined<L: Ledger + Naming, W: Publisher<L>>(
     rt: &(impl Wait + Abort),
     rti: &mut Rti<L, Recorder, W>,
     name: List<u8>,
@@ -39,16 +39,32 @@ pub fn joined<L: Ledger + Naming, W: Publisher<L>>(
     }
 }
 
-/// A federate of a name of one letter that joined.
+/// A federate of a name of one letter that joined; it must not be refused.
 pub fn joined_as<L: Ledger + Naming, W: Publisher<L>>(
     rt: &(impl Wait + Abort),
     alloc: Global,
     rti: &mut Rti<L, Recorder, W>,
     execution: ExecutionName,
     name: u8,
-) -> Result<Federate<L, Recorder, W>, Fail> {
-    let name = letter(alloc, name)?;
-    Ok(joined(rt, rti, name, execution, Recorder::new(alloc)))
+) -> Federate<L, Recorder, W> {
+    joined(
+        rt,
+        rti,
+        letter(rt, alloc, name),
+        execution,
+        Recorder::new(alloc),
+    )
+}
+
+/// A courier; it must not be refused.
+pub fn courier_of<L: Ledger + Naming, W: Publisher<L>>(
+    rt: &impl Abort,
+    rti: &mut Rti<L, Recorder, W>,
+) -> Courier<L, Recorder, W> {
+    match rti.courier() {
+        Ok(courier) => courier,
+        Err(fault) => panic!(rt; "no courier: {fault}"),
+    }
 }
 
 /// What a federate leaves behind that resigns; it must not be refused.
@@ -62,21 +78,56 @@ fn resigned<L: Ledger + Naming, W: Publisher<L>>(
     }
 }
 
-/// A name of one letter.
-fn letter(alloc: Global, letter: u8) -> Result<List<u8>, Fail> {
+/// Puts an item at the end of a list; memory must be left.
+pub fn keep<T: Drop>(rt: &impl Abort, list: &mut Vec<T>, item: T) {
+    if list.push(item).is_err() {
+        panic!(rt; "out of memory");
+    }
+}
+
+/// A name of one letter; memory must be left.
+fn letter(rt: &impl Abort, alloc: Global, letter: u8) -> List<u8> {
     let mut name = List::new(alloc);
-    name.push(letter)?;
-    Ok(name)
+    if name.push(letter).is_err() {
+        panic!(rt; "out of memory");
+    }
+    name
+}
+
+/// The name of the execution.
+fn play_name(rt: &impl Abort) -> ExecutionName {
+    match ExecutionName::new(b"play") {
+        Ok(play) => play,
+        Err(fault) => panic!(rt; "no name: {fault}"),
+    }
+}
+
+/// An execution that is created from this text; it must not be refused.
+pub fn created_from<L: Ledger + Naming, W: Publisher<L>>(
+    rt: &(impl Wait + Abort),
+    rti: &mut Rti<L, Recorder, W>,
+    fed: &[u8],
+) -> ExecutionName {
+    let play = play_name(rt);
+    assert!(rt; rti.create(rt, play, fed) == Ok(()));
+    play
 }
 
 /// An execution that is created; it must not be refused.
 pub fn created<L: Ledger + Naming, W: Publisher<L>>(
     rt: &(impl Wait + Abort),
     rti: &mut Rti<L, Recorder, W>,
-) -> Result<ExecutionName, Fail> {
-    let play = ExecutionName::new(b"play")?;
-    assert!(rt; rti.create(rt, play, FED) == Ok(()));
-    Ok(play)
+) -> ExecutionName {
+    created_from(rt, rti, FED)
+}
+
+/// Destroys an execution; it must not be refused.
+fn destroy<L: Ledger + Naming, W: Publisher<L>>(
+    rt: &(impl Wait + Abort),
+    rti: &mut Rti<L, Recorder, W>,
+    play: ExecutionName,
+) {
+    assert!(rt; rti.destroy(rt, play) == Ok(()));
 }
 
 /// Whether a federate's tick gives this callback.
@@ -85,7 +136,12 @@ pub fn is_told<L: Ledger + Naming, W: Publisher<L>>(
     federate: &mut Federate<L, Recorder, W>,
     callback: Option<Callback>,
 ) -> bool {
-    federate.tick(rt) == Ok(callback)
+    let told = federate.tick(rt);
+    let wanted = Ok(callback);
+    let is_same = told == wanted;
+    drop(told);
+    drop(wanted);
+    is_same
 }
 
 /// The records of a run whose callers have all come back.
@@ -102,17 +158,6 @@ pub fn closed<L: Ledger + Naming, W: Publisher<L>>(
     }
 }
 
-/// How many records a run has whose callers have all come back.
-fn count_closed<L: Ledger + Naming, W: Publisher<L>>(
-    rt: &(impl Wait + Abort),
-    rti: Rti<L, Recorder, W>,
-    lefts: Vec<Left<L, Recorder>>,
-) -> usize
-    requires { L.parts ≡ 2049 }
-{
-    closed(rt, rti, lefts).records().len()
-}
-
 /// What is asked of a full history is refused.
 fn refuse_all<L: Ledger + Naming, W: Publisher<L>>(
     rt: &(impl Wait + Abort),
@@ -125,40 +170,17 @@ fn refuse_all<L: Ledger + Naming, W: Publisher<L>>(
     assert!(rt; rti.destroy(rt, play) == Err(Fault::HistoryFull));
 }
 
-/// A federate joins, and what is asked then is refused. What it leaves behind.
+/// A federate joins, and what is asked then is refused. What it leaves behind is added.
 fn fill_two<L: Ledger + Naming, W: Publisher<L>>(
     rt: &(impl Wait + Abort),
     alloc: Global,
     rti: &mut Rti<L, Recorder, W>,
-) -> Result<Vec<Left<L, Recorder>>, Fail> {
-    let play = created(rt, rti)?;
-    let mut a = joined_as(rt, alloc, rti, play, b'A')?;
+    lefts: &mut Vec<Left<L, Recorder>>,
+) {
+    let play = created(rt, rti);
+    let mut a = joined_as(rt, alloc, rti, play, b'A');
     refuse_all(rt, rti, &mut a, play);
-    Ok(vec![in alloc; a.leave()]?)
-}
-
-/// A history of two records is full after a creation and a joining, and nothing changes then. How many records there are.
-fn full_at_two<L: Ledger + Naming, R: Wait + Abort>(
-    rt: &R,
-    alloc: Global,
-    blank: Blank,
-    opened: Opened,
-) -> Result<usize, Fail>
-    requires name { blank.name ≡ L.name }
-    requires parts { blank.parts ≡ L.parts }
-    requires all { blank.parts ≡ 2049 }
-    requires book { opened.seen.book ≡ L.book }
-{
-    let mut rti = open_rti::<L, Recorder, &R>(alloc, rt, blank, opened, 2)?;
-    let lefts = fill_two(rt, alloc, &mut rti)?;
-    Ok(count_closed(rt, rti, lefts))
-}
-
-#[test]
-fn full_at_two_at_a_brand(rt: HostRuntime) -> Result<(), Fail> {
-    let count = full_at_two::<Brand, _>(&rt, rt.alloc(), Blank::new(2049), Opened::new())?;
-    assert_eq!(rt; count, 2);
-    Ok(())
+    keep(rt, lefts, a.leave());
 }
 
 /// A federate's first tick is the fault of its ambassador, and the next has nothing to give.
@@ -171,65 +193,38 @@ fn fail_once<L: Ledger + Naming, W: Publisher<L>>(
     assert!(rt; is_told(rt, federate, None));
 }
 
-/// How many callbacks the ambassador heard of one who left.
-fn count_heard<L: Ledger>(rt: &impl Abort, left: &mut Left<L, Recorder>) -> usize {
-    match left.take_ambassador() {
-        Some(ambassador) => ambassador.callbacks().len(),
-        None => panic!(rt; "no ambassador"),
-    }
+/// The ambassador of one who left has heard one callback.
+fn expect_heard_once<L: Ledger>(rt: &impl Abort, left: &mut Left<L, Recorder>) {
+    let Some(ambassador) = left.take_ambassador() else {
+        panic!(rt; "no ambassador");
+    };
+    let count = ambassador.callbacks().len();
+    drop(ambassador);
+    assert_eq!(rt; count, 1);
 }
 
-/// A federate joins whose ambassador fails, and resigns. What it leaves behind.
+/// A federate joins whose ambassador fails, and resigns: the ambassador has heard the callback. What it leaves behind is added.
 fn fail_and_leave<L: Ledger + Naming, W: Publisher<L>>(
     rt: &(impl Wait + Abort),
     alloc: Global,
     rti: &mut Rti<L, Recorder, W>,
-) -> Result<Vec<Left<L, Recorder>>, Fail> {
-    let play = created(rt, rti)?;
-    let name = letter(alloc, b'A')?;
+    lefts: &mut Vec<Left<L, Recorder>>,
+) {
+    let play = created(rt, rti);
+    let name = letter(rt, alloc, b'A');
     let mut a = joined(rt, rti, name, play, Recorder::failing(alloc, 0));
     fail_once(rt, &mut a);
     let mut left = resigned(rt, a);
-    assert_eq!(rt; count_heard(rt, &mut left), 1);
-    Ok(vec![in alloc; left]?)
+    expect_heard_once(rt, &mut left);
+    keep(rt, lefts, left);
 }
 
-/// Whether there are six records, the fourth of a callback at which the ambassador failed.
-fn is_fourth_of_six_failed(records: &[Record]) -> bool {
-    match records.get(3) {
-        Some(record) => records.len() == 6 && matches!(&record.outcome, Outcome::Failed(_)),
-        None => false,
+/// The text of the FED file without its last parenthesis.
+fn cut_off(rt: &impl Abort) -> &'static [u8] {
+    match FED.strip_suffix(b")\n") {
+        Some(cut_off) => cut_off,
+        None => panic!(rt; "no last parenthesis"),
     }
-}
-
-/// An ambassador that fails has heard the callback, the record holds it, and the next tick has nothing to give. Whether the
-/// records say so.
-fn failing_ambassador<L: Ledger + Naming, R: Wait + Abort>(
-    rt: &R,
-    alloc: Global,
-    blank: Blank,
-    opened: Opened,
-) -> Result<bool, Fail>
-    requires name { blank.name ≡ L.name }
-    requires parts { blank.parts ≡ L.parts }
-    requires all { blank.parts ≡ 2049 }
-    requires book { opened.seen.book ≡ L.book }
-{
-    let mut rti = open_rti::<L, Recorder, &R>(alloc, rt, blank, opened, 100)?;
-    let lefts = fail_and_leave(rt, alloc, &mut rti)?;
-    Ok(is_fourth_of_six_failed(closed(rt, rti, lefts).records()))
-}
-
-#[test]
-fn failing_ambassador_at_a_brand(rt: HostRuntime) -> Result<(), Fail> {
-    let is_recorded = failing_ambassador::<Brand, _>(
-        &rt,
-        rt.alloc(),
-        Blank::new(2049),
-        Opened::new(),
-    )?;
-    assert!(rt; is_recorded);
-    Ok(())
 }
 
 /// A creation from the text of a FED file that is cut off answers ErrorReadingFED and has changed nothing: the execution is
@@ -237,149 +232,40 @@ fn failing_ambassador_at_a_brand(rt: HostRuntime) -> Result<(), Fail> {
 fn refuse_cut_off<L: Ledger + Naming, W: Publisher<L>>(
     rt: &(impl Wait + Abort),
     rti: &mut Rti<L, Recorder, W>,
-) -> Result<(), Fail> {
-    let play = ExecutionName::new(b"play")?;
-    let Some(cut_off) = FED.strip_suffix(b")\n") else {
-        panic!(rt; "no last parenthesis");
-    };
-    assert!(rt; rti.create(rt, play, cut_off) == Err(Fault::ErrorReadingFED));
-    assert_eq!(rt; Fault::ErrorReadingFED.number(), 4);
+) {
+    let play = play_name(rt);
+    assert!(rt; rti.create(rt, play, cut_off(rt)) == Err(Fault::ErrorReadingFED));
     assert!(rt; rti.destroy(rt, play) == Err(Fault::FederationExecutionDoesNotExist));
-    created(rt, rti)?;
-    Ok(())
-}
-
-/// Whether there are three records, the first of a refusal by ErrorReadingFED.
-fn is_first_of_three_refused(records: &[Record]) -> bool {
-    match records.first() {
-        Some(record) => {
-            records.len() == 3
-                && matches!(&record.outcome, Outcome::Refused(Fault::ErrorReadingFED))
-        }
-        None => false,
-    }
-}
-
-/// The refusal of a FED file is recorded. Whether the records say so.
-fn refused_fed_file<L: Ledger + Naming, R: Wait + Abort>(
-    rt: &R,
-    alloc: Global,
-    blank: Blank,
-    opened: Opened,
-) -> Result<bool, Fail>
-    requires name { blank.name ≡ L.name }
-    requires parts { blank.parts ≡ L.parts }
-    requires all { blank.parts ≡ 2049 }
-    requires book { opened.seen.book ≡ L.book }
-{
-    let mut rti = open_rti::<L, Recorder, &R>(alloc, rt, blank, opened, 100)?;
-    refuse_cut_off(rt, &mut rti)?;
-    let closed = closed(rt, rti, Vec::new(alloc));
-    Ok(is_first_of_three_refused(closed.records()))
+    created(rt, rti);
 }
 
 #[test]
-fn refused_fed_file_at_a_brand(rt: HostRuntime) -> Result<(), Fail> {
-    let is_recorded = refused_fed_file::<Brand, _>(
-        &rt,
-        rt.alloc(),
-        Blank::new(2049),
-        Opened::new(),
-    )?;
-    assert!(rt; is_recorded);
-    Ok(())
+fn number_of_a_fault(rt: HostRuntime) {
+    assert_eq!(rt; Fault::ErrorReadingFED.number(), 4);
 }
 
 /// After 64 rounds of creating and destroying no execution is created.
 fn create_until_refused<L: Ledger + Naming, W: Publisher<L>>(
     rt: &(impl Wait + Abort),
     rti: &mut Rti<L, Recorder, W>,
-) -> Result<(), Fail> {
-    let play = ExecutionName::new(b"play")?;
+) {
     for _ in 0..64 {
-        assert!(rt; rti.create(rt, play, FED) == Ok(()));
-        assert!(rt; rti.destroy(rt, play) == Ok(()));
+        let play = created(rt, rti);
+        destroy(rt, rti, play);
     }
-    assert!(rt; rti.create(rt, play, FED) == Err(Fault::LimitReached));
-    Ok(())
+    assert!(rt; rti.create(rt, play_name(rt), FED) == Err(Fault::LimitReached));
 }
 
-/// How many records there are once no execution is created any more.
-fn sixty_four_rounds<L: Ledger + Naming, R: Wait + Abort>(
-    rt: &R,
-    alloc: Global,
-    blank: Blank,
-    opened: Opened,
-) -> Result<usize, Fail>
-    requires name { blank.name ≡ L.name }
-    requires parts { blank.parts ≡ L.parts }
-    requires all { blank.parts ≡ 2049 }
-    requires book { opened.seen.book ≡ L.book }
-{
-    let mut rti = open_rti::<L, Recorder, &R>(alloc, rt, blank, opened, 200)?;
-    create_until_refused(rt, &mut rti)?;
-    Ok(count_closed(rt, rti, Vec::new(alloc)))
-}
-
-#[test]
-fn sixty_four_rounds_at_a_brand(rt: HostRuntime) -> Result<(), Fail> {
-    let count = sixty_four_rounds::<Brand, _>(&rt, rt.alloc(), Blank::new(2049), Opened::new())?;
-    assert_eq!(rt; count, 129);
-    Ok(())
-}
-
-/// What comes back of an infrastructure that is closed while a caller is missing.
-fn not_closed<L: Ledger + Naming, W: Publisher<L>>(
+/// A federate joins. What it leaves behind is added.
+fn join_and_leave<L: Ledger + Naming, W: Publisher<L>>(
     rt: &(impl Wait + Abort),
-    rti: Rti<L, Recorder, W>,
-    lefts: Vec<Left<L, Recorder>>,
-) -> NotClosed<L, Recorder, W>
-    requires { L.parts ≡ 2049 }
-{
-    match rti.close(rt, lefts) {
-        Ok(_) => panic!(rt; "closed without the federate"),
-        Err(back) => back,
-    }
-}
-
-/// How many records there are once the caller that was missing has come back, too.
-fn closed_with<L: Ledger + Naming, W: Publisher<L>>(
-    rt: &(impl Wait + Abort),
-    back: NotClosed<L, Recorder, W>,
-    missing: Left<L, Recorder>,
-) -> Result<usize, Fail>
-    requires { L.parts ≡ 2049 }
-{
-    assert!(rt; back.fault == CloseFault::Missing);
-    let NotClosed { rti, mut lefts, .. } = back;
-    lefts.push(missing)?;
-    Ok(count_closed(rt, rti, lefts))
-}
-
-/// Where a caller is missing nothing is closed, and it is once the caller has come back. How many records there are.
-fn one_missing<L: Ledger + Naming, R: Wait + Abort>(
-    rt: &R,
     alloc: Global,
-    blank: Blank,
-    opened: Opened,
-) -> Result<usize, Fail>
-    requires name { blank.name ≡ L.name }
-    requires parts { blank.parts ≡ L.parts }
-    requires all { blank.parts ≡ 2049 }
-    requires book { opened.seen.book ≡ L.book }
-{
-    let mut rti = open_rti::<L, Recorder, &R>(alloc, rt, blank, opened, 100)?;
-    let play = created(rt, &mut rti)?;
-    let missing = joined_as(rt, alloc, &mut rti, play, b'A')?;
-    let back = not_closed(rt, rti, Vec::new(alloc));
-    closed_with(rt, back, missing.leave())
-}
-
-#[test]
-fn one_missing_at_a_brand(rt: HostRuntime) -> Result<(), Fail> {
-    let count = one_missing::<Brand, _>(&rt, rt.alloc(), Blank::new(2049), Opened::new())?;
-    assert_eq!(rt; count, 2);
-    Ok(())
+    rti: &mut Rti<L, Recorder, W>,
+    lefts: &mut Vec<Left<L, Recorder>>,
+) {
+    let play = created(rt, rti);
+    let a = joined_as(rt, alloc, rti, play, b'A');
+    keep(rt, lefts, a.leave());
 }
 
 /// A courier carries the promise of one federate to another, which is constrained.
@@ -397,42 +283,185 @@ fn carry_promise<L: Ledger + Naming, W: Publisher<L>>(
     assert!(rt; courier.carry(rt, play, a.number(), b.number()) == Ok(Carried::Null { bound: 1 }));
 }
 
-/// Two federates and a courier, from the creation to the destruction. What they leave behind.
+/// Two federates and a courier, from the creation to the destruction. What they leave behind is added.
 fn run_to_end<L: Ledger + Naming, W: Publisher<L>>(
     rt: &(impl Wait + Abort),
     alloc: Global,
     rti: &mut Rti<L, Recorder, W>,
-) -> Result<Vec<Left<L, Recorder>>, Fail> {
-    let play = created(rt, rti)?;
-    let mut a = joined_as(rt, alloc, rti, play, b'A')?;
-    let mut b = joined_as(rt, alloc, rti, play, b'B')?;
-    let mut courier = rti.courier()?;
+    lefts: &mut Vec<Left<L, Recorder>>,
+) {
+    let play = created(rt, rti);
+    let mut a = joined_as(rt, alloc, rti, play, b'A');
+    let mut b = joined_as(rt, alloc, rti, play, b'B');
+    let mut courier = courier_of(rt, rti);
     carry_promise(rt, play, &mut a, &mut b, &mut courier);
-    let lefts = [resigned(rt, a), resigned(rt, b), courier.leave()];
-    assert!(rt; rti.destroy(rt, play) == Ok(()));
-    Ok(Vec::from_array(alloc, lefts)?)
+    keep(rt, lefts, resigned(rt, a));
+    keep(rt, lefts, resigned(rt, b));
+    keep(rt, lefts, courier.leave());
+    destroy(rt, rti, play);
 }
 
-/// How many records a whole run has.
-fn whole_run<L: Ledger + Naming, R: Wait + Abort>(
+/// What is done in a run before it is closed. All scenes share one opening and one close, so that these are proved once.
+#[derive(Clone, Copy)]
+enum Scene {
+    /// A history of two records is full after a creation and a joining, and nothing changes then.
+    FullAtTwo,
+    /// An ambassador that fails has heard the callback, the record holds it, and the next tick has nothing to give.
+    FailingAmbassador,
+    /// The refusal of a FED file is recorded.
+    RefusedFedFile,
+    /// No execution is created any more.
+    SixtyFourRounds,
+    /// Where a caller is missing nothing is closed, and it is once the caller has come back.
+    OneMissing,
+    /// All callers act and come back.
+    WholeRun,
+}
+
+/// How many records the history of a scene may hold.
+fn limit_of(scene: Scene) -> usize {
+    match scene {
+        Scene::FullAtTwo => 2,
+        Scene::SixtyFourRounds => 200,
+        _ => 100,
+    }
+}
+
+/// Plays a scene. What its callers leave behind is added.
+fn play<L: Ledger + Naming, W: Publisher<L>>(
+    rt: &(impl Wait + Abort),
+    alloc: Global,
+    rti: &mut Rti<L, Recorder, W>,
+    lefts: &mut Vec<Left<L, Recorder>>,
+    scene: Scene,
+) {
+    match scene {
+        Scene::FullAtTwo => fill_two(rt, alloc, rti, lefts),
+        Scene::FailingAmbassador => fail_and_leave(rt, alloc, rti, lefts),
+        Scene::RefusedFedFile => refuse_cut_off(rt, rti),
+        Scene::SixtyFourRounds => create_until_refused(rt, rti),
+        Scene::OneMissing => join_and_leave(rt, alloc, rti, lefts),
+        Scene::WholeRun => run_to_end(rt, alloc, rti, lefts),
+    }
+}
+
+/// Whether there are six records, the fourth of a callback at which the ambassador failed.
+fn is_fourth_of_six_failed(records: &[Record]) -> bool {
+    match records.get(3) {
+        Some(record) => records.len() == 6 && matches!(&record.outcome, Outcome::Failed(_)),
+        None => false,
+    }
+}
+
+/// Whether there are three records, the first of a refusal by ErrorReadingFED.
+fn is_first_of_three_refused(records: &[Record]) -> bool {
+    match records.first() {
+        Some(record) => {
+            records.len() == 3
+                && matches!(&record.outcome, Outcome::Refused(Fault::ErrorReadingFED))
+        }
+        None => false,
+    }
+}
+
+/// Whether these are the records of a scene.
+fn is_recorded(records: &[Record], scene: Scene) -> bool {
+    match scene {
+        Scene::FullAtTwo | Scene::OneMissing => records.len() == 2,
+        Scene::FailingAmbassador => is_fourth_of_six_failed(records),
+        Scene::RefusedFedFile => is_first_of_three_refused(records),
+        Scene::SixtyFourRounds => records.len() == 129,
+        Scene::WholeRun => records.len() == 11,
+    }
+}
+
+/// The infrastructure that comes back where it is closed while a caller is missing.
+fn not_closed<L: Ledger + Naming, W: Publisher<L>>(
+    rt: &(impl Wait + Abort),
+    alloc: Global,
+    rti: Rti<L, Recorder, W>,
+) -> Rti<L, Recorder, W>
+    requires { L.parts ≡ 2049 }
+{
+    let Err(NotClosed { rti, lefts, fault }) = rti.close(rt, Vec::new(alloc)) else {
+        panic!(rt; "closed without the federate");
+    };
+    assert!(rt; fault == CloseFault::Missing && lefts.is_empty());
+    drop(lefts);
+    rti
+}
+
+/// Closes the infrastructure after a scene. Whether the records are those of the scene.
+fn is_closed<L: Ledger + Naming, W: Publisher<L>>(
+    rt: &(impl Wait + Abort),
+    alloc: Global,
+    rti: Rti<L, Recorder, W>,
+    lefts: Vec<Left<L, Recorder>>,
+    scene: Scene,
+) -> bool
+    requires { L.parts ≡ 2049 }
+{
+    let rti = match scene {
+        Scene::OneMissing => not_closed(rt, alloc, rti),
+        _ => rti,
+    };
+    let closed = closed(rt, rti, lefts);
+    let is_recorded = is_recorded(closed.records(), scene);
+    drop(closed);
+    is_recorded
+}
+
+/// A scene from the opening to the close. Whether the records are those of the scene.
+fn is_played<L: Ledger + Naming, R: Wait + Abort>(
     rt: &R,
     alloc: Global,
     blank: Blank,
     opened: Opened,
-) -> Result<usize, Fail>
+    scene: Scene,
+) -> Result<bool, Fail>
     requires name { blank.name ≡ L.name }
     requires parts { blank.parts ≡ L.parts }
     requires all { blank.parts ≡ 2049 }
     requires book { opened.seen.book ≡ L.book }
 {
-    let mut rti = open_rti::<L, Recorder, &R>(alloc, rt, blank, opened, 100)?;
-    let lefts = run_to_end(rt, alloc, &mut rti)?;
-    Ok(count_closed(rt, rti, lefts))
+    let mut rti = open_rti::<L, Recorder, &R>(alloc, rt, blank, opened, limit_of(scene))?;
+    let mut lefts = Vec::new(alloc);
+    play(rt, alloc, &mut rti, &mut lefts, scene);
+    Ok(is_closed(rt, alloc, rti, lefts, scene))
+}
+
+/// The records of a scene at a brand are those of the scene.
+fn play_at_a_brand<R: Wait + Abort>(rt: &R, alloc: Global, scene: Scene) -> Result<(), Fail> {
+    assert!(rt; is_played::<Brand, R>(rt, alloc, Blank::new(2049), Opened::new(), scene)?);
+    Ok(())
 }
 
 #[test]
-fn whole_run_at_a_brand(rt: HostRuntime) -> Result<(), Fail> {
-    let count = whole_run::<Brand, _>(&rt, rt.alloc(), Blank::new(2049), Opened::new())?;
-    assert_eq!(rt; count, 11);
-    Ok(())
+fn full_at_two(rt: HostRuntime) -> Result<(), Fail> {
+    play_at_a_brand(&rt, rt.alloc(), Scene::FullAtTwo)
+}
+
+#[test]
+fn failing_ambassador(rt: HostRuntime) -> Result<(), Fail> {
+    play_at_a_brand(&rt, rt.alloc(), Scene::FailingAmbassador)
+}
+
+#[test]
+fn refused_fed_file(rt: HostRuntime) -> Result<(), Fail> {
+    play_at_a_brand(&rt, rt.alloc(), Scene::RefusedFedFile)
+}
+
+#[test]
+fn sixty_four_rounds(rt: HostRuntime) -> Result<(), Fail> {
+    play_at_a_brand(&rt, rt.alloc(), Scene::SixtyFourRounds)
+}
+
+#[test]
+fn one_missing(rt: HostRuntime) -> Result<(), Fail> {
+    play_at_a_brand(&rt, rt.alloc(), Scene::OneMissing)
+}
+
+#[test]
+fn whole_run(rt: HostRuntime) -> Result<(), Fail> {
+    play_at_a_brand(&rt, rt.alloc(), Scene::WholeRun)
 }

@@ -2,12 +2,12 @@
 
 ghost use Rattle.std.specs.Prelude.{◌≡◌};
 
-use crate::runs::{closed, created, is_told, joined_as};
+use crate::runs::{closed, courier_of, created, is_told, joined_as, keep};
 use hla_base::{ExecutionName, Fault, Ticks};
 use hla_callbacks::{Callback, Recorder};
 use hla_monitor::{Naming, Opened, Publisher};
 use hla_rti::{Courier, Federate, Left, Rti, open_rti};
-use std::alloc::{AllocError, Global};
+use std::alloc::Global;
 use std::marker::Brand;
 use std::process::Abort;
 use std::sync::Wait;
@@ -171,11 +171,11 @@ fn regulating<L: Ledger + Naming, W: Publisher<L>>(
     rti: &mut Rti<L, Recorder, W>,
     name: u8,
     play: ExecutionName,
-) -> Result<Pair<L, W>, Fail> {
-    let mut federate = joined_as(rt, alloc, rti, play, name)?;
+) -> Pair<L, W> {
+    let mut federate = joined_as(rt, alloc, rti, play, name);
     regulate(rt, &mut federate);
-    let courier = rti.courier()?;
-    Ok(Pair { federate, courier })
+    let courier = courier_of(rt, rti);
+    Pair { federate, courier }
 }
 
 /// Makes it constrained, too.
@@ -199,11 +199,10 @@ fn constrain_both<L: Ledger + Naming, W: Publisher<L>>(
     a: &mut Pair<L, W>,
     b: &mut Pair<L, W>,
     play: ExecutionName,
-) -> Result<(), Fault> {
-    exchange(rt, &mut a.courier, play)?;
+) {
+    assert!(rt; exchange(rt, &mut a.courier, play) == Ok(()));
     constrain(rt, &mut a.federate);
     constrain(rt, &mut b.federate);
-    Ok(())
 }
 
 /// Two federates that regulate and are constrained.
@@ -212,21 +211,26 @@ fn two_pairs<L: Ledger + Naming, W: Publisher<L>>(
     alloc: Global,
     rti: &mut Rti<L, Recorder, W>,
     play: ExecutionName,
-) -> Result<Vec<Pair<L, W>>, Fail> {
-    let mut a = regulating(rt, alloc, rti, b'A', play)?;
-    let mut b = regulating(rt, alloc, rti, b'B', play)?;
-    constrain_both(rt, &mut a, &mut b, play)?;
-    Ok(vec![in alloc; a, b]?)
+) -> Vec<Pair<L, W>> {
+    let mut a = regulating(rt, alloc, rti, b'A', play);
+    let mut b = regulating(rt, alloc, rti, b'B', play);
+    constrain_both(rt, &mut a, &mut b, play);
+    let mut pairs = Vec::new(alloc);
+    keep(rt, &mut pairs, a);
+    keep(rt, &mut pairs, b);
+    pairs
 }
 
 /// Adds what both callers of a pair leave behind that was granted all its times.
 fn leave<L: Ledger + Naming, W: Publisher<L>>(
+    rt: &impl Abort,
     lefts: &mut Vec<Left<L, Recorder>>,
-    pair: Pair<L, W>,
-) -> Result<(), AllocError> {
-    lefts.push(pair.federate.leave())?;
-    lefts.push(pair.courier.leave())?;
-    Ok(())
+    returned: Returned<L, W>,
+) {
+    let Returned { pair, stop } = returned;
+    assert!(rt; stop == None);
+    keep(rt, lefts, pair.federate.leave());
+    keep(rt, lefts, pair.courier.leave());
 }
 
 /// What all callers of some pairs leave behind.
@@ -234,13 +238,12 @@ fn all_left<L: Ledger + Naming, W: Publisher<L>>(
     rt: &impl Abort,
     alloc: Global,
     all: Vec<Returned<L, W>>,
-) -> Result<Vec<Left<L, Recorder>>, Fail> {
+) -> Vec<Left<L, Recorder>> {
     let mut lefts = Vec::new(alloc);
-    for Returned { pair, stop } in all {
-        assert!(rt; stop == None);
-        leave(&mut lefts, pair)?;
+    for returned in all {
+        leave(rt, &mut lefts, returned);
     }
-    Ok(lefts)
+    lefts
 }
 
 /// Two federates that regulate and are constrained, each on a thread, are granted each time that they ask for. What all leave
@@ -250,10 +253,30 @@ fn both_granted<
     W: Publisher<L> + Send,
     R: Threads + Wait + Abort + Sync,
 >(rt: &R, alloc: Global, rti: &mut Rti<L, Recorder, W>) -> Result<Vec<Left<L, Recorder>>, Fail> {
-    let play = created(rt, rti)?;
-    let pairs = two_pairs(rt, alloc, rti, play)?;
+    let play = created(rt, rti);
+    let pairs = two_pairs(rt, alloc, rti, play);
     let returned = thread::map_vec(rt, pairs, &|pair| live(rt, pair, play))?;
-    all_left(rt, alloc, returned)
+    Ok(all_left(rt, alloc, returned))
+}
+
+/// Two callers on threads, and the close: here the publisher has no lifetime, so `drop` takes the infrastructure.
+fn close_granted<
+    L: Ledger + Naming + Send + Sync,
+    W: Publisher<L> + Send,
+    R: Threads + Wait + Abort + Sync,
+>(rt: &R, alloc: Global, mut rti: Rti<L, Recorder, W>) -> Result<(), Fail>
+    requires { L.parts ≡ 2049 }
+{
+    match both_granted(rt, alloc, &mut rti) {
+        Ok(lefts) => {
+            drop(closed(rt, rti, lefts));
+            Ok(())
+        }
+        Err(fail) => {
+            drop(rti);
+            Err(fail)
+        }
+    }
 }
 
 /// Two callers on threads, from the opening to the close.
@@ -268,10 +291,8 @@ fn two_threads<L: Ledger + Naming + Send + Sync, R: Threads + Wait + Abort + Syn
     requires all { blank.parts ≡ 2049 }
     requires book { opened.seen.book ≡ L.book }
 {
-    let mut rti = open_rti::<L, Recorder, &R>(alloc, rt, blank, opened, HISTORY_LIMIT)?;
-    let lefts = both_granted(rt, alloc, &mut rti)?;
-    let _ = closed(rt, rti, lefts);
-    Ok(())
+    let rti = open_rti::<L, Recorder, &R>(alloc, rt, blank, opened, HISTORY_LIMIT)?;
+    close_granted(rt, alloc, rti)
 }
 
 #[test]
