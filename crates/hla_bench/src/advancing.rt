@@ -68,8 +68,11 @@ fn play_bare(meter: &mut Meter, federates: u32, rounds: u64) -> Result<(), Fault
 /// Plays so many rounds on a bare federation.
 pub fn run_bare(alloc: Global, federates: u32, rounds: u64) -> Result<Counts, Fault> {
     let mut meter = Meter::new(alloc, catalogue(alloc, FED)?);
-    play_bare(&mut meter, federates, rounds)?;
-    Ok(counted(federates, rounds))
+    let played = play_bare(&mut meter, federates, rounds);
+    match meter.end(played) {
+        Ok(_) => Ok(counted(federates, rounds)),
+        Err(fault) => Err(fault),
+    }
 }
 
 /// What a thread has: a federate, or a monitor.
@@ -96,7 +99,7 @@ enum Lived<L: Ledger> {
 /// What all threads leave behind.
 #[derive(Drop)]
 struct Rest<L: Ledger> {
-    lefts: Vec<Left<L, Recorder>>,
+    lefts: List<Left<L, Recorder>>,
     reads: u64,
 }
 
@@ -156,6 +159,7 @@ fn watch<L: Ledger + Naming>(mut monitor: Monitor<L>, callers: &Callers) -> Live
             break;
         }
     }
+    drop(monitor);
     Lived::Watched { reads }
 }
 
@@ -179,26 +183,39 @@ pub fn name_of(alloc: Global, federate: FederateNo) -> Result<List<u8>, Fault> {
     Ok(name)
 }
 
-/// Joins so many federates.
+/// Joins a federate, and adds it to the parties.
+fn join<L: Ledger + Naming, W: Publisher<L>>(
+    rt: &impl Wait,
+    alloc: Global,
+    rti: &mut Rti<L, Recorder, W>,
+    execution: ExecutionName,
+    federate: FederateNo,
+    parties: &mut List<Party<L, W>>,
+) -> Result<(), Fault> {
+    let name = name_of(alloc, federate)?;
+    match rti.join(rt, name, execution, Recorder::new(alloc)) {
+        Ok(federate) => parties.push(Party::Caller(federate)),
+        Err((fault, ambassador)) => {
+            drop(ambassador);
+            Err(fault)
+        }
+    }
+}
+
+/// Creates the execution, joins so many federates, and adds them to the parties.
 fn join_all<L: Ledger + Naming, W: Publisher<L>>(
     rt: &impl Wait,
     alloc: Global,
     rti: &mut Rti<L, Recorder, W>,
     federates: u32,
-) -> Result<Vec<Party<L, W>>, Fault> {
+    parties: &mut List<Party<L, W>>,
+) -> Result<(), Fault> {
     let execution = ExecutionName::new(b"bench")?;
     rti.create(rt, execution, FED)?;
-    let mut joined = Vec::new(alloc);
     for federate in 1..=federates {
-        let name = name_of(alloc, federate)?;
-        match rti.join(rt, name, execution, Recorder::new(alloc)) {
-            Ok(federate) => joined
-                .push(Party::Caller(federate))
-                .map_err(|_| Fault::OutOfMemory)?,
-            Err((fault, _)) => return Err(fault),
-        }
+        join(rt, alloc, rti, execution, federate, parties)?;
     }
-    Ok(joined)
+    Ok(())
 }
 
 /// Adds a monitor to the parties, where one is to watch.
@@ -206,15 +223,26 @@ fn add_watcher<L: Ledger + Naming, W: Publisher<L>>(
     rt: &impl Wait,
     rti: &mut Rti<L, Recorder, W>,
     is_watched: bool,
-    parties: &mut Vec<Party<L, W>>,
+    parties: &mut List<Party<L, W>>,
 ) -> Result<(), Fault> {
-    if is_watched {
-        let monitor = rti.monitor(rt)?;
-        parties
-            .push(Party::Watcher(monitor))
-            .map_err(|_| Fault::OutOfMemory)?;
+    if !is_watched {
+        return Ok(());
     }
-    Ok(())
+    let monitor = rti.monitor(rt)?;
+    parties.push(Party::Watcher(monitor))
+}
+
+/// Adds all parties of a run: so many federates, and a monitor, where one is to watch.
+fn add_parties<L: Ledger + Naming, W: Publisher<L>>(
+    rt: &impl Wait,
+    alloc: Global,
+    rti: &mut Rti<L, Recorder, W>,
+    federates: u32,
+    is_watched: bool,
+    parties: &mut List<Party<L, W>>,
+) -> Result<(), Fault> {
+    join_all(rt, alloc, rti, federates, parties)?;
+    add_watcher(rt, rti, is_watched, parties)
 }
 
 /// The parties of a run: so many federates, and a monitor, where one is to watch.
@@ -225,30 +253,54 @@ fn all_parties<L: Ledger + Naming, W: Publisher<L>>(
     federates: u32,
     is_watched: bool,
 ) -> Result<Vec<Party<L, W>>, Fault> {
-    let mut parties = join_all(rt, alloc, rti, federates)?;
-    add_watcher(rt, rti, is_watched, &mut parties)?;
-    Ok(parties)
+    let mut parties = List::new(alloc);
+    match add_parties(rt, alloc, rti, federates, is_watched, &mut parties) {
+        Ok(()) => Ok(parties.into_vec()),
+        Err(fault) => {
+            drop(parties);
+            Err(fault)
+        }
+    }
+}
+
+/// Adds what one who has lived leaves behind, or says what stopped it.
+fn add_rest<L: Ledger>(rest: &mut Rest<L>, lived: Lived<L>) -> Result<(), Fault> {
+    match lived {
+        Lived::Called { left, fault } => match fault {
+            None => rest.lefts.push(left),
+            Some(fault) => {
+                drop(left);
+                Err(fault)
+            }
+        },
+        Lived::Watched { reads } => {
+            rest.reads = reads;
+            Ok(())
+        }
+    }
+}
+
+/// Adds what all who have lived leave behind, up to the first that was stopped.
+fn add_all<L: Ledger>(rest: &mut Rest<L>, all: Vec<Lived<L>>) -> Result<(), Fault> {
+    for lived in all {
+        add_rest(rest, lived)?;
+    }
+    Ok(())
 }
 
 /// What those who have lived leave behind, or what stopped one.
 fn rest_of<L: Ledger>(alloc: Global, all: Vec<Lived<L>>) -> Result<Rest<L>, Fault> {
     let mut rest = Rest {
-        lefts: Vec::new(alloc),
+        lefts: List::new(alloc),
         reads: 0,
     };
-    for lived in all {
-        match lived {
-            Lived::Called {
-                fault: Some(fault),
-                ..
-            } => return Err(fault),
-            Lived::Called { left, fault: None } => {
-                rest.lefts.push(left).map_err(|_| Fault::OutOfMemory)?
-            }
-            Lived::Watched { reads } => rest.reads = reads,
+    match add_all(&mut rest, all) {
+        Ok(()) => Ok(rest),
+        Err(fault) => {
+            drop(rest);
+            Err(fault)
         }
     }
-    Ok(rest)
 }
 
 /// The lives of all, each on a thread of its own.
@@ -264,7 +316,63 @@ fn all_lives<L: Ledger + Naming + Send + Sync, W: Publisher<L> + Send, R: Thread
     Ok(all)
 }
 
-/// Plays so many rounds through the infrastructure, with a thread for each federate.
+/// Plays so many rounds through the infrastructure, with a thread for each federate; what all threads leave behind.
+fn play<L: Ledger + Naming + Send + Sync, W: Publisher<L> + Send, R: Threads + Wait + Sync>(
+    rt: &R,
+    alloc: Global,
+    rti: &mut Rti<L, Recorder, W>,
+    threads: u32,
+    rounds: u64,
+    is_watched: bool,
+) -> Result<Rest<L>, Fault> {
+    let parties = all_parties(rt, alloc, rti, threads, is_watched)?;
+    let callers = Callers {
+        count: threads,
+        ended: AtomicU32::new(0),
+    };
+    let all = all_lives(rt, parties, rounds, &callers)?;
+    rest_of(alloc, all)
+}
+
+/// Closes the infrastructure with what all threads left behind; how often its monitor was read.
+fn close<L: Ledger + Naming, W: Publisher<L>>(
+    rt: &impl Wait,
+    rti: Rti<L, Recorder, W>,
+    rest: Rest<L>,
+) -> Result<u64, Fault>
+    requires { L.parts ≡ 2049 }
+{
+    let Rest { lefts, reads } = rest;
+    match rti.close(rt, lefts.into_vec()) {
+        Ok(closed) => {
+            drop(closed);
+            Ok(reads)
+        }
+        Err(refused) => {
+            drop(refused);
+            Err(Fault::FederateInternalError)
+        }
+    }
+}
+
+/// Closes the infrastructure, or lets it go where a thread was stopped; how often its monitor was read.
+fn end_run<L: Ledger + Naming, W: Publisher<L>>(
+    rt: &impl Wait,
+    rti: Rti<L, Recorder, W>,
+    rest: Result<Rest<L>, Fault>,
+) -> Result<u64, Fault>
+    requires { L.parts ≡ 2049 }
+{
+    match rest {
+        Ok(rest) => close(rt, rti, rest),
+        Err(fault) => {
+            drop(rti);
+            Err(fault)
+        }
+    }
+}
+
+/// Plays so many rounds through the infrastructure, and closes it.
 fn run_at<L: Ledger + Naming + Send + Sync, R: Threads + Wait + Sync>(
     rt: &R,
     alloc: Global,
@@ -280,20 +388,12 @@ fn run_at<L: Ledger + Naming + Send + Sync, R: Threads + Wait + Sync>(
     requires book { opened.seen.book ≡ L.book }
 {
     let mut rti = open_rti::<L, Recorder, &R>(alloc, rt, blank, opened, HISTORY_LIMIT)?;
-    let parties = all_parties(rt, alloc, &mut rti, threads, is_watched)?;
-    let callers = Callers {
-        count: threads,
-        ended: AtomicU32::new(0),
-    };
-    let all = all_lives(rt, parties, rounds, &callers)?;
-    let Rest { lefts, reads } = rest_of(alloc, all)?;
-    match rti.close(rt, lefts) {
-        Ok(_) => Ok(Counts {
-            reads,
-            ..counted(threads, rounds)
-        }),
-        Err(_) => Err(Fault::FederateInternalError),
-    }
+    let rest = play(rt, alloc, &mut rti, threads, rounds, is_watched);
+    let reads = end_run(rt, rti, rest)?;
+    Ok(Counts {
+        reads,
+        ..counted(threads, rounds)
+    })
 }
 
 /// The same, at a brand of its own.

@@ -1,7 +1,7 @@
 //! What a benchmark counts.
 
 /// How much was done. What a benchmark doesn't count is 0.
-#[derive(Clone, Copy, Debug, Default)]
+#[derive(Clone, Copy, Default)]
 pub struct Counts {
     /// Steps of a federation.
     pub steps: u64,

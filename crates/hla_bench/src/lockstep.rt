@@ -61,8 +61,19 @@ fn play(meter: &mut Meter, federates: u32, events: u32, rounds: u64) -> Result<(
 /// Plays so many rounds.
 pub fn run(alloc: Global, federates: u32, events: u32, rounds: u64) -> Result<Counts, Fault> {
     let mut meter = Meter::new(alloc, catalogue(alloc, FED)?);
-    play(&mut meter, federates, events, rounds)?;
-    Ok(meter.counts)
+    let played = play(&mut meter, federates, events, rounds);
+    meter.end(played)
+}
+
+/// Plays so many rounds, and takes their records out.
+fn play_records(
+    meter: &mut Meter,
+    federates: u32,
+    events: u32,
+    rounds: u64,
+) -> Result<Vec<Record>, Fault> {
+    play(meter, federates, events, rounds)?;
+    Ok(meter.take_records())
 }
 
 /// The records of so many rounds.
@@ -73,6 +84,7 @@ pub fn records(
     rounds: u64,
 ) -> Result<Vec<Record>, Fault> {
     let mut meter = Meter::with_history(alloc, catalogue(alloc, FED)?)?;
-    play(&mut meter, federates, events, rounds)?;
-    Ok(meter.into_records())
+    let records = play_records(&mut meter, federates, events, rounds);
+    drop(meter);
+    records
 }

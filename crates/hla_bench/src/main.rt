@@ -39,7 +39,7 @@ use std::time::{Duration, Instant};
 use std::{env, io};
 
 /// What is measured, with its numbers.
-#[derive(Clone, Copy, Debug)]
+#[derive(Clone, Copy)]
 enum Benchmark {
     Lockstep {
         federates: u32,
@@ -224,17 +224,33 @@ fn counts_of<R: AllocGlobal + Threads + Wait + Sync>(
     }
 }
 
+/// Prints the counts that are the same at each run.
+fn print_counts<R: Runtime>(rt: &R, counts: &Counts) -> io::Result<()> {
+    for (name, count) in &counts.fixed() {
+        if *count > 0 {
+            println!(rt; "{name} {count}")?;
+        }
+    }
+    Ok(())
+}
+
+/// Prints by how much a count grew in a second.
+fn print_rate<R: Runtime>(rt: &R, name: &str, count: u64, micros: u128) -> io::Result<()> {
+    if count > 0 {
+        let rate = u128::from(count) * 1_000_000 / micros.max(1);
+        eprintln!(rt; "{name} per second {rate}")?;
+    }
+    Ok(())
+}
+
 /// Prints how long a benchmark took, and by how much each of its counts grew in a second.
 fn print_rates<R: Runtime>(rt: &R, counts: &Counts, took: Duration) -> io::Result<()> {
     let micros = took.as_micros();
     eprintln!(rt; "microseconds {micros}")?;
-    for (name, count) in counts.fixed().iter().chain(&[("reads", counts.reads)]) {
-        if *count > 0 {
-            let rate = u128::from(*count) * 1_000_000 / micros.max(1);
-            eprintln!(rt; "{name} per second {rate}")?;
-        }
+    for (name, count) in &counts.fixed() {
+        print_rate(rt, name, *count, micros)?;
     }
-    Ok(())
+    print_rate(rt, "reads", counts.reads, micros)
 }
 
 /// Says what stopped a benchmark; the status.
@@ -243,30 +259,50 @@ fn stopped<R: Runtime>(rt: &R, fault: Fault) -> io::Result<u8> {
     Ok(1)
 }
 
-/// Runs a benchmark, and prints its counts and times; the status.
-fn run<R: Runtime + AllocGlobal + Threads + Wait + Sync>(rt: &R) -> io::Result<u8> {
-    let mut words = env::args(rt)?;
-    let Some(asked) = asked_for(rt.alloc(), &mut words) else {
-        eprintln!(rt; "{USAGE}")?;
-        return Ok(2);
-    };
-    let records = match records_for(rt.alloc(), asked) {
-        Ok(records) => records,
-        Err(fault) => return stopped(rt, fault),
-    };
+/// Runs a benchmark over the records that were made for it, and prints its counts and times; the status.
+fn measure<R: Runtime + AllocGlobal + Threads + Wait + Sync>(
+    rt: &R,
+    asked: Benchmark,
+    records: &[Record],
+) -> io::Result<u8> {
     let start = Instant::now(rt)?;
-    let counts = match counts_of(rt, asked, records.as_slice()) {
+    let counts = match counts_of(rt, asked, records) {
         Ok(counts) => counts,
         Err(fault) => return stopped(rt, fault),
     };
     let took = start.elapsed(rt)?;
-    for (name, count) in &counts.fixed() {
-        if *count > 0 {
-            println!(rt; "{name} {count}")?;
-        }
-    }
+    print_counts(rt, &counts)?;
     print_rates(rt, &counts, took)?;
     Ok(0)
+}
+
+/// Makes the records that a benchmark is about, and runs it; the status.
+fn prepare<R: Runtime + AllocGlobal + Threads + Wait + Sync>(
+    rt: &R,
+    asked: Benchmark,
+) -> io::Result<u8> {
+    match records_for(rt.alloc(), asked) {
+        Ok(records) => {
+            let status = measure(rt, asked, records.as_slice());
+            drop(records);
+            status
+        }
+        Err(fault) => stopped(rt, fault),
+    }
+}
+
+/// Runs what the command line asks for; the status.
+fn run<R: Runtime + AllocGlobal + Threads + Wait + Sync>(rt: &R) -> io::Result<u8> {
+    let mut words = env::args(rt)?;
+    let asked = asked_for(rt.alloc(), &mut words);
+    drop(words);
+    match asked {
+        Some(asked) => prepare(rt, asked),
+        None => {
+            eprintln!(rt; "{USAGE}")?;
+            Ok(2)
+        }
+    }
 }
 
 fn main(rt: HostRuntime) -> ExitCode {

@@ -1,4 +1,7 @@
 //! A federation whose steps are counted.
+//!
+//! A federation, a step, an answer or a list of records goes to `drop` by name: such a call is proved once, and what goes out of
+//! scope is taken apart, variant by variant, at each end of the function that lets it.
 
 use crate::advancing::name_of;
 use crate::counts::Counts;
@@ -7,9 +10,10 @@ use hla_base::{
 };
 use hla_callbacks::Callback;
 use hla_catalogue::Catalogue;
-use hla_federation::Federation;
+use hla_federation::{Federation, Foreseen};
 use hla_machine::{Act, Answer, Carried, Choice, Outcome, Record, Service, Step};
 use std::alloc::Global;
+use std::mem;
 
 /// A federation execution, and what its steps have brought.
 #[derive(Drop)]
@@ -24,25 +28,65 @@ pub struct Meter {
 #[derive(Drop)]
 struct History {
     execution: SharedList<u8>,
-    records: Vec<Record>,
+    records: List<Record>,
 }
 
 impl History {
+    /// The history of an execution that was just created.
+    fn new(alloc: Global, catalogue: &Catalogue) -> Result<History, Fault> {
+        let mut history = History {
+            execution: SharedList::from_slice(alloc, b"bench")?,
+            records: List::new(alloc),
+        };
+        match history.add_creation(catalogue) {
+            Ok(()) => Ok(history),
+            Err(fault) => {
+                drop(history);
+                Err(fault)
+            }
+        }
+    }
+
+    /// Adds the record of the creation.
+    fn add_creation(&mut self, catalogue: &Catalogue) -> Result<(), Fault> {
+        let catalogue = Some(catalogue.copy()?);
+        let outcome = Outcome::Done(Answer::Done);
+        self.add(Act::Create { catalogue }, outcome, Choice::None)
+    }
+
+    /// Adds the record of a step.
+    fn add_step(&mut self, step: &Step, foreseen: Foreseen) -> Result<(), Fault> {
+        match step.copy() {
+            Ok(step) => self.add(Act::Step(step), foreseen.outcome, foreseen.choice),
+            Err(fault) => {
+                drop(foreseen);
+                Err(fault)
+            }
+        }
+    }
+
     /// Adds the record of an act.
     fn add(&mut self, act: Act, outcome: Outcome, choice: Choice) -> Result<(), Fault> {
-        let record = Record {
-            actor: 1,
-            execution: self.execution.copy()?,
-            act,
-            outcome,
-            choice,
-        };
-        self.records.push(record).map_err(|_| Fault::OutOfMemory)
+        match self.execution.copy() {
+            Ok(execution) => self.records.push(Record {
+                actor: 1,
+                execution,
+                act,
+                outcome,
+                choice,
+            }),
+            Err(fault) => {
+                drop(act);
+                drop(outcome);
+                drop(choice);
+                Err(fault)
+            }
+        }
     }
 }
 
 /// What a step brought, as far as it is counted.
-#[derive(Clone, Copy, Debug)]
+#[derive(Clone, Copy)]
 enum Brought {
     Nothing,
     Message,
@@ -50,6 +94,7 @@ enum Brought {
     Other,
 }
 
+/// What an answer says that a step brought.
 fn brought_by(answer: &Answer) -> Brought {
     match answer {
         Answer::Ticked(
@@ -62,7 +107,7 @@ fn brought_by(answer: &Answer) -> Brought {
 }
 
 /// What ticks brought a federate until they brought a grant or nothing.
-#[derive(Clone, Copy, Debug)]
+#[derive(Clone, Copy)]
 pub struct Visit {
     pub received: u64,
     pub grant: Option<Ticks>,
@@ -81,26 +126,36 @@ impl Meter {
 
     /// A federation that no federate has joined yet, of whose steps there will be records behind that of its creation.
     pub fn with_history(alloc: Global, catalogue: Catalogue) -> Result<Meter, Fault> {
-        let mut history = History {
-            execution: SharedList::from_slice(alloc, b"bench")?,
-            records: Vec::new(alloc),
-        };
-        let act = Act::Create {
-            catalogue: Some(catalogue.copy()?),
-        };
-        history.add(act, Outcome::Done(Answer::Done), Choice::None)?;
-        Ok(Meter {
-            history: Some(history),
-            ..Meter::new(alloc, catalogue)
-        })
+        match History::new(alloc, &catalogue) {
+            Ok(history) => Ok(Meter {
+                alloc,
+                federation: Federation::new(alloc, catalogue),
+                counts: Counts::default(),
+                history: Some(history),
+            }),
+            Err(fault) => {
+                drop(catalogue);
+                Err(fault)
+            }
+        }
     }
 
-    /// The records, if there are any.
-    pub fn into_records(self) -> Vec<Record> {
-        let Meter { alloc, history, .. } = self;
-        match history {
-            Some(History { records, .. }) => records,
-            None => Vec::new(alloc),
+    /// The counts, or what stopped the play on it.
+    pub fn end(self, played: Result<(), Fault>) -> Result<Counts, Fault> {
+        let counts = self.counts;
+        drop(self);
+        match played {
+            Ok(()) => Ok(counts),
+            Err(fault) => Err(fault),
+        }
+    }
+
+    /// Takes the records out, if there are any.
+    pub fn take_records(&mut self) -> Vec<Record> {
+        let none = List::new(self.alloc);
+        match &mut self.history {
+            Some(history) => mem::replace(&mut history.records, none).into_vec(),
+            None => none.into_vec(),
         }
     }
 
@@ -110,28 +165,36 @@ impl Meter {
             return Ok(());
         };
         let foreseen = self.federation.foresee(step)?;
-        history.add(Act::Step(step.copy()?), foreseen.outcome, foreseen.choice)
+        history.add_step(step, foreseen)
     }
 
-    fn step(&mut self, step: &Step) -> Result<Brought, Fault> {
+    /// Does a step, and records it before.
+    fn done(&mut self, step: &Step) -> Result<Brought, Fault> {
         self.record(step)?;
         self.counts.steps = self.counts.steps.wrapping_add(1);
-        match self.federation.step(step) {
-            Ok(answer) => Ok(brought_by(&answer)),
-            Err(fault) => Err(fault),
-        }
+        let answer = self.federation.step(step)?;
+        let brought = brought_by(&answer);
+        drop(answer);
+        Ok(brought)
+    }
+
+    /// Does a step that is let go then.
+    fn step(&mut self, step: Step) -> Result<Brought, Fault> {
+        let brought = self.done(&step);
+        drop(step);
+        brought
     }
 
     /// A joined federate calls a service.
     pub fn call(&mut self, federate: FederateNo, service: Service) -> Result<(), Fault> {
-        let _brought = self.step(&Step::Call { federate, service })?;
+        let _brought = self.step(Step::Call { federate, service })?;
         Ok(())
     }
 
     /// A federate joins, under the letter that has its number.
     pub fn join(&mut self, federate: FederateNo) -> Result<(), Fault> {
         let name = name_of(self.alloc, federate)?;
-        let _brought = self.step(&Step::Join { name })?;
+        let _brought = self.step(Step::Join { name })?;
         Ok(())
     }
 
@@ -202,20 +265,20 @@ impl Meter {
 
     /// A federate ticks once.
     pub fn tick(&mut self, federate: FederateNo) -> Result<(), Fault> {
-        let _brought = self.step(&Step::Tick { federate })?;
+        let _brought = self.step(Step::Tick { federate })?;
         Ok(())
     }
 
     /// A federate announces its promise.
     pub fn announce(&mut self, federate: FederateNo) -> Result<(), Fault> {
-        let _brought = self.step(&Step::Announce { federate })?;
+        let _brought = self.step(Step::Announce { federate })?;
         Ok(())
     }
 
     /// Carries a wire until it is empty.
     fn carry(&mut self, from: FederateNo, to: FederateNo) -> Result<(), Fault> {
         for _ in 0..u64::MAX {
-            if matches!(self.step(&Step::Carry { from, to })?, Brought::Nothing) {
+            if matches!(self.step(Step::Carry { from, to })?, Brought::Nothing) {
                 return Ok(());
             }
         }
@@ -236,7 +299,7 @@ impl Meter {
     pub fn visit(&mut self, federate: FederateNo) -> Result<Visit, Fault> {
         let mut received = 0u64;
         for _ in 0..u64::MAX {
-            match self.step(&Step::Tick { federate })? {
+            match self.step(Step::Tick { federate })? {
                 Brought::Message => received = received.wrapping_add(1),
                 Brought::Grant(time) => return Ok(self.visited(received, Some(time))),
                 Brought::Nothing => break,

@@ -20,7 +20,7 @@ const FED: &[u8] = b"(FED (interactions
  (class C15 reliable timestamp (parameter P)) (class C16 reliable timestamp (parameter P))))";
 
 /// How many federates there are, their lookahead, and the numbers by chance.
-#[derive(Clone, Copy, Debug)]
+#[derive(Clone, Copy)]
 struct Hold {
     federates: u32,
     lookahead: Ticks,
@@ -135,6 +135,6 @@ pub fn run(
         lookahead,
         random: Random::new(),
     };
-    hold.play(&mut meter, population, delivered)?;
-    Ok(meter.counts)
+    let played = hold.play(&mut meter, population, delivered);
+    meter.end(played)
 }

@@ -1,7 +1,7 @@
 //! Numbers without order, the same at each run.
 
 /// A linear congruential generator modulo 2^64, from 1 on.
-#[derive(Clone, Copy, Debug)]
+#[derive(Clone, Copy)]
 pub struct Random {
     state: u64,
 }

@@ -38,8 +38,15 @@ fn join<L: Ledger>(
 {
     let name = name_of(alloc, federate)?;
     match shared.join(1, execution, name, Recorder::new(alloc), share) {
-        Ok(_) => Ok(()),
-        Err((fault, _)) => Err(fault),
+        Ok((joined, back)) => {
+            drop(joined);
+            drop(back);
+            Ok(())
+        }
+        Err((fault, ambassador)) => {
+            drop(ambassador);
+            Err(fault)
+        }
     }
 }
 
@@ -71,7 +78,7 @@ fn begin<L: Ledger>(
     requires { 0 < share.old.parts }
     ensures { share.new.parts ≡ share.old.parts }
 {
-    let _created = shared.create(1, execution, FED, share)?;
+    drop(shared.create(1, execution, FED, share)?);
     join_all(alloc, shared, share, execution, federates)
 }
 
@@ -104,7 +111,7 @@ fn step<L: Ledger>(
     requires plain { IsPlain step }
     ensures { share.new.parts ≡ share.old.parts }
 {
-    let _made = shared.step(1, execution, step, share)?;
+    drop(shared.step(1, execution, step, share)?);
     Ok(())
 }
 
@@ -158,7 +165,8 @@ fn step_locked<L: Ledger>(
     requires plain { IsPlain step }
     ensures { share.new.parts ≡ share.old.parts }
 {
-    let _made = shared.lock(rt).step(1, execution, step, share)?;
+    let made = shared.lock(rt).step(1, execution, step, share);
+    drop(made?);
     Ok(())
 }
 

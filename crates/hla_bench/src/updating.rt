@@ -69,6 +69,6 @@ fn play(meter: &mut Meter, federates: u32, updates: u64) -> Result<(), Fault> {
 /// Plays so many updates for so many receivers.
 pub fn run(alloc: Global, receivers: u32, updates: u64) -> Result<Counts, Fault> {
     let mut meter = Meter::new(alloc, catalogue(alloc, FED)?);
-    play(&mut meter, receivers.saturating_add(1), updates)?;
-    Ok(meter.counts)
+    let played = play(&mut meter, receivers.saturating_add(1), updates);
+    meter.end(played)
 }
