@@ -23,3 +23,8 @@ abbrev pub Reads : {X : Type 0} → Result X ScriptFaultKind → List (List ℕ)
 Reads (Ok x) left meant = meant ≡ Ok (x, left)
 Reads (Err OutOfMemory) left meant = Unit {0}
 Reads (Err kind) left meant = meant ≡ Err kind
+
+-- the same of a reader that takes no memory: the answer is what is meant
+abbrev pub Gives : {X : Type 0} → Result X ScriptFaultKind → List (List ℕ) → Reading X → Type 0
+Gives (Ok x) left meant = meant ≡ Ok (x, left)
+Gives (Err kind) left meant = meant ≡ Err kind

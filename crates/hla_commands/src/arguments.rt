@@ -5,18 +5,18 @@ ghost use Rattle.std.specs.List.{prefix_len, position_or_len, list_all};
 ghost use Rattle.std.specs.Char.{is_ascii_digit};
 ghost use Rattle.std.specs.Str.Parse.{digits_value};
 ghost use Rattle.hla_base.specs.Limits.{largest_number};
-ghost use Rattle.hla_commands.specs.Reading.{Means, Reads};
+ghost use Rattle.hla_commands.specs.Reading.{Reads, Gives};
 ghost use Rattle.hla_commands.specs.Script.{name_in, optional_in, names_in, federate_in, action_in, word_number, number_word, pair_of, word_stamp, optional_stamp_in, pairs_and_stamp, word_handle, handle_in};
 
 use crate::lines::{NameValuePair, ScriptFaultKind};
 use crate::vocabulary::{Opening, action_of};
-use crate::words::Words;
+use crate::words::{Word, Words};
 use hla_base::List;
 use hla_machine::ResignAction;
 use std::alloc::Global;
 
 /// The next word.
-pub fn word<'a>(words: &mut Words<'a>) -> Result<&'a [u8], ScriptFaultKind>
+pub fn next_word<'a>(words: &mut Words<'a>) -> Result<&'a [u8], ScriptFaultKind>
     ensures found { IfOk result (λ w. words.old ≡ w.now ∷ words.new) }
     ensures none { IfErr result (λ e. (e ≡ ScriptFaultKind.MissingWord) × (words.old ≡ [])) }
 {
@@ -26,43 +26,34 @@ pub fn word<'a>(words: &mut Words<'a>) -> Result<&'a [u8], ScriptFaultKind>
     }
 }
 
-/// The bytes of a word.
-pub fn word_bytes(alloc: Global, word: &[u8]) -> Result<List<u8>, ScriptFaultKind>
-    ensures ok { IfOk result (λ bytes. bytes ≡ word.now) }
-    ensures err { IfErr result (λ e. e ≡ ScriptFaultKind.OutOfMemory) }
-{
-    match Vec::from_slice(alloc, word) {
-        Ok(bytes) => Ok(List::from_vec(bytes)),
-        Err(_) => Err(ScriptFaultKind::OutOfMemory),
-    }
-}
-
 /// A name from the FED file.
-pub fn name(alloc: Global, words: &mut Words<'_>) -> Result<List<u8>, ScriptFaultKind>
-    ensures { Reads result words.new (name_in words.old) }
+pub fn name<'a>(words: &mut Words<'a>) -> Result<Word<'a>, ScriptFaultKind>
+    ensures { Gives result words.new (name_in words.old) }
 {
-    let word = word(words)?;
-    word_bytes(alloc, word)
+    let word = next_word(words)?;
+    Ok(Word::new(word))
 }
 
 /// A name that may be left out.
-pub fn optional(alloc: Global, words: &mut Words<'_>) -> Result<Option<List<u8>>, ScriptFaultKind>
-    ensures { Reads result words.new (optional_in words.old) }
+pub fn optional<'a>(words: &mut Words<'a>) -> Result<Option<Word<'a>>, ScriptFaultKind>
+    ensures { Gives result words.new (optional_in words.old) }
 {
     match words.next() {
-        Some(word) => Ok(Some(word_bytes(alloc, word)?)),
+        Some(word) => Ok(Some(Word::new(word))),
         None => Ok(None),
     }
 }
 
 /// Names from the FED file up to the end of the line.
-pub fn names(alloc: Global, words: &mut Words<'_>) -> Result<List<List<u8>>, ScriptFaultKind>
+pub fn names<'a>(
+    alloc: Global,
+    words: &mut Words<'a>,
+) -> Result<List<Word<'a>>, ScriptFaultKind>
     ensures { Reads result words.new (names_in words.old) }
 {
     let mut found = List::new(alloc);
     while let Some(word) = words.next() {
-        let name = word_bytes(alloc, word)?;
-        if found.push(name).is_err() {
+        if found.push(Word::new(word)).is_err() {
             return Err(ScriptFaultKind::OutOfMemory);
         }
     }
@@ -71,9 +62,9 @@ pub fn names(alloc: Global, words: &mut Words<'_>) -> Result<List<List<u8>>, Scr
 
 /// The action of a resignation.
 pub fn action(words: &mut Words<'_>) -> Result<ResignAction, ScriptFaultKind>
-    ensures { Reads result words.new (action_in words.old) }
+    ensures { Gives result words.new (action_in words.old) }
 {
-    let word = word(words)?;
+    let word = next_word(words)?;
     match action_of(word) {
         Some(action) => Ok(action),
         None => Err(ScriptFaultKind::BadWord),
@@ -117,19 +108,19 @@ fn number_of(word: &[u8]) -> Result<u64, ScriptFaultKind>
 
 /// A number.
 pub fn number(words: &mut Words<'_>) -> Result<u64, ScriptFaultKind>
-    ensures { Reads result words.new (number_word words.old) }
+    ensures { Gives result words.new (number_word words.old) }
 {
-    let word = word(words)?;
+    let word = next_word(words)?;
     number_of(word)
 }
 
 /// A federate's name.
-pub fn federate(alloc: Global, words: &mut Words<'_>) -> Result<List<u8>, ScriptFaultKind>
-    ensures { Reads result words.new (federate_in words.old) }
+pub fn federate<'a>(words: &mut Words<'a>) -> Result<Word<'a>, ScriptFaultKind>
+    ensures { Gives result words.new (federate_in words.old) }
 {
-    let word = word(words)?;
+    let word = next_word(words)?;
     match Opening::of(word) {
-        Opening::Federate => word_bytes(alloc, word),
+        Opening::Federate => Ok(Word::new(word)),
         _ => Err(ScriptFaultKind::BadWord),
     }
 }
@@ -144,16 +135,16 @@ fn len_before(word: &[u8], byte: u8) -> usize
 
 /// A name and a value round the first `=`.
 #[tactic(auto, unfolding(crate::specs::Script::pair_of))]
-pub fn pair(alloc: Global, word: &[u8]) -> Result<NameValuePair, ScriptFaultKind>
-    ensures { Means result (pair_of word.now) }
+pub fn pair<'a>(word: &'a [u8]) -> Result<NameValuePair<'a>, ScriptFaultKind>
+    ensures { result ≡ pair_of word.now }
 {
     let len = len_before(word, b'=');
     if len == 0 || len == word.len() {
         return Err(ScriptFaultKind::BadWord);
     }
     Ok(NameValuePair {
-        name: word_bytes(alloc, &word[..len])?,
-        value: word_bytes(alloc, &word[len + 1..])?,
+        name: Word::new(&word[..len]),
+        value: Word::new(&word[len + 1..]),
     })
 }
 
@@ -171,7 +162,7 @@ fn word_stamp(word: &[u8]) -> Option<u64>
 
 /// A stamp that may be left out.
 pub fn optional_stamp(words: &mut Words<'_>) -> Result<Option<u64>, ScriptFaultKind>
-    ensures { Reads result words.new (optional_stamp_in words.old) }
+    ensures { Gives result words.new (optional_stamp_in words.old) }
 {
     let Some(word) = words.next() else {
         return Ok(None);
@@ -184,10 +175,10 @@ pub fn optional_stamp(words: &mut Words<'_>) -> Result<Option<u64>, ScriptFaultK
 
 /// Pairs up to the end of the line, or up to a stamp, and that stamp.
 #[tactic(auto, using(crate::proofs::PairLemmas::pair_steps))]
-pub fn pairs_and_stamp(
+pub fn pairs_and_stamp<'a>(
     alloc: Global,
-    words: &mut Words<'_>,
-) -> Result<(List<NameValuePair>, Option<u64>), ScriptFaultKind>
+    words: &mut Words<'a>,
+) -> Result<(List<NameValuePair<'a>>, Option<u64>), ScriptFaultKind>
     ensures { Reads result words.new (pairs_and_stamp words.old) }
 {
     let mut found = List::new(alloc);
@@ -195,7 +186,7 @@ pub fn pairs_and_stamp(
         if let Some(ticks) = word_stamp(word) {
             return Ok((found, Some(ticks)));
         }
-        let pair = pair(alloc, word)?;
+        let pair = pair(word)?;
         if found.push(pair).is_err() {
             return Err(ScriptFaultKind::OutOfMemory);
         }
@@ -219,9 +210,9 @@ fn word_handle(word: &[u8]) -> Option<(u64, u64)>
 
 /// The sender and the serial of a message.
 pub fn handle(words: &mut Words<'_>) -> Result<(u64, u64), ScriptFaultKind>
-    ensures { Reads result words.new (handle_in words.old) }
+    ensures { Gives result words.new (handle_in words.old) }
 {
-    let word = word(words)?;
+    let word = next_word(words)?;
     match word_handle(word) {
         Some(handle) => Ok(handle),
         None => Err(ScriptFaultKind::BadWord),

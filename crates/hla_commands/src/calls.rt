@@ -1,11 +1,11 @@
 //! What a federate does, by a verb and its words.
 
 ghost use Rattle.std.specs.Prelude.{◌≡◌};
-ghost use Rattle.hla_commands.specs.Reading.{Reads};
+ghost use Rattle.hla_commands.specs.Reading.{Reads, Gives};
 ghost use Rattle.hla_commands.specs.Script.{declare_object_in, register_in, update_in, send_in, delete_in, regulate_in, retract_in, time_call_by, call_by, call_in};
 
 use crate::arguments::{
-    action, handle, name, names, number, optional, optional_stamp, pairs_and_stamp, word,
+    action, handle, name, names, next_word, number, optional, optional_stamp, pairs_and_stamp,
 };
 use crate::lines::{Call, Declaration, ScriptFaultKind};
 use crate::vocabulary::{TimeVerb, Verb};
@@ -13,14 +13,14 @@ use crate::words::Words;
 use std::alloc::Global;
 
 /// A publication of an object class or a subscription to one, with its attributes.
-fn declare_object(
+fn declare_object<'a>(
     alloc: Global,
     declaration: Declaration,
-    words: &mut Words<'_>,
-) -> Result<Call, ScriptFaultKind>
+    words: &mut Words<'a>,
+) -> Result<Call<'a>, ScriptFaultKind>
     ensures { Reads result words.new (declare_object_in declaration words.old) }
 {
-    let class = name(alloc, words)?;
+    let class = name(words)?;
     let attributes = names(alloc, words)?;
     Ok(Call::DeclareObject {
         declaration,
@@ -30,20 +30,20 @@ fn declare_object(
 }
 
 /// A registration, with or without a name.
-fn register(alloc: Global, words: &mut Words<'_>) -> Result<Call, ScriptFaultKind>
-    ensures { Reads result words.new (register_in words.old) }
+fn register<'a>(words: &mut Words<'a>) -> Result<Call<'a>, ScriptFaultKind>
+    ensures { Gives result words.new (register_in words.old) }
 {
-    let class = name(alloc, words)?;
-    let name = optional(alloc, words)?;
+    let class = name(words)?;
+    let name = optional(words)?;
     Ok(Call::Register { class, name })
 }
 
 /// An update.
-fn update(alloc: Global, words: &mut Words<'_>) -> Result<Call, ScriptFaultKind>
+fn update<'a>(alloc: Global, words: &mut Words<'a>) -> Result<Call<'a>, ScriptFaultKind>
     ensures { Reads result words.new (update_in words.old) }
 {
     let object = number(words)?;
-    let class = name(alloc, words)?;
+    let class = name(words)?;
     let (values, stamp) = pairs_and_stamp(alloc, words)?;
     Ok(Call::Update {
         object,
@@ -54,10 +54,10 @@ fn update(alloc: Global, words: &mut Words<'_>) -> Result<Call, ScriptFaultKind>
 }
 
 /// An interaction.
-fn send(alloc: Global, words: &mut Words<'_>) -> Result<Call, ScriptFaultKind>
+fn send<'a>(alloc: Global, words: &mut Words<'a>) -> Result<Call<'a>, ScriptFaultKind>
     ensures { Reads result words.new (send_in words.old) }
 {
-    let class = name(alloc, words)?;
+    let class = name(words)?;
     let (values, stamp) = pairs_and_stamp(alloc, words)?;
     Ok(Call::Send {
         class,
@@ -67,8 +67,8 @@ fn send(alloc: Global, words: &mut Words<'_>) -> Result<Call, ScriptFaultKind>
 }
 
 /// A deletion.
-fn delete(words: &mut Words<'_>) -> Result<Call, ScriptFaultKind>
-    ensures { Reads result words.new (delete_in words.old) }
+fn delete<'a>(words: &mut Words<'a>) -> Result<Call<'a>, ScriptFaultKind>
+    ensures { Gives result words.new (delete_in words.old) }
 {
     let object = number(words)?;
     let stamp = optional_stamp(words)?;
@@ -76,8 +76,8 @@ fn delete(words: &mut Words<'_>) -> Result<Call, ScriptFaultKind>
 }
 
 /// An enabling of time regulation.
-fn regulate(words: &mut Words<'_>) -> Result<Call, ScriptFaultKind>
-    ensures { Reads result words.new (regulate_in words.old) }
+fn regulate<'a>(words: &mut Words<'a>) -> Result<Call<'a>, ScriptFaultKind>
+    ensures { Gives result words.new (regulate_in words.old) }
 {
     let time = number(words)?;
     let lookahead = number(words)?;
@@ -85,16 +85,16 @@ fn regulate(words: &mut Words<'_>) -> Result<Call, ScriptFaultKind>
 }
 
 /// A retraction.
-fn retract(words: &mut Words<'_>) -> Result<Call, ScriptFaultKind>
-    ensures { Reads result words.new (retract_in words.old) }
+fn retract<'a>(words: &mut Words<'a>) -> Result<Call<'a>, ScriptFaultKind>
+    ensures { Gives result words.new (retract_in words.old) }
 {
     let (sender, serial) = handle(words)?;
     Ok(Call::Retract { sender, serial })
 }
 
 /// A verb of time management with its words.
-fn time_call_by(verb: TimeVerb, words: &mut Words<'_>) -> Result<Call, ScriptFaultKind>
-    ensures { Reads result words.new (time_call_by verb words.old) }
+fn time_call_by<'a>(verb: TimeVerb, words: &mut Words<'a>) -> Result<Call<'a>, ScriptFaultKind>
+    ensures { Gives result words.new (time_call_by verb words.old) }
 {
     match verb {
         TimeVerb::EnableTimeRegulation => regulate(words),
@@ -119,7 +119,7 @@ fn time_call_by(verb: TimeVerb, words: &mut Words<'_>) -> Result<Call, ScriptFau
 }
 
 /// A verb with its words.
-fn call_by(alloc: Global, verb: Verb, words: &mut Words<'_>) -> Result<Call, ScriptFaultKind>
+fn call_by<'a>(alloc: Global, verb: Verb, words: &mut Words<'a>) -> Result<Call<'a>, ScriptFaultKind>
     ensures { Reads result words.new (call_by verb words.old) }
 {
     match verb {
@@ -130,22 +130,22 @@ fn call_by(alloc: Global, verb: Verb, words: &mut Words<'_>) -> Result<Call, Scr
         Verb::DeclareObject(declaration) => declare_object(alloc, declaration, words),
         Verb::WithdrawObject(declaration) => Ok(Call::WithdrawObject {
             declaration,
-            class: name(alloc, words)?,
+            class: name(words)?,
         }),
         Verb::DeclareInteraction(declaration) => Ok(Call::DeclareInteraction {
             declaration,
-            class: name(alloc, words)?,
+            class: name(words)?,
         }),
         Verb::WithdrawInteraction(declaration) => Ok(Call::WithdrawInteraction {
             declaration,
-            class: name(alloc, words)?,
+            class: name(words)?,
         }),
-        Verb::Register => register(alloc, words),
+        Verb::Register => register(words),
         Verb::Update => update(alloc, words),
         Verb::Send => send(alloc, words),
         Verb::Delete => delete(words),
         Verb::ObjectHandle => Ok(Call::ObjectHandle {
-            name: name(alloc, words)?,
+            name: name(words)?,
         }),
         Verb::ObjectName => Ok(Call::ObjectName {
             object: number(words)?,
@@ -155,10 +155,10 @@ fn call_by(alloc: Global, verb: Verb, words: &mut Words<'_>) -> Result<Call, Scr
 }
 
 /// What a federate does.
-pub fn call(alloc: Global, words: &mut Words<'_>) -> Result<Call, ScriptFaultKind>
+pub fn call<'a>(alloc: Global, words: &mut Words<'a>) -> Result<Call<'a>, ScriptFaultKind>
     ensures { Reads result words.new (call_in words.old) }
 {
-    let word = word(words)?;
+    let word = next_word(words)?;
     match Verb::of(word) {
         Some(verb) => call_by(alloc, verb, words),
         None => Err(ScriptFaultKind::UnknownWord),

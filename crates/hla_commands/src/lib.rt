@@ -12,3 +12,4 @@ pub use lines::{
     Call, Command, Declaration, Line, NameValuePair, Script, ScriptFault, ScriptFaultKind,
 };
 pub use reader::parse;
+pub use words::Word;

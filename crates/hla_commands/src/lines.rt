@@ -3,15 +3,16 @@
 ghost use Rattle.std.specs.Prelude.{◌≡◌};
 ghost use Rattle.hla_commands.specs.FaultName.{kind_name};
 
+use crate::words::Word;
 use hla_base::{AdvanceKind, List};
 use hla_machine::ResignAction;
 use thiserror::Error;
 
 /// An attribute or a parameter by its name, with its value.
 #[derive(Debug, Drop)]
-pub struct NameValuePair {
-    pub name: List<u8>,
-    pub value: List<u8>,
+pub struct NameValuePair<'a> {
+    pub name: Word<'a>,
+    pub value: Word<'a>,
 }
 
 /// What a federate declares of a class.
@@ -23,10 +24,10 @@ pub enum Declaration {
     Subscription,
 }
 
-/// What a federate does. Classes, attributes and parameters are named as in the FED file; an object goes by its number,
+/// What a federate does. Its names and values stay where they stand in the text. Classes, attributes and parameters are named as in the FED file; an object goes by its number,
 /// from 1, which may be larger than that of any object. Times, stamps and lookaheads may be larger than any that is allowed.
 #[derive(Debug, Drop)]
-pub enum Call {
+pub enum Call<'a> {
     /// Tick: it picks up a callback.
     Tick,
     /// Resign Federation Execution.
@@ -36,40 +37,40 @@ pub enum Call {
     /// Publish Object Class, or Subscribe Object Class Attributes.
     DeclareObject {
         declaration: Declaration,
-        class: List<u8>,
-        attributes: List<List<u8>>,
+        class: Word<'a>,
+        attributes: List<Word<'a>>,
     },
     /// Unpublish Object Class, or Unsubscribe Object Class.
     WithdrawObject {
         declaration: Declaration,
-        class: List<u8>,
+        class: Word<'a>,
     },
     /// Publish Interaction Class, or Subscribe Interaction Class.
     DeclareInteraction {
         declaration: Declaration,
-        class: List<u8>,
+        class: Word<'a>,
     },
     /// Unpublish Interaction Class, or Unsubscribe Interaction Class.
     WithdrawInteraction {
         declaration: Declaration,
-        class: List<u8>,
+        class: Word<'a>,
     },
     /// Register Object Instance, under a name or under that of its number.
     Register {
-        class: List<u8>,
-        name: Option<List<u8>>,
+        class: Word<'a>,
+        name: Option<Word<'a>>,
     },
     /// Update Attribute Values, with a stamp in ticks or with none. The class is where the attributes are looked up.
     Update {
         object: u64,
-        class: List<u8>,
-        values: List<NameValuePair>,
+        class: Word<'a>,
+        values: List<NameValuePair<'a>>,
         stamp: Option<u64>,
     },
     /// Send Interaction, with a stamp in ticks or with none.
     Send {
-        class: List<u8>,
-        values: List<NameValuePair>,
+        class: Word<'a>,
+        values: List<NameValuePair<'a>>,
         stamp: Option<u64>,
     },
     /// Delete Object Instance, with a stamp in ticks or with none.
@@ -79,7 +80,7 @@ pub enum Call {
     },
     /// Get Object Instance Handle.
     ObjectHandle {
-        name: List<u8>,
+        name: Word<'a>,
     },
     /// Get Object Instance Name.
     ObjectName {
@@ -127,30 +128,30 @@ pub enum Call {
 
 /// What a line asks for.
 #[derive(Debug, Drop)]
-pub enum Command {
+pub enum Command<'a> {
     /// Create Federation Execution.
     Create,
     /// Destroy Federation Execution.
     Destroy,
     /// Join Federation Execution, under a name.
-    Join { name: List<u8> },
+    Join { name: Word<'a> },
     /// The first message on the wire from one federate to another arrives.
-    Carry { from: List<u8>, to: List<u8> },
+    Carry { from: Word<'a>, to: Word<'a> },
     /// The federate of that name announces its promise to the others.
-    Announce { name: List<u8> },
+    Announce { name: Word<'a> },
     /// The federate of that name does something.
-    Federate { name: List<u8>, call: Call },
+    Federate { name: Word<'a>, call: Call<'a> },
 }
 
 /// A line of a script, with its number, counted from 1 over all lines.
 #[derive(Debug, Drop)]
-pub struct Line {
+pub struct Line<'a> {
     pub number: usize,
-    pub command: Command,
+    pub command: Command<'a>,
 }
 
 /// The lines of a script that ask for something, in their order.
-pub type Script = List<Line>;
+pub type Script<'a> = List<Line<'a>>;
 
 /// What is wrong with a script.
 #[derive(Clone, Copy, Debug, PartialEq, Eq, Error)]

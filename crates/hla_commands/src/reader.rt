@@ -5,48 +5,53 @@ ghost use Rattle.std.specs.List.{list_all};
 ghost use Rattle.hla_commands.specs.Reading.{Means, Reads};
 ghost use Rattle.hla_commands.specs.Script.{command_in, command_by, command_of, is_plain, script_of, ParsesAs};
 
-use crate::arguments::{federate, word_bytes};
+use crate::arguments::federate;
 use crate::calls::call;
 use crate::lines::{Command, Line, Script, ScriptFault, ScriptFaultKind};
 use crate::vocabulary::Opening;
-use crate::words::Words;
+use crate::words::{Word, Words};
 use bstr::ByteSlice;
 use hla_base::{List, MAX_SCRIPT, MAX_SCRIPT_LINE};
 use std::alloc::Global;
 
 /// A command by its first word.
-fn command_by(
+fn command_by<'a>(
     alloc: Global,
-    first: &[u8],
-    words: &mut Words<'_>,
+    first: &'a [u8],
+    words: &mut Words<'a>,
     opening: Opening,
-) -> Result<Command, ScriptFaultKind>
+) -> Result<Command<'a>, ScriptFaultKind>
     ensures { Reads result words.new (command_by opening first.now words.old) }
 {
     match opening {
         Opening::Create => Ok(Command::Create),
         Opening::Destroy => Ok(Command::Destroy),
         Opening::Join => Ok(Command::Join {
-            name: federate(alloc, words)?,
+            name: federate(words)?,
         }),
         Opening::Carry => {
-            let from = federate(alloc, words)?;
-            let to = federate(alloc, words)?;
+            let from = federate(words)?;
+            let to = federate(words)?;
             Ok(Command::Carry { from, to })
         }
         Opening::Announce => Ok(Command::Announce {
-            name: federate(alloc, words)?,
+            name: federate(words)?,
         }),
         Opening::Federate => {
             let call = call(alloc, words)?;
-            let name = word_bytes(alloc, first)?;
-            Ok(Command::Federate { name, call })
+            Ok(Command::Federate {
+                name: Word::new(first),
+                call,
+            })
         }
     }
 }
 
 /// What the words of a line ask for.
-fn command_in(alloc: Global, mut words: Words<'_>) -> Result<Option<Command>, ScriptFaultKind>
+fn command_in<'a>(
+    alloc: Global,
+    mut words: Words<'a>,
+) -> Result<Option<Command<'a>>, ScriptFaultKind>
     ensures { Means result (command_in words.entry) }
 {
     let Some(first) = words.next() else {
@@ -75,7 +80,7 @@ fn are_plain(line: &[u8]) -> bool
 
 /// What a line asks for.
 #[tactic(auto, unfolding(crate::specs::Script::command_of))]
-fn command(alloc: Global, line: &[u8]) -> Result<Option<Command>, ScriptFaultKind>
+fn command<'a>(alloc: Global, line: &'a [u8]) -> Result<Option<Command<'a>>, ScriptFaultKind>
     ensures { Means result (command_of line.now) }
 {
     if line.len() > MAX_SCRIPT_LINE {
@@ -92,7 +97,7 @@ fn command(alloc: Global, line: &[u8]) -> Result<Option<Command>, ScriptFaultKin
 /// Reads a script whole, or answers its first fault. Want of memory is answered only where a growth was refused; it may
 /// come before any other fault, and its line is left open.
 #[tactic(auto, using(crate::proofs::LineLemmas::steps))]
-pub fn parse(alloc: Global, text: &[u8]) -> Result<Script, ScriptFault>
+pub fn parse<'a>(alloc: Global, text: &'a [u8]) -> Result<Script<'a>, ScriptFault>
     ensures { ParsesAs result (script_of text.now) }
 {
     if text.len() > MAX_SCRIPT {

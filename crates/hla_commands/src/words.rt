@@ -6,6 +6,36 @@ ghost use Rattle.hla_commands.specs.Words.{is_gap, words_of};
 
 use std::marker::Model;
 
+/// A word of a script, or a part of one, where it stands in the text; contracts see its bytes.
+#[derive(Debug, Drop)]
+pub struct Word<'a> {
+    bytes: &'a [u8],
+}
+
+impl<'a> Model for Word<'a> {
+    ghost use Rattle.std.specs.Prelude.{List, ℕ};
+
+    ghost Value = { List ℕ };
+
+    ghost view = { λ w. w.bytes.now };
+}
+
+impl<'a> Word<'a> {
+    /// The word of these bytes.
+    pub fn new(bytes: &'a [u8]) -> Word<'a>
+        ensures { result ≡ bytes.now }
+    {
+        Word { bytes }
+    }
+
+    /// Its bytes.
+    pub fn as_slice(&self) -> &'a [u8]
+        ensures { result.now ≡ self.now }
+    {
+        self.bytes
+    }
+}
+
 /// The words that are left of a line; contracts see the list of them.
 #[derive(Debug, Drop)]
 pub struct Words<'a> {

@@ -8,7 +8,7 @@ ghost use Rattle.hla_requests.specs.Requests.{Asks, Finds, number_or, known_fede
 use crate::members::{Member, federate_named, joined_federate_named};
 use hla_base::{AttributeNo, ClassNo, Fault, FederateNo, HandleValuePair, List, ObjectNo, Value};
 use hla_catalogue::Catalogue;
-use hla_commands::NameValuePair;
+use hla_commands::{NameValuePair, Word};
 use std::alloc::Global;
 
 /// Why nothing is asked.
@@ -117,7 +117,7 @@ pub fn attributes(
     alloc: Global,
     catalogue: &Catalogue,
     class: Class,
-    names: &[List<u8>],
+    names: &[Word<'_>],
 ) -> Result<List<AttributeNo>, AskFault>
     ensures { Asks result (named_handles (handle_named catalogue.now class) names.now) }
 {
@@ -163,7 +163,7 @@ pub fn pairs(
     alloc: Global,
     catalogue: &Catalogue,
     class: Class,
-    values: &[NameValuePair],
+    values: &[NameValuePair<'_>],
 ) -> Result<List<HandleValuePair>, AskFault>
     ensures { Asks result (named_pairs (handle_named catalogue.now class) values.now) }
 {

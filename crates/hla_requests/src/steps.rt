@@ -9,9 +9,9 @@ use crate::lookups::{
     known_federate, object_class, object_number, pairs,
 };
 use crate::members::Member;
-use hla_base::{AdvanceKind, EventHandle, List, Plain, Ticks};
+use hla_base::{AdvanceKind, EventHandle, List, Ticks};
 use hla_catalogue::Catalogue;
-use hla_commands::{Call, Command, Declaration, NameValuePair};
+use hla_commands::{Call, Command, Declaration, NameValuePair, Word};
 use hla_machine::{Service, Step};
 use std::alloc::Global;
 
@@ -26,13 +26,13 @@ pub enum Request {
     Step(Step),
 }
 
-/// A copy, of which only want of memory can deprive.
-fn plain_copy<T: Plain>(item: &T) -> Result<T, AskFault>
-    ensures ok { IfOk result (λ copy. copy ≡ item.now) }
+/// A copy of a name's bytes, of which only want of memory can deprive.
+fn name_copy(alloc: Global, name: &Word<'_>) -> Result<List<u8>, AskFault>
+    ensures ok { IfOk result (λ copy. copy ≡ name.now) }
     ensures err { IfErr result (λ e. e ≡ AskFault.Memory) }
 {
-    match item.copy() {
-        Ok(copy) => Ok(copy),
+    match Vec::from_slice(alloc, name.as_slice()) {
+        Ok(bytes) => Ok(List::from_vec(bytes)),
         Err(_) => Err(AskFault::Memory),
     }
 }
@@ -41,8 +41,8 @@ fn declare_object(
     alloc: Global,
     catalogue: &Catalogue,
     declaration: Declaration,
-    class: &List<u8>,
-    names: &List<List<u8>>,
+    class: &Word<'_>,
+    names: &List<Word<'_>>,
 ) -> Result<Service, AskFault>
     ensures { Asks result (object_declaration catalogue.now declaration class.now names.now) }
 {
@@ -60,7 +60,7 @@ fn declare_object(
 fn withdraw_object(
     catalogue: &Catalogue,
     declaration: Declaration,
-    class: &List<u8>,
+    class: &Word<'_>,
 ) -> Result<Service, AskFault>
     ensures { Asks result (object_withdrawal catalogue.now declaration class.now) }
 {
@@ -74,7 +74,7 @@ fn withdraw_object(
 fn declare_interaction(
     catalogue: &Catalogue,
     declaration: Declaration,
-    class: &List<u8>,
+    class: &Word<'_>,
 ) -> Result<Service, AskFault>
     ensures { Asks result (interaction_declaration catalogue.now declaration class.now) }
 {
@@ -88,7 +88,7 @@ fn declare_interaction(
 fn withdraw_interaction(
     catalogue: &Catalogue,
     declaration: Declaration,
-    class: &List<u8>,
+    class: &Word<'_>,
 ) -> Result<Service, AskFault>
     ensures { Asks result (interaction_withdrawal catalogue.now declaration class.now) }
 {
@@ -100,14 +100,18 @@ fn withdraw_interaction(
 }
 
 fn register(
+    alloc: Global,
     catalogue: &Catalogue,
-    class: &List<u8>,
-    name: &Option<List<u8>>,
+    class: &Word<'_>,
+    name: &Option<Word<'_>>,
 ) -> Result<Service, AskFault>
     ensures { Asks result (registration catalogue.now class.now name.now) }
 {
     let class = object_class(catalogue, class.as_slice())?;
-    let name = plain_copy(name)?;
+    let name = match name {
+        Some(name) => Some(name_copy(alloc, name)?),
+        None => None,
+    };
     Ok(Service::RegisterObjectInstance { class, name })
 }
 
@@ -115,8 +119,8 @@ fn update(
     alloc: Global,
     catalogue: &Catalogue,
     object: u64,
-    class: &List<u8>,
-    values: &List<NameValuePair>,
+    class: &Word<'_>,
+    values: &List<NameValuePair<'_>>,
     stamp: Option<Ticks>,
 ) -> Result<Service, AskFault>
     ensures { Asks result (update_of catalogue.now object class.now values.now stamp) }
@@ -133,8 +137,8 @@ fn update(
 fn send(
     alloc: Global,
     catalogue: &Catalogue,
-    class: &List<u8>,
-    values: &List<NameValuePair>,
+    class: &Word<'_>,
+    values: &List<NameValuePair<'_>>,
     stamp: Option<Ticks>,
 ) -> Result<Service, AskFault>
     ensures { Asks result (interaction_of catalogue.now class.now values.now stamp) }
@@ -167,7 +171,7 @@ fn advance_service(kind: AdvanceKind, time: Ticks) -> Service
 }
 
 /// The service of time management that a federate calls, if it is one.
-fn time_service(call: &Call) -> Option<Service>
+fn time_service(call: &Call<'_>) -> Option<Service>
     ensures { result ≡ time_service_of call.now }
 {
     match call {
@@ -202,7 +206,7 @@ fn time_service(call: &Call) -> Option<Service>
 pub fn service_of(
     alloc: Global,
     catalogue: &Catalogue,
-    call: &Call,
+    call: &Call<'_>,
 ) -> Result<Option<Service>, AskFault>
     ensures { Asks result (service_of catalogue.now call.now) }
 {
@@ -222,7 +226,7 @@ pub fn service_of(
         Call::WithdrawInteraction { declaration, class } => {
             withdraw_interaction(catalogue, *declaration, class)?
         }
-        Call::Register { class, name } => register(catalogue, class, name)?,
+        Call::Register { class, name } => register(alloc, catalogue, class, name)?,
         Call::Update {
             object,
             class,
@@ -239,7 +243,7 @@ pub fn service_of(
             stamp: *stamp,
         },
         Call::ObjectHandle { name } => Service::GetObjectInstanceHandle {
-            name: plain_copy(name)?,
+            name: name_copy(alloc, name)?,
         },
         Call::ObjectName { object } => Service::GetObjectInstanceName {
             object: object_number(*object),
@@ -255,7 +259,7 @@ impl Request {
         alloc: Global,
         catalogue: &Catalogue,
         members: &[Member],
-        command: &Command,
+        command: &Command<'_>,
     ) -> Result<Request, AskFault>
         ensures { Asks result (request_of catalogue.now members.now command.now) }
     {
@@ -263,7 +267,7 @@ impl Request {
             Command::Create => Ok(Request::Create),
             Command::Destroy => Ok(Request::Destroy),
             Command::Join { name } => Ok(Request::Step(Step::Join {
-                name: plain_copy(name)?,
+                name: name_copy(alloc, name)?,
             })),
             Command::Carry { from, to } => {
                 let from = known_federate(members, from.as_slice())?;

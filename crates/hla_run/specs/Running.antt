@@ -28,6 +28,12 @@ told_at c outcomes place l = told_line c l (slice_index_or outcomes place None)
 abbrev pub told_text : CatalogueValue → List Line → List (Option Outcome) → List ℕ
 told_text c lines outcomes = flat_map (λ p. told_at c outcomes p.0 p.1) (enumerate_from 0 lines)
 
+-- lines of a script have outcomes, and what was written is how those came out that were done
+pub record AreTold (catalogue : CatalogueValue) (lines : List Line) (old new : Option (List ℕ)) : Type 0 where
+  pub outcomes : List (Option Outcome)
+  pub each : length outcomes ≡ length lines
+  pub writes : Appends old new (told_text catalogue lines outcomes)
+
 -- the FED file describes a catalogue, the script has these lines, and what was written is how those came out that were done
 pub record IsRunFrom (fed script : List ℕ) (old new : Option (List ℕ)) : Type 0 where
   pub catalogue : CatalogueValue
@@ -64,6 +70,15 @@ StopsRun fed script old new stop.Write = Unit {0}
 StopsRun fed script old new stop.Memory = Unit {0}
 StopsRun fed script old new (stop.Close e) = Unit {0}
 StopsRun fed script old new stop.Monitor = Unit {0}
+
+-- a run ends so only once both texts are read
+abbrev pub IsPastReading : RunFault → Type 0
+IsPastReading (stop.Fed e) = ⊥
+IsPastReading (stop.Script e) = ⊥
+IsPastReading stop.Write = Unit {0}
+IsPastReading stop.Memory = Unit {0}
+IsPastReading (stop.Close e) = Unit {0}
+IsPastReading stop.Monitor = Unit {0}
 
 -- a write of the outcomes failed
 abbrev pub is_failed_text : RunFault → Bool

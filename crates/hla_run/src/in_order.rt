@@ -4,12 +4,13 @@
 //! scope is taken apart, variant by variant, in the proof of each function that lets it.
 
 ghost use Rattle.std.specs.Prelude.{◌≡◌, ◌||◌, ◌+◌, ◌≤◌, OnOk, IfErr, length, vec_len, vec_capacity};
-ghost use Rattle.hla_run.specs.Running.{IsRunFrom, StopsRun, is_unwritten_run};
+ghost use Rattle.hla_run.specs.Running.{AreTold, IsPastReading, IsRunFrom, StopsRun, is_unwritten_run};
 
-use crate::fault::{RunFault, close_fault};
+use crate::closing::close_told;
+use crate::fault::RunFault;
 use crate::outcomes::{Outcomes, Told, outcome_of_done};
 use crate::player::{Acted, Deed, Player, do_deed};
-use crate::texts::{Texts, read_texts, write_outcomes};
+use crate::texts::{Texts, read_texts};
 use hla_base::{ExecutionName, Fault, FederateNo, List, MAX_HISTORY, Plain};
 use hla_callbacks::Recorder;
 use hla_catalogue::Catalogue;
@@ -155,7 +156,7 @@ impl<L: Ledger + Naming, P: Publisher<L>> Cast<L, P> {
         rti: &mut Rti<L, Recorder, P>,
         fed: &[u8],
         catalogue: &Catalogue,
-        command: &Command,
+        command: &Command<'_>,
     ) -> Result<Outcome, Fault> {
         match Request::of(self.alloc, catalogue, self.members.as_slice(), command) {
             Ok(Request::Create) => Ok(self.create(rt, rti, fed)),
@@ -173,7 +174,7 @@ impl<L: Ledger + Naming, P: Publisher<L>> Cast<L, P> {
         rti: &mut Rti<L, Recorder, P>,
         fed: &[u8],
         catalogue: &Catalogue,
-        lines: &[Line],
+        lines: &[Line<'_>],
         outcomes: &mut Outcomes,
     ) -> Result<(), Fault>
         ensures { length outcomes.new ≡ length outcomes.old }
@@ -212,7 +213,7 @@ fn played<L: Ledger + Naming, P: Publisher<L>>(
     rti: &mut Rti<L, Recorder, P>,
     fed: &[u8],
     catalogue: &Catalogue,
-    lines: &[Line],
+    lines: &[Line<'_>],
     outcomes: &mut Outcomes,
 ) -> Result<Vec<Left<L, Recorder>>, Fault>
     ensures { length outcomes.new ≡ length outcomes.old }
@@ -228,9 +229,38 @@ fn played<L: Ledger + Naming, P: Publisher<L>>(
     }
 }
 
+/// Does the lines of a script one after another, writes how they came out, and closes.
+fn told_in_order<L: Ledger + Naming, P: Publisher<L>, W: Write>(
+    rt: &impl Wait,
+    alloc: Global,
+    mut rti: Rti<L, Recorder, P>,
+    fed: &[u8],
+    catalogue: &Catalogue,
+    lines: &[Line<'_>],
+    out: &mut Watched<W>,
+) -> Result<Closed, RunFault>
+    ensures told { OnOk result (AreTold catalogue.now lines.now (W.contents out.old.inner)
+        (W.contents out.new.inner)) }
+    ensures late { IfErr result IsPastReading }
+    ensures failure { out.new.has_failed ≡ (out.old.has_failed || is_unwritten_run result) }
+{
+    let Ok(mut outcomes) = Outcomes::new(alloc, lines.len()) else {
+        drop(rti);
+        return Err(RunFault::Memory);
+    };
+    match played(rt, alloc, &mut rti, fed, catalogue, lines, &mut outcomes) {
+        Ok(lefts) => close_told(rt, alloc, rti, lefts, catalogue, lines, &outcomes, out),
+        Err(_) => {
+            drop(rti);
+            Err(RunFault::Memory)
+        }
+    }
+}
+
 /// Plays a script over a FED file behind the lock of a run-time infrastructure, line by line on one thread, in an execution
 /// named `play`: what it asks for is what it asks for of `hla_script::play`. Then it writes how each line came out, and closes.
 /// `blank` is a ledger of 2,049 parts and `opened` an empty history, as `open_rti` takes them. The faults are those of `run_scripts`.
+#[tactic(auto, using(crate::proofs::EndLemmas::ends))]
 pub fn run_in_order<L: Ledger + Naming, R: Wait, W: Write>(
     rt: &R,
     alloc: Global,
@@ -257,19 +287,8 @@ pub fn run_in_order<L: Ledger + Naming, R: Wait, W: Write>(
     ensures failure { out.new.has_failed ≡ (out.old.has_failed || is_unwritten_run result) }
 {
     let Texts { catalogue, script } = read_texts(alloc, fed, script)?;
-    let lines = script.as_slice();
-    let Ok(mut rti) = open_rti::<L, Recorder, &R>(alloc, rt, blank, opened, MAX_HISTORY) else {
+    let Ok(rti) = open_rti::<L, Recorder, &R>(alloc, rt, blank, opened, MAX_HISTORY) else {
         return Err(RunFault::Memory);
     };
-    let Ok(mut outcomes) = Outcomes::new(alloc, lines.len()) else {
-        return Err(RunFault::Memory);
-    };
-    let Ok(lefts) = played(rt, alloc, &mut rti, fed, &catalogue, lines, &mut outcomes) else {
-        return Err(RunFault::Memory);
-    };
-    write_outcomes(alloc, &catalogue, lines, &outcomes, out)?;
-    match rti.close(rt, lefts) {
-        Ok(closed) => Ok(closed),
-        Err(not_closed) => Err(close_fault(not_closed)),
-    }
+    told_in_order(rt, alloc, rti, fed, &catalogue, script.as_slice(), out)
 }

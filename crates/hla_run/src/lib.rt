@@ -1,6 +1,7 @@
 //! Scripts played behind the lock of the run-time infrastructure: each federate on a thread of its own, or all on one.
 #![tactic(auto)]
 
+mod closing;
 mod fault;
 mod gate;
 mod in_order;

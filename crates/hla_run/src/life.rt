@@ -38,7 +38,7 @@ pub struct Stage<'a, G: Gate> {
     pub alloc: Global,
     pub execution: ExecutionName,
     pub catalogue: &'a Catalogue,
-    pub lines: &'a [Line],
+    pub lines: &'a [Line<'a>],
     pub gate: &'a G,
     /// How many federates have joined.
     pub joined: FederateNo,
@@ -131,7 +131,7 @@ fn done<L: Ledger + Naming, P: Publisher<L>, G: Gate>(
     stage: &Stage<G>,
     player: Player<L, P>,
     courier: &mut Courier<L, Recorder, P>,
-    call: &Call,
+    call: &Call<'_>,
 ) -> Acted<L, P> {
     let mut federate = match player {
         Player::Joined(federate) => federate,
@@ -162,7 +162,7 @@ impl<L: Ledger + Naming, P: Publisher<L>> Life<L, P> {
         stage: &Stage<G>,
         place: usize,
         line: usize,
-        call: &Call,
+        call: &Call<'_>,
     ) -> Life<L, P> {
         let Life {
             name,

@@ -1,11 +1,11 @@
 //! What is done before the federates' threads begin, and after they have ended.
 
-ghost use Rattle.std.specs.Prelude.{◌≡◌, length, OnOk};
+ghost use Rattle.std.specs.Prelude.{◌≡◌, length, IfOk, OnOk};
 
 use crate::life::Life;
 use crate::outcomes::{Outcomes, Told, outcome_of_done};
 use crate::player::Player;
-use hla_base::{ExecutionName, Fault, List, Plain};
+use hla_base::{ExecutionName, Fault, List};
 use hla_callbacks::Recorder;
 use hla_commands::{Command, Line};
 use hla_machine::{Answer, Outcome};
@@ -15,17 +15,27 @@ use std::alloc::Global;
 use std::sync::Wait;
 use std::sync::ledger::Ledger;
 
+/// A copy of a name.
+fn copied(alloc: Global, name: &[u8]) -> Result<List<u8>, Fault>
+    ensures { IfOk result (λ copy. copy ≡ name.now) }
+{
+    match Vec::from_slice(alloc, name) {
+        Ok(bytes) => Ok(List::from_vec(bytes)),
+        Err(_) => Err(Fault::OutOfMemory),
+    }
+}
+
 /// Joins a federate, and gives it a courier. An error is want of memory outside the steps.
 fn joined<L: Ledger + Naming, P: Publisher<L>>(
     rt: &impl Wait,
     alloc: Global,
     rti: &mut Rti<L, Recorder, P>,
     execution: ExecutionName,
-    name: &List<u8>,
+    name: &[u8],
     lives: &mut Vec<Life<L, P>>,
 ) -> Result<Outcome, Fault> {
-    let own = name.copy()?;
-    let federate = match rti.join(rt, name.copy()?, execution, Recorder::new(alloc)) {
+    let own = copied(alloc, name)?;
+    let federate = match rti.join(rt, copied(alloc, name)?, execution, Recorder::new(alloc)) {
         Ok(federate) => federate,
         Err((fault, _)) => return Ok(Outcome::Refused(fault)),
     };
@@ -57,12 +67,12 @@ fn opened<L: Ledger + Naming, P: Publisher<L>>(
     rti: &mut Rti<L, Recorder, P>,
     execution: ExecutionName,
     fed: &[u8],
-    command: &Command,
+    command: &Command<'_>,
     lives: &mut Vec<Life<L, P>>,
 ) -> Result<Option<Outcome>, Fault> {
     match command {
         Command::Create => Ok(Some(outcome_of_done(rti.create(rt, execution, fed)))),
-        Command::Join { name } => match joined(rt, alloc, rti, execution, name, lives) {
+        Command::Join { name } => match joined(rt, alloc, rti, execution, name.as_slice(), lives) {
             Ok(outcome) => Ok(Some(outcome)),
             Err(fault) => Err(fault),
         },
@@ -78,7 +88,7 @@ pub fn open<L: Ledger + Naming, P: Publisher<L>>(
     rti: &mut Rti<L, Recorder, P>,
     execution: ExecutionName,
     fed: &[u8],
-    lines: &[Line],
+    lines: &[Line<'_>],
     outcomes: &mut Outcomes,
 ) -> Result<Vec<Life<L, P>>, Fault>
     ensures { OnOk result (length outcomes.new ≡ length outcomes.old) }
@@ -97,7 +107,7 @@ pub fn destroy<L: Ledger + Naming, P: Publisher<L>>(
     rt: &impl Wait,
     rti: &mut Rti<L, Recorder, P>,
     execution: ExecutionName,
-    lines: &[Line],
+    lines: &[Line<'_>],
     outcomes: &mut Outcomes,
 )
     ensures { length outcomes.new ≡ length outcomes.old }
@@ -111,21 +121,21 @@ pub fn destroy<L: Ledger + Naming, P: Publisher<L>>(
 }
 
 /// Whether a federate has joined under a name.
-fn has_joined<L: Ledger + Naming, P: Publisher<L>>(lives: &[Life<L, P>], name: &List<u8>) -> bool {
-    lives.iter().any(|l| l.name.as_slice() == name.as_slice())
+fn has_joined<L: Ledger + Naming, P: Publisher<L>>(lives: &[Life<L, P>], name: &[u8]) -> bool {
+    lives.iter().any(|l| l.name.as_slice() == name)
 }
 
 /// Notes of the lines of federates that have not joined that they make no step.
 pub fn refuse_strangers<L: Ledger + Naming, P: Publisher<L>>(
     lives: &[Life<L, P>],
-    lines: &[Line],
+    lines: &[Line<'_>],
     outcomes: &mut Outcomes,
 )
     ensures { length outcomes.new ≡ length outcomes.old }
 {
     for (place, line) in lines.iter().enumerate() {
         if let Command::Federate { name, .. } = &line.command {
-            if !has_joined(lives, name) {
+            if !has_joined(lives, name.as_slice()) {
                 let outcome = Outcome::Refused(Fault::FederateNotExecutionMember);
                 outcomes.note(Told { place, outcome });
             }

@@ -72,7 +72,7 @@ fn print_told(
     catalogue: &Catalogue,
     outcomes: &[Option<Outcome>],
     place: usize,
-    line: &Line,
+    line: &Line<'_>,
 ) -> Result<(), Fault>
     ensures { OnOk result (text.new ≡ text.old ++ told_at catalogue.now outcomes.now place line.now) }
 {
@@ -87,7 +87,7 @@ fn print_all(
     text: &mut Text,
     catalogue: &Catalogue,
     outcomes: &[Option<Outcome>],
-    lines: &[Line],
+    lines: &[Line<'_>],
 ) -> Result<(), Fault>
     ensures { OnOk result (text.new ≡ text.old ++ told_text catalogue.now lines.now outcomes.now) }
 {
@@ -133,7 +133,7 @@ impl Outcomes {
     }
 
     /// Adds how those lines came out that were done, in the order of the script; an error is want of memory for the text.
-    pub fn print(&self, text: &mut Text, catalogue: &Catalogue, lines: &[Line]) -> Result<(), Fault>
+    pub fn print(&self, text: &mut Text, catalogue: &Catalogue, lines: &[Line<'_>]) -> Result<(), Fault>
         ensures { OnOk result (text.new ≡ text.old ++ told_text catalogue.now lines.now self.now) }
     {
         print_all(text, catalogue, self.by_place.as_slice(), lines)

@@ -38,7 +38,7 @@ pub enum Deed {
 
 impl Deed {
     /// What a call of a script asks of a federate, by the names of a catalogue.
-    pub fn of(alloc: Global, catalogue: &Catalogue, call: &Call) -> Deed {
+    pub fn of(alloc: Global, catalogue: &Catalogue, call: &Call<'_>) -> Deed {
         match service_of(alloc, catalogue, call) {
             Ok(None) => Deed::Tick,
             Ok(Some(service)) => Deed::Serve(service),

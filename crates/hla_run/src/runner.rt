@@ -1,14 +1,15 @@
 //! Running a script, each federate on a thread of its own.
 
 ghost use Rattle.std.specs.Prelude.{◌≡◌, ◌||◌, IfOk, OnOk, IfErr, length, vec_len};
-ghost use Rattle.hla_run.specs.Running.{IsRunFrom, IsSeen, StopsRun, is_unwritten_run};
+ghost use Rattle.hla_run.specs.Running.{AreTold, IsPastReading, IsRunFrom, IsSeen, StopsRun, is_unwritten_run};
 
-use crate::fault::{RunFault, close_fault};
+use crate::closing::close_told;
+use crate::fault::RunFault;
 use crate::gate::Gate;
 use crate::life::{Life, Stage, live};
 use crate::opening::{destroy, open, refuse_strangers};
 use crate::outcomes::Outcomes;
-use crate::texts::{Texts, read_texts, write_outcomes};
+use crate::texts::{Texts, read_texts};
 use crate::watching::{Ran, last_read, to_the_end, watcher};
 use hla_base::{ExecutionName, Fault, MAX_HISTORY};
 use hla_callbacks::Recorder;
@@ -85,7 +86,7 @@ fn ran<
     rti: &mut Rti<L, Recorder, P>,
     fed: &[u8],
     catalogue: &Catalogue,
-    lines: &[Line],
+    lines: &[Line<'_>],
     gate: &G,
     outcomes: &mut Outcomes,
 ) -> Result<Vec<Left<L, Recorder>>, Fault>
@@ -110,6 +111,58 @@ fn ran<
     Ok(lefts)
 }
 
+/// Does the lines of a script, each federate's on a thread of its own, writes how they came out, and closes. Where `is_watched`, a
+/// monitor is there from before the first step on, and reads the counts once all is done.
+fn told_on_threads<
+    L: Ledger + Naming + Send + Sync,
+    P: Publisher<L> + Send,
+    G: Gate + Sync,
+    R: Threads + Wait + Sync,
+    W: Write,
+>(
+    rt: &R,
+    alloc: Global,
+    mut rti: Rti<L, Recorder, P>,
+    fed: &[u8],
+    catalogue: &Catalogue,
+    lines: &[Line<'_>],
+    gate: &G,
+    is_watched: bool,
+    out: &mut Watched<W>,
+) -> Result<Ran, RunFault>
+    ensures told { OnOk result (AreTold catalogue.now lines.now (W.contents out.old.inner)
+        (W.contents out.new.inner)) }
+    ensures seen { IfOk result (λ r. IsSeen is_watched r.closed r.seen) }
+    ensures late { IfErr result IsPastReading }
+    ensures failure { out.new.has_failed ≡ (out.old.has_failed || is_unwritten_run result) }
+{
+    let Ok(mut outcomes) = Outcomes::new(alloc, lines.len()) else {
+        drop(rti);
+        return Err(RunFault::Memory);
+    };
+    let Ok(monitor) = watcher(rt, &mut rti, is_watched) else {
+        drop(rti);
+        return Err(RunFault::Memory);
+    };
+    let ran = ran(
+        rt,
+        alloc,
+        &mut rti,
+        fed,
+        catalogue,
+        lines,
+        gate,
+        &mut outcomes,
+    );
+    let seen = last_read(monitor);
+    let Ok(lefts) = ran else {
+        drop(rti);
+        return Err(RunFault::Memory);
+    };
+    let closed = close_told(rt, alloc, rti, lefts, catalogue, lines, &outcomes, out)?;
+    to_the_end(closed, seen)
+}
+
 /// Runs a script over a FED file in an execution named `play`, behind the lock of a run-time infrastructure: first the lines
 /// that create it and join federates, in the order of the script, then the lines of each federate, on a thread of its own and
 /// in their order, and then the lines that destroy it. Lines that carry and announce are not run: a line that ticks does so
@@ -121,6 +174,7 @@ fn ran<
 /// The FED file is tested before the script, and both before anything is done. `Memory` where a growth was refused outside the
 /// steps, or the monitor before any step; `Write` only where the writer has failed; `Close` where the infrastructure does not
 /// close; and `Monitor` where what the monitor read are not the counts of a beginning of the history.
+#[tactic(auto, using(crate::proofs::EndLemmas::ends))]
 pub fn run_scripts<
     L: Ledger + Naming + Send + Sync,
     G: Gate + Sync,
@@ -157,33 +211,18 @@ pub fn run_scripts<
     ensures failure { out.new.has_failed ≡ (out.old.has_failed || is_unwritten_run result) }
 {
     let Texts { catalogue, script } = read_texts(alloc, fed, script)?;
-    let lines = script.as_slice();
-    let Ok(mut rti) = open_rti::<L, Recorder, &R>(alloc, rt, blank, opened, MAX_HISTORY) else {
+    let Ok(rti) = open_rti::<L, Recorder, &R>(alloc, rt, blank, opened, MAX_HISTORY) else {
         return Err(RunFault::Memory);
     };
-    let Ok(mut outcomes) = Outcomes::new(alloc, lines.len()) else {
-        return Err(RunFault::Memory);
-    };
-    let Ok(monitor) = watcher(rt, &mut rti, is_watched) else {
-        return Err(RunFault::Memory);
-    };
-    let ran = ran(
+    told_on_threads(
         rt,
         alloc,
-        &mut rti,
+        rti,
         fed,
         &catalogue,
-        lines,
+        script.as_slice(),
         gate,
-        &mut outcomes,
-    );
-    let seen = last_read(monitor);
-    let Ok(lefts) = ran else {
-        return Err(RunFault::Memory);
-    };
-    write_outcomes(alloc, &catalogue, lines, &outcomes, out)?;
-    match rti.close(rt, lefts) {
-        Ok(closed) => to_the_end(closed, seen),
-        Err(not_closed) => Err(close_fault(not_closed)),
-    }
+        is_watched,
+        out,
+    )
 }

@@ -18,13 +18,17 @@ use std::io::Write;
 
 /// A FED file and a script, read.
 #[derive(Drop)]
-pub struct Texts {
+pub struct Texts<'a> {
     pub catalogue: Catalogue,
-    pub script: Script,
+    pub script: Script<'a>,
 }
 
 /// Reads the FED file, and then the script.
-pub fn read_texts(alloc: Global, fed: &[u8], script: &[u8]) -> Result<Texts, RunFault>
+pub fn read_texts<'a>(
+    alloc: Global,
+    fed: &[u8],
+    script: &'a [u8],
+) -> Result<Texts<'a>, RunFault>
     ensures describes { IfOk result (λ t. Describes fed.now t.catalogue) }
     ensures says { IfOk result (λ t. script_of script.now ≡ Ok t.script) }
     ensures stopped { IfErr result (IsUnread fed.now script.now) }
@@ -43,7 +47,7 @@ pub fn read_texts(alloc: Global, fed: &[u8], script: &[u8]) -> Result<Texts, Run
 pub fn write_outcomes<W: Write>(
     alloc: Global,
     catalogue: &Catalogue,
-    lines: &[Line],
+    lines: &[Line<'_>],
     outcomes: &Outcomes,
     out: &mut Watched<W>,
 ) -> Result<(), RunFault>

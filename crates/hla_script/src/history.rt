@@ -60,7 +60,7 @@ fn reserve_one(records: &mut Vec<Record>) -> Result<(), Fault>
 fn request_with_room(
     execution: &Execution,
     records: &mut Vec<Record>,
-    command: &Command,
+    command: &Command<'_>,
 ) -> Result<Request, Fault>
     requires { execution.now.members.items ≡ members records.old.items }
     ensures admitted { IfOk result (IsAdmitted execution.now.catalogue records.old.items command.now) }
@@ -92,7 +92,7 @@ fn request_with_room(
 pub fn play_line(
     execution: &mut Execution,
     records: &mut Vec<Record>,
-    line: &Line,
+    line: &Line<'_>,
     text: &mut Text,
 ) -> Result<(), Fault>
     requires name { execution.old.name ≡ codes "play" }

@@ -45,7 +45,7 @@ pub enum PlayFault {
 fn play_lines<W: Write>(
     alloc: Global,
     catalogue: Catalogue,
-    script: &Script,
+    script: &Script<'_>,
     out: &mut Watched<W>,
 ) -> Result<List<Record>, StopFault>
     ensures played { IfOk result (λ records. IsPlayed catalogue script.now (W.contents out.old.inner)

@@ -1,0 +1,46 @@
+//! The end of a run: how the lines came out is written, and the infrastructure closes.
+
+ghost use Rattle.std.specs.Prelude.{◌≡◌, ◌||◌, OnOk, IfErr};
+ghost use Rattle.std.specs.Io.KnownBytes.{Appends};
+ghost use Rattle.hla_run.specs.Running.{IsPastReading, told_text, is_unwritten_run};
+
+use crate::fault::{RunFault, close_fault};
+use crate::outcomes::Outcomes;
+use crate::texts::write_outcomes;
+use hla_callbacks::Recorder;
+use hla_catalogue::Catalogue;
+use hla_commands::Line;
+use hla_monitor::{Naming, Publisher};
+use hla_rti::{Closed, Left, Rti};
+use hla_transcript::Watched;
+use std::alloc::Global;
+use std::io::Write;
+use std::sync::Wait;
+use std::sync::ledger::Ledger;
+
+/// Writes how those lines came out that were done, and closes. Where a write fails, the infrastructure is let go.
+pub fn close_told<L: Ledger + Naming, P: Publisher<L>, W: Write>(
+    rt: &impl Wait,
+    alloc: Global,
+    rti: Rti<L, Recorder, P>,
+    lefts: Vec<Left<L, Recorder>>,
+    catalogue: &Catalogue,
+    lines: &[Line<'_>],
+    outcomes: &Outcomes,
+    out: &mut Watched<W>,
+) -> Result<Closed, RunFault>
+    ensures told { OnOk result (Appends (W.contents out.old.inner) (W.contents out.new.inner)
+        (told_text catalogue.now lines.now outcomes.now)) }
+    ensures late { IfErr result IsPastReading }
+    ensures failure { out.new.has_failed ≡ (out.old.has_failed || is_unwritten_run result) }
+{
+    if let Err(fault) = write_outcomes(alloc, catalogue, lines, outcomes, out) {
+        drop(lefts);
+        drop(rti);
+        return Err(fault);
+    }
+    match rti.close(rt, lefts) {
+        Ok(closed) => Ok(closed),
+        Err(not_closed) => Err(close_fault(not_closed)),
+    }
+}
