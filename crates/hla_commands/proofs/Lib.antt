@@ -6,3 +6,5 @@ pub mod LineLemmas
 pub mod PairLemmas
 -- The number that decimal digits say.
 pub mod NumberLemmas
+-- The bytes of lines
+pub mod PlainLemmas

@@ -1,5 +1,5 @@
 -- What a script says, line by line, with the first fault
-use Rattle.std.specs.Prelude.{◌≡◌, ℕ, ◌+◌, Bool, not, ◌==◌, ◌||◌, ◌&&◌, nat_lt, nat_le, List, [], ◌∷◌, ◌++◌, length, map, Option, None, Some, Result, Ok, Err, if◌then◌else◌, slice_index, drop}
+use Rattle.std.specs.Prelude.{◌≡◌, ℕ, ◌+◌, Bool, true, not, ◌==◌, ◌||◌, ◌&&◌, nat_lt, nat_le, List, [], ◌∷◌, ◌++◌, length, map, Option, None, Some, Result, Ok, Err, if◌then◌else◌, slice_index, drop}
 use Rattle.std.specs.List.{list_all, before_first, after_first}
 use Rattle.std.specs.Result.{result_ok}
 use Rattle.std.specs.Str.Parse.{digits_value}
@@ -200,6 +200,15 @@ command_in (word ∷ words) = read_then (command_by (opening_of word) word words
 -- a space, a tab or visible ASCII
 unfoldable pub is_plain : ℕ → Bool
 is_plain b = b == 9 || (nat_le 32 b && nat_le b 126)
+
+-- a byte that a line may have, or one that ends it
+abbrev pub is_text : ℕ → Bool
+is_text b = b == 10 || is_plain b
+
+-- where their text was tested whole, each of these lines has only bytes that it may have
+abbrev pub ArePlain : Bool → List (List ℕ) → Type 0
+ArePlain tested [] = Unit {0}
+ArePlain tested (line ∷ lines) = (tested ≡ true → list_all is_plain line ≡ true) × ArePlain tested lines
 
 -- what a line asks for; a blank line and one that begins with `#` ask for nothing
 unfoldable pub command_of : List ℕ → Result (Option Command) ScriptFaultKind

@@ -1,9 +1,9 @@
 //! Reading scripts.
 
-ghost use Rattle.std.specs.Prelude.{◌≡◌, ◌≤◌, length};
+ghost use Rattle.std.specs.Prelude.{◌≡◌, true};
 ghost use Rattle.std.specs.List.{list_all};
 ghost use Rattle.hla_commands.specs.Reading.{Means, Reads};
-ghost use Rattle.hla_commands.specs.Script.{command_in, command_by, command_of, is_plain, script_of, ParsesAs};
+ghost use Rattle.hla_commands.specs.Script.{command_in, command_by, command_of, is_plain, is_text, script_of, ParsesAs};
 
 use crate::arguments::federate;
 use crate::calls::call;
@@ -78,14 +78,30 @@ fn are_plain(line: &[u8]) -> bool
     line.iter().all(|b| is_plain(*b))
 }
 
-/// What a line asks for.
+/// Whether each byte of a text ends a line, or may stand in one. It is tested without a stop in between, so many at a time.
+fn is_text(text: &[u8]) -> bool
+    ensures { result ≡ list_all is_text text.now }
+{
+    let mut all = true;
+    for byte in text {
+        all = all & (*byte == b'\n' || is_plain(*byte));
+    }
+    all
+}
+
+/// What a line asks for; its bytes are not tested once more where those of its text were.
 #[tactic(auto, unfolding(crate::specs::Script::command_of))]
-fn command<'a>(alloc: Global, line: &'a [u8]) -> Result<Option<Command<'a>>, ScriptFaultKind>
+fn command<'a>(
+    alloc: Global,
+    line: &'a [u8],
+    is_tested: bool,
+) -> Result<Option<Command<'a>>, ScriptFaultKind>
+    requires { is_tested ≡ true → list_all is_plain line.now ≡ true }
     ensures { Means result (command_of line.now) }
 {
     if line.len() > MAX_SCRIPT_LINE {
         Err(ScriptFaultKind::TooLarge)
-    } else if !are_plain(line) {
+    } else if !is_tested && !are_plain(line) {
         Err(ScriptFaultKind::BadByte)
     } else if line.len() > 0 && line[0] == b'#' {
         Ok(None)
@@ -96,7 +112,7 @@ fn command<'a>(alloc: Global, line: &'a [u8]) -> Result<Option<Command<'a>>, Scr
 
 /// Reads a script whole, or answers its first fault. Want of memory is answered only where a growth was refused; it may
 /// come before any other fault, and its line is left open.
-#[tactic(auto, using(crate::proofs::LineLemmas::steps))]
+#[tactic(auto, using(crate::proofs::LineLemmas::steps, crate::proofs::PlainLemmas::plain_lines))]
 pub fn parse<'a>(alloc: Global, text: &'a [u8]) -> Result<Script<'a>, ScriptFault>
     ensures { ParsesAs result (script_of text.now) }
 {
@@ -106,12 +122,13 @@ pub fn parse<'a>(alloc: Global, text: &'a [u8]) -> Result<Script<'a>, ScriptFaul
             kind: ScriptFaultKind::TooLarge,
         });
     }
+    let is_tested = is_text(text);
     let mut found = List::new(alloc);
     let mut number = 0;
     let mut lines = text.lines();
     while let Some(line) = lines.next() {
         number += 1;
-        match command(alloc, line) {
+        match command(alloc, line, is_tested) {
             Ok(None) => {}
             Ok(Some(command)) => {
                 let Ok(()) = found.push(Line { number, command }) else {

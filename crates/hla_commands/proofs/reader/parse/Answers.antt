@@ -1,4 +1,5 @@
 use Rattle.hla_commands.proofs.LineLemmas.{fails_as}
+use Rattle.hla_commands.proofs.PlainLemmas.{plain_lines}
 use Rattle.hla_commands.proofs.reader.parse.Goals as goal
 
 pub returns-in-Err : goal.returns-in-Err
