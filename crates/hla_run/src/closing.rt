@@ -29,6 +29,7 @@ pub fn close_told<L: Ledger + Naming, P: Publisher<L>, W: Write>(
     outcomes: &Outcomes,
     out: &mut Watched<W>,
 ) -> Result<Closed, RunFault>
+    requires { L.parts ≡ 2049 }
     ensures told { OnOk result (Appends (W.contents out.old.inner) (W.contents out.new.inner)
         (told_text catalogue.now lines.now outcomes.now)) }
     ensures late { IfErr result IsPastReading }

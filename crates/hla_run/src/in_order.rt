@@ -239,6 +239,7 @@ fn told_in_order<L: Ledger + Naming, P: Publisher<L>, W: Write>(
     lines: &[Line<'_>],
     out: &mut Watched<W>,
 ) -> Result<Closed, RunFault>
+    requires { L.parts ≡ 2049 }
     ensures told { OnOk result (AreTold catalogue.now lines.now (W.contents out.old.inner)
         (W.contents out.new.inner)) }
     ensures late { IfErr result IsPastReading }

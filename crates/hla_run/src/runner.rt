@@ -130,6 +130,7 @@ fn told_on_threads<
     is_watched: bool,
     out: &mut Watched<W>,
 ) -> Result<Ran, RunFault>
+    requires { L.parts ≡ 2049 }
     ensures told { OnOk result (AreTold catalogue.now lines.now (W.contents out.old.inner)
         (W.contents out.new.inner)) }
     ensures seen { IfOk result (λ r. IsSeen is_watched r.closed r.seen) }
