@@ -59,21 +59,21 @@ line_parts : (bs : List ℕ) → list_all is_text bs ≡ true → ((x : List ℕ
 unfolding line_len
 line_parts [] all = inr refl
 line_parts (b ∷ rest) all = elim (cases_Bool (b == 10)) [
-    | inl end ↦ inl ([], ap (λ (k : ℕ). take k (b ∷ rest)) (cond-true _ 1 (suc (line_len rest)) end) ∙ ap (λ (c : ℕ). c ∷ []) (eqb-true b 10 end), refl)
-    | inr other ↦
+  | inl end ↦ inl ([], ap (λ (k : ℕ). take k (b ∷ rest)) (cond-true _ 1 (suc (line_len rest)) end) ∙ ap (λ (c : ℕ). c ∷ []) (eqb-true b 10 end), refl)
+  | inr other ↦
       let first : is_plain b ≡ true = subst (λ (t : Bool). (t || is_plain b) ≡ true) other (both_first (is_text b) (list_all is_text rest) all) in
       let long : take (line_len (b ∷ rest)) (b ∷ rest) ≡ b ∷ take (line_len rest) rest = ap (λ (k : ℕ). take k (b ∷ rest)) (cond-false _ 1 (suc (line_len rest)) other) in
       elim (line_parts rest (both_second (is_text b) (list_all is_text rest) all)) [
         | inl (x, is, plain) ↦ inl (b ∷ x, long ∙ ap (λ (l : List ℕ). b ∷ l) is, rw first plain)
         | inr plain ↦ inr (rw long (rw first plain))
       ]
-  ]
+]
 
 plain_line : (bs : List ℕ) → list_all is_text bs ≡ true → list_all is_plain (without_terminator (take (line_len bs) bs)) ≡ true
 plain_line bs all = elim (line_parts bs all) [
-    | inl (x, is, plain) ↦ rw is (rw (ended x) (all_without is_plain x plain))
-    | inr plain ↦ all_ended is_plain (take (line_len bs) bs) plain
-  ]
+  | inl (x, is, plain) ↦ rw is (rw (ended x) (all_without is_plain x plain))
+  | inr plain ↦ all_ended is_plain (take (line_len bs) bs) plain
+]
 
 lines_plain : (n : ℕ) (bs : List ℕ) (tested : Bool) → (tested ≡ true → list_all is_text bs ≡ true) → ArePlain tested (map without_terminator (lines_from n bs))
 unfolding lines_from

@@ -45,10 +45,7 @@ pub fn optional<'a>(words: &mut Words<'a>) -> Result<Option<Word<'a>>, ScriptFau
 }
 
 /// Names from the FED file up to the end of the line.
-pub fn names<'a>(
-    alloc: Global,
-    words: &mut Words<'a>,
-) -> Result<List<Word<'a>>, ScriptFaultKind>
+pub fn names<'a>(alloc: Global, words: &mut Words<'a>) -> Result<List<Word<'a>>, ScriptFaultKind>
     ensures { Reads result words.new (names_in words.old) }
 {
     let mut found = List::new(alloc);

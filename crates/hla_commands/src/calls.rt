@@ -119,7 +119,11 @@ fn time_call_by<'a>(verb: TimeVerb, words: &mut Words<'a>) -> Result<Call<'a>, S
 }
 
 /// A verb with its words.
-fn call_by<'a>(alloc: Global, verb: Verb, words: &mut Words<'a>) -> Result<Call<'a>, ScriptFaultKind>
+fn call_by<'a>(
+    alloc: Global,
+    verb: Verb,
+    words: &mut Words<'a>,
+) -> Result<Call<'a>, ScriptFaultKind>
     ensures { Reads result words.new (call_by verb words.old) }
 {
     match verb {
@@ -144,9 +148,7 @@ fn call_by<'a>(alloc: Global, verb: Verb, words: &mut Words<'a>) -> Result<Call<
         Verb::Update => update(alloc, words),
         Verb::Send => send(alloc, words),
         Verb::Delete => delete(words),
-        Verb::ObjectHandle => Ok(Call::ObjectHandle {
-            name: name(words)?,
-        }),
+        Verb::ObjectHandle => Ok(Call::ObjectHandle { name: name(words)? }),
         Verb::ObjectName => Ok(Call::ObjectName {
             object: number(words)?,
         }),

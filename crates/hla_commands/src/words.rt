@@ -51,12 +51,12 @@ impl<'a> Model for Words<'a> {
     ghost view = { λ w. words_of w.rest.now };
 }
 
-/// Whether a byte parts words: a space or a tab.
+/// Whether a byte parts words: a space or a tab. Most bytes of a script lie above both, and are known by that alone.
 #[tactic(auto, unfolding(crate::specs::Words::is_gap))]
 fn is_gap(byte: u8) -> bool
     ensures { result ≡ is_gap byte }
 {
-    byte == b' ' || byte == b'\t'
+    byte <= b' ' && (byte == b' ' || byte == b'\t')
 }
 
 fn gap_len(text: &[u8]) -> usize

@@ -1,6 +1,6 @@
 //! The numbers of what a line names.
 
-ghost use Rattle.std.specs.Prelude.{◌≡◌, ℕ, List, Result, min};
+ghost use Rattle.std.specs.Prelude.{◌≡◌, ℕ, List, [], Ok, Result, min};
 ghost use Rattle.hla_base.specs.declared.fault.Fault.{Fault};
 ghost use Rattle.hla_base.specs.declared.content.HandleValuePair.{HandleValuePair};
 ghost use Rattle.hla_requests.specs.Requests.{Asks, Finds, number_or, known_federate, joined_federate, object_class_of, interaction_class_of, handle_named, named_handles, named_pairs, with_last_handle, with_last_pair, object_number, federate_number};
@@ -157,6 +157,16 @@ fn with_pair(
     }
 }
 
+/// No pairs, and room for so many.
+fn no_pairs(alloc: Global, room: usize) -> Result<List<HandleValuePair>, AskFault>
+    ensures { Asks result (Ok []) }
+{
+    match List::with_room(alloc, room) {
+        Ok(pairs) => Ok(pairs),
+        Err(_) => Err(AskFault::Memory),
+    }
+}
+
 /// Attributes or parameters by their numbers, with their values. All names are looked up before a value is refused, and all
 /// values are tested before want of memory is told.
 pub fn pairs(
@@ -167,7 +177,7 @@ pub fn pairs(
 ) -> Result<List<HandleValuePair>, AskFault>
     ensures { Asks result (named_pairs (handle_named catalogue.now class) values.now) }
 {
-    let mut pairs = Ok(List::new(alloc));
+    let mut pairs = no_pairs(alloc, values.len());
     for given in values {
         match class.handle(catalogue, given.name.as_slice()) {
             Some(handle) => pairs = with_pair(alloc, pairs, handle, given.value.as_slice()),

@@ -1,5 +1,5 @@
 -- What a run of a script writes
-use Rattle.std.specs.Prelude.{◌≡◌, ◌≤◌, ◌++◌, ℕ, List, [], length, take, Option, None, Some, Ok, Err, Bool, true, false, Result, slice_index_or}
+use Rattle.std.specs.Prelude.{◌≡◌, ◌≤◌, ℕ, List, [], length, take, Option, None, Some, Ok, Err, Bool, true, false, Result, slice_index_or}
 use Rattle.std.specs.List.{flat_map, enumerate_from}
 use Rattle.std.specs.Io.KnownBytes.{Appends}
 use Rattle.hla_catalogue.specs.CatalogueValue.{CatalogueValue}

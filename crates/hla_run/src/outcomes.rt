@@ -133,7 +133,12 @@ impl Outcomes {
     }
 
     /// Adds how those lines came out that were done, in the order of the script; an error is want of memory for the text.
-    pub fn print(&self, text: &mut Text, catalogue: &Catalogue, lines: &[Line<'_>]) -> Result<(), Fault>
+    pub fn print(
+        &self,
+        text: &mut Text,
+        catalogue: &Catalogue,
+        lines: &[Line<'_>],
+    ) -> Result<(), Fault>
         ensures { OnOk result (text.new ≡ text.old ++ told_text catalogue.now lines.now self.now) }
     {
         print_all(text, catalogue, self.by_place.as_slice(), lines)

@@ -24,11 +24,7 @@ pub struct Texts<'a> {
 }
 
 /// Reads the FED file, and then the script.
-pub fn read_texts<'a>(
-    alloc: Global,
-    fed: &[u8],
-    script: &'a [u8],
-) -> Result<Texts<'a>, RunFault>
+pub fn read_texts<'a>(alloc: Global, fed: &[u8], script: &'a [u8]) -> Result<Texts<'a>, RunFault>
     ensures describes { IfOk result (λ t. Describes fed.now t.catalogue) }
     ensures says { IfOk result (λ t. script_of script.now ≡ Ok t.script) }
     ensures stopped { IfErr result (IsUnread fed.now script.now) }

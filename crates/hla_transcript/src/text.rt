@@ -5,7 +5,6 @@ ghost use Rattle.hla_transcript.specs.Printed.{event_text, time_text};
 
 use hla_base::{EventHandle, FOREVER, Fault, Ticks};
 use std::alloc::Global;
-use std::io::Write;
 use std::marker::Model;
 
 /// A text that is built up; contracts see the list of its bytes.
@@ -70,10 +69,8 @@ impl Text {
         ensures ok { OnOk result (self.new ≡ self.old ++ decimal number) }
         ensures err { IfErr result (λ e. e ≡ Fault.OutOfMemory) }
     {
-        match write!(self.bytes, "{number}") {
-            Ok(()) => Ok(()),
-            Err(_) => Err(Fault::OutOfMemory),
-        }
+        let mut digits = itoa::Buffer::new();
+        self.word(digits.format(number))
     }
 
     /// Adds a word and a number.

@@ -1,5 +1,4 @@
 use Rattle.hla_commands.proofs.LineLemmas.{fails_as}
-use Rattle.hla_commands.proofs.PlainLemmas.{plain_lines}
 use Rattle.hla_commands.proofs.reader.parse.Goals as goal
 
 pub returns-in-Err : goal.returns-in-Err

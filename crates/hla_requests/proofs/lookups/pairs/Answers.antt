@@ -7,7 +7,7 @@ use Rattle.hla_requests.proofs.AskLemmas.{pairs_start, pairs_none, pairs_step}
 use Rattle.hla_requests.proofs.lookups.pairs.Goals as goal
 
 pub loop-given-init : goal.loop-given-init
-loop-given-init c = rw c.new.ensures (pairs_start (handle_named c.args.catalogue.now c.args.class) c.args.values.now)
+loop-given-init c = rw (pairs_start (handle_named c.args.catalogue.now c.args.class) c.args.values.now) c.no_pairs-pairs.ensures
 
 pub returns-in-None : goal.returns-in-None
 returns-in-None c =
