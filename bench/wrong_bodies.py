@@ -3,9 +3,9 @@
 
 An edit file holds wrong bodies of many functions, because what an edit costs is the reading of the libraries; `rt ci` shows that each
 file is refused. This program applies a file, checks the crate once, and looks for an error in each function that the file changes. Of
-several wrong bodies of one function the first is checked so, and each other one alone. What turns a definition is refused by a theorem
-somewhere above it, so each of these is checked alone. It works in the folder of the crate, over what earlier checks kept, and puts the
-sources back; edit nothing while it runs.
+several wrong bodies of one function the first is checked so, and each other one alone, as is one of a function that calls another
+that the file changes. What turns a definition is refused by a theorem somewhere above it, so each of these is checked alone. It works
+in the folder of the crate, over what earlier checks kept, and puts the sources back; edit nothing while it runs.
 
     bench/wrong_bodies.py [--alone] [CRATE..]     --alone: one check for each wrong body
 """
@@ -103,13 +103,18 @@ def tried(folder, edit, alone):
         is_single = alone or any(file.startswith("specs/") for file, _, _ in it[1]) or changes & taken
         (single if is_single else together).append(it)
         taken |= changes
-    for some in [[it] for it in single] + [together] * bool(together):
+    groups = [[it] for it in single] + [together] * bool(together)
+    for some in groups:
         found, changed, any_refused = refused(folder, some)
-        for name, functions in changed.items():
-            by = [found[it] for it in functions if it in found]
+        for it in some:
+            by = [found[at] for at in changed[it[0]] if at in found]
             is_refused = bool(by) or len(some) == 1 and any_refused
+            if not is_refused and len(some) > 1:
+                # (a function is not checked where one that it calls is refused)
+                groups.append([it])
+                continue
             missing += not is_refused
-            print(f"{folder.name}: {name}: {'refused' if is_refused else 'NOT REFUSED'}: {by[0][:120] if by else 'elsewhere'}", flush=True)
+            print(f"{folder.name}: {it[0]}: {'refused' if is_refused else 'NOT REFUSED'}: {by[0][:120] if by else 'elsewhere'}", flush=True)
     return missing
 
 
