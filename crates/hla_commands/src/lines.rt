@@ -24,8 +24,9 @@ pub enum Declaration {
     Subscription,
 }
 
-/// What a federate does. Its names and values stay where they stand in the text. Classes, attributes and parameters are named as in the FED file; an object goes by its number,
-/// from 1, which may be larger than that of any object. Times, stamps and lookaheads may be larger than any that is allowed.
+/// What a federate does. Its names and values stay where they stand in the text. Classes, attributes and parameters are
+/// named as in the FED file; an object goes by its number, from 1, which may be larger than that of any object. Times,
+/// stamps and lookaheads may be larger than any that is allowed.
 #[derive(Debug, Drop)]
 pub enum Call<'a> {
     /// Tick: it picks up a callback.
