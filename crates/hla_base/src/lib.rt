@@ -9,6 +9,7 @@ mod name;
 mod number;
 mod plain;
 mod row;
+mod shared_event;
 mod shared_list;
 mod value;
 
@@ -27,5 +28,6 @@ pub use number::{
 };
 pub use plain::Plain;
 pub use row::{AdvanceKind, AdvanceRequest, Role, TimeRow};
+pub use shared_event::SharedEvent;
 pub use shared_list::SharedList;
 pub use value::Value;

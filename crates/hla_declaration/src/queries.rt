@@ -89,9 +89,18 @@ impl Declarations {
         ensures { result ≡ option_map_or (contains_number attribute)
             ((declarations_of self.now).subscribed federate class) false }
     {
+        self.subscribed_attributes(federate, class)
+            .contains(&attribute)
+    }
+
+    /// The attributes that a federate subscribes of an object class, as it named them; none where it does not subscribe it.
+    pub fn subscribed_attributes(&self, federate: FederateNo, class: ClassNo) -> &[AttributeNo]
+        ensures { result.now ≡ option_map_or (λ xs. xs) ((declarations_of self.now).subscribed federate
+            class) [] }
+    {
         match self.subscription(federate, class) {
-            Some(subscribed) => subscribed.as_slice().contains(&attribute),
-            None => false,
+            Some(subscribed) => subscribed.as_slice(),
+            None => &[],
         }
     }
 

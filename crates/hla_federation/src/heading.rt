@@ -1,16 +1,17 @@
 //! What heads the copies of a message.
 
-ghost use Rattle.std.specs.Prelude.{◌≡◌};
+ghost use Rattle.std.specs.Prelude.{◌≡◌, IfOk, IfErr};
 ghost use Rattle.std.specs.Option.{option_and_then};
 ghost use Rattle.hla_catalogue.specs.declared.declared.Order.TheVariants.{Timestamp};
 ghost use Rattle.hla_machine.specs.Directory.{is_of_order};
-ghost use Rattle.hla_federation.specs.Steps.Sending.{event_under, handle_under, note_under};
+ghost use Rattle.hla_base.specs.declared.fault.Fault.TheVariants.{OutOfMemory};
+ghost use Rattle.hla_federation.specs.Steps.Sending.{said_under, handle_under, note_under};
 
-use hla_base::{Content, Event, EventHandle, FederateNo, Serial, Ticks};
+use hla_base::{Content, Event, EventHandle, Fault, FederateNo, Serial, SharedEvent, Ticks};
 use hla_catalogue::Order;
 use hla_members::Note;
-use hla_null_message::Message;
 use hla_retraction::Receivers;
+use std::alloc::Global;
 
 /// Whether messages of this order go in time-stamp order, where their sender gives a stamp and regulates.
 pub fn is_timestamp(order: Order) -> bool
@@ -29,17 +30,19 @@ pub struct Heading {
 }
 
 impl Heading {
-    /// The message that says this.
-    pub fn event(self, content: Content) -> Message
-        ensures { result ≡ event_under self content }
+    /// The event that says this, for its receivers to share; `OutOfMemory` where a growth was refused.
+    pub fn event(self, alloc: Global, content: Content) -> Result<SharedEvent, Fault>
+        ensures ok { IfOk result (λ e. e ≡ said_under self content) }
+        ensures err { IfErr result (λ e. e ≡ Fault.OutOfMemory) }
     {
-        Message::Event(Event {
+        let event = Event {
             sender: self.sender,
             serial: self.serial,
             ordered: self.stamp.is_some(),
             stamp: self.stamp.unwrap_or(0),
             content,
-        })
+        };
+        SharedEvent::new(alloc, event)
     }
 
     /// The handle by which its sender may retract the message, if it goes in time-stamp order.

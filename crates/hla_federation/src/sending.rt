@@ -1,6 +1,7 @@
 //! Sending updates, interactions and deletions.
 
 ghost use Rattle.std.specs.Prelude.{◌≡◌, ◌≤◌, ◌<◌, ◌+◌, ◌&&◌, [], ◌∷◌, ℕ, false, true, length, filter, is_some, IfOk, IfErr, IfSome, OnOk};
+ghost use Rattle.hla_base.specs.declared.content.Content.TheVariants as content;
 ghost use Rattle.hla_base.specs.declared.content.HandleValuePair.{HandleValuePair};
 ghost use Rattle.hla_base.specs.declared.fault.Fault.TheVariants.{OutOfMemory};
 ghost use Rattle.hla_base.specs.Tables.{is_other, one_if};
@@ -9,11 +10,12 @@ ghost use Rattle.std.specs.Option.{option_map_or};
 ghost use Rattle.hla_catalogue.specs.Lookup.{attribute_order, contains_number, has_parameter};
 ghost use Rattle.hla_catalogue.specs.declared.declared.Order.TheVariants.{Receive};
 ghost use Rattle.hla_retraction.specs.Receivers.{receiver_set};
-ghost use Rattle.hla_machine.specs.Directory.{AnInteraction, AnUpdate, ADeletion, is_receiver, subscribed_values, values_of_order, part_sent, is_of_order};
+ghost use Rattle.hla_machine.specs.Directory.{AnInteraction, AnUpdate, ADeletion, is_receiver, reflection_of, subscribed_values, values_of_order, part_sent, is_of_order};
 ghost use Rattle.hla_machine.specs.declared.service.Service.TheVariants as service;
 ghost use Rattle.hla_machine.specs.declared.step.Step.TheVariants as step;
+ghost use Rattle.hla_null_message.specs.declared.message.Message.{Message};
 ghost use Rattle.hla_members.specs.Noting.{handle_noted};
-ghost use Rattle.hla_federation.specs.Steps.Sending.{HasAdded, heading_of, message_to, part_to};
+ghost use Rattle.hla_federation.specs.Steps.Sending.{HasAdded, heading_of, said_under, said_messages, message_to, part_to};
 ghost use Rattle.hla_federation.specs.Steps.Soundness.{MayCall};
 ghost use Rattle.hla_federation.specs.Steps.State.{state_of, IsWhole, Ends};
 
@@ -22,11 +24,13 @@ use crate::pairs::shared_by_handle;
 use crate::parts::Parts;
 use hla_base::{
     ClassNo, Content, EventHandle, Fault, FederateNo, HandleValuePair, List, ObjectNo, Plain,
-    Serial, SharedList, Ticks,
+    Serial, SharedEvent, SharedList, Ticks,
 };
 use hla_catalogue::Order;
+use hla_declaration::Receiver;
 use hla_machine::Answer;
 use hla_members::{Note, Outbox};
+use hla_null_message::Message;
 use hla_retraction::Receivers;
 
 /// The handle by which its sender may retract a message, if there is one to retract.
@@ -124,30 +128,77 @@ impl Parts {
         ensures { result ≡ list_all (λ (v : HandleValuePair). option_map_or (contains_number v.handle)
             ((state_of self.now).directory.subscribed federate class) false) values.now }
     {
-        values.iter().all(|v| self
-            .declarations
-            .subscribes_attribute(federate, class, v.handle))
+        let subscribed = self.declarations.subscribed_attributes(federate, class);
+        values.iter().all(|v| subscribed.contains(&v.handle))
     }
 
-    /// The values of the attributes that a federate subscribes at a class, shared: those that are given, where it subscribes
-    /// all of them.
-    fn attributes_for(
+    /// The update as a federate receives it at a class: with the attributes that it subscribes there, so a share of `whole`
+    /// where it subscribes all of them; none where it subscribes none.
+    fn reflection_for(
         &self,
-        federate: FederateNo,
-        class: ClassNo,
+        whole: &SharedEvent,
+        heading: Heading,
+        object: ObjectNo,
         values: &SharedList<HandleValuePair>,
-    ) -> Result<SharedList<HandleValuePair>, Fault>
-        ensures ok { IfOk result (λ shown. shown ≡ subscribed_values (state_of self.now).directory federate
-            class values.now) }
+        receiver: Receiver,
+    ) -> Result<Option<Message>, Fault>
+        requires { whole.now ≡ said_under heading (content.Reflection object values.now) }
+        ensures ok { IfOk result (λ m. option_map_or (λ (x : Message). x ∷ []) m [] ≡ said_messages heading
+            (reflection_of object (subscribed_values (state_of self.now).directory receiver.federate receiver.class
+            values.now))) }
         ensures err { IfErr result (λ e. e ≡ Fault.OutOfMemory) }
     {
-        if self.shows_attributes(federate, class, values.as_slice()) {
-            let same = values.copy()?;
-            return Ok(same);
+        if values.is_empty() {
+            return Ok(None);
         }
-        let shown = self.shown_attributes(federate, class, values.as_slice())?;
-        let shared = SharedList::from_list(shown)?;
-        Ok(shared)
+        if self.shows_attributes(receiver.federate, receiver.class, values.as_slice()) {
+            let share = whole.share()?;
+            return Ok(Some(Message::Event(share)));
+        }
+        let shown = self.shown_attributes(receiver.federate, receiver.class, values.as_slice())?;
+        if shown.is_empty() {
+            return Ok(None);
+        }
+        let values = SharedList::from_list(shown)?;
+        let event = heading.event(self.alloc, Content::Reflection { object, values })?;
+        Ok(Some(Message::Event(event)))
+    }
+
+    /// The interaction as those receive it who do so at a class: with the parameters that the class has.
+    fn interaction_at(
+        &self,
+        heading: Heading,
+        class: ClassNo,
+        values: &SharedList<HandleValuePair>,
+    ) -> Result<SharedEvent, Fault>
+        ensures ok { IfOk result (λ e. e ≡ said_under heading (content.Interaction class (filter
+            (λ (v : HandleValuePair). has_parameter self.now.catalogue class v.handle) values.now))) }
+        ensures err { IfErr result (λ e. e ≡ Fault.OutOfMemory) }
+    {
+        let values = self.parameters_for(class, values)?;
+        heading.event(self.alloc, Content::Interaction { class, values })
+    }
+
+    /// The same for one who receives it at a class: a share of `whole`, where that is as it is at this class.
+    fn interaction_for(
+        &self,
+        whole: &SharedEvent,
+        whole_class: ClassNo,
+        heading: Heading,
+        class: ClassNo,
+        values: &SharedList<HandleValuePair>,
+    ) -> Result<SharedEvent, Fault>
+        requires { whole.now ≡ said_under heading (content.Interaction whole_class (filter
+            (λ (v : HandleValuePair). has_parameter self.now.catalogue whole_class v.handle) values.now)) }
+        ensures ok { IfOk result (λ e. e ≡ said_under heading (content.Interaction class (filter
+            (λ (v : HandleValuePair). has_parameter self.now.catalogue class v.handle) values.now))) }
+        ensures err { IfErr result (λ e. e ≡ Fault.OutOfMemory) }
+    {
+        if class == whole_class {
+            whole.share()
+        } else {
+            self.interaction_at(heading, class, values)
+        }
     }
 
     /// Whether all these values are of attributes whose updates have this order.
@@ -243,13 +294,10 @@ impl Parts {
         let receivers = self
             .declarations
             .receivers_of_interaction_class(self.alloc, &self.catalogue, heading.sender, class)?;
+        let whole = self.interaction_at(heading, class, values)?;
         for receiver in receivers.as_slice() {
-            let values = self.parameters_for(receiver.class, values)?;
-            let content = Content::Interaction {
-                class: receiver.class,
-                values,
-            };
-            outbox.put(receiver.federate, heading.event(content))?;
+            let event = self.interaction_for(&whole, class, heading, receiver.class, values)?;
+            outbox.put(receiver.federate, Message::Event(event))?;
             told.add(receiver.federate);
         }
         Ok(told)
@@ -275,11 +323,15 @@ impl Parts {
         let receivers = self
             .declarations
             .receivers_of_object_class(self.alloc, &self.catalogue, heading.sender, class)?;
+        let content = Content::Reflection {
+            object,
+            values: values.copy()?,
+        };
+        let whole = heading.event(self.alloc, content)?;
         for receiver in receivers.as_slice() {
-            let values = self.attributes_for(receiver.federate, receiver.class, values)?;
-            if !values.is_empty() {
-                let content = Content::Reflection { object, values };
-                outbox.put(receiver.federate, heading.event(content))?;
+            let reflection = self.reflection_for(&whole, heading, object, values, *receiver)?;
+            if let Some(message) = reflection {
+                outbox.put(receiver.federate, message)?;
                 told.add(receiver.federate);
             }
         }
@@ -309,10 +361,11 @@ impl Parts {
         ensures err { IfErr result (λ e. e ≡ Fault.OutOfMemory) }
     {
         let end = self.members.next_federate();
+        let whole = heading.event(self.alloc, Content::Removal { object })?;
         for peer in 1..end {
             if self.receives_removal(heading.sender, object, peer) {
-                let content = Content::Removal { object };
-                outbox.put(peer, heading.event(content))?;
+                let share = whole.share()?;
+                outbox.put(peer, Message::Event(share))?;
             }
         }
         Ok(())

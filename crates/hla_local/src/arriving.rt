@@ -7,7 +7,7 @@ ghost use Rattle.hla_lbts.specs.Peers.{peers_of};
 ghost use Rattle.hla_local.specs.Arriving.{local_accepting, peers_accepting, MayCome, message_takes_memory};
 
 use crate::local::Local;
-use hla_base::{Discovery, Event, EventHandle, FederateNo, Serial};
+use hla_base::{Discovery, EventHandle, FederateNo, Plain, Serial, SharedEvent};
 use hla_null_message::Message;
 use hla_order_queues::Control;
 
@@ -41,20 +41,23 @@ impl Local {
         }
     }
 
-    fn accept_event(&mut self, from: FederateNo, event: Event) -> Result<(), Message>
-        requires { MayCome from (message.Event event) self.old }
-        ensures ok { OnOk result (self.new ≡ local_accepting from (message.Event event) self.old) }
-        ensures err { IfErr result (λ m. m ≡ message.Event event) }
+    fn accept_event(&mut self, from: FederateNo, shared: SharedEvent) -> Result<(), Message>
+        requires { MayCome from (message.Event shared) self.old }
+        ensures ok { OnOk result (self.new ≡ local_accepting from (message.Event shared) self.old) }
+        ensures err { IfErr result (λ m. m ≡ message.Event shared) }
         ensures unchanged { OnErr result (self.new ≡ self.old) }
     {
+        let Ok(event) = shared.as_event().copy() else {
+            return Err(Message::Event(shared));
+        };
         if event.ordered && self.state.is_order_kept() {
             return match self.ordered.insert(event) {
                 Ok(()) => Ok(()),
-                Err(event) => Err(Message::Event(event)),
+                Err(_) => Err(Message::Event(shared)),
             };
         }
         if self.received.reserve_one().is_err() {
-            return Err(Message::Event(event));
+            return Err(Message::Event(shared));
         }
         self.received.put(event);
         Ok(())

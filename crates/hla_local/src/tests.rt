@@ -2,12 +2,18 @@ ghost use Rattle.std.specs.Prelude.{◌≤◌, ◌<◌};
 ghost use Rattle.hla_base.specs.Limits.{max_joins};
 
 use crate::{Local, NextPick, Picked};
-use hla_base::{AdvanceKind, Content, Event, FOREVER, FederateNo, Serial, Ticks};
+use hla_base::{AdvanceKind, Content, Event, FOREVER, FederateNo, Serial, SharedEvent, Ticks};
 use hla_null_message::Message;
 use std::alloc::Global;
 
 /// Whether a removal that was sent in time-stamp order is taken in.
-fn is_taken(local: &mut Local, sender: FederateNo, serial: Serial, stamp: Ticks) -> bool
+fn is_taken(
+    alloc: Global,
+    local: &mut Local,
+    sender: FederateNo,
+    serial: Serial,
+    stamp: Ticks,
+) -> bool
     requires some { 0 < sender }
     requires within { sender ≤ max_joins }
 {
@@ -18,7 +24,13 @@ fn is_taken(local: &mut Local, sender: FederateNo, serial: Serial, stamp: Ticks)
         stamp,
         content: Content::Removal { object: 1 },
     };
-    !local.ordered.has_event(sender, serial) && local.accept(sender, Message::Event(event)).is_ok()
+    match SharedEvent::new(alloc, event) {
+        Ok(event) => {
+            !local.ordered.has_event(sender, serial)
+                && local.accept(sender, Message::Event(event)).is_ok()
+        }
+        Err(_) => false,
+    }
 }
 
 /// Whether a retraction of what waits in receive order, or nowhere, is taken in.
@@ -60,8 +72,8 @@ fn pending(alloc: Global) -> Local {
 #[test]
 fn gives_in_receive_order_what_is_below_its_time(rt: HostRuntime) {
     let mut local = pending(rt.alloc());
-    assert!(rt; is_taken(&mut local, 2, 1, 12));
-    assert!(rt; is_taken(&mut local, 3, 1, 5));
+    assert!(rt; is_taken(rt.alloc(), &mut local, 2, 1, 12));
+    assert!(rt; is_taken(rt.alloc(), &mut local, 3, 1, 5));
     assert!(rt; picked(&mut local) == Some(NextPick::Constraint));
     assert!(rt; local.next_pick() == NextPick::Nothing);
     local.set_asynchronous_delivery(true);
@@ -74,7 +86,7 @@ fn waits_until_the_bound_passes(rt: HostRuntime) {
     let mut local = pending(rt.alloc());
     local.meet(2, 1, 12);
     assert!(rt; picked(&mut local) == Some(NextPick::Constraint));
-    assert!(rt; is_taken(&mut local, 2, 1, 12));
+    assert!(rt; is_taken(rt.alloc(), &mut local, 2, 1, 12));
     local.request(AdvanceKind::TimeAdvance, 20);
     assert!(rt; picked(&mut local) == Some(NextPick::Nothing));
     hear(&mut local, 1, 20);
@@ -97,7 +109,7 @@ fn is_granted_at_the_bound_where_that_is_available(rt: HostRuntime) {
 #[test]
 fn takes_a_message_back_or_asks_for_it(rt: HostRuntime) {
     let mut local = Local::new(rt.alloc());
-    assert!(rt; is_taken(&mut local, 2, 1, 7));
+    assert!(rt; is_taken(rt.alloc(), &mut local, 2, 1, 7));
     assert!(rt; local.first_received().is_some());
     assert!(rt; is_retracted(&mut local, 2, 1));
     assert!(rt; local.next_pick() == NextPick::Nothing);
@@ -137,7 +149,7 @@ fn regulates_and_resigns(rt: HostRuntime) {
 #[test]
 fn gives_all_in_receive_order_once_it_is_not_constrained(rt: HostRuntime) {
     let mut local = pending(rt.alloc());
-    assert!(rt; is_taken(&mut local, 2, 1, 12));
+    assert!(rt; is_taken(rt.alloc(), &mut local, 2, 1, 12));
     assert!(rt; local.first_ordered().is_some());
     assert!(rt;
         matches!(local.ordered_below(rt.alloc(), FOREVER), Ok(handles) if handles.len() == 1)

@@ -16,7 +16,7 @@ pub fn carried_by(from: FederateNo, message: &Message) -> Carried
     ensures { result ≡ carried_by from message.now }
 {
     match message {
-        Message::Event(event) => carried_event(event),
+        Message::Event(event) => carried_event(event.as_event()),
         Message::Null { bound, .. } => Carried::Null { bound: *bound },
         Message::Retraction(serial) => Carried::Retraction {
             event: EventHandle {

@@ -3,13 +3,13 @@
 ghost use Rattle.std.specs.Prelude.{◌≡◌};
 ghost use Rattle.hla_null_message.specs.Wires.{is_null_of};
 
-use hla_base::{Discovery, Event, Serial, Ticks};
+use hla_base::{Discovery, Serial, SharedEvent, Ticks};
 
 /// A message from one component to another.
 #[derive(Debug, Drop)]
 pub enum Message {
-    /// An interaction, an update or a deletion.
-    Event(Event),
+    /// An interaction, an update or a deletion. Its receivers share it, so that a copy on each of their wires is small.
+    Event(SharedEvent),
     /// A null message (Chandy and Misra 1979, Bryant 1977): the sender will send nothing more below this bound, as long
     /// as it regulates in this epoch.
     Null { epoch: u64, bound: Ticks },

@@ -16,7 +16,6 @@ use Rattle.hla_object_registry.specs.Registered.{RegistryValue}
 use Rattle.hla_lbts.specs.declared.row.PeerRow.{PeerRow}
 use Rattle.hla_lbts.specs.Peers.{PeersValue, peers_of}
 use Rattle.hla_local.specs.LocalValue.{LocalValue}
-use Rattle.hla_null_message.specs.declared.message.Message.TheVariants as message
 use Rattle.hla_machine.specs.declared.service.Service.TheVariants as service
 use Rattle.hla_machine.specs.declared.step.Answer.TheVariants as answer
 use Rattle.hla_machine.specs.declared.step.Step.TheVariants.{Call, Announce}

@@ -2,6 +2,7 @@
 use Rattle.std.specs.Prelude.{ℕ, ◌+◌, ◌≡◌, ◌&&◌, cond, eqb, ltb, Bool, None, Option, Some, is_some, option_map, unwrap_or, List, [], ◌∷◌, ◌++◌}
 use Rattle.std.specs.List.{list_any}
 use Rattle.hla_base.specs.declared.content.Content.{Content}
+use Rattle.hla_base.specs.declared.content.Event.{Event}
 use Rattle.hla_base.specs.declared.content.HandleValuePair.{HandleValuePair}
 use Rattle.hla_base.specs.declared.number.EventHandle.{EventHandle}
 use Rattle.hla_base.specs.declared.row.TimeRow.{TimeRow}
@@ -29,9 +30,12 @@ order_stamp r order stamp = when (is_of_order Timestamp order && is_enabled r.re
 abbrev pub heading_of : ℕ → ℕ → TimeRow → Option ℕ → Order → Heading
 heading_of f serial r stamp order = record { sender = f; serial = serial; stamp = order_stamp r order stamp }
 
--- the event that says something under a heading
+-- the event that says something under a heading, and its message
+abbrev pub said_under : Heading → Content → Event
+said_under head x = record { sender = head.sender; serial = head.serial; ordered = is_some head.stamp; stamp = unwrap_or head.stamp 0; content = x }
+
 abbrev pub event_under : Heading → Content → Message
-event_under head x = message.Event (record { sender = head.sender; serial = head.serial; ordered = is_some head.stamp; stamp = unwrap_or head.stamp 0; content = x })
+event_under head x = message.Event (said_under head x)
 
 -- if anything is said
 abbrev pub said_messages : Heading → Option Content → List Message

@@ -1,20 +1,20 @@
-use Rattle.std.proofs.Common.{ℕ, Bool, List, [], ◌∷◌, ◌++◌, length, get_or, take, cond, eqb, ap, sym, subst, ◌∙◌, arith}
+use Rattle.std.proofs.Common.{◌≡◌, ℕ, Bool, List, [], ◌∷◌, ◌++◌, length, get_or, take, cond, eqb, ap, sym, subst, ◌∙◌, arith}
 use Rattle.std.specs.List.{All}
 use Rattle.std.proofs.Math.Path.{fun_ext}
 use Rattle.std.proofs.lemmas.List.{take_all, append-nil}
 use Rattle.std.proofs.lemmas.List.Elements.{All-get_or}
-use Rattle.hla_base.specs.declared.content.Content.TheVariants as content
-use Rattle.hla_base.specs.declared.content.HandleValuePair.{HandleValuePair}
+use Rattle.hla_base.specs.declared.content.Event.{Event}
 use Rattle.hla_declaration.specs.Declarations as declared
 use Rattle.hla_declaration.specs.Receivers.{receivers_of, interaction_class_served, IsReceiver}
 use Rattle.hla_declaration.specs.declared.receiver.Receiver.{Receiver}
 use Rattle.hla_declaration.proofs.ReceiverLemmas.{interaction_receivers}
 use Rattle.hla_null_message.specs.declared.message.Message.{Message}
+use Rattle.hla_null_message.specs.declared.message.Message.TheVariants as message
 use Rattle.hla_retraction.specs.Receivers as told
 use Rattle.hla_machine.specs.Directory.{AnInteraction}
 use Rattle.hla_federation.specs.FederationValue.{FederationValue}
 use Rattle.hla_members.specs.MemberValue.{item}
-use Rattle.hla_federation.specs.Steps.Sending.{event_under, said_messages, messages_among}
+use Rattle.hla_federation.specs.Steps.Sending.{said_messages, messages_among}
 use Rattle.hla_federation.specs.Steps.State.{state_of}
 use Rattle.hla_federation.proofs.Steps.Addressing.{interaction_at, among-more, added_more, interaction_added}
 use Rattle.hla_federation.proofs.Steps.Receiving.{has_message, told_more, told_are}
@@ -65,17 +65,16 @@ loop-receiver-preserved c =
     let none : Receiver = record { federate = 0; class = 0 } in
     let k = (get_or items i none).class in
     let to = (get_or items i none).federate in
-    let x = event_under c.args.heading (content.Interaction k c.in_ok-values.values) in
+    let x = message.Event c.in_ok-event.event in
     let made = λ (r : Receiver). said_messages c.args.heading (interaction_at c.args.self.now.catalogue c.args.values.now r.federate r.class) in
-    let said = λ (vs : List HandleValuePair). event_under c.args.heading (content.Interaction k vs) ∷ [] in
+    let said : x ∷ [] ≡ said_messages c.args.heading (interaction_at c.args.self.now.catalogue c.args.values.now to k) = ap (λ (e : Event). message.Event e ∷ []) c.in_ok-event.ensures.ok in
     record {
-      added = λ h. added_more (messages_among made (take i items)) c.args.outbox.now c.loop-receiver.outbox c.put.new.self to c.event.result c.loop-receiver.invariant.added c.in_ok-put.ensures.ok h
-          ∙ ap (λ (m : Message). item [] c.args.outbox.now h ++ (messages_among made (take i items) h ++ cond (eqb to h) (m ∷ []) [])) c.event.ensures
-          ∙ ap (λ (vs : List HandleValuePair). item [] c.args.outbox.now h ++ (messages_among made (take i items) h ++ cond (eqb to h) (said vs) [])) c.in_ok-values.ensures.ok
+      added = λ h. added_more (messages_among made (take i items)) c.args.outbox.now c.loop-receiver.outbox c.put.new.self to x c.loop-receiver.invariant.added c.in_ok-put.ensures.ok h
+          ∙ ap (λ (ms : List Message). item [] c.args.outbox.now h ++ (messages_among made (take i items) h ++ cond (eqb to h) ms [])) said
           ∙ ap (λ (ms : List Message). item [] c.args.outbox.now h ++ ms) (sym (among-more made h items i none (omega arith)));
       told = λ g. ap (λ (t : ℕ → Bool). t g) c.add.ensures
           ∙ told_more (told.receiver_set c.loop-receiver.told) (messages_among made (take i items)) to x c.loop-receiver.invariant.told g
-          ∙ ap (λ (vs : List HandleValuePair). has_message (messages_among made (take i items) g ++ cond (eqb to g) (said vs) [])) c.in_ok-values.ensures.ok
+          ∙ ap (λ (ms : List Message). has_message (messages_among made (take i items) g ++ cond (eqb to g) ms [])) said
           ∙ ap has_message (sym (among-more made g items i none (omega arith)));
     }
 

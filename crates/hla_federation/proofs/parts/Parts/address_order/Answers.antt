@@ -1,12 +1,11 @@
-use Rattle.std.proofs.Common.{◌≡◌, ℕ, List, [], ◌++◌, Bool, false, length, sym, ap, subst, ◌∙◌, IfOk, IfSome}
+use Rattle.std.proofs.Common.{◌≡◌, List, [], ◌++◌, Bool, false, length, sym, ap, subst, ◌∙◌, IfOk, IfSome}
 use Rattle.std.specs.List.{list_any}
 use Rattle.std.proofs.lemmas.List.{append-nil}
 use Rattle.hla_base.specs.declared.content.HandleValuePair.{HandleValuePair}
 use Rattle.hla_catalogue.specs.Lookup.{attribute_order}
 use Rattle.hla_catalogue.specs.declared.declared.Order.TheVariants.{Receive}
-use Rattle.hla_null_message.specs.declared.message.Message.{Message}
 use Rattle.hla_retraction.specs.Receivers.{receiver_set}
-use Rattle.hla_machine.specs.Directory.{AnUpdate, is_of_order, is_receiver, part_sent, values_of_order}
+use Rattle.hla_machine.specs.Directory.{AnUpdate, is_of_order, is_receiver, part_sent}
 use Rattle.hla_members.specs.MemberValue.{item}
 use Rattle.hla_federation.specs.Steps.Sending.{part_to}
 use Rattle.hla_federation.specs.Steps.State.{state_of}

@@ -1,11 +1,9 @@
-use Rattle.std.proofs.Common.{◌≡◌, ◌≢◌, ℕ, Bool, List, [], ◌∷◌, ◌++◌, length, get_or, take, cond, eqb, Option, refl, ap, sym, subst, ◌∙◌, arith}
+use Rattle.std.proofs.Common.{ℕ, Bool, List, [], ◌∷◌, ◌++◌, length, get_or, take, cond, eqb, Option, ap, sym, subst, ◌∙◌, arith}
 use Rattle.std.specs.List.{All}
+use Rattle.std.specs.Option.{option_map_or}
 use Rattle.std.proofs.Math.Path.{fun_ext}
 use Rattle.std.proofs.lemmas.List.{take_all, append-nil}
 use Rattle.std.proofs.lemmas.List.Elements.{All-get_or}
-use Rattle.hla_base.specs.declared.content.Content.{Content}
-use Rattle.hla_base.specs.declared.content.Content.TheVariants as content
-use Rattle.hla_base.specs.declared.content.HandleValuePair.{HandleValuePair}
 use Rattle.hla_declaration.specs.Declarations as declared
 use Rattle.hla_declaration.specs.Receivers.{receivers_of, object_class_served, IsReceiver}
 use Rattle.hla_declaration.specs.declared.receiver.Receiver.{Receiver}
@@ -13,15 +11,15 @@ use Rattle.hla_declaration.proofs.ReceiverLemmas.{object_receivers}
 use Rattle.hla_object_registry.specs.Registered.{registry_of}
 use Rattle.hla_null_message.specs.declared.message.Message.{Message}
 use Rattle.hla_retraction.specs.Receivers as told
-use Rattle.hla_machine.specs.Directory.{AnUpdate, reflection_of}
+use Rattle.hla_machine.specs.Directory.{AnUpdate}
 use Rattle.hla_federation.specs.FederationValue.{FederationValue}
 use Rattle.hla_members.specs.MemberValue.{item}
-use Rattle.hla_federation.specs.Steps.Sending.{event_under, said_messages, messages_among}
+use Rattle.hla_federation.specs.Steps.Sending.{said_messages, messages_among}
 use Rattle.hla_federation.specs.Steps.State.{state_of}
-use Rattle.hla_federation.proofs.Steps.Addressing.{reflection_at, reflection_some, reflection_none, among-more, among-none, added_more, update_added}
+use Rattle.hla_federation.proofs.Steps.Addressing.{reflection_at, among-more, among-none, added_more, update_added}
 use Rattle.hla_federation.proofs.Steps.Receiving.{has_message, told_more, told_are}
 use Rattle.hla_federation.proofs.parts.Parts.address_update.Goals as goal
-use Rattle.hla_federation.proofs.parts.Parts.address_update.Goals.{then-not-is_empty+in_ok-put, else-not-is_empty}
+use Rattle.hla_federation.proofs.parts.Parts.address_update.Goals.{in-Some+in_ok-put, in_default}
 
 pub loop-receiver-init : goal.loop-receiver-init
 loop-receiver-init c = record {
@@ -68,26 +66,23 @@ loop-receiver-preserved c =
     let none : Receiver = record { federate = 0; class = 0 } in
     let to = (get_or items i none).federate in
     let made = λ (r : Receiver). said_messages c.args.heading (reflection_at (state_of c.args.self.now).directory c.args.object c.args.values.now r.federate r.class) in
-    let says = λ (o : Option Content). said_messages c.args.heading o in
-    let x = event_under c.args.heading (content.Reflection c.args.object c.in_ok-values.values) in
-    elim c.if-not-is_empty.branch [
-      | then-not-is_empty+in_ok-put w ↦
-          let some : length c.in_ok-values.values ≢ 0 = λ e. let no = (w.if-not-is_empty.ensures).1 e in absurd (cc no) in
-          let said = ap says (sym (reflection_some c.args.object c.in_ok-values.values some)) ∙ ap (λ (vs : List HandleValuePair). says (reflection_of c.args.object vs)) c.in_ok-values.ensures.ok in
+    let listed = λ (o : Option Message). option_map_or (λ (m : Message). m ∷ []) o [] in
+    elim c.match-reflection.branch [
+      | in-Some+in_ok-put w ↦
+          let said = ap listed (sym w.in-Some.is) ∙ c.in_ok-reflection.ensures.ok in
           record {
             added = λ h. ap (λ (o : List (List Message)). item [] o h) w.outbox-is
-                ∙ added_more (messages_among made (take i items)) c.args.outbox.now c.loop-receiver.outbox w.put.new.self to w.event.result c.loop-receiver.invariant.added w.in_ok-put.ensures.ok h
-                ∙ ap (λ (ms : List Message). item [] c.args.outbox.now h ++ (messages_among made (take i items) h ++ cond (eqb to h) ms [])) (ap (λ (m : Message). m ∷ []) w.event.ensures ∙ said)
+                ∙ added_more (messages_among made (take i items)) c.args.outbox.now c.loop-receiver.outbox w.put.new.self to w.in-Some.message c.loop-receiver.invariant.added w.in_ok-put.ensures.ok h
+                ∙ ap (λ (ms : List Message). item [] c.args.outbox.now h ++ (messages_among made (take i items) h ++ cond (eqb to h) ms [])) said
                 ∙ ap (λ (ms : List Message). item [] c.args.outbox.now h ++ ms) (sym (among-more made h items i none (omega arith)));
             told = λ g. ap (λ (rs : List Bool). told.receiver_set rs g) w.told-is
                 ∙ ap (λ (t : ℕ → Bool). t g) w.add.ensures
-                ∙ told_more (told.receiver_set c.loop-receiver.told) (messages_among made (take i items)) to x c.loop-receiver.invariant.told g
+                ∙ told_more (told.receiver_set c.loop-receiver.told) (messages_among made (take i items)) to w.in-Some.message c.loop-receiver.invariant.told g
                 ∙ ap (λ (ms : List Message). has_message (messages_among made (take i items) g ++ cond (eqb to g) ms [])) said
                 ∙ ap has_message (sym (among-more made g items i none (omega arith)));
           }
-      | else-not-is_empty w ↦
-          let empty : length c.in_ok-values.values ≡ 0 = (w.if-not-is_empty.ensures).0 refl in
-          let nothing = ap (λ (vs : List HandleValuePair). says (reflection_of c.args.object vs)) (sym c.in_ok-values.ensures.ok) ∙ ap says (reflection_none c.args.object c.in_ok-values.values empty) in
+      | in_default w ↦
+          let nothing = sym (ap listed (sym w.in_default.is) ∙ c.in_ok-reflection.ensures.ok) in
           record {
             added = λ h. ap (λ (o : List (List Message)). item [] o h) w.outbox-is
                 ∙ c.loop-receiver.invariant.added h
