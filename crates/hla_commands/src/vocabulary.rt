@@ -1,11 +1,20 @@
 //! The words that scripts know.
 
 ghost use Rattle.std.specs.Prelude.{◌≡◌};
+ghost use Rattle.std.specs.Str.{bytes_eq};
 ghost use Rattle.hla_commands.specs.Vocabulary.{opening_of, declaration_verb_of, time_service_named, query_of, time_verb_of, verb_of, action_of};
 
 use crate::lines::Declaration;
 use hla_base::AdvanceKind;
 use hla_machine::ResignAction;
+
+/// Whether a word is a known one. Most differ in length, which is looked at first.
+#[inline(always)]
+fn is(word: &[u8], known: &[u8]) -> bool
+    ensures { result ≡ bytes_eq word.now known.now }
+{
+    word.len() == known.len() && word == known
+}
 
 /// What the first word of a line opens.
 #[derive(Clone, Copy, Debug, PartialEq, Eq)]
@@ -25,15 +34,15 @@ impl Opening {
     pub fn of(word: &[u8]) -> Opening
         ensures { result ≡ opening_of word.now }
     {
-        if word == b"create".as_slice() {
+        if is(word, b"create") {
             Opening::Create
-        } else if word == b"destroy".as_slice() {
+        } else if is(word, b"destroy") {
             Opening::Destroy
-        } else if word == b"join".as_slice() {
+        } else if is(word, b"join") {
             Opening::Join
-        } else if word == b"carry".as_slice() {
+        } else if is(word, b"carry") {
             Opening::Carry
-        } else if word == b"announce".as_slice() {
+        } else if is(word, b"announce") {
             Opening::Announce
         } else {
             Opening::Federate
@@ -65,31 +74,31 @@ impl TimeVerb {
     fn service(word: &[u8]) -> Option<TimeVerb>
         ensures { result ≡ time_service_named word.now }
     {
-        if word == b"regulate".as_slice() {
+        if is(word, b"regulate") {
             Some(TimeVerb::EnableTimeRegulation)
-        } else if word == b"unregulate".as_slice() {
+        } else if is(word, b"unregulate") {
             Some(TimeVerb::DisableTimeRegulation)
-        } else if word == b"constrain".as_slice() {
+        } else if is(word, b"constrain") {
             Some(TimeVerb::EnableTimeConstrained)
-        } else if word == b"unconstrain".as_slice() {
+        } else if is(word, b"unconstrain") {
             Some(TimeVerb::DisableTimeConstrained)
-        } else if word == b"tar".as_slice() {
+        } else if is(word, b"tar") {
             Some(TimeVerb::RequestAdvance(AdvanceKind::TimeAdvance))
-        } else if word == b"tara".as_slice() {
+        } else if is(word, b"tara") {
             Some(TimeVerb::RequestAdvance(AdvanceKind::TimeAdvanceAvailable))
-        } else if word == b"ner".as_slice() {
+        } else if is(word, b"ner") {
             Some(TimeVerb::RequestAdvance(AdvanceKind::NextEvent))
-        } else if word == b"nera".as_slice() {
+        } else if is(word, b"nera") {
             Some(TimeVerb::RequestAdvance(AdvanceKind::NextEventAvailable))
-        } else if word == b"fqr".as_slice() {
+        } else if is(word, b"fqr") {
             Some(TimeVerb::RequestAdvance(AdvanceKind::FlushQueue))
-        } else if word == b"modifyLookahead".as_slice() {
+        } else if is(word, b"modifyLookahead") {
             Some(TimeVerb::ModifyLookahead)
-        } else if word == b"asyncOn".as_slice() {
+        } else if is(word, b"asyncOn") {
             Some(TimeVerb::EnableAsynchronousDelivery)
-        } else if word == b"asyncOff".as_slice() {
+        } else if is(word, b"asyncOff") {
             Some(TimeVerb::DisableAsynchronousDelivery)
-        } else if word == b"retract".as_slice() {
+        } else if is(word, b"retract") {
             Some(TimeVerb::Retract)
         } else {
             None
@@ -101,13 +110,13 @@ impl TimeVerb {
     fn query(word: &[u8]) -> Option<TimeVerb>
         ensures { result ≡ query_of word.now }
     {
-        if word == b"lbts".as_slice() {
+        if is(word, b"lbts") {
             Some(TimeVerb::QueryLbts)
-        } else if word == b"time".as_slice() {
+        } else if is(word, b"time") {
             Some(TimeVerb::QueryFederateTime)
-        } else if word == b"minNext".as_slice() {
+        } else if is(word, b"minNext") {
             Some(TimeVerb::QueryMinNextEventTime)
-        } else if word == b"lookahead".as_slice() {
+        } else if is(word, b"lookahead") {
             Some(TimeVerb::QueryLookahead)
         } else {
             None
@@ -146,21 +155,21 @@ impl Verb {
     fn declaration_verb(word: &[u8]) -> Option<Verb>
         ensures { result ≡ declaration_verb_of word.now }
     {
-        if word == b"publishObject".as_slice() {
+        if is(word, b"publishObject") {
             Some(Verb::DeclareObject(Declaration::Publication))
-        } else if word == b"unpublishObject".as_slice() {
+        } else if is(word, b"unpublishObject") {
             Some(Verb::WithdrawObject(Declaration::Publication))
-        } else if word == b"subscribeObject".as_slice() {
+        } else if is(word, b"subscribeObject") {
             Some(Verb::DeclareObject(Declaration::Subscription))
-        } else if word == b"unsubscribeObject".as_slice() {
+        } else if is(word, b"unsubscribeObject") {
             Some(Verb::WithdrawObject(Declaration::Subscription))
-        } else if word == b"publishInteraction".as_slice() {
+        } else if is(word, b"publishInteraction") {
             Some(Verb::DeclareInteraction(Declaration::Publication))
-        } else if word == b"unpublishInteraction".as_slice() {
+        } else if is(word, b"unpublishInteraction") {
             Some(Verb::WithdrawInteraction(Declaration::Publication))
-        } else if word == b"subscribeInteraction".as_slice() {
+        } else if is(word, b"subscribeInteraction") {
             Some(Verb::DeclareInteraction(Declaration::Subscription))
-        } else if word == b"unsubscribeInteraction".as_slice() {
+        } else if is(word, b"unsubscribeInteraction") {
             Some(Verb::WithdrawInteraction(Declaration::Subscription))
         } else {
             None
@@ -172,21 +181,21 @@ impl Verb {
     pub fn of(word: &[u8]) -> Option<Verb>
         ensures { result ≡ verb_of word.now }
     {
-        if word == b"tick".as_slice() {
+        if is(word, b"tick") {
             Some(Verb::Tick)
-        } else if word == b"resign".as_slice() {
+        } else if is(word, b"resign") {
             Some(Verb::Resign)
-        } else if word == b"register".as_slice() {
+        } else if is(word, b"register") {
             Some(Verb::Register)
-        } else if word == b"update".as_slice() {
+        } else if is(word, b"update") {
             Some(Verb::Update)
-        } else if word == b"send".as_slice() {
+        } else if is(word, b"send") {
             Some(Verb::Send)
-        } else if word == b"delete".as_slice() {
+        } else if is(word, b"delete") {
             Some(Verb::Delete)
-        } else if word == b"objectHandle".as_slice() {
+        } else if is(word, b"objectHandle") {
             Some(Verb::ObjectHandle)
-        } else if word == b"objectName".as_slice() {
+        } else if is(word, b"objectName") {
             Some(Verb::ObjectName)
         } else {
             Verb::declaration_verb(word).or_else(|| TimeVerb::of(word).map(Verb::Time))
@@ -199,13 +208,13 @@ impl Verb {
 pub fn action_of(word: &[u8]) -> Option<ResignAction>
     ensures { result ≡ action_of word.now }
 {
-    if word == b"RELEASE_ATTRIBUTES".as_slice() {
+    if is(word, b"RELEASE_ATTRIBUTES") {
         Some(ResignAction::ReleaseAttributes)
-    } else if word == b"DELETE_OBJECTS".as_slice() {
+    } else if is(word, b"DELETE_OBJECTS") {
         Some(ResignAction::DeleteObjects)
-    } else if word == b"DELETE_OBJECTS_AND_RELEASE_ATTRIBUTES".as_slice() {
+    } else if is(word, b"DELETE_OBJECTS_AND_RELEASE_ATTRIBUTES") {
         Some(ResignAction::DeleteObjectsAndReleaseAttributes)
-    } else if word == b"NO_ACTION".as_slice() {
+    } else if is(word, b"NO_ACTION") {
         Some(ResignAction::NoAction)
     } else {
         None

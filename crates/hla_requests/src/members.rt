@@ -1,6 +1,7 @@
 //! The federates that have joined, by name.
 
 ghost use Rattle.std.specs.Prelude.{◌≡◌, ◌∷◌, ◌++◌, ◌+◌, ◌≤◌, [], map, IfOk, IfErr, is_some, vec_len, vec_capacity};
+ghost use Rattle.std.specs.Str.{bytes_eq};
 ghost use Rattle.hla_requests.specs.Members.{change_of, federate_named, joined_federate_named, with_change, without};
 
 use hla_base::{Fault, FederateNo, List, Plain};
@@ -78,6 +79,13 @@ pub fn note(members: &mut Vec<Member>, change: Change, outcome: &Outcome)
     }
 }
 
+/// Whether two names are the same. Most differ in their last byte, as `F1` and `F2` do, so that is looked at first.
+fn is_same_name(one: &[u8], other: &[u8]) -> bool
+    ensures { result ≡ bytes_eq one.now other.now }
+{
+    one.last() == other.last() && one == other
+}
+
 /// The federate that joined last under a name, also where it has resigned since.
 #[tactic(auto, unfolding(crate::specs::Members::federate_named))]
 pub fn federate_named(members: &[Member], name: &[u8]) -> Option<FederateNo>
@@ -86,7 +94,7 @@ pub fn federate_named(members: &[Member], name: &[u8]) -> Option<FederateNo>
     members
         .iter()
         .rev()
-        .find(|m| m.name.as_slice() == name)
+        .find(|m| is_same_name(m.name.as_slice(), name))
         .map(|m| m.number)
 }
 
@@ -98,6 +106,6 @@ pub fn joined_federate_named(members: &[Member], name: &[u8]) -> Option<Federate
     members
         .iter()
         .rev()
-        .find(|m| m.is_joined && m.name.as_slice() == name)
+        .find(|m| m.is_joined && is_same_name(m.name.as_slice(), name))
         .map(|m| m.number)
 }
