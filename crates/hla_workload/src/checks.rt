@@ -1,0 +1,128 @@
+//! Recorded runs that are checked: with much that waits, with hundreds of events for each federate, and with updates for many.
+
+use crate::digest::Digest;
+use crate::plays::{by_events, by_updates, in_step, opened};
+use crate::sizes::Sizes;
+use crate::stage::Stage;
+use hla_base::Fault;
+use hla_checker::{CheckFault, check_run};
+use hla_machine::{Answer, Outcome, Record};
+use std::alloc::Global;
+
+/// What is played, with its size.
+#[derive(Clone, Copy)]
+pub enum Play {
+    /// In step, with one federate that falls behind, and flushes at the end.
+    InStep { is_flushed: bool },
+    /// From event to event.
+    ByEvents,
+    /// Updates of one federate for all others.
+    ByUpdates,
+}
+
+/// Plays on a stage.
+pub fn play_on(stage: &mut Stage, play: Play, sizes: Sizes) -> Result<(), Fault> {
+    match play {
+        Play::InStep { is_flushed } => in_step(stage, sizes, is_flushed),
+        Play::ByEvents => by_events(stage, sizes),
+        Play::ByUpdates => by_updates(stage, sizes),
+    }
+}
+
+/// The records of a play, and the digest of its answers.
+fn records_of(
+    alloc: Global,
+    play: Play,
+    sizes: Sizes,
+    digest: &mut Digest,
+) -> Result<Vec<Record>, Fault> {
+    let mut stage = opened(alloc, sizes, true)?;
+    let played = play_on(&mut stage, play, sizes);
+    digest.add(stage.digest.value());
+    let records = stage.take_records();
+    drop(stage);
+    match played {
+        Ok(()) => Ok(records),
+        Err(fault) => {
+            drop(records);
+            Err(fault)
+        }
+    }
+}
+
+/// Has records judged.
+fn judge(alloc: Global, records: &[Record], digest: &mut Digest) -> Result<(), Fault> {
+    digest.add(records.len() as u64);
+    match check_run(alloc, records) {
+        Ok(()) => digest.add(1),
+        Err(CheckFault::Place(place)) => digest.add(place as u64),
+        Err(CheckFault::Memory) => return Err(Fault::OutOfMemory),
+    }
+    Ok(())
+}
+
+/// Forges the outcome of a record near the end: one that was refused is said to be done, and any other refused.
+fn forge(records: &mut Vec<Record>) {
+    let place = records.len().saturating_sub(16);
+    if let Some(record) = records.get_mut(place) {
+        record.outcome = match record.outcome {
+            Outcome::Refused(_) => Outcome::Done(Answer::Done),
+            _ => Outcome::Refused(Fault::FederateNotExecutionMember),
+        };
+    }
+}
+
+/// Has the records of a play judged, as they are and forged.
+pub fn check(alloc: Global, play: Play, sizes: Sizes, digest: &mut Digest) -> Result<(), Fault> {
+    let mut records = records_of(alloc, play, sizes, digest)?;
+    let judged = judge(alloc, records.as_slice(), digest);
+    forge(&mut records);
+    let forged = judge(alloc, records.as_slice(), digest);
+    drop(records);
+    judged.and(forged)
+}
+
+/// A play of the sizes of a workload, scaled to its kind.
+fn scaled(sizes: Sizes, federates: u32, amount: u32, rounds: u32) -> Sizes {
+    Sizes {
+        federates: sizes.federates.min(federates),
+        amount: sizes.amount.wrapping_mul(amount),
+        rounds: sizes.rounds.wrapping_mul(rounds),
+        seed: sizes.seed,
+    }
+}
+
+/// Has the records of all kinds of plays judged.
+pub fn run(alloc: Global, sizes: Sizes) -> Result<Digest, Fault> {
+    let mut digest = Digest::new();
+    let late = scaled(sizes, 3, 4, 8);
+    for is_flushed in [false, true] {
+        check(alloc, Play::InStep { is_flushed }, late, &mut digest)?;
+    }
+    let hold = scaled(sizes, 16, 8, 2);
+    check(alloc, Play::ByEvents, hold, &mut digest)?;
+    let updates = scaled(sizes, 16, 4, 1);
+    check(alloc, Play::ByUpdates, updates, &mut digest)?;
+    Ok(digest)
+}
+
+/// Plays all kinds in one process, without records.
+pub fn run_plays(alloc: Global, sizes: Sizes) -> Result<Digest, Fault> {
+    let mut digest = Digest::new();
+    let step = scaled(sizes, 4, 1, 8);
+    let hold = scaled(sizes, 16, 8, 8);
+    let updates = scaled(sizes, 16, 4, 4);
+    let plays = [
+        (Play::InStep { is_flushed: false }, step),
+        (Play::ByEvents, hold),
+        (Play::ByUpdates, updates),
+    ];
+    for (play, sizes) in plays {
+        let mut stage = opened(alloc, sizes, false)?;
+        let played = play_on(&mut stage, play, sizes);
+        digest.add(stage.digest.value());
+        drop(stage);
+        played?;
+    }
+    Ok(digest)
+}

@@ -1,0 +1,53 @@
+//! Scripts that are played, and of which every second one is checked.
+
+use crate::digest::Digest;
+use crate::random::Random;
+use crate::sizes::Sizes;
+use crate::texts::{FED, Text, by_updates, in_step};
+use hla_base::{Fault, List};
+use hla_checker::check_run;
+use hla_machine::Record;
+use hla_script::{Watched, play};
+use std::alloc::Global;
+
+/// Plays a script to memory; its records.
+fn played(alloc: Global, script: &str, digest: &mut Digest) -> Result<List<Record>, Fault> {
+    let mut out = Watched::new(Vec::new(alloc));
+    let played = play(alloc, FED, script.as_bytes(), &mut out);
+    let written = out.into_inner();
+    digest.add_bytes(written.as_slice());
+    drop(written);
+    match played {
+        Ok(records) => Ok(records),
+        Err(fault) => {
+            drop(fault);
+            Err(Fault::FederateInternalError)
+        }
+    }
+}
+
+/// Plays a script, and in every second round of them has its records judged.
+fn play_one(alloc: Global, text: Text, is_checked: bool, digest: &mut Digest) -> Result<(), Fault> {
+    let records = played(alloc, text.text.as_str(), digest);
+    drop(text);
+    let records = records?;
+    digest.add(records.len() as u64);
+    if is_checked {
+        digest.add(u64::from(check_run(alloc, records.as_slice()).is_ok()));
+    }
+    drop(records);
+    Ok(())
+}
+
+/// Plays scripts in step and scripts of updates in turn, as many as there are rounds.
+pub fn run_plays(alloc: Global, sizes: Sizes) -> Result<Digest, Fault> {
+    let mut digest = Digest::new();
+    for round in 0..sizes.rounds {
+        let random = Random::new(sizes.seed, round);
+        let text = in_step(alloc, 4, sizes.amount.wrapping_mul(8), random)?;
+        play_one(alloc, text, round % 2 == 0, &mut digest)?;
+        let text = by_updates(alloc, sizes.federates, 200, sizes.amount, random)?;
+        play_one(alloc, text, round % 2 == 1, &mut digest)?;
+    }
+    Ok(digest)
+}

@@ -1,0 +1,293 @@
+//! A federation in one process whose answers go into a digest, and whose records may be kept.
+
+use crate::digest::Digest;
+use crate::random::Random;
+use crate::values::chosen_values;
+use hla_base::{ClassNo, EventHandle, Fault, FederateNo, List, ObjectNo, Plain, SharedList, Ticks};
+use hla_callbacks::Callback;
+use hla_catalogue::Catalogue;
+use hla_fed_file::read;
+use hla_federation::{Federation, Foreseen};
+use hla_machine::{Act, Answer, Carried, Choice, Outcome, Record, Service, Step};
+use std::alloc::Global;
+use std::mem;
+
+/// A federation execution, the digest of what its steps answered, and its records, if they are kept.
+#[derive(Drop)]
+pub struct Stage {
+    pub alloc: Global,
+    federation: Federation,
+    pub random: Random,
+    pub digest: Digest,
+    history: Option<List<Record>>,
+}
+
+/// What a step brought, as far as a player asks.
+#[derive(Clone, Copy)]
+pub enum Brought {
+    Nothing,
+    Event,
+    Grant(Ticks),
+    Sent(EventHandle),
+    Other,
+}
+
+/// What an answer says that a step brought.
+fn brought_by(answer: &Answer) -> Brought {
+    match answer {
+        Answer::Ticked(
+            Some(Callback::ReceiveInteraction { .. } | Callback::ReflectAttributeValues { .. }),
+        ) => Brought::Event,
+        Answer::Ticked(Some(Callback::TimeAdvanceGrant { time })) => Brought::Grant(*time),
+        Answer::Ticked(None) | Answer::Carried(Carried::Nothing) => Brought::Nothing,
+        Answer::Sent(Some(event)) => Brought::Sent(*event),
+        _ => Brought::Other,
+    }
+}
+
+/// What ticks brought a federate until they brought a grant or nothing.
+#[derive(Clone, Copy)]
+pub struct Visit {
+    pub events: u64,
+    pub grant: Option<Ticks>,
+}
+
+/// The catalogue of a FED text that has no faults.
+fn catalogue_of(alloc: Global, fed: &[u8]) -> Result<Catalogue, Fault> {
+    match read(alloc, fed) {
+        Ok(catalogue) => Ok(catalogue),
+        Err(_) => Err(Fault::ErrorReadingFED),
+    }
+}
+
+/// The record of an act.
+fn record_of(alloc: Global, act: Act, outcome: Outcome, choice: Choice) -> Result<Record, Fault> {
+    match SharedList::from_slice(alloc, b"workload") {
+        Ok(execution) => Ok(Record {
+            actor: 1,
+            execution,
+            act,
+            outcome,
+            choice,
+        }),
+        Err(fault) => {
+            drop(act);
+            drop(outcome);
+            drop(choice);
+            Err(fault)
+        }
+    }
+}
+
+/// The history of an execution that was just created.
+fn history_of(alloc: Global, catalogue: &Catalogue) -> Result<List<Record>, Fault> {
+    let catalogue = Some(catalogue.copy()?);
+    let mut records = List::new(alloc);
+    let outcome = Outcome::Done(Answer::Done);
+    records.push(record_of(alloc, Act::Create { catalogue }, outcome, Choice::None)?)?;
+    Ok(records)
+}
+
+impl Stage {
+    /// A federation that no federate has joined yet.
+    pub fn new(
+        alloc: Global,
+        fed: &[u8],
+        random: Random,
+        is_recorded: bool,
+    ) -> Result<Stage, Fault> {
+        let catalogue = catalogue_of(alloc, fed)?;
+        let history = if is_recorded {
+            match history_of(alloc, &catalogue) {
+                Ok(records) => Some(records),
+                Err(fault) => {
+                    drop(catalogue);
+                    return Err(fault);
+                }
+            }
+        } else {
+            None
+        };
+        Ok(Stage {
+            alloc,
+            federation: Federation::new(alloc, catalogue),
+            random,
+            digest: Digest::new(),
+            history,
+        })
+    }
+
+    /// Takes the records out, if there are any.
+    pub fn take_records(&mut self) -> Vec<Record> {
+        let none = List::new(self.alloc);
+        match &mut self.history {
+            Some(records) => mem::replace(records, none).into_vec(),
+            None => none.into_vec(),
+        }
+    }
+
+    /// Adds the record that the next step will have, if records are kept.
+    fn record(&mut self, step: &Step) -> Result<(), Fault> {
+        let Some(records) = &mut self.history else {
+            return Ok(());
+        };
+        let Foreseen { outcome, choice } = self.federation.foresee(step)?;
+        match step.copy() {
+            Ok(step) => {
+                let record = record_of(self.alloc, Act::Step(step), outcome, choice)?;
+                records.push(record)
+            }
+            Err(fault) => {
+                drop(outcome);
+                drop(choice);
+                Err(fault)
+            }
+        }
+    }
+
+    /// Does a step; what it answers, or why it is refused, goes into the digest.
+    fn done(&mut self, step: &Step) -> Result<Brought, Fault> {
+        self.record(step)?;
+        match self.federation.step(step) {
+            Ok(answer) => {
+                self.digest.add_answer(&answer);
+                let brought = brought_by(&answer);
+                drop(answer);
+                Ok(brought)
+            }
+            Err(Fault::OutOfMemory) => Err(Fault::OutOfMemory),
+            Err(fault) => {
+                self.digest.add_fault(fault);
+                Ok(Brought::Nothing)
+            }
+        }
+    }
+
+    /// Does a step that is let go then.
+    pub fn step(&mut self, step: Step) -> Result<Brought, Fault> {
+        let brought = self.done(&step);
+        drop(step);
+        brought
+    }
+
+    /// A joined federate calls a service.
+    pub fn call(&mut self, federate: FederateNo, service: Service) -> Result<Brought, Fault> {
+        self.step(Step::Call { federate, service })
+    }
+
+    /// A federate joins, under the letter that has its number.
+    pub fn join(&mut self, federate: FederateNo) -> Result<(), Fault> {
+        let mut name = List::new(self.alloc);
+        name.push(b'@'.wrapping_add(federate.to_le_bytes()[0]))?;
+        let _brought = self.step(Step::Join { name })?;
+        Ok(())
+    }
+
+    /// A federate becomes time regulating.
+    pub fn regulate(&mut self, federate: FederateNo, lookahead: Ticks) -> Result<(), Fault> {
+        let service = Service::EnableTimeRegulation { time: 0, lookahead };
+        let _brought = self.call(federate, service)?;
+        let _visit = self.visit(federate)?;
+        Ok(())
+    }
+
+    /// A federate becomes time constrained.
+    pub fn constrain(&mut self, federate: FederateNo) -> Result<(), Fault> {
+        let _brought = self.call(federate, Service::EnableTimeConstrained)?;
+        let _visit = self.visit(federate)?;
+        Ok(())
+    }
+
+    /// A federate sends an interaction with one parameter.
+    pub fn send(
+        &mut self,
+        federate: FederateNo,
+        class: ClassNo,
+        stamp: Ticks,
+    ) -> Result<Brought, Fault> {
+        let values = chosen_values(self.alloc, &mut self.random, 1)?;
+        let stamp = Some(stamp);
+        self.call(
+            federate,
+            Service::SendInteraction {
+                class,
+                values,
+                stamp,
+            },
+        )
+    }
+
+    /// A federate updates some of so many attributes of an object.
+    pub fn update(
+        &mut self,
+        federate: FederateNo,
+        object: ObjectNo,
+        attributes: u32,
+        stamp: Option<Ticks>,
+    ) -> Result<Brought, Fault> {
+        let values = chosen_values(self.alloc, &mut self.random, attributes)?;
+        self.call(
+            federate,
+            Service::UpdateAttributeValues {
+                object,
+                values,
+                stamp,
+            },
+        )
+    }
+
+    /// The numbers from one to another.
+    pub fn numbers(&self, last: u32) -> Result<List<u32>, Fault> {
+        let mut numbers = List::new(self.alloc);
+        for number in 1..=last {
+            numbers.push(number)?;
+        }
+        Ok(numbers)
+    }
+
+    /// A federate announces its promise.
+    pub fn announce(&mut self, federate: FederateNo) -> Result<(), Fault> {
+        let _brought = self.step(Step::Announce { federate })?;
+        Ok(())
+    }
+
+    /// Carries a wire until it is empty.
+    fn carry(&mut self, from: FederateNo, to: FederateNo) -> Result<(), Fault> {
+        for _ in 0..u64::MAX {
+            if matches!(self.step(Step::Carry { from, to })?, Brought::Nothing) {
+                return Ok(());
+            }
+        }
+        Ok(())
+    }
+
+    /// Carries all wires from a federate to the others until they are empty.
+    pub fn carry_from(&mut self, from: FederateNo, federates: u32) -> Result<(), Fault> {
+        for to in 1..=federates {
+            if to != from {
+                self.carry(from, to)?;
+            }
+        }
+        Ok(())
+    }
+
+    /// Ticks a federate until it is granted a time, or picks up nothing.
+    pub fn visit(&mut self, federate: FederateNo) -> Result<Visit, Fault> {
+        let mut events = 0u64;
+        for _ in 0..u64::MAX {
+            match self.step(Step::Tick { federate })? {
+                Brought::Event => events = events.wrapping_add(1),
+                Brought::Grant(time) => {
+                    let grant = Some(time);
+                    return Ok(Visit { events, grant });
+                }
+                Brought::Nothing => break,
+                Brought::Sent(_) | Brought::Other => {}
+            }
+        }
+        Ok(Visit {
+            events,
+            grant: None,
+        })
+    }
+}
