@@ -9,6 +9,7 @@ mod life;
 mod opening;
 mod outcomes;
 mod player;
+mod resting;
 mod runner;
 mod texts;
 mod watching;

@@ -3,11 +3,12 @@
 use crate::gate::Gate;
 use crate::outcomes::{Told, outcome_of_tick};
 use crate::player::{Acted, Deed, Player, do_deed};
+use crate::resting::{Rested, RestingRoom};
 use hla_base::{ExecutionName, Fault, FederateNo, List};
 use hla_callbacks::Recorder;
 use hla_catalogue::Catalogue;
 use hla_commands::{Call, Command, Line};
-use hla_machine::{Answer, Outcome};
+use hla_machine::{Answer, Carried, Outcome};
 use hla_monitor::{Naming, Publisher};
 use hla_rti::{Courier, Federate};
 use std::alloc::Global;
@@ -18,8 +19,8 @@ use std::thread;
 /// How often a line that ticks does so at most until a callback comes.
 const MAX_TICKS: u32 = 1_000;
 
-/// How often a thread gives its turn away after the first, the second and each further tick of a line that brought nothing.
-/// Ten thousand turns are some milliseconds: time for the others to get on, so that the history lasts, also beside busy
+/// How often a thread gives its turn away after the first, the second and each further tick of a line that brought nothing, while
+/// there are threads that have not begun. Ten thousand turns are some milliseconds: time for the others to begin, also beside busy
 /// processes. After `PATIENT_TICKS` there is little to wait for.
 const FIRST_TURNS: u32 = 10_000;
 
@@ -42,6 +43,7 @@ pub struct Stage<'a, G: Gate> {
     pub gate: &'a G,
     /// How many federates have joined.
     pub joined: FederateNo,
+    pub room: RestingRoom,
 }
 
 /// A federate that joined under a name, with a courier that brings all federates what they send each other.
@@ -57,34 +59,42 @@ pub struct Life<L: Ledger + Naming, P: Publisher<L>> {
     pub lacks_memory: bool,
 }
 
-/// Carries each wire that leads from a federate once.
+/// Carries each wire that leads from a federate once. Answers whether anything was there.
 fn carry_from<L: Ledger + Naming, P: Publisher<L>>(
     rt: &impl Wait,
     courier: &mut Courier<L, Recorder, P>,
     execution: ExecutionName,
     from: FederateNo,
     joined: FederateNo,
-) {
+) -> bool {
+    let mut has_moved = false;
     for to in 1..=joined {
         if to != from {
-            let _ = courier.carry(rt, execution, from, to);
+            let carried = courier.carry(rt, execution, from, to);
+            has_moved = has_moved || carried.is_ok_and(|carried| carried != Carried::Nothing);
         }
     }
+    has_moved
 }
 
-/// Has each federate announce its promise, and then carries each wire once, by rising numbers. A refusal is in the records.
+/// Has each federate announce its promise, and then carries each wire once, by rising numbers. A refusal is in the records. Answers
+/// whether anything was announced or carried.
 fn exchange<L: Ledger + Naming, P: Publisher<L>>(
     rt: &impl Wait,
     courier: &mut Courier<L, Recorder, P>,
     execution: ExecutionName,
     joined: FederateNo,
-) {
+) -> bool {
+    let mut has_moved = false;
     for federate in 1..=joined {
-        let _ = courier.announce(rt, execution, federate);
+        let announced = courier.announce(rt, execution, federate);
+        has_moved = has_moved || announced.is_ok_and(|promise| promise.is_some());
     }
     for from in 1..=joined {
-        carry_from(rt, courier, execution, from, joined);
+        let has_carried = carry_from(rt, courier, execution, from, joined);
+        has_moved = has_moved || has_carried;
     }
+    has_moved
 }
 
 /// How often a thread gives its turn away, by how many ticks of the line brought nothing before this one.
@@ -97,28 +107,48 @@ fn turns_after(ticks: u32) -> u32 {
     }
 }
 
-/// Gives the thread's turn away, so often.
-fn stand_back(turns: u32) {
+/// Gives the thread's turn away, so often at most, until all threads have begun.
+fn stand_back(rt: &impl Wait, room: &RestingRoom, turns: u32) {
     for _ in 0..turns {
+        if room.have_all_begun(rt) {
+            return;
+        }
         thread::yield_now();
     }
 }
 
-/// Ticks until a callback comes or a tick is refused, at most `MAX_TICKS` times. After a tick with nothing the federates
-/// exchange what they have for each other, and the other threads have their turn.
-fn called_back<L: Ledger + Naming, P: Publisher<L>>(
+/// What a thread does after a tick with nothing: it rests until there is something new. Where all others do so, too, it has the
+/// federates exchange what they have for each other.
+fn after_nothing<L: Ledger + Naming, P: Publisher<L>, G: Gate>(
     rt: &impl Wait,
+    stage: &Stage<G>,
+    courier: &mut Courier<L, Recorder, P>,
+    ticks: u32,
+) {
+    match stage.room.rest(rt) {
+        Rested::News => {}
+        Rested::Alone => {
+            if exchange(rt, courier, stage.execution, stage.joined) {
+                stage.room.bring_news(rt);
+            }
+        }
+        Rested::TooEarly => {
+            let _ = exchange(rt, courier, stage.execution, stage.joined);
+            stand_back(rt, &stage.room, turns_after(ticks));
+        }
+    }
+}
+
+/// Ticks until a callback comes or a tick is refused, at most `MAX_TICKS` times.
+fn called_back<L: Ledger + Naming, P: Publisher<L>, G: Gate>(
+    rt: &impl Wait,
+    stage: &Stage<G>,
     federate: &mut Federate<L, Recorder, P>,
     courier: &mut Courier<L, Recorder, P>,
-    execution: ExecutionName,
-    joined: FederateNo,
 ) -> Outcome {
     for ticks in 0..MAX_TICKS {
         match outcome_of_tick(federate.tick(rt)) {
-            Outcome::Done(Answer::Ticked(None)) => {
-                exchange(rt, courier, execution, joined);
-                stand_back(turns_after(ticks));
-            }
+            Outcome::Done(Answer::Ticked(None)) => after_nothing(rt, stage, courier, ticks),
             ended => return ended,
         }
     }
@@ -144,13 +174,24 @@ fn done<L: Ledger + Naming, P: Publisher<L>, G: Gate>(
     };
     match Deed::of(stage.alloc, stage.catalogue, call) {
         Deed::Tick => {
-            let outcome = called_back(rt, &mut federate, courier, stage.execution, stage.joined);
+            let outcome = called_back(rt, stage, &mut federate, courier);
             Acted {
                 player: Player::Joined(federate),
                 outcome,
             }
         }
         deed => do_deed(rt, federate, deed),
+    }
+}
+
+/// Passes the gate before a line. A thread that is held there counts as one that rests: others don't wait for it.
+fn pass<G: Gate>(rt: &impl Wait, stage: &Stage<G>, number: FederateNo, line: usize) {
+    if stage.gate.may_hold() {
+        stage.room.hold(rt);
+        stage.gate.before(number, line);
+        stage.room.let_go(rt);
+    } else {
+        stage.gate.before(number, line);
     }
 }
 
@@ -172,7 +213,7 @@ impl<L: Ledger + Naming, P: Publisher<L>> Life<L, P> {
             mut told,
             lacks_memory,
         } = self;
-        stage.gate.before(number, line);
+        pass(rt, stage, number, line);
         let Acted { player, outcome } = done(rt, stage, player, &mut courier, call);
         stage.gate.after(number, line);
         let is_kept = told.push(Told { place, outcome }).is_ok();
@@ -193,6 +234,7 @@ pub fn live<L: Ledger + Naming, P: Publisher<L>, G: Gate>(
     stage: &Stage<G>,
     mut life: Life<L, P>,
 ) -> Life<L, P> {
+    stage.room.enter(rt);
     for (place, line) in stage.lines.iter().enumerate() {
         if let Command::Federate { name, call } = &line.command {
             if name.as_slice() == life.name.as_slice() {
@@ -200,5 +242,6 @@ pub fn live<L: Ledger + Naming, P: Publisher<L>, G: Gate>(
             }
         }
     }
+    stage.room.leave(rt);
     life
 }

@@ -9,6 +9,7 @@ use crate::gate::Gate;
 use crate::life::{Life, Stage, live};
 use crate::opening::{destroy, open, refuse_strangers};
 use crate::outcomes::Outcomes;
+use crate::resting::RestingRoom;
 use crate::texts::{Texts, read_texts};
 use crate::watching::{Ran, last_read, to_the_end, watcher};
 use hla_base::{ExecutionName, Fault, MAX_HISTORY};
@@ -102,6 +103,7 @@ fn ran<
         lines,
         gate,
         joined: number_of(lives.as_slice()),
+        room: RestingRoom::new(lives.len()),
     };
     let Ok(lives) = thread::map_vec(rt, lives, &|life| live(rt, &stage, life)) else {
         return Err(Fault::OutOfMemory);
@@ -167,10 +169,11 @@ fn told_on_threads<
 /// Runs a script over a FED file in an execution named `play`, behind the lock of a run-time infrastructure: first the lines
 /// that create it and join federates, in the order of the script, then the lines of each federate, on a thread of its own and
 /// in their order, and then the lines that destroy it. Lines that carry and announce are not run: a line that ticks does so
-/// until a callback comes, at most 1,000 times, and after a tick with nothing has each federate announce its promise and
-/// carries each wire once. `gate` is called round each line of a thread. Then it writes how the lines came out that were done,
-/// in the order of the script, and closes. Where `is_watched`, a monitor is there from before the first step on, and reads the
-/// counts once all is done. `blank` is a ledger of 2,049 parts and `opened` an empty history, as `open_rti` takes them.
+/// until a callback comes, at most 1,000 times. After a tick with nothing its thread rests; where all do, the last of them has
+/// each federate announce its promise and carries each wire once, and if there was anything all go on. `gate` is called round
+/// each line of a thread. Then it writes how the lines came out that were done, in the order of the script, and closes. Where
+/// `is_watched`, a monitor is there from before the first step on, and reads the counts once all is done. `blank` is a ledger of
+/// 2,049 parts and `opened` an empty history, as `open_rti` takes them.
 ///
 /// The FED file is tested before the script, and both before anything is done. `Memory` where a growth was refused outside the
 /// steps, or the monitor before any step; `Write` only where the writer has failed; `Close` where the infrastructure does not
