@@ -32,3 +32,5 @@ pub mod DeletionVerdicts
 pub mod NewObjects
 -- What tests of a registration tell
 pub mod RegistrationVerdicts
+-- Values of which all are shown
+pub mod ShownValues

@@ -1,10 +1,12 @@
 //! What a message says to each federate.
 
-ghost use Rattle.std.specs.Prelude.{◌≡◌, ◌≤◌, filter, length, IfOk, IfErr};
+ghost use Rattle.std.specs.Prelude.{◌≡◌, ◌≤◌, false, filter, length, IfOk, IfErr};
+ghost use Rattle.std.specs.List.{list_all};
+ghost use Rattle.std.specs.Option.{option_map_or};
 ghost use Rattle.hla_base.specs.Limits.{max_joins};
 ghost use Rattle.hla_base.specs.declared.content.HandleValuePair.{HandleValuePair};
 ghost use Rattle.hla_base.specs.declared.fault.Fault.TheVariants.{OutOfMemory};
-ghost use Rattle.hla_catalogue.specs.Lookup.{has_parameter};
+ghost use Rattle.hla_catalogue.specs.Lookup.{contains_number, has_parameter};
 ghost use Rattle.hla_machine.specs.Directory.{AnInteraction, AnUpdate, ADeletion, content_for, subscribed_values};
 ghost use Rattle.hla_verdicts.specs.Kept.{directory_of};
 ghost use Rattle.hla_checker.specs.Sending.{body_said, AreContents};
@@ -15,16 +17,17 @@ use hla_base::{
 };
 use hla_catalogue::Order;
 
-/// What a service sends, before it is cut to what each receiver is shown. The values are by rising handle.
+/// What a service sends, before it is cut to what each receiver is shown. The values are by rising handle; who is shown all of
+/// them shares them.
 #[derive(Debug, Drop)]
 pub(crate) enum Body {
     Interaction {
         class: ClassNo,
-        values: List<HandleValuePair>,
+        values: SharedList<HandleValuePair>,
     },
     Update {
         object: ObjectNo,
-        values: List<HandleValuePair>,
+        values: SharedList<HandleValuePair>,
     },
     Deletion {
         object: ObjectNo,
@@ -39,8 +42,18 @@ pub(crate) struct Message {
 }
 
 impl KeptExecution {
-    /// The values of the parameters that a class has. `OutOfMemory` where a growth was refused.
-    fn shown_parameters(
+    /// Whether a class has all of these parameters.
+    fn shows_parameters(&self, class: ClassNo, values: &[HandleValuePair]) -> bool
+        ensures { result ≡ list_all (λ (v : HandleValuePair). has_parameter self.now.catalogue class v.handle)
+            values.now }
+    {
+        values
+            .iter()
+            .all(|shown| self.catalogue.has_parameter(class, shown.handle))
+    }
+
+    /// Copies of the values of the parameters that a class has. `OutOfMemory` where a growth was refused.
+    fn cut_parameters(
         &self,
         class: ClassNo,
         values: &[HandleValuePair],
@@ -59,8 +72,41 @@ impl KeptExecution {
         Ok(shared)
     }
 
-    /// The values of the attributes that a federate subscribes at a class. `OutOfMemory` where a growth was refused.
-    fn shown_attributes(
+    /// The values of the parameters that a class has: those that are given, where it has all of them. `OutOfMemory` where a growth
+    /// was refused.
+    fn shown_parameters(
+        &self,
+        class: ClassNo,
+        values: &SharedList<HandleValuePair>,
+    ) -> Result<SharedList<HandleValuePair>, Fault>
+        ensures ok { IfOk result (λ shown. shown ≡ filter
+            (λ (v : HandleValuePair). has_parameter self.now.catalogue class v.handle) values.now) }
+        ensures err { IfErr result (λ e. e ≡ Fault.OutOfMemory) }
+    {
+        if self.shows_parameters(class, values.as_slice()) {
+            return values.copy();
+        }
+        self.cut_parameters(class, values.as_slice())
+    }
+
+    /// Whether a federate subscribes all of these attributes at a class.
+    fn shows_attributes(
+        &self,
+        federate: FederateNo,
+        class: ClassNo,
+        values: &[HandleValuePair],
+    ) -> bool
+        ensures { result ≡ list_all (λ (v : HandleValuePair). option_map_or (contains_number v.handle)
+            ((directory_of self.now).subscribed federate class) false) values.now }
+    {
+        values.iter().all(|shown| {
+            self.declarations
+                .subscribes_attribute(federate, class, shown.handle)
+        })
+    }
+
+    /// Copies of the values of the attributes that a federate subscribes at a class. `OutOfMemory` where a growth was refused.
+    fn cut_attributes(
         &self,
         federate: FederateNo,
         class: ClassNo,
@@ -83,12 +129,30 @@ impl KeptExecution {
         Ok(shared)
     }
 
+    /// The values of the attributes that a federate subscribes at a class: those that are given, where it subscribes all of them.
+    /// `OutOfMemory` where a growth was refused.
+    fn shown_attributes(
+        &self,
+        federate: FederateNo,
+        class: ClassNo,
+        values: &SharedList<HandleValuePair>,
+    ) -> Result<SharedList<HandleValuePair>, Fault>
+        ensures ok { IfOk result (λ shown. shown ≡ subscribed_values (directory_of self.now) federate class
+            values.now) }
+        ensures err { IfErr result (λ e. e ≡ Fault.OutOfMemory) }
+    {
+        if self.shows_attributes(federate, class, values.as_slice()) {
+            return values.copy();
+        }
+        self.cut_attributes(federate, class, values.as_slice())
+    }
+
     /// What an interaction says to a federate, if anything. `OutOfMemory` where a growth was refused.
     fn interaction_for(
         &self,
         federate: FederateNo,
         class: ClassNo,
-        values: &[HandleValuePair],
+        values: &SharedList<HandleValuePair>,
     ) -> Result<Option<Content>, Fault>
         ensures ok { IfOk result (λ x. x ≡ content_for (directory_of self.now) (AnInteraction class values.now)
             federate) }
@@ -111,7 +175,7 @@ impl KeptExecution {
         &self,
         federate: FederateNo,
         object: ObjectNo,
-        values: &[HandleValuePair],
+        values: &SharedList<HandleValuePair>,
     ) -> Result<Option<Content>, Fault>
         ensures ok { IfOk result (λ x. x ≡ content_for (directory_of self.now) (AnUpdate object values.now)
             federate) }
@@ -152,11 +216,9 @@ impl KeptExecution {
     {
         match body {
             Body::Interaction { class, values } => {
-                self.interaction_for(federate, *class, values.as_slice())
+                self.interaction_for(federate, *class, values)
             }
-            Body::Update { object, values } => {
-                self.update_for(federate, *object, values.as_slice())
-            }
+            Body::Update { object, values } => { self.update_for(federate, *object, values) }
             Body::Deletion { object } => Ok(self.removal_for(federate, *object)),
         }
     }

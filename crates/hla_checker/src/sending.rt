@@ -16,7 +16,7 @@ ghost use Rattle.hla_checker.specs.Sending.{body_said, outgoing};
 use crate::contents::{Body, Message};
 use crate::kept::KeptExecution;
 use crate::pairs::by_handle;
-use hla_base::{ClassNo, EventHandle, Fault, FederateNo, HandleValuePair, List, Ticks};
+use hla_base::{ClassNo, EventHandle, Fault, FederateNo, HandleValuePair, List, SharedList, Ticks};
 use hla_catalogue::Order;
 use hla_machine::{Choice, Outcome};
 use hla_verdicts::{Verdict, answer_to_test, is_sent};
@@ -108,7 +108,7 @@ impl KeptExecution {
         ensures err { IfErr result (λ e. e ≡ Fault.OutOfMemory) }
     {
         let order = self.catalogue.interaction_order(class);
-        let values = by_handle(self.alloc, values)?;
+        let values = SharedList::from_list(by_handle(self.alloc, values)?)?;
         let body = Body::Interaction { class, values };
         self.send(federate, stamp, &Message { order, body })
     }

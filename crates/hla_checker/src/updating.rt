@@ -3,7 +3,9 @@
 ghost use Rattle.std.specs.Prelude.{ℕ, ◌≡◌, ◌≤◌, ◌+◌, true, length, OnOk, IfOk, IfErr};
 ghost use Rattle.hla_base.specs.Limits.{max_serial};
 ghost use Rattle.hla_base.specs.declared.fault.Fault.TheVariants.{OutOfMemory};
-ghost use Rattle.hla_machine.specs.Directory.{part_sent, update_sent, values_of_order};
+ghost use Rattle.std.specs.List.{list_all};
+ghost use Rattle.hla_catalogue.specs.Lookup.{attribute_order};
+ghost use Rattle.hla_machine.specs.Directory.{is_of_order, part_sent, update_sent, values_of_order};
 ghost use Rattle.hla_machine.specs.Machine.{send_answer};
 ghost use Rattle.hla_machine.specs.Sends.{after_messages};
 ghost use Rattle.hla_machine.specs.declared.service.Service.TheVariants as services;
@@ -14,28 +16,55 @@ ghost use Rattle.hla_verdicts.specs.Kept.{IsConsistent, JudgedStep, central_of, 
 use crate::contents::{Body, Message};
 use crate::kept::KeptExecution;
 use crate::pairs::by_handle;
-use hla_base::{EventHandle, Fault, FederateNo, HandleValuePair, List, ObjectNo, Plain, Ticks};
+use hla_base::{
+    EventHandle, Fault, FederateNo, HandleValuePair, List, ObjectNo, Plain, SharedList, Ticks,
+};
 use hla_catalogue::Order;
 use hla_machine::{Choice, Outcome};
 use hla_verdicts::{Verdict, answer_to_test, is_sent};
 
 impl KeptExecution {
-    /// The values of the attributes whose updates have this order. `OutOfMemory` where a growth was refused.
-    fn values_of_order(
+    /// Whether all of these values are of attributes whose updates have this order.
+    fn has_only(&self, order: Order, values: &[HandleValuePair]) -> bool
+        ensures { result ≡ list_all (λ (v : HandleValuePair). is_of_order order
+            (attribute_order self.now.catalogue v.handle)) values.now }
+    {
+        values.iter().all(|value| self.catalogue.attribute_order(value.handle) == order)
+    }
+
+    /// Copies of the values of the attributes whose updates have this order. `OutOfMemory` where a growth was refused.
+    fn cut_to_order(
         &self,
         order: Order,
         values: &[HandleValuePair],
-    ) -> Result<List<HandleValuePair>, Fault>
+    ) -> Result<SharedList<HandleValuePair>, Fault>
         ensures ok { IfOk result (λ part. part ≡ values_of_order (directory_of self.now) order values.now) }
         ensures err { IfErr result (λ e. e ≡ Fault.OutOfMemory) }
     {
-        let mut part = List::with_room(self.alloc, values.len())?;
+        let mut part = List::new(self.alloc);
         for value in values {
             if self.catalogue.attribute_order(value.handle) == order {
                 part.push(value.copy()?)?;
             }
         }
-        Ok(part)
+        let shared = SharedList::from_list(part)?;
+        Ok(shared)
+    }
+
+    /// The values of the attributes whose updates have this order: those that are given, where all have. `OutOfMemory` where a
+    /// growth was refused.
+    fn values_of_order(
+        &self,
+        order: Order,
+        values: &SharedList<HandleValuePair>,
+    ) -> Result<SharedList<HandleValuePair>, Fault>
+        ensures ok { IfOk result (λ part. part ≡ values_of_order (directory_of self.now) order values.now) }
+        ensures err { IfErr result (λ e. e ≡ Fault.OutOfMemory) }
+    {
+        if self.has_only(order, values.as_slice()) {
+            return values.copy();
+        }
+        self.cut_to_order(order, values.as_slice())
     }
 
     /// The handle of the part of an update that goes in time-stamp order, if there is one: the part in receive order goes
@@ -73,7 +102,7 @@ impl KeptExecution {
         federate: FederateNo,
         object: ObjectNo,
         order: Order,
-        values: List<HandleValuePair>,
+        values: SharedList<HandleValuePair>,
         stamp: Option<Ticks>,
     ) -> Result<(), Fault>
         requires consistent { IsConsistent self.old }
@@ -110,9 +139,9 @@ impl KeptExecution {
         ensures consistent { OnOk result (IsConsistent self.new) }
         ensures err { IfErr result (λ e. e ≡ Fault.OutOfMemory) }
     {
-        let values = by_handle(self.alloc, values)?;
-        let received = self.values_of_order(Order::Receive, values.as_slice())?;
-        let stamped = self.values_of_order(Order::Timestamp, values.as_slice())?;
+        let values = SharedList::from_list(by_handle(self.alloc, values)?)?;
+        let received = self.values_of_order(Order::Receive, &values)?;
+        let stamped = self.values_of_order(Order::Timestamp, &values)?;
         self.send_part(federate, object, Order::Receive, received, stamp)?;
         self.send_part(federate, object, Order::Timestamp, stamped, stamp)
     }

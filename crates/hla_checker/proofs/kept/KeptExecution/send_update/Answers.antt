@@ -1,8 +1,7 @@
 use Rattle.std.proofs.Common.{List, length, sym, ap, ◌∙◌, length-append}
-use Rattle.hla_base.specs.declared.content.HandleValuePair.{HandleValuePair}
 use Rattle.hla_catalogue.specs.declared.declared.Order.TheVariants.{Receive, Timestamp}
 use Rattle.hla_machine.specs.Central.{Central}
-use Rattle.hla_machine.specs.Directory.{Directory, Outgoing, part_sent, values_of_order}
+use Rattle.hla_machine.specs.Directory.{Directory, Outgoing, part_sent}
 use Rattle.hla_machine.specs.Sends.{after_messages}
 use Rattle.hla_accounts.specs.Accounts.{account_at}
 use Rattle.hla_accounts.proofs.CountLemmas.{on_ok}
@@ -21,8 +20,8 @@ send_part-requires-2-clause-room c =
     let d = directory_of c.args.self.now in
     let first = part_sent Receive c.args.object c.in_ok-received.received in
     let second = part_sent Timestamp c.args.object c.in_ok-stamped.stamped in
-    let parts = update_parts d c.args.object c.args.values.now c.in_ok-values.values c.in_ok-received.received c.in_ok-stamped.stamped c.in_ok-values.ensures.ok
-    (c.in_ok-received.ensures.ok ∙ ap (λ (vs : List HandleValuePair). values_of_order d Receive vs) c.as_slice.ensures) (c.in_ok-stamped.ensures.ok ∙ ap (λ (vs : List HandleValuePair). values_of_order d Timestamp vs) c.as_slice-2.ensures) in
+    let parts = update_parts d c.args.object c.args.values.now c.in_ok-values.values c.in_ok-received.received c.in_ok-stamped.stamped (c.in_ok-values.ensures.ok ∙ c.in_ok-by_handle.ensures.ok)
+    c.in_ok-received.ensures.ok c.in_ok-stamped.ensures.ok in
     second_room (account_at c.args.self.now.accounts c.args.federate).next_serial _ (length first) (length second) _
     (ap (λ (s : Central). s.serial c.args.federate) c.in_ok-send_part.ensures.sent ∙ after_serial c.args.federate c.args.stamp first (central_of c.args.self.now))
     (ap (λ (outs : List Outgoing). length outs) (sym parts) ∙ length-append first second) c.requires.room
@@ -33,8 +32,8 @@ returns-clause-sent c =
     let old = central_of c.args.self.now in
     let first = part_sent Receive c.args.object c.in_ok-received.received in
     let second = part_sent Timestamp c.args.object c.in_ok-stamped.stamped in
-    let parts = update_parts d c.args.object c.args.values.now c.in_ok-values.values c.in_ok-received.received c.in_ok-stamped.stamped c.in_ok-values.ensures.ok
-    (c.in_ok-received.ensures.ok ∙ ap (λ (vs : List HandleValuePair). values_of_order d Receive vs) c.as_slice.ensures) (c.in_ok-stamped.ensures.ok ∙ ap (λ (vs : List HandleValuePair). values_of_order d Timestamp vs) c.as_slice-2.ensures) in
+    let parts = update_parts d c.args.object c.args.values.now c.in_ok-values.values c.in_ok-received.received c.in_ok-stamped.stamped (c.in_ok-values.ensures.ok ∙ c.in_ok-by_handle.ensures.ok)
+    c.in_ok-received.ensures.ok c.in_ok-stamped.ensures.ok in
     on_ok c.send_part-2.result (λ more.
     more ∙ ap (λ (s : Central). after_messages s c.args.federate c.args.stamp second) c.in_ok-send_part.ensures.sent ∙ sym (after_append c.args.federate c.args.stamp first second old)
     ∙ ap (after_messages old c.args.federate c.args.stamp) parts) c.send_part-2.ensures.sent

@@ -1,7 +1,7 @@
 use Rattle.std.proofs.Common.{◌≡◌, take, filter}
 use Rattle.hla_base.specs.declared.content.HandleValuePair.{HandleValuePair}
 use Rattle.hla_catalogue.specs.Lookup.{has_parameter}
-use Rattle.hla_checker.proofs.kept.KeptExecution.shown_parameters.Given as goal
+use Rattle.hla_checker.proofs.kept.KeptExecution.cut_parameters.Given as goal
 
 -- what is shown of the values so far
 abbrev pub invariant-loop-value : goal.invariant-loop-value
