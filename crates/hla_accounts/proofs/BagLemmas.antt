@@ -1,15 +1,13 @@
 -- What a bag has after a change
-use Rattle.std.proofs.Common.{◌≡◌, ℕ, zero, suc, ◌+◌, ◌<◌, ◌≤◌, cond, eqb, ltb, ◌&&◌, not, Bool, true, false, List, [], ◌∷◌, ◌++◌, length, get_or, set, map, Option, Some, None, option_map, refl, sym, ap, ◌∙◌, ⊎_elim, arith, eqb-true}
+use Rattle.std.proofs.Common.{◌≡◌, ℕ, cond, eqb, ◌&&◌, not, Bool, true, false, List, [], ◌∷◌, ◌++◌, map, Option, Some, None, option_map, refl, sym, ap, ◌∙◌, arith, eqb-true}
 use Rattle.std.specs.List.{filter, find}
-use Rattle.std.proofs.lemmas.Bool.{and_parts, cases_eq}
+use Rattle.std.proofs.lemmas.Bool.{and_parts}
 use Rattle.std.proofs.lemmas.Bool.Decides.{nat_tests}
-use Rattle.std.proofs.lemmas.List.{ext_get_or, length-map, length-set, get_or_default, get_or-set_same, get_or-set_other, set-get_or}
 use Rattle.std.proofs.Math.Path.{fun_ext}
 use Rattle.hla_base.specs.Tables.{upd2}
 use Rattle.hla_base.specs.declared.number.EventHandle.{EventHandle}
 use Rattle.hla_accounts.specs.declared.bag.Waiting.{Waiting}
-use Rattle.hla_callbacks.specs.declared.callback.Delivery.{Delivery}
-use Rattle.hla_accounts.specs.Bags.{is_of, is_listed, waiting_at, demoted_delivery, demoted_waiting, with_listed_demoted, AreApart}
+use Rattle.hla_accounts.specs.Bags.{is_of, is_listed, waiting_at, demoted_waiting, with_listed_demoted, AreApart}
 
 pub waiting_at-nil : waiting_at [] ≡ (λ _ _. None)
 unfolding waiting_at
@@ -153,67 +151,3 @@ apart-demote events (x ∷ ws) apart = (by (is_listed events x.event.sender x.ev
     by : (l : Bool) → waiting_at (map (demoted_if events) ws) (cond l (demoted_waiting x) x).event.sender (cond l (demoted_waiting x) x).event.serial ≡ None
     by true = demote_at events ws x.event.sender x.event.serial ∙ none_both _ _ apart.0
     by false = demote_at events ws x.event.sender x.event.serial ∙ none_both _ _ apart.0
-
--- those at the places below one are demoted if they are listed, and the others are as they were
-pub record AreDemotedBelow (events : List EventHandle) (place : ℕ) (old new : List Waiting) : Type 0 where
-  pub size : length new ≡ length old
-  pub each : (k : ℕ) (d : Waiting) → k < length old → get_or new k d ≡ cond (ltb k place) (demoted_if events (get_or old k d)) (get_or old k d)
-
-not_below_zero : (k : ℕ) → ltb k 0 ≡ false
-not_below_zero k = grind (arith, nat_tests)
-
-pub demoted_none : (events : List EventHandle) (ws : List Waiting) → AreDemotedBelow events 0 ws ws
-demoted_none events ws = record { size = refl; each = λ k d l. rw not_below_zero refl }
-
--- the one at the next place is demoted if it is listed
-pub demoted_more : (events : List EventHandle) (place : ℕ) (old new next : List Waiting) (x : Waiting) → AreDemotedBelow events place old new → place < length old → x ≡ get_or new place x → next ≡ set new place (demoted_if events x) →
-    AreDemotedBelow events (place + 1) old next
-demoted_more events place old new next x h within read is = record {
-  size = ap length is ∙ length-set new place (demoted_if events x) ∙ h.size;
-  each = λ k d l. ap (λ ws. get_or ws k d) is ∙ ⊎_elim (at k d l) (beside k d l) (cases_eq k place);
-}
-  where
-    stood : (d : Waiting) → x ≡ get_or old place d
-    stood d =
-        let low : ltb place place ≡ false = grind (arith, nat_tests) in
-        read ∙ get_or_default new place x d (rw h.size within) ∙ h.each place d within ∙ rw low refl
-
-    at : (k : ℕ) (d : Waiting) → k < length old → k ≡ place → get_or (set new place (demoted_if events x)) k d ≡ cond (ltb k (place + 1)) (demoted_if events (get_or old k d)) (get_or old k d)
-    at k d l e =
-        let low : ltb place (place + 1) ≡ true = grind (arith, nat_tests) in
-        rw (e, low) (get_or-set_same new place (demoted_if events x) d (rw h.size within) ∙ ap (demoted_if events) (stood d))
-
-    beside : (k : ℕ) (d : Waiting) → k < length old → (k ≡ place → ⊥) → get_or (set new place (demoted_if events x)) k d ≡ cond (ltb k (place + 1)) (demoted_if events (get_or old k d)) (get_or old k d)
-    beside k d l apart =
-        let same : ltb k place ≡ ltb k (place + 1) = grind (arith, nat_tests) in
-        get_or-set_other new place k (demoted_if events x) d apart ∙ h.each k d l ∙ ap (λ b. cond b (demoted_if events (get_or old k d)) (get_or old k d)) same
-
-pub demoted_all : (events : List EventHandle) (place : ℕ) (old new : List Waiting) → AreDemotedBelow events place old new → length old ≤ place → new ≡ map (demoted_if events) old
-demoted_all events place [] new h past = by new h.size
-  where
-    by : (new : List Waiting) → length new ≡ 0 → new ≡ []
-    by [] e = refl
-    by (x ∷ xs) e = absurd (omega (arith, e))
-demoted_all events place (x ∷ xs) new h past = ext_get_or x new (map (demoted_if events) (x ∷ xs)) (h.size ∙ sym (length-map (x ∷ xs) (demoted_if events))) (λ i l.
-    let low : i < length (x ∷ xs) = rw (sym h.size) l in
-    let below : ltb i place ≡ true = grind (arith, nat_tests) in
-    h.each i x low ∙ rw below refl ∙ sym (get_or_map (demoted_if events) (x ∷ xs) i x low))
-  where
-    get_or_map : (f : Waiting → Waiting) (ws : List Waiting) (i : ℕ) (d : Waiting) → i < length ws → get_or (map f ws) i d ≡ f (get_or ws i d)
-    get_or_map f [] i d l = absurd (omega arith)
-    get_or_map f (w ∷ ws) zero d l = refl
-    get_or_map f (w ∷ ws) (suc i) d l = get_or_map f ws i d (omega arith)
-
--- y was read where x is written
-pub demoted_listed : (events : List EventHandle) (x y : Waiting) (d : Delivery) → y ≡ x → is_listed events y.event.sender y.event.serial ≡ true → d ≡ demoted_delivery y.delivery → record x { delivery = d } ≡ demoted_if events x
-demoted_listed events x y d same listed is = by (is_listed events x.event.sender x.event.serial) (ap (λ (w : Waiting). is_listed events w.event.sender w.event.serial) (sym same) ∙ listed)
-  where
-    by : (b : Bool) → b ≡ true → record x { delivery = d } ≡ cond b (demoted_waiting x) x
-    by true e = ap (λ d. record x { delivery = d }) (is ∙ ap (λ (w : Waiting). demoted_delivery w.delivery) same)
-    by false e = absurd (cc)
-
-pub demoted_unlisted : (events : List EventHandle) (x : Waiting) → is_listed events x.event.sender x.event.serial ≡ false → x ≡ demoted_if events x
-demoted_unlisted events x unlisted = rw unlisted refl
-
-pub set_read : (ws : List Waiting) (i : ℕ) (x y : Waiting) → i < length ws → x ≡ get_or ws i x → x ≡ y → ws ≡ set ws i y
-set_read ws i x y l read same = sym (set-get_or ws i x) ∙ ap (set ws i) (sym read ∙ same)

@@ -1,5 +1,15 @@
 -- What a bag has after a change
 pub mod BagLemmas
+-- Where a message stands, and what a bag has after a change at its place
+pub mod PlaceLemmas
+-- The order of keys, and that of names
+pub mod KeyLemmas
+-- What an index keeps after a change
+pub mod IndexLemmas
+-- What holds of each message that waits holds of each key of the index
+pub mod RangeLemmas
+-- Tests of all that waits are tests of the keys in a range of the index
+pub mod QueryLemmas
 -- Accounts by number
 pub mod AccountLemmas
 -- Tests of accounts decide the bounds of the central machine

@@ -1,12 +1,17 @@
 //! What waits for one federate.
 
-ghost use Rattle.std.specs.Prelude.{◌≡◌, ◌↔◌, IsTrue, [], None, Some, OnOk, OnErr, IfErr};
-ghost use Rattle.std.specs.Option.{option_copied};
+ghost use Rattle.std.specs.Prelude.{◌≡◌, ◌↔◌, ◌∷◌, ℕ, Option, false, IsTrue, [], None, Some, slice_get, IfSome, OnOk, OnErr, IfErr};
+ghost use Rattle.std.specs.List.{position};
+ghost use Rattle.std.specs.Option.{option_copied, option_map_or};
 ghost use Rattle.hla_base.specs.declared.fault.Fault.TheVariants.{OutOfMemory};
+ghost use Rattle.hla_callbacks.specs.declared.callback.Delivery.{Delivery};
 ghost use Rattle.hla_base.specs.Tables.{upd2};
 ghost use Rattle.hla_accounts.specs.Accounts.{copy_at, copy_given};
 ghost use Rattle.hla_accounts.specs.Bags.{is_of, is_listed, waiting_at, demoted_delivery, with_listed_demoted, AreApart};
+ghost use Rattle.hla_accounts.specs.Indexes.{delivery_at, IsIndexOf};
 
+use crate::index::Index;
+use crate::line::Line;
 use hla_base::{Content, EventHandle, Fault, Plain};
 use hla_callbacks::Delivery;
 use std::alloc::Global;
@@ -23,23 +28,29 @@ pub struct Waiting {
     pub content: Content,
 }
 
+/// Of fewer messages all are looked at as fast as an index finds one, and it would take memory.
+const INDEXED_FROM: usize = 64;
+
 /// The messages that one federate has not picked up, in the order of their sending. No two of them have one sender and
-/// one serial. Contracts see the list; `waiting_at` reads it as a table by sender and serial.
+/// one serial. Contracts see the list; `waiting_at` reads it as a table by sender and serial. Where much waits there is an
+/// index; where memory for it was refused, each call looks at all that waits.
 #[derive(Debug, Drop)]
 pub struct Bag {
-    waiting: Vec<Waiting>,
+    waiting: Line,
+    /// Where much waits, and memory for it was not refused.
+    index: Option<Index>,
 }
 
 impl Model for Bag {
     ghost use Rattle.std.specs.Prelude.{List};
     ghost use Rattle.hla_accounts.specs.declared.bag.Waiting.{Waiting};
-    ghost use Rattle.hla_accounts.specs.Bags.{AreApart};
+    ghost use Rattle.hla_accounts.specs.Indexes.{IsKept};
 
     ghost Value = { List Waiting };
 
-    ghost view = { λ b. b.waiting.items };
+    ghost view = { λ b. b.waiting };
 
-    ghost invariant = { λ b. AreApart b.waiting.items };
+    ghost invariant = { λ b. IsKept b.waiting b.index };
 }
 
 /// A message that was sent in time-stamp order is to be given in receive order.
@@ -52,13 +63,34 @@ fn demoted(delivery: Delivery) -> Delivery
     }
 }
 
+/// Whether the message that an event handle names stands at a place.
+fn stands_at(waiting: &[Waiting], place: usize, event: EventHandle) -> bool
+    ensures { result ≡ option_map_or (is_of event.sender event.serial) (slice_get waiting.now place) false }
+{
+    match waiting.get(place) {
+        Some(message) => message.event.sender == event.sender
+            && message.event.serial == event.serial,
+        None => false,
+    }
+}
+
+/// Where the message stands that an event handle names. It looks at each message that stands before it.
+fn scan(waiting: &[Waiting], event: EventHandle) -> Option<usize>
+    ensures { result ≡ position (is_of event.sender event.serial) waiting.now }
+{
+    waiting.iter().position(|message| {
+        message.event.sender == event.sender && message.event.serial == event.serial
+    })
+}
+
 impl Bag {
     /// Nothing waits; it takes no memory.
     pub fn new(alloc: Global) -> Bag
         ensures { result ≡ [] }
     {
         Bag {
-            waiting: Vec::new(alloc),
+            waiting: Line::new(alloc),
+            index: None,
         }
     }
 
@@ -67,17 +99,42 @@ impl Bag {
         ensures all { result.now ≡ self.now }
         ensures apart { AreApart self.now }
     {
+        let _ = &self.index;
         self.waiting.as_slice()
     }
 
-    /// The message that an event handle names, if it waits. It looks at each message that stands before it.
-    #[tactic(auto, unfolding(crate::specs::Bags::waiting_at))]
+    /// The index of what waits, where there is one.
+    pub(crate) fn index(&self) -> Option<&Index>
+        ensures kept { IfSome result (λ i. IsIndexOf i.now (delivery_at self.now)) }
+        ensures apart { AreApart self.now }
+    {
+        let _ = &self.waiting;
+        self.index.as_ref()
+    }
+
+    /// Where the message stands that an event handle names. What the index gives is looked at first.
+    fn place_of(&self, event: EventHandle) -> Option<usize>
+        ensures { result ≡ position (is_of event.sender event.serial) self.now }
+    {
+        let waiting = self.waiting.as_slice();
+        match &self.index {
+            Some(index) => match index.place_of(event) {
+                Some(place) if stands_at(waiting, place, event) => Some(place),
+                Some(_) => scan(waiting, event),
+                None => None,
+            },
+            None => scan(waiting, event),
+        }
+    }
+
+    /// The message that an event handle names, if it waits. The time grows with the logarithm of what waits.
     pub fn find(&self, event: EventHandle) -> Option<&Waiting>
         ensures { option_copied result ≡ waiting_at self.now event.sender event.serial }
     {
-        self.waiting.iter().find(|waiting| {
-            waiting.event.sender == event.sender && waiting.event.serial == event.serial
-        })
+        match self.place_of(event) {
+            Some(place) => Some(&self.waiting.as_slice()[place]),
+            None => None,
+        }
     }
 
     /// Whether a message with this content waits, to be given so.
@@ -94,7 +151,7 @@ impl Bag {
     }
 
     /// Puts a message behind the others. `OutOfMemory`, and all as it was, where a growth was refused. Over many calls the
-    /// time of one is constant.
+    /// time of one grows with the logarithm of what waits.
     pub fn put(&mut self, waiting: Waiting) -> Result<(), Fault>
         requires { waiting_at self.old waiting.event.sender waiting.event.serial ≡ None }
         ensures ok { OnOk result (waiting_at self.new ≡ upd2 (waiting_at self.old) waiting.event.sender
@@ -103,32 +160,47 @@ impl Bag {
         ensures err { IfErr result (λ e. e ≡ Fault.OutOfMemory) }
         ensures unchanged { OnErr result (self.new ≡ self.old) }
     {
-        match self.waiting.push(waiting) {
-            Ok(()) => Ok(()),
-            Err(_) => Err(Fault::OutOfMemory),
-        }
+        let event = waiting.event;
+        let delivery = waiting.delivery;
+        self.waiting.push(waiting)?;
+        add_to_index(&mut self.index, &self.waiting, event, delivery);
+        Ok(())
     }
 
-    /// The message that an event handle names waits no longer. It looks at each message.
+    /// The message that an event handle names waits no longer. It finds it as `find`, and moves the messages behind it.
     pub fn remove(&mut self, event: EventHandle)
         ensures table { waiting_at self.new ≡ upd2 (waiting_at self.old) event.sender event.serial None }
         ensures apart { AreApart self.new }
     {
-        self.waiting.retain(|waiting| {
-            !(waiting.event.sender == event.sender && waiting.event.serial == event.serial)
-        });
+        if let Some(place) = self.place_of(event) {
+            let delivery = self.waiting.as_slice()[place].delivery;
+            self.waiting.remove(place);
+            remove_from_index(&mut self.index, place, event, delivery);
+        }
     }
 
-    /// These messages, as far as they were sent in time-stamp order, are to be given in receive order. It looks for each
-    /// message at each of these.
+    /// The message that an event handle names, if it was sent in time-stamp order, is to be given in receive order.
+    fn demote_one(&mut self, event: EventHandle)
+        ensures table { waiting_at self.new ≡ with_listed_demoted (event ∷ []) (waiting_at self.old) }
+        ensures apart { AreApart self.new }
+    {
+        if let Some(place) = self.place_of(event) {
+            let before = self.waiting.as_slice()[place].delivery;
+            let after = demoted(before);
+            self.waiting.set_delivery(place, after);
+            change_in_index(&mut self.index, event, before, after);
+        }
+    }
+
+    /// These messages, as far as they were sent in time-stamp order, are to be given in receive order. It finds each as
+    /// `find`.
     pub fn demote(&mut self, events: &[EventHandle])
         ensures table { waiting_at self.new ≡ with_listed_demoted events.now (waiting_at self.old) }
         ensures apart { AreApart self.new }
     {
-        for place in 0..self.waiting.len() {
-            if is_listed(events, self.waiting[place].event) {
-                self.waiting[place].delivery = demoted(self.waiting[place].delivery);
-            }
+        let _ = &self.waiting;
+        for event in events {
+            self.demote_one(*event);
         }
     }
 
@@ -137,6 +209,60 @@ impl Bag {
         ensures { self.new ≡ [] }
     {
         self.waiting.clear();
+        self.index = None;
+    }
+}
+
+/// A message was put behind the others. Where a growth was refused there is no index any more. Making one looks at all that
+/// waits, and so is tried only each time that as much again has come.
+fn add_to_index(index: &mut Option<Index>, waiting: &Line, event: EventHandle, delivery: Delivery)
+    requires { AreApart waiting.now }
+    ensures { (t : ℕ → ℕ → Option Delivery) → IfSome index.old (λ i. IsIndexOf i t) →
+        t event.sender event.serial ≡ None →
+        delivery_at waiting.now ≡ upd2 t event.sender event.serial (Some delivery) →
+        IfSome index.new (λ i. IsIndexOf i (delivery_at waiting.now)) }
+{
+    match index {
+        Some(known) => {
+            if known.add(event, delivery).is_err() {
+                *index = None;
+            }
+        }
+        None => {
+            let messages = waiting.as_slice();
+            if messages.len() >= INDEXED_FROM && messages.len().is_power_of_two() {
+                *index = Index::of(waiting.allocator(), messages);
+            }
+        }
+    }
+}
+
+/// The message at a place waits no longer.
+fn remove_from_index(
+    index: &mut Option<Index>,
+    place: usize,
+    event: EventHandle,
+    delivery: Delivery,
+)
+    ensures { (t : ℕ → ℕ → Option Delivery) → IfSome index.old (λ i. IsIndexOf i t) →
+        t event.sender event.serial ≡ Some delivery →
+        IfSome index.new (λ i. IsIndexOf i (upd2 t event.sender event.serial None)) }
+{
+    if let Some(known) = index {
+        known.remove(place, event, delivery);
+    }
+}
+
+/// A message is to be given in another way. Where a growth was refused there is no index any more.
+fn change_in_index(index: &mut Option<Index>, event: EventHandle, before: Delivery, after: Delivery)
+    ensures { (t : ℕ → ℕ → Option Delivery) → IfSome index.old (λ i. IsIndexOf i t) →
+        t event.sender event.serial ≡ Some before →
+        IfSome index.new (λ i. IsIndexOf i (upd2 t event.sender event.serial (Some after))) }
+{
+    if let Some(known) = index {
+        if known.change(event, before, after).is_err() {
+            *index = None;
+        }
     }
 }
 

@@ -41,17 +41,22 @@ impl Accounts {
     }
 
     /// Whether a time, in ticks, is at most each stamp of what waits for a federate in time-stamp order and was not
-    /// retracted. It looks at all that waits for the federate.
+    /// retracted. The time grows with the logarithm of what waits for the federate, and with what of it was retracted.
     pub fn is_below_all_tso(&self, federate: FederateNo, time: Ticks) -> bool
         ensures { result ≡ is_below_all_tso self.now federate time }
     {
-        match self.get(federate) {
-            Some(account) => account
+        let Some(account) = self.get(federate) else {
+            return true;
+        };
+        match account.bag.index() {
+            Some(index) => index
+                .ordered_below(time)
+                .all(|key| self.is_retracted(key.event())),
+            None => account
                 .bag
                 .as_slice()
                 .iter()
                 .all(|waiting| self.is_at_most_waiting(time, waiting)),
-            None => true,
         }
     }
 
@@ -99,8 +104,8 @@ impl Accounts {
     }
 
     /// Whether a time, in ticks, is at most the lower bound on time stamp of a federate: `FOREVER`, and what each other
-    /// joined federate that regulates or has asked to may still send. It looks at all that waits for each of these that is in a
-    /// next-event request.
+    /// joined federate that regulates or has asked to may still send. The time grows with the logarithm of what waits for each
+    /// of these that is in a next-event request, and with what of it was retracted.
     pub fn is_below_bound(&self, federate: FederateNo, time: Ticks) -> bool
         ensures { result ≡ is_below_bound self.now federate time }
     {

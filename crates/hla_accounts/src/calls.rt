@@ -53,7 +53,7 @@ pub fn are_distinct(events: &[EventHandle]) -> bool
 
 impl Accounts {
     /// Whether Query LBTS may answer a federate this bound, in ticks: at most the lower bound on time stamp, and for a
-    /// constrained federate at least its bar. It looks at all that waits for each other one that is in a next-event request.
+    /// constrained federate at least its bar. It takes the time of `is_below_bound`.
     pub fn may_bound(&self, federate: FederateNo, bound: Ticks) -> bool
         ensures { result ≡ may_bound self.now federate bound }
     {
@@ -78,22 +78,27 @@ impl Accounts {
     }
 
     /// Whether a time, in ticks, is at most each stamp of what waits for a federate, was moved to receive order and is not
-    /// retracted. It looks at all that waits for the federate.
+    /// retracted. The time grows with the logarithm of what waits for the federate, and with what of it was retracted.
     fn is_below_all_demoted(&self, federate: FederateNo, time: Ticks) -> bool
         ensures { result ≡ is_below_all_demoted self.now federate time }
     {
-        match self.get(federate) {
-            Some(account) => account
+        let Some(account) = self.get(federate) else {
+            return true;
+        };
+        match account.bag.index() {
+            Some(index) => index
+                .demoted_below(time)
+                .all(|key| self.is_retracted(key.event())),
+            None => account
                 .bag
                 .as_slice()
                 .iter()
                 .all(|waiting| self.is_at_most_demoted(time, waiting)),
-            None => true,
         }
     }
 
-    /// Whether Query Minimum Next Event Time may answer a federate this time, in ticks. It looks at all that waits for the
-    /// federate, and for each other one that is in a next-event request.
+    /// Whether Query Minimum Next Event Time may answer a federate this time, in ticks. The time grows with the logarithm of
+    /// what waits for the federate, and for each other one that is in a next-event request, and with what of it was retracted.
     pub fn may_be_next(&self, federate: FederateNo, time: Ticks) -> bool
         ensures { result ≡ may_be_next self.now federate time }
     {
@@ -116,7 +121,7 @@ impl Accounts {
     }
 
     /// Whether these events may move to receive order as a federate ceases to be constrained (Disable Time Constrained).
-    /// It looks for each of them at what waits for the federate.
+    /// The time for each of them grows with the logarithm of what waits for the federate.
     pub fn may_cease(&self, federate: FederateNo, events: &[EventHandle]) -> bool
         ensures { result ≡ may_cease self.now federate events.now }
     {
@@ -146,7 +151,8 @@ impl Accounts {
         }
     }
 
-    /// Whether a carry from a federate to another may take this from the wire. It looks at what waits for the receiver.
+    /// Whether a carry from a federate to another may take this from the wire. The time grows with the logarithm of what waits
+    /// for the receiver, and with its discoveries and retractions for those.
     pub fn may_carry(&self, from: FederateNo, to: FederateNo, carried: Carried) -> bool
         ensures { result ≡ may_carry self.now from to carried }
     {

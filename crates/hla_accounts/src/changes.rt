@@ -26,7 +26,7 @@ impl Accounts {
         change.make(&mut self.accounts[federate as usize - 1].state);
     }
 
-    /// A message waits for a federate no longer. It looks at all that waits for the federate.
+    /// A message waits for a federate no longer. It takes the time of `Bag::remove`.
     pub fn take(&mut self, federate: FederateNo, event: EventHandle)
         requires some { 0 < federate }
         requires within { federate ≤ length self.old }
@@ -37,7 +37,8 @@ impl Accounts {
         self.accounts[federate as usize - 1].bag.remove(event);
     }
 
-    /// Messages that wait for a federate are to be given in receive order. It looks for each at each of the events.
+    /// Messages that wait for a federate are to be given in receive order. The time for each of the events grows with the
+    /// logarithm of what waits for the federate.
     pub fn demote(&mut self, federate: FederateNo, events: &[EventHandle])
         requires some { 0 < federate }
         requires within { federate ≤ length self.old }
@@ -58,8 +59,8 @@ impl Accounts {
         }
     }
 
-    /// A message arrives for a federate. While the federate is not constrained it is to be given in receive order. It looks
-    /// at all that waits for the federate.
+    /// A message arrives for a federate. While the federate is not constrained it is to be given in receive order. The time
+    /// grows with the logarithm of what waits for the federate.
     pub fn arrive(&mut self, federate: FederateNo, event: EventHandle)
         requires some { 0 < federate }
         requires within { federate ≤ length self.old }
@@ -125,7 +126,8 @@ impl Accounts {
     }
 
     /// A retraction arrives for a federate (HLA 1.3, Retract): it takes the message back, or the federate, which has picked
-    /// it up, is to be asked to. `OutOfMemory` where a growth was refused. It looks at all that waits for the federate.
+    /// it up, is to be asked to. `OutOfMemory` where a growth was refused. It takes the time of `Bag::remove`, and looks at all
+    /// retractions that are under way to the federate.
     pub fn settle(&mut self, federate: FederateNo, event: EventHandle) -> Result<(), Fault>
         requires some { 0 < federate }
         requires within { federate ≤ length self.old }

@@ -41,7 +41,8 @@ impl Accounts {
         }
     }
 
-    /// Whether a message with this content waits for a federate, to be given so. It looks at all that waits for the federate.
+    /// Whether a message with this content waits for a federate, to be given so. The time grows with the logarithm of what
+    /// waits for the federate.
     fn is_waiting(
         &self,
         federate: FederateNo,

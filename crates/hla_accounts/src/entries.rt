@@ -79,7 +79,8 @@ impl Accounts {
         }
     }
 
-    /// Whether it is so of one of them. It looks at all that waits for each that is in such a request.
+    /// Whether it is so of one of them. The time grows with the logarithm of what waits for each that is in such a request, and
+    /// with what of it was retracted.
     fn is_below_some_wake(&self, federate: FederateNo, entry: Ticks) -> bool
         ensures value { result ≡ is_below_some_wake self.now federate entry (length self.now + 1) }
         ensures bounded { IsTrue result → entry ≤ max_time }

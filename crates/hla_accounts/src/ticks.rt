@@ -67,18 +67,21 @@ fn is_key_le(first: EventHandle, second: EventHandle) -> bool
 }
 
 impl Accounts {
-    /// Whether no earlier message of the same sender waits for a federate in receive order. It looks at all that waits for
-    /// the federate.
+    /// Whether no earlier message of the same sender waits for a federate in receive order. The time grows with the logarithm
+    /// of what waits for the federate.
     pub fn is_first_ro(&self, federate: FederateNo, event: EventHandle) -> bool
         ensures { result ≡ is_first_ro self.now federate event.sender event.serial }
     {
-        match self.get(federate) {
-            Some(account) => account
+        let Some(account) = self.get(federate) else {
+            return true;
+        };
+        match account.bag.index() {
+            Some(index) => index.received_before(event).next().is_none(),
+            None => account
                 .bag
                 .as_slice()
                 .iter()
                 .all(|waiting| is_not_earlier(event, waiting)),
-            None => true,
         }
     }
 
@@ -127,8 +130,8 @@ impl Accounts {
         time == grant_time(row, request) && self.has_reached(federate, request.kind, time)
     }
 
-    /// Whether a federate may be granted a time, in ticks (Time Advance Grant). It looks at all that waits for the federate,
-    /// and for each other one that is in a next-event request.
+    /// Whether a federate may be granted a time, in ticks (Time Advance Grant). The time grows with the logarithm of what waits
+    /// for the federate, and for each other one that is in a next-event request, and with what of it was retracted.
     pub fn may_grant(&self, federate: FederateNo, time: Ticks) -> bool
         ensures { result ≡ may_grant self.now federate time }
     {
@@ -157,18 +160,23 @@ impl Accounts {
         }
     }
 
-    /// Whether none of what waits for a federate with this stamp, in ticks, has a key below that of an event. It looks at all
-    /// that waits for the federate.
+    /// Whether none of what waits for a federate with this stamp, in ticks, has a key below that of an event. The time grows
+    /// with the logarithm of what waits for the federate, and with what of it was retracted.
     fn is_first_key(&self, federate: FederateNo, event: EventHandle, stamp: Ticks) -> bool
         ensures { result ≡ is_first_key self.now federate event.sender event.serial stamp }
     {
-        match self.get(federate) {
-            Some(account) => account
+        let Some(account) = self.get(federate) else {
+            return true;
+        };
+        match account.bag.index() {
+            Some(index) => index
+                .ordered_before(event, stamp)
+                .all(|key| self.is_retracted(key.event())),
+            None => account
                 .bag
                 .as_slice()
                 .iter()
                 .all(|waiting| self.is_not_before(event, stamp, waiting)),
-            None => true,
         }
     }
 

@@ -1,6 +1,7 @@
--- The messages that were visited are demoted if they are listed, and the others are as they were.
-use Rattle.hla_accounts.proofs.BagLemmas.{AreDemotedBelow}
+-- The messages that were visited are demoted.
+use Rattle.std.proofs.Common.{◌≡◌, take}
+use Rattle.hla_accounts.specs.Bags.{waiting_at, with_listed_demoted, AreApart}
 use Rattle.hla_accounts.proofs.bag.Bag.demote.Given as goal
 
-abbrev pub invariant-loop-place : goal.invariant-loop-place
-invariant-loop-place l = AreDemotedBelow l.events l.place l.initial.self-inside.waiting.items l.self-inside.waiting.items
+abbrev pub invariant-loop-event : goal.invariant-loop-event
+invariant-loop-event l = (waiting_at l.self ≡ with_listed_demoted (take l.event-index l.events) (waiting_at l.initial.self)) × AreApart l.self

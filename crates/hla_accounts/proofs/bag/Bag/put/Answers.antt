@@ -1,19 +1,38 @@
 -- The new message stands behind the others, none of which has its key.
+use Rattle.std.proofs.Common.{◌≡◌, ◌++◌, ◌∷◌, [], List, Some, None, subst, sym, ap, ◌∙◌}
+use Rattle.hla_base.specs.Tables.{upd2}
+use Rattle.hla_accounts.specs.declared.bag.Waiting.{Waiting}
+use Rattle.hla_accounts.specs.Bags.{waiting_at, AreApart}
+use Rattle.hla_accounts.specs.Indexes.{delivery_at}
 use Rattle.hla_accounts.proofs.BagLemmas.{waiting_at-push, apart-push}
+use Rattle.hla_accounts.proofs.PlaceLemmas.{delivered_push, undelivered_back}
 use Rattle.hla_accounts.proofs.bag.Bag.put.Goals as goal
-use Rattle.hla_accounts.proofs.bag.Bag.put.Goals.{in-Ok, in-Err}
 
-pub invariant_of-self : goal.invariant_of-self
-invariant_of-self c = elim c.match-push.branch [
-  | in-Ok w ↦ rw w.in-Ok.ensures.items (apart-push c.self.inside.waiting.items c.args.waiting (rw c.self.view_is c.requires) c.self.invariant)
-  | in-Err w ↦ rw w.in-Err.ensures.items c.self.invariant
-]
+free : (ws value : List Waiting) (w : Waiting) → ws ≡ value → waiting_at value w.event.sender w.event.serial ≡ None → waiting_at ws w.event.sender w.event.serial ≡ None
+free ws value w same none = ap (λ (vs : List Waiting). waiting_at vs w.event.sender w.event.serial) same ∙ none
+
+apart : (ws value grown : List Waiting) (w : Waiting) → ws ≡ value → waiting_at value w.event.sender w.event.serial ≡ None → AreApart ws → grown ≡ ws ++ w ∷ [] → AreApart grown
+apart ws value grown w same none was now = subst AreApart (sym now) (apart-push ws w (free ws value w same none) was)
+
+pub add_to_index-requires : goal.add_to_index-requires
+add_to_index-requires c = let grown = c.in_ok-push.ensures in apart c.self.inside.waiting c.args.self.now c.push.new.self c.args.waiting c.self.view_is c.requires c.self.invariant.0 grown.ok
+
+pub invariant_of-self-2 : goal.invariant_of-self-2
+invariant_of-self-2 c =
+    let ws = c.self.inside.waiting in
+    let w = c.args.waiting in
+    let grown = c.in_ok-push.ensures in
+    let none = free ws c.args.self.now w c.self.view_is c.requires in (
+      apart ws c.args.self.now c.push.new.self w c.self.view_is c.requires c.self.invariant.0 grown.ok,
+      c.add_to_index.ensures (delivery_at ws) c.self.invariant.1 (undelivered_back ws w.event.sender w.event.serial none) (ap delivery_at grown.ok ∙ delivered_push ws w none),
+    )
 
 pub returns-clause-ok : goal.returns-clause-ok
-returns-clause-ok c = elim c.match-push.branch [
-  | in-Ok w ↦ rw (w.result-is, w.in-Ok.ensures.items, ← c.self.view_is) (waiting_at-push c.self.inside.waiting.items c.args.waiting (rw c.self.view_is c.requires))
-  | in-Err w ↦ rw w.result-is tt
-]
+returns-clause-ok c =
+    let ws = c.self.inside.waiting in
+    let w = c.args.waiting in
+    let grown = c.in_ok-push.ensures in
+    ap waiting_at grown.ok ∙ waiting_at-push ws w (free ws c.args.self.now w c.self.view_is c.requires) ∙ ap (λ (vs : List Waiting). upd2 (waiting_at vs) w.event.sender w.event.serial (Some w)) c.self.view_is
 
 pub returns-clause-apart : goal.returns-clause-apart
-returns-clause-apart c = invariant_of-self c
+returns-clause-apart c = let grown = c.in_ok-push.ensures in apart c.self.inside.waiting c.args.self.now c.push.new.self c.args.waiting c.self.view_is c.requires c.self.invariant.0 grown.ok

@@ -1,18 +1,34 @@
--- What stays is what the filter passes.
-use Rattle.std.proofs.Common.{◌≡◌, rules}
-use Rattle.std.specs.List.{filter}
-use Rattle.std.proofs.lemmas.Fn.{filter_same}
-use Rattle.hla_accounts.proofs.BagLemmas.{stays, waiting_at-remove, apart-remove}
+-- The message is taken out at its place, and from the index.
+use Rattle.std.proofs.Common.{◌≡◌, List, get_or, Some, None, subst, sym, ap, ◌∙◌, IfSome}
+use Rattle.std.specs.List.{position}
+use Rattle.hla_accounts.specs.declared.bag.Waiting.{Waiting}
+use Rattle.hla_base.specs.Tables.{upd2}
+use Rattle.hla_accounts.specs.Bags.{is_of, waiting_at}
+use Rattle.hla_accounts.specs.Indexes.{IsIndexOf, delivery_at}
+use Rattle.hla_accounts.proofs.PlaceLemmas.{IsWithout, removed_there, found_none, unwritten, delivered, delivered_at}
 use Rattle.hla_accounts.proofs.bag.Bag.remove.Goals as goal
 
-pub kept : (c : goal.After-retain) → c.retain.new.self.items ≡ filter (stays c.args.event.sender c.args.event.serial) c.self.inside.waiting.items
-kept c = filter_same _ _ _ (λ x b f' k. search rules) _ _ c.retain.ensures.filtered
+found : (c : goal.After-remove_from_index) → Some c.in-Some.place ≡ position (is_of c.args.event.sender c.args.event.serial) c.self.inside.waiting
+found c = subst (λ (ws : List Waiting). Some c.in-Some.place ≡ position (is_of c.args.event.sender c.args.event.serial) ws) (sym c.self.view_is) c.in-Some.ensures
+
+now : (c : goal.After-remove_from_index) → IsWithout c.args.event.sender c.args.event.serial c.self.inside.waiting c.remove.new.self
+now c = removed_there c.self.inside.waiting c.args.event.sender c.args.event.serial c.in-Some.place c.index-as_slice-place.result c.self.invariant.0 (found c) c.remove.new.self c.remove.ensures
 
 pub invariant_of-self : goal.invariant_of-self
-invariant_of-self c = rw (kept c) (apart-remove c.self.inside.waiting.items c.args.event.sender c.args.event.serial c.self.invariant)
+invariant_of-self c =
+    let ws = c.self.inside.waiting in
+    let g = c.args.event.sender in
+    let m = c.args.event.serial in
+    let w = c.index-as_slice-place.result in
+    let read = subst (λ (vs : List Waiting). w ≡ get_or vs c.in-Some.place w) c.as_slice.ensures c.index-as_slice-place.is in
+    let kept = c.remove_from_index.ensures (delivery_at ws) c.self.invariant.1 (delivered_at ws g m c.in-Some.place w (found c) read ∙ ap (λ (x : Waiting). Some x.delivery) c.index-as_slice-place.is) in
+    ((now c).apart, subst (λ t. IfSome c.remove_from_index.new.index (λ i. IsIndexOf i t)) (sym (delivered ws c.remove.new.self g m None (now c).table)) kept)
 
-pub returns-clause-table : goal.returns-clause-table
-returns-clause-table c = rw (kept c, ← c.self.view_is) (waiting_at-remove c.self.inside.waiting.items c.args.event.sender c.args.event.serial)
+pub returns-in-Some-clause-table : goal.returns-in-Some-clause-table
+returns-in-Some-clause-table c = (now c).table ∙ ap (λ (ws : List Waiting). upd2 (waiting_at ws) c.args.event.sender c.args.event.serial None) c.self.view_is
 
-pub returns-clause-apart : goal.returns-clause-apart
-returns-clause-apart c = invariant_of-self c
+pub returns-in-Some-clause-apart : goal.returns-in-Some-clause-apart
+returns-in-Some-clause-apart c = (now c).apart
+
+pub returns-in_default-clause-table : goal.returns-in_default-clause-table
+returns-in_default-clause-table c = unwritten (waiting_at c.args.self.now) c.args.event.sender c.args.event.serial (found_none c.args.self.now c.args.event.sender c.args.event.serial c.in_default.ensures)

@@ -1,0 +1,17 @@
+-- The keys below the time are all retracted.
+use Rattle.std.proofs.Common.{◌∙◌, ap, sym, rules, tests}
+use Rattle.std.specs.Map.Iter.{deref}
+use Rattle.std.proofs.lemmas.Iterator.Consumers.{YieldsList-from_rest}
+use Rattle.std.proofs.lemmas.Iterator.Search.{all_from_yields_List}
+use Rattle.std.specs.List.{list_all}
+use Rattle.hla_accounts.specs.declared.account.Account.{Account}
+use Rattle.hla_accounts.specs.Calls.{is_at_most_demoted}
+use Rattle.hla_accounts.proofs.QueryLemmas.{is_key_retracted, demoted_keys}
+use Rattle.hla_accounts.proofs.accounts.Accounts.is_below_all_demoted.Goals as goal
+
+pub returns-in-Some-index : goal.returns-in-Some-index
+returns-in-Some-index c =
+    let counted = all_from_yields_List (is_key_retracted c.args.self.now) _ _ c.all.result c.all.ensures.ran (YieldsList-from_rest {shows = deref} _ c.demoted_below.ensures.keys) (λ x b q k. search (rules, tests)) in
+    let known = c.in-Some-index.ensures in
+    counted ∙ sym (demoted_keys c.args.self.now c.args.time c.in-Some-index.index.now c.in-Some.account.now.bag known.kept known.apart)
+    ∙ ap (λ (a : Account). list_all (is_at_most_demoted c.args.self.now c.args.time) a.bag) (sym c.in-Some.ensures)
