@@ -1,5 +1,7 @@
 -- What a bag has after a change
 pub mod BagLemmas
+-- What stands behind the gap of a line after a change
+pub mod LineLemmas
 -- Where a message stands, and what a bag has after a change at its place
 pub mod PlaceLemmas
 -- The order of keys, and that of names

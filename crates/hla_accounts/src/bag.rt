@@ -167,7 +167,8 @@ impl Bag {
         Ok(())
     }
 
-    /// The message that an event handle names waits no longer. It finds it as `find`, and moves the messages behind it.
+    /// The message that an event handle names waits no longer. It finds it as `find`, and moves the messages behind it, or those
+    /// in front of it where these are fewer.
     pub fn remove(&mut self, event: EventHandle)
         ensures table { waiting_at self.new ≡ upd2 (waiting_at self.old) event.sender event.serial None }
         ensures apart { AreApart self.new }

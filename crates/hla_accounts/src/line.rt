@@ -1,28 +1,102 @@
 //! What waits for one federate, as a list.
 
-ghost use Rattle.std.specs.Prelude.{◌≡◌, ◌<◌, ◌++◌, ◌∷◌, [], length, remove, slice_set, slice_index_or, OnOk, OnErr, IfErr};
+ghost use Rattle.std.specs.Prelude.{◌≡◌, ◌<◌, ◌≤◌, ◌+◌, ◌-◌, ◌++◌, ◌∷◌, [], length, drop, remove, slice_set, slice_index_or, OnOk, OnErr, IfErr};
 ghost use Rattle.hla_base.specs.declared.fault.Fault.TheVariants.{OutOfMemory};
+ghost use Rattle.hla_base.specs.declared.content.Content.TheVariants.{Removal};
+ghost use Rattle.hla_callbacks.specs.declared.callback.Delivery.TheVariants.{Receive};
 ghost use Rattle.hla_accounts.specs.declared.bag.Waiting.{Waiting};
 
 use crate::bag::Waiting;
-use hla_base::Fault;
+use hla_base::{Content, EventHandle, Fault};
 use hla_callbacks::Delivery;
 use std::alloc::Global;
 use std::marker::Model;
 
-/// Messages in the order of their sending. Contracts see the list.
+/// Messages in the order of their sending. Contracts see the list. Messages are mostly taken out near the front, so a gap may
+/// stand there, of messages that say nothing: what stands in front of a message that is taken out moves up in its place.
 #[derive(Debug, Drop)]
 pub struct Line {
     waiting: Vec<Waiting>,
+    /// How long the gap is.
+    start: usize,
 }
 
 impl Model for Line {
-    ghost use Rattle.std.specs.Prelude.{List};
+    ghost use Rattle.std.specs.Prelude.{◌≤◌, List, length, drop};
     ghost use Rattle.hla_accounts.specs.declared.bag.Waiting.{Waiting};
 
     ghost Value = { List Waiting };
 
-    ghost view = { λ l. l.waiting.items };
+    ghost view = { λ l. drop l.start l.waiting.items };
+
+    ghost invariant = { λ l. l.start ≤ length l.waiting.items };
+}
+
+/// A message that says nothing, and owns no memory.
+fn nothing() -> Waiting
+    ensures { result ≡ record {
+      event = record { sender = 0; serial = 0 };
+      delivery = Delivery.Receive;
+      content = Content.Removal 0;
+    } }
+{
+    Waiting {
+        event: EventHandle {
+            sender: 0,
+            serial: 0,
+        },
+        delivery: Delivery::Receive,
+        content: Content::Removal { object: 0 },
+    }
+}
+
+/// Moves the message at a place to the front of those from `start` on.
+fn move_to_front(waiting: &mut [Waiting], start: usize, place: usize)
+    requires some { start ≤ place }
+    requires within { place < length waiting.old }
+    ensures rest { drop (start + 1) waiting.new ≡ remove (drop start waiting.old) (place - start) }
+    ensures len { length waiting.new ≡ length waiting.old }
+{
+    waiting[start..place + 1].rotate_right(1);
+}
+
+/// Puts a message that says nothing in the place of another.
+fn vacate(waiting: &mut Vec<Waiting>, place: usize)
+    requires { place < length waiting.old.items }
+    ensures { waiting.new.items ≡ slice_set waiting.old.items place (record {
+      event = record { sender = 0; serial = 0 };
+      delivery = Delivery.Receive;
+      content = Content.Removal 0;
+    }) }
+{
+    waiting[place] = nothing();
+}
+
+/// Takes the message at a place out of those from `start` on, and tells from where on they stand then.
+fn take_out(waiting: &mut Vec<Waiting>, start: usize, place: usize) -> usize
+    requires some { start ≤ place }
+    requires within { place < length waiting.old.items }
+    ensures rest { drop result waiting.new.items ≡ remove (drop start waiting.old.items) (place - start) }
+    ensures within { result ≤ length waiting.new.items }
+{
+    if place - start < waiting.len() - place {
+        move_to_front(waiting.as_mut_slice(), start, place);
+        vacate(waiting, start);
+        start + 1
+    } else {
+        let _ = waiting.remove(place);
+        start
+    }
+}
+
+/// Takes the messages before `start` out. It moves all others.
+fn close_gap(waiting: &mut Vec<Waiting>, start: usize)
+    requires { start ≤ length waiting.old.items }
+    ensures { waiting.new.items ≡ drop start waiting.old.items }
+{
+    let count = waiting.len() - start;
+    waiting.as_mut_slice().rotate_left(start);
+    waiting.truncate(count);
 }
 
 impl Line {
@@ -32,6 +106,7 @@ impl Line {
     {
         Line {
             waiting: Vec::new(alloc),
+            start: 0,
         }
     }
 
@@ -44,7 +119,7 @@ impl Line {
     pub fn as_slice(&self) -> &[Waiting]
         ensures { result.now ≡ self.now }
     {
-        self.waiting.as_slice()
+        &self.waiting.as_slice()[self.start..]
     }
 
     /// Puts a message behind the others. `OutOfMemory`, and all as it was, where a growth was refused. Over many calls the
@@ -54,18 +129,31 @@ impl Line {
         ensures err { IfErr result (λ e. e ≡ Fault.OutOfMemory) }
         ensures unchanged { OnErr result (self.new ≡ self.old) }
     {
-        match self.waiting.push(waiting) {
+        let Err(refused) = self.waiting.push(waiting) else {
+            return Ok(());
+        };
+        if self.start == 0 {
+            return Err(Fault::OutOfMemory);
+        }
+        close_gap(&mut self.waiting, self.start);
+        self.start = 0;
+        match self.waiting.push(refused.value) {
             Ok(()) => Ok(()),
             Err(_) => Err(Fault::OutOfMemory),
         }
     }
 
-    /// Takes the message at a place out. It moves the messages behind it.
+    /// Takes the message at a place out. It moves those behind it, or those in front of it where these are fewer, and over
+    /// many calls a constant number of others. It takes no memory.
     pub fn remove(&mut self, place: usize)
         requires { place < length self.old }
         ensures { self.new ≡ remove self.old place }
     {
-        let _ = self.waiting.remove(place);
+        self.start = take_out(&mut self.waiting, self.start, self.start + place);
+        if self.start > self.waiting.len() - self.start {
+            close_gap(&mut self.waiting, self.start);
+            self.start = 0;
+        }
     }
 
     /// The message at a place is to be given so.
@@ -73,7 +161,7 @@ impl Line {
         requires { place < length self.old }
         ensures { (d : Waiting) → self.new ≡ slice_set self.old place (record (slice_index_or self.old place d) { delivery = delivery }) }
     {
-        self.waiting[place].delivery = delivery;
+        self.waiting[self.start + place].delivery = delivery;
     }
 
     /// There are no messages any more.
@@ -81,5 +169,6 @@ impl Line {
         ensures { self.new ≡ [] }
     {
         self.waiting.clear();
+        self.start = 0;
     }
 }
