@@ -1,18 +1,21 @@
 -- What an index keeps after a change
-use Rattle.std.proofs.Common.{◌≡◌, ℕ, Bool, true, false, cond, eqb, ◌&&◌, refl, sym, ap, ◌∙◌, Option, Some, None, is_some, subst, arith, eqb-true}
+use Rattle.std.proofs.Common.{◌≡◌, ℕ, Bool, true, false, cond, eqb, ◌&&◌, ◌||◌, List, [], ◌∷◌, ◌++◌, refl, sym, ap, ◌∙◌, Option, Some, None, is_some, subst, arith, eqb-true}
 use Rattle.std.proofs.lemmas.Bool.{and_parts}
 use Rattle.std.proofs.lemmas.Bool.Decides.{nat_tests}
+use Rattle.std.specs.List.{list_any}
 use Rattle.std.specs.BTreeMap as tree
 use Rattle.std.specs.BTreeSet as sorted
 use Rattle.std.specs.BTreeMap.{BTreeMap}
 use Rattle.std.specs.BTreeSet.{BTreeSet}
 use Rattle.std.specs.Ordering.{is_eq}
 use Rattle.hla_base.specs.Tables.{upd2}
+use Rattle.hla_base.specs.declared.number.EventHandle.{EventHandle}
 use Rattle.hla_callbacks.specs.declared.callback.Delivery.{Delivery}
 use Rattle.hla_accounts.specs.declared.index.Key.{Key}
 use Rattle.hla_accounts.specs.declared.index.Name.{Name}
 use Rattle.hla_accounts.specs.contracts.index.KeyOrd.TheImpl as keys
-use Rattle.hla_accounts.specs.Indexes.{key_at, key_cmp, name_cmp, has_key}
+use Rattle.hla_accounts.specs.Bags.{is_listed}
+use Rattle.hla_accounts.specs.Indexes.{key_at, key_cmp, name_cmp, has_key, HasNamesOf}
 use Rattle.hla_accounts.proofs.KeyLemmas.{key_apart, is_eq-name_cmp, same_order}
 
 abbrev pub Table : Type 0
@@ -107,3 +110,42 @@ names_kept a t g m d e has there n = has n ∙ by (eqb g n.sender && eqb m n.ser
     by : (b : Bool) → (eqb g n.sender && eqb m n.serial) ≡ b → is_some (t n.sender n.serial) ≡ is_some (cond b (Some e) (t n.sender n.serial))
     by true is = let p = both g m n.sender n.serial is in rw (← p.0, ← p.1, there) refl
     by false is = refl
+
+-- ---- sets of names
+pub no_names : (s : BTreeSet Name) → s.keys ≡ [] → HasNamesOf s []
+no_names s none n = ap (list_any (λ k. is_eq (name_cmp n k))) none
+
+listed_last : (events : List EventHandle) (e : EventHandle) (g m : ℕ) → is_listed (events ++ e ∷ []) g m ≡ (is_listed events g m || (eqb g e.sender && eqb m e.serial))
+listed_last [] e g m = by (eqb g e.sender && eqb m e.serial)
+  where
+    by : (b : Bool) → (b || false) ≡ b
+    by true = refl
+    by false = refl
+listed_last (x ∷ events) e g m = by (eqb g x.sender && eqb m x.serial) (listed_last events e g m)
+  where
+    by : (b : Bool) → is_listed (events ++ e ∷ []) g m ≡ (is_listed events g m || (eqb g e.sender && eqb m e.serial)) → (b || is_listed (events ++ e ∷ []) g m) ≡ ((b || is_listed events g m) || (eqb g e.sender && eqb m e.serial))
+    by true rest = refl
+    by false rest = rest
+
+pub names_added : (s r : BTreeSet Name) (events more : List EventHandle) (e : EventHandle) (k : Name) → HasNamesOf s events → k ≡ record { sender = e.sender; serial = e.serial } → sorted.Updates name_cmp s r k true → more ≡ events ++ e ∷ [] → HasNamesOf r more
+names_added s r events more e k has is now grown n =
+    (subst (λ x. sorted.Updates name_cmp s r x true) is now).0 n
+    ∙ ap (λ b. cond b true (sorted.contains name_cmp s n)) (is_eq-name_cmp (record { sender = e.sender; serial = e.serial }) n)
+    ∙ ap (cond (eqb e.sender n.sender && eqb e.serial n.serial) true) (has n)
+    ∙ by (eqb e.sender n.sender && eqb e.serial n.serial) (eqb n.sender e.sender && eqb n.serial e.serial) (is_listed events n.sender n.serial) turned
+    ∙ sym (ap (λ es. is_listed es n.sender n.serial) grown ∙ listed_last events e n.sender n.serial)
+  where
+    turned : (eqb e.sender n.sender && eqb e.serial n.serial) ≡ (eqb n.sender e.sender && eqb n.serial e.serial)
+    turned = grind (arith, nat_tests)
+
+    by : (a b l : Bool) → a ≡ b → cond a true l ≡ (l || b)
+    by true b l same = or_true l
+      where
+        or_true : (l : Bool) → true ≡ (l || b)
+        or_true true = refl
+        or_true false = same
+    by false b l same = or_false l ∙ ap (λ c. l || c) same
+      where
+        or_false : (l : Bool) → l ≡ (l || false)
+        or_false true = refl
+        or_false false = refl

@@ -1,27 +1,35 @@
 -- Tests of all that waits are tests of the keys in a range of the index
 use Rattle.std.proofs.Common.{◌≡◌, ℕ, cond, eqb, leb, ltb, ◌&&◌, ◌||◌, not, Bool, true, false, List, [], ◌∷◌, Option, Some, None, is_some, Bor, refl, sym, ap, ◌∙◌, arith}
 use Rattle.std.specs.List.{list_all, filter}
+use Rattle.std.specs.BTreeSet as sorted
+use Rattle.std.specs.BTreeSet.{BTreeSet}
+use Rattle.std.proofs.Math.Path.{fun_ext}
 use Rattle.std.specs.Map.Iter.{TakesFirst, deref}
 use Rattle.std.specs.Option.{option_map_or}
 use Rattle.std.specs.Ordering.{is_le, nat_cmp, ordering_then}
 use Rattle.std.specs.declared.cmp.Ordering.{Ordering}
 use Rattle.std.specs.declared.cmp.Ordering.TheVariants.{Less, Equal, Greater}
 use Rattle.std.proofs.lemmas.Bool.Decides.{nat_tests}
+use Rattle.hla_base.specs.declared.number.EventHandle.{EventHandle}
 use Rattle.hla_callbacks.specs.declared.callback.Delivery.{Delivery}
 use Rattle.hla_callbacks.specs.declared.callback.Delivery.TheVariants.{Receive, Demoted, TimeStamp}
 use Rattle.hla_accounts.specs.declared.account.Account.{Account}
 use Rattle.hla_accounts.specs.declared.bag.Waiting.{Waiting}
 use Rattle.hla_accounts.specs.declared.index.Key.{Key}
+use Rattle.hla_accounts.specs.declared.index.Name.{Name}
 use Rattle.hla_accounts.specs.declared.index.Index.{Index}
-use Rattle.hla_accounts.specs.Bags.{AreApart}
+use Rattle.hla_accounts.specs.Bags.{is_listed, AreApart}
 use Rattle.hla_accounts.specs.Bounds.{is_retracted, ordered_stamp, demoted_stamp, is_at_most_waiting}
-use Rattle.hla_accounts.specs.Ticks.{is_sent_in_receive_order, is_not_earlier, is_key_le, is_not_before}
+use Rattle.hla_accounts.specs.Ticks.{is_among_if_below, is_sent_in_receive_order, is_not_earlier, is_key_le, is_not_before}
 use Rattle.hla_accounts.specs.Calls.{is_at_most_demoted}
-use Rattle.hla_accounts.specs.Indexes.{key_at, is_ordered_below, is_demoted_below, is_ordered_before, is_received_before, delivery_at, IsIndexOf}
+use Rattle.hla_accounts.specs.Indexes.{name_cmp, HasNamesOf, key_at, is_ordered_below, is_demoted_below, is_ordered_before, is_received_before, delivery_at, IsIndexOf}
 use Rattle.hla_accounts.proofs.RangeLemmas.{all_in_range}
 
 abbrev pub is_key_retracted : List Account → Key → Bool
 is_key_retracted accounts k = is_retracted accounts k.sender k.serial
+
+abbrev pub is_key_among : List Account → List EventHandle → Key → Bool
+is_key_among accounts events k = is_key_retracted accounts k || is_listed events k.sender k.serial
 
 -- ---- comparisons
 le_then : (o p : Ordering) → is_le o ≡ true → is_le p ≡ true → is_le (ordering_then o p) ≡ true
@@ -129,6 +137,32 @@ first_keys accounts g m z i ws kept apart = all_in_range i ws kept apart (is_not
     by r h n Receive = other r (is_key_le g m h n)
     by r h n (Demoted s) = other r (is_key_le g m h n)
     by r h n (TimeStamp s) = passed r (eqb s z) (is_key_le g m h n) ∙ ap (λ b. not b || r) (sym (keys_before z s g m h n))
+
+pub among_keys : (accounts : List Account) (x : ℕ) (events : List EventHandle) (i : Index) (ws : List Waiting) → IsIndexOf i (delivery_at ws) → AreApart ws →
+    list_all (is_among_if_below accounts x events) ws ≡ list_all (is_key_among accounts events) (filter (is_ordered_below x) i.keys.keys)
+among_keys accounts x events i ws kept apart =
+    all_in_range i ws kept apart (is_among_if_below accounts x events) (is_ordered_below x) (is_key_among accounts events)
+    (λ w. by (is_retracted accounts w.event.sender w.event.serial) (is_listed events w.event.sender w.event.serial) w.event.sender w.event.serial w.delivery)
+  where
+    passed : (r b l : Bool) → (r || not b || l) ≡ (not b || (r || l))
+    passed true true l = refl
+    passed true false l = refl
+    passed false true l = refl
+    passed false false l = refl
+
+    other : (r l : Bool) → (r || true || l) ≡ true
+    other true l = refl
+    other false l = refl
+
+    by : (r l : Bool) (g m : ℕ) (d : Delivery) → (r || option_map_or (λ s. not (ltb s x)) (ordered_stamp d) true || l) ≡ (not (is_ordered_below x (key_at g m d)) || (r || l))
+    by r l g m Receive = other r l
+    by r l g m (Demoted s) = other r l
+    by r l g m (TimeStamp s) = passed r (ltb s x) l ∙ ap (λ b. not b || (r || l)) (sym (stamps_below x s g m))
+
+-- a set of the names of the events tells who is among them
+pub among_names : (accounts : List Account) (events : List EventHandle) (s : BTreeSet Name) (ks : List Key) → HasNamesOf s events →
+    list_all (λ (k : Key). is_key_retracted accounts k || sorted.contains name_cmp s (record { sender = k.sender; serial = k.serial })) ks ≡ list_all (is_key_among accounts events) ks
+among_names accounts events s ks has = ap (λ (test : Key → Bool). list_all test ks) (fun_ext (λ k. ap (λ b. is_key_retracted accounts k || b) (has (record { sender = k.sender; serial = k.serial }))))
 
 pub received_keys : (g m : ℕ) (i : Index) (ws : List Waiting) → IsIndexOf i (delivery_at ws) → AreApart ws → list_all (is_not_earlier g m) ws ≡ list_all (λ _. false) (filter (is_received_before g m) i.keys.keys)
 received_keys g m i ws kept apart = all_in_range i ws kept apart (is_not_earlier g m) (is_received_before g m) (λ _. false) (λ w. by w.event.sender w.event.serial w.delivery)

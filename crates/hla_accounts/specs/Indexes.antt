@@ -3,10 +3,12 @@ use Rattle.std.specs.Prelude.{ℕ, ◌≡◌, Bool, false, Option, is_some, opti
 use Rattle.std.specs.Option.{option_map_or}
 use Rattle.std.specs.BTreeMap as tree
 use Rattle.std.specs.BTreeSet as sorted
+use Rattle.std.specs.BTreeSet.{BTreeSet}
 use Rattle.std.specs.BTreeMap.Range.{range_contains}
 use Rattle.std.specs.declared.cmp.Ordering.{Ordering}
 use Rattle.std.specs.declared.ops.Bound.TheVariants.{Included, Excluded}
 use Rattle.std.specs.Ordering.{nat_cmp, ordering_then, is_eq}
+use Rattle.hla_base.specs.declared.number.EventHandle.{EventHandle}
 use Rattle.hla_callbacks.specs.declared.callback.Delivery.{Delivery}
 use Rattle.hla_callbacks.specs.declared.callback.Delivery.TheVariants as delivery
 use Rattle.hla_accounts.specs.declared.bag.Waiting.{Waiting}
@@ -15,7 +17,7 @@ use Rattle.hla_accounts.specs.declared.index.Rank.TheVariants.{Receive, Demoted,
 use Rattle.hla_accounts.specs.declared.index.Key.{Key}
 use Rattle.hla_accounts.specs.declared.index.Name.{Name}
 use Rattle.hla_accounts.specs.declared.index.Index.{Index}
-use Rattle.hla_accounts.specs.Bags.{waiting_at, AreApart}
+use Rattle.hla_accounts.specs.Bags.{waiting_at, is_listed, AreApart}
 
 -- ---- keys: by rank, then by stamp, sender and serial
 abbrev pub rank_no : Rank → ℕ
@@ -79,3 +81,7 @@ pub record IsIndexOf (i : Index) (table : ℕ → ℕ → Option Delivery) : Typ
 -- what a bag keeps of the messages that wait, and of their index
 abbrev pub IsKept : List Waiting → Option Index → Type 0
 IsKept ws index = AreApart ws × IfSome index (λ i. IsIndexOf i (delivery_at ws))
+
+-- the set has the names of these events and no others
+abbrev pub HasNamesOf : BTreeSet Name → List EventHandle → Type 0
+HasNamesOf s events = (n : Name) → sorted.contains name_cmp s n ≡ is_listed events n.sender n.serial

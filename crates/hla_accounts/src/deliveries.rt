@@ -12,6 +12,7 @@ ghost use Rattle.hla_accounts.specs.Ticks.{has_no_offer, is_discovered, may_deli
 use crate::accounts::Accounts;
 use crate::bag::{Waiting, is_listed};
 use crate::bounds::ordered_stamp;
+use crate::index::names_of;
 use crate::offers::Offer;
 use crate::ticks::may_receive;
 use hla_base::{Content, EventHandle, FederateNo, ObjectNo, Plain, Ticks};
@@ -136,18 +137,30 @@ impl Accounts {
     }
 
     /// Whether each of what waits for a federate in time-stamp order, is not retracted, and has a stamp below a time, in
-    /// ticks, is among these events.
+    /// ticks, is among these events. The time grows with the logarithm of what waits for the federate, and with the events and
+    /// what waits below the time, each times the logarithm of the events. Where memory for the names of the events was refused,
+    /// it looks for what waits below the time at each of them.
     fn are_all_among(&self, federate: FederateNo, time: Ticks, events: &[EventHandle]) -> bool
         ensures { result ≡ list_all (is_among_if_below self.now time events.now) (account_at self.now
             federate).bag }
     {
-        match self.get(federate) {
-            Some(account) => account
+        let Some(account) = self.get(federate) else {
+            return true;
+        };
+        let Some(index) = account.bag.index() else {
+            return account
                 .bag
                 .as_slice()
                 .iter()
-                .all(|waiting| self.is_among_if_below(time, events, waiting)),
-            None => true,
+                .all(|waiting| self.is_among_if_below(time, events, waiting));
+        };
+        match names_of(*self.accounts.allocator(), events) {
+            Some(names) => index.ordered_below(time).all(|key| {
+                self.is_retracted(key.event()) || names.contains(&key.name())
+            }),
+            None => index.ordered_below(time).all(|key| {
+                self.is_retracted(key.event()) || is_listed(events, key.event())
+            }),
         }
     }
 
@@ -162,7 +175,8 @@ impl Accounts {
     }
 
     /// Whether a federate that has asked to be constrained may become so at a time, in ticks, where these events move to
-    /// receive order (Time Constrained Enabled). It looks for all that waits for the federate at each of the events.
+    /// receive order (Time Constrained Enabled). It takes the time of `is_below_bound`, and that of looking for each of the
+    /// events among what waits for the federate, and for what waits below the time among the events.
     pub fn may_constrain(&self, federate: FederateNo, time: Ticks, events: &[EventHandle]) -> bool
         ensures { result ≡ may_constrain self.now federate time events.now }
     {

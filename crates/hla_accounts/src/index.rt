@@ -6,7 +6,7 @@ ghost use Rattle.std.specs.BTreeMap.Range.{IsLeBy};
 ghost use Rattle.hla_base.specs.Tables.{upd2};
 ghost use Rattle.hla_callbacks.specs.declared.callback.Delivery.{Delivery};
 ghost use Rattle.hla_accounts.specs.Bags.{AreApart};
-ghost use Rattle.hla_accounts.specs.Indexes.{rank_of, stamp_of, key_at, key_cmp, is_between, is_ordered_below, is_demoted_below, is_ordered_before, is_received_before, delivery_at, IsIndexOf};
+ghost use Rattle.hla_accounts.specs.Indexes.{rank_of, stamp_of, key_at, key_cmp, is_between, is_ordered_below, is_demoted_below, is_ordered_before, is_received_before, delivery_at, HasNamesOf, IsIndexOf};
 
 use crate::bag::Waiting;
 use hla_base::{EventHandle, FederateNo, Serial, Ticks};
@@ -99,6 +99,16 @@ impl Key {
         )
     }
 
+    /// The name of the message that has this key.
+    pub fn name(self) -> Name
+        ensures { result ≡ record { sender = self.sender; serial = self.serial } }
+    {
+        Name {
+            sender: self.sender,
+            serial: self.serial,
+        }
+    }
+
     /// The handle of the message that has this key.
     pub fn event(self) -> EventHandle
         ensures { result ≡ record { sender = self.sender; serial = self.serial } }
@@ -120,6 +130,25 @@ impl Name {
             serial: event.serial,
         }
     }
+}
+
+/// Of fewer events each is compared as fast as a set finds one.
+const NAMED_FROM: usize = 16;
+
+/// The names of these events; `None` where they are few, or a growth was refused.
+pub fn names_of(alloc: Global, events: &[EventHandle]) -> Option<BTreeSet<Name>>
+    ensures { IfSome result (λ s. HasNamesOf s events.now) }
+{
+    if events.len() < NAMED_FROM {
+        return None;
+    }
+    let mut names = BTreeSet::new(alloc);
+    for event in events {
+        let Ok(_) = names.insert(Name::of(*event)) else {
+            return None;
+        };
+    }
+    Some(names)
 }
 
 impl Index {

@@ -1,5 +1,5 @@
 -- The message goes to the front and then into the gap, or those behind it move up.
-use Rattle.std.proofs.Common.{◌≡◌, ◌+◌, ◌-◌, ℕ, drop, subst, sym, ap, ◌∙◌, arith}
+use Rattle.std.proofs.Common.{◌≡◌, ◌+◌, ◌-◌, drop, sym, ap, ◌∙◌, arith}
 use Rattle.std.specs.List.{remove}
 use Rattle.hla_accounts.proofs.LineLemmas.{drop-remove}
 use Rattle.hla_accounts.proofs.line.take_out.Goals as goal
