@@ -154,15 +154,72 @@ impl<J: Naming, W: Publisher<J>> Board<J, W> {
             (self.new.shown ≡ self.old.shown) }
         ensures monitors { self.new.monitors ≡ self.old.monitors }
     {
+        if !self.adds(entry) {
+            return Err(Fault::LimitReached);
+        }
+        self.catch_up()
+    }
+
+    /// Keeps the next record of the history, as `note` does, and shows monitors the counts up to it where one was handed out.
+    /// Where none was, the counts wait for `catch_up`, and it costs less than `note`. `OutOfMemory` where a growth was refused:
+    /// then they wait, too. `LimitReached` as of `note`.
+    pub fn keep(&mut self, entry: &Record) -> Result<(), Fault>
+        ensures ok { OnOk result (self.new.shown ≡ self.old.shown ++ entry.now ∷ []) }
+        ensures published { 0 < self.old.monitors → OnOk result (self.new.published ≡ self.new.shown) }
+        ensures waits { OnErr result (self.new.published ≡ self.old.published) }
+        ensures unread { self.old.monitors ≡ 0 → self.new.published ≡ self.old.published }
+        ensures err { IfErr result (λ e. e ≡ (if self.new.whole then Fault.OutOfMemory else Fault.LimitReached)) }
+        ensures shown { MatchBool self.new.whole
+            ((self.old.whole ≡ true) × (self.new.shown ≡ self.old.shown ++ entry.now ∷ []))
+            (self.new.shown ≡ self.old.shown) }
+        ensures monitors { self.new.monitors ≡ self.old.monitors }
+    {
+        if !self.adds(entry) {
+            return Err(Fault::LimitReached);
+        }
+        if self.monitors > 0 {
+            self.catch_up()
+        } else {
+            Ok(())
+        }
+    }
+
+    /// Publishes what is shown, if any of it waits. `OutOfMemory` where a growth was refused: then it waits on.
+    pub fn catch_up(&mut self) -> Result<(), Fault>
+        ensures ok { OnOk result (self.new.published ≡ self.new.shown) }
+        ensures waits { OnErr result (self.new.published ≡ self.old.published) }
+        ensures err { IfErr result (λ e. e ≡ Fault.OutOfMemory) }
+        ensures same { self.new ≡ record {
+          whole = self.old.whole;
+          shown = self.old.shown;
+          published = self.new.published;
+          monitors = self.old.monitors;
+        } }
+    {
+        if self.publisher.told().status().steps == self.shown.status().steps {
+            return Ok(());
+        }
+        self.publisher.post(&self.shown)
+    }
+
+    /// Adds a record to what is shown, and says whether it did. It did not where this record or one before could not be added.
+    fn adds(&mut self, entry: &Record) -> bool
+        ensures added { MatchBool result
+            ((self.old.whole ≡ true) × (self.new.shown ≡ self.old.shown ++ entry.now ∷ []))
+            (self.new.shown ≡ self.old.shown) }
+        ensures whole { result ≡ self.new.whole }
+        ensures published { self.new.published ≡ self.old.published }
+        ensures monitors { self.new.monitors ≡ self.old.monitors }
+    {
         if !self.whole || self.shown.status().steps >= MAX_NOTED {
             self.whole = false;
-            return Err(Fault::LimitReached);
+            return false;
         }
         if !self.shown.grow(&self.end, entry) {
             self.whole = false;
-            return Err(Fault::LimitReached);
+            return false;
         }
-        self.publisher.post(&self.shown)
+        true
     }
 
     /// The beginning of the history that is published.

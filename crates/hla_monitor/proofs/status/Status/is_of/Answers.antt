@@ -1,5 +1,4 @@
-use Rattle.std.proofs.Common.{◌<◌, sym, ap, ◌∙◌, subst, arith}
-use Rattle.hla_machine.specs.declared.step.Record.{Record}
+use Rattle.std.proofs.Common.{sym, ap, ◌∙◌, subst, arith}
 use Rattle.hla_monitor.specs.Counts.{IsBelow, status_after}
 use Rattle.hla_monitor.specs.declared.status.Status.{Status}
 use Rattle.hla_monitor.proofs.Counting.{begun_below, begun_more}
