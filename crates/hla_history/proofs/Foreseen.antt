@@ -36,3 +36,10 @@ refused_stays old new step e same h other =
     let is : refusal (components_seen (state_of old)) step ≡ Some e = elim h [ inl r ↦ r | inr p ↦ absurd (other p.1) ] in
     ap (λ (f : FederationValue). state_of f) same
     ∙ sym (ap (λ (o : Option Fault). (unless_refused o (state_of old) (step_outcome (state_of old) step)).state) is)
+
+-- the same under a name that was copied
+pub foreseen_named : (f : FederationValue) (actor : ℕ) (n name : List ℕ) (step : Step) (out : Outcome) (chosen : Choice)
+    → n ≡ name → out ≡ (next (state_of f) step).outcome → chosen ≡ (next (state_of f) step).choice
+    → record { actor = actor; execution = n; act = act.Step step; outcome = out; choice = chosen } ≡ step_record_in (components_hosted f) actor name step
+foreseen_named f actor n name step out chosen same ends chooses =
+    foreseen_record f actor n step out chosen ends chooses ∙ ap (λ (k : List ℕ). step_record_in (components_hosted f) actor k step) same

@@ -8,3 +8,4 @@ pub mod Hosting
 pub mod Places
 pub mod Seats
 pub mod Creations
+pub mod Written

@@ -4,3 +4,4 @@ pub mod Hosting
 pub mod Forms
 pub mod Creating
 pub mod Closing
+pub mod Writing

@@ -73,7 +73,7 @@ fn give_at<B: FederateAmbassador>(
 }
 
 /// The outcome of a tick whose ambassador failed.
-fn failed(outcome: Outcome) -> Outcome
+pub(crate) fn failed(outcome: Outcome) -> Outcome
     ensures value { result ≡ failed_outcome outcome }
     ensures given { given_outcome result ≡ given_outcome outcome }
     ensures callback { callback_in result ≡ callback_in outcome }
@@ -82,6 +82,27 @@ fn failed(outcome: Outcome) -> Outcome
         Outcome::Done(Answer::Ticked(Some(callback))) => Outcome::Failed(callback),
         other => other,
     }
+}
+
+/// Gives the callback of an act, if there is one, to the ear of the federate that ticks, and says whether its ambassador
+/// failed in it.
+pub(crate) fn fails_at<B: FederateAmbassador>(
+    ears: &mut Vec<Option<Ear<B>>>,
+    act: &Act,
+    callback: Option<Callback>,
+) -> bool
+    requires { CanDeliver callback act.now ears.old.items }
+    ensures heard { heard_table (heard_of ears.new.items)
+        ≡ heard_then_of (heard_table (heard_of ears.old.items)) act.now callback }
+    ensures len { vec_len ears.new ≡ vec_len ears.old }
+{
+    let Some(callback) = callback else {
+        return false;
+    };
+    let Act::Step(Step::Tick { federate }) = act else {
+        unreachable!()
+    };
+    give_at(ears, *federate, callback).is_err()
 }
 
 /// Gives the callback of a tick to the ear of its federate. Where the ambassador fails, the record and its copies say so.

@@ -1,6 +1,6 @@
 //! One execution under the lock, with the ambassadors of its federates.
 
-ghost use Rattle.std.specs.Prelude.{◌≡◌, [], Some, None, is_some, IfOk, IfErr, IfSome, OnErr, if◌then◌else◌, vec_len};
+ghost use Rattle.std.specs.Prelude.{◌≡◌, ◌<◌, ◌++◌, ◌∷◌, [], Some, None, is_some, IfOk, IfErr, IfSome, OnErr, if◌then◌else◌, is_ok, ◌+◌, vec_len, vec_capacity};
 ghost use Rattle.std.specs.Str.{bytes_eq};
 ghost use Rattle.hla_components.specs.CentralOf.{central};
 ghost use Rattle.hla_components.specs.Next.{next};
@@ -12,15 +12,18 @@ ghost use Rattle.hla_history.specs.Creating.{is_accepted, heard_from};
 ghost use Rattle.hla_history.specs.Heard.{given_outcome};
 ghost use Rattle.hla_history.specs.Hosting.{components_hosted, host_of};
 ghost use Rattle.hla_history.specs.Hosts.{IsPlain, HasAmbassadors, host_after, new_host};
+ghost use Rattle.hla_history.specs.Writing.{step_record};
 
 use crate::delivering::{delivered, ready};
+use crate::doing::carry_out;
 use crate::preparing::{Stepped, advance, prepare, taken};
 use crate::seating::{seated, unseated};
+use crate::writing::{answered, take_away, write_foreseen};
 use hla_base::{ExecutionName, Fault, FederateNo, List, MAX_JOINS, Plain, SharedList};
 use hla_callbacks::{Ear, FederateAmbassador};
 use hla_catalogue::Catalogue;
 use hla_federation::Federation;
-use hla_machine::{Record, ResignAction, Service, Step};
+use hla_machine::{Outcome, Record, ResignAction, Service, Step};
 use std::alloc::Global;
 use std::marker::Model;
 
@@ -113,6 +116,49 @@ impl<B: FederateAmbassador> Hosted<B> {
             Ok(()) => Ok(delivered(&mut self.ears, prepared)),
             Err(fault) => {
                 drop(prepared);
+                Err(fault)
+            }
+        }
+    }
+
+    /// Does a step that is no joining and no resigning, gives its callback to the ear of its federate, and writes the record at
+    /// the end of the history and its copy at the end of a transcript, which both have room. `OutOfMemory`, and nothing done or
+    /// written, where a growth was refused.
+    pub(crate) fn step_into(
+        &mut self,
+        actor: u32,
+        step: Step,
+        history: &mut Vec<Record>,
+        transcript: &mut Vec<Record>,
+    ) -> Result<Outcome, Fault>
+        requires plain { IsPlain step }
+        requires ambassadors { HasAmbassadors (host_of self.old) }
+        requires room { vec_len history.old < vec_capacity history.old }
+        requires room_beside { vec_len transcript.old < vec_capacity transcript.old }
+        ensures written { IfOk result (λ out. history.new.items ≡ history.old.items ++ step_record actor self.old.name step out
+            (next (components_hosted self.old.federation) step).choice ∷ []) }
+        ensures copied { IfOk result (λ out. transcript.new.items ≡ transcript.old.items ++ step_record actor self.old.name step out
+            (next (components_hosted self.old.federation) step).choice ∷ []) }
+        ensures given { IfOk result (λ out. given_outcome out ≡ (next (components_hosted self.old.federation) step).outcome) }
+        ensures name { self.new.name ≡ self.old.name }
+        ensures host { IfOk result (λ out. host_of self.new ≡ host_after (host_of self.old) step out) }
+        ensures len { vec_len history.new ≡ (if is_ok result then vec_len history.old + 1 else vec_len history.old) }
+        ensures capacity { vec_capacity history.new ≡ vec_capacity history.old }
+        ensures err { IfErr result (λ e. e ≡ Fault.OutOfMemory) }
+        ensures unchanged { OnErr result (self.new ≡ self.old) }
+        ensures unwritten { OnErr result (history.new.items ≡ history.old.items) }
+        ensures uncopied { OnErr result (transcript.new.items ≡ transcript.old.items) }
+    {
+        if let Err(fault) = ready(&mut self.ears, &step) {
+            drop(step);
+            return Err(fault);
+        }
+        write_foreseen(&self.federation, actor, &self.name, step, history)?;
+        let made = &history[history.len() - 1];
+        match carry_out(&mut self.federation, &mut self.ears, made, transcript) {
+            Ok(ended) => Ok(answered(ended, history, transcript)),
+            Err(fault) => {
+                take_away(history);
                 Err(fault)
             }
         }

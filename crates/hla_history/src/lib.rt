@@ -6,11 +6,13 @@ mod comparing;
 mod counts;
 mod creating;
 mod delivering;
+mod doing;
 mod host;
 mod joining;
 mod preparing;
 mod seating;
 mod shared;
+mod writing;
 
 pub use preparing::Stepped;
 pub use shared::Shared;

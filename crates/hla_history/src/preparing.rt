@@ -34,7 +34,7 @@ pub(crate) struct Prepared {
 }
 
 /// The callback in an outcome, copied.
-fn copied_callback(outcome: &Outcome) -> Result<Option<Callback>, Fault>
+pub(crate) fn copied_callback(outcome: &Outcome) -> Result<Option<Callback>, Fault>
     ensures ok { IfOk result (λ k. k ≡ callback_in outcome.now) }
     ensures err { IfErr result (λ e. e ≡ Fault.OutOfMemory) }
 {

@@ -1,6 +1,6 @@
 //! The value under the lock of the run-time infrastructure.
 
-ghost use Rattle.std.specs.Prelude.{◌≡◌, ◌≢◌, ◌+◌, ◌<◌, ◌⊎◌, ◌↔◌, ℕ, [], length, None, Some, is_some, IsTrue, IfOk, IfErr, IfSome, OnErr, MatchResult, if◌then◌else◌};
+ghost use Rattle.std.specs.Prelude.{◌≡◌, ◌≢◌, ◌+◌, ◌<◌, ◌⊎◌, ◌↔◌, ◌++◌, ◌∷◌, ℕ, [], length, vec_len, vec_capacity, None, Some, is_some, IsTrue, IfOk, IfErr, IfSome, OnErr, MatchResult, if◌then◌else◌};
 ghost use Rattle.hla_machine.specs.declared.service.Service.TheVariants as service;
 ghost use Rattle.hla_machine.specs.declared.step.Act.TheVariants as act;
 ghost use Rattle.hla_machine.specs.declared.step.Choice.TheVariants as choice;
@@ -10,8 +10,9 @@ ghost use Rattle.hla_history.specs.Creating.{catalogue_from, is_accepted, heard_
 ghost use Rattle.hla_history.specs.Forms.{NoAnswer, AFederate, EndsInForm, step_form};
 ghost use Rattle.hla_history.specs.Hosts.{IsPlain, IsLockKept, with_record};
 ghost use Rattle.hla_history.specs.Hosting.{held_of, hosts_of};
+ghost use Rattle.hla_history.specs.Writing.{step_record, chosen_in};
 
-use crate::among::step_among;
+use crate::among::{step_among, step_among_into};
 use crate::comparing::is_transcript;
 use crate::counts::Counts;
 use crate::creating::{catalogue_read, create_among, destroy_among};
@@ -20,7 +21,7 @@ use crate::joining::{join_among, resign_among};
 use crate::preparing::Stepped;
 use hla_base::{ExecutionName, Fault, FederateNo, List};
 use hla_callbacks::FederateAmbassador;
-use hla_machine::{Record, ResignAction, Step};
+use hla_machine::{Outcome, Record, ResignAction, Step};
 use std::alloc::Global;
 use std::marker::Model;
 use std::mem;
@@ -130,6 +131,50 @@ impl<L: Ledger, B: FederateAmbassador> Shared<L, B> {
         self.history.push_reserved(record);
         self.book.add(mine, 1);
         Ok(stepped)
+    }
+
+    /// Does a step as `step` does, and writes the caller's copy of the record at the end of its transcript, which has room, in
+    /// place of handing it out. The record is made in its place, and only the answer is handed up. `HistoryFull` where the
+    /// history holds its limit, and `OutOfMemory` where a growth was refused; then nothing has changed. Any other fault is the
+    /// step's answer, and is recorded.
+    pub fn step_into(
+        &mut self,
+        actor: u32,
+        execution: &ExecutionName,
+        step: Step,
+        mine: &mut Share<L>,
+        transcript: &mut Vec<Record>,
+    ) -> Result<Outcome, Fault>
+        requires part { 0 < mine.old.parts }
+        requires plain { IsPlain step }
+        requires room { vec_len transcript.old < vec_capacity transcript.old }
+        ensures asked { IfOk result (λ out. transcript.new.items ≡ transcript.old.items ++ step_record actor execution.now step out
+            (chosen_in ((held_of self.old).hosts.host execution.now) step) ∷ []) }
+        ensures form { IfOk result (λ out. EndsInForm (step_form step) out) }
+        ensures recorded { IfOk result (λ out. held_of self.new ≡ with_record (held_of self.old) (step_record actor execution.now
+            step out (chosen_in ((held_of self.old).hosts.host execution.now) step))) }
+        ensures full { result ≡ Err Fault.HistoryFull ↔ (length self.old.history ≡ self.old.limit) }
+        ensures refused { IfErr result (λ e. (e ≡ Fault.HistoryFull) ⊎ (e ≡ Fault.OutOfMemory)) }
+        ensures unchanged { OnErr result (self.new ≡ self.old) }
+        ensures unwritten { OnErr result (transcript.new.items ≡ transcript.old.items) }
+        ensures share { MatchResult result (λ _. mine.new.amount ≡ mine.old.amount + 1)
+            (λ _. mine.new.amount ≡ mine.old.amount) }
+        ensures parts { mine.new.parts ≡ mine.old.parts }
+    {
+        if self.history.len() >= self.limit {
+            drop(step);
+            return Err(Fault::HistoryFull);
+        }
+        let answer = step_among_into(
+            &mut self.executions,
+            actor,
+            execution,
+            step,
+            &mut self.history,
+            transcript,
+        )?;
+        self.book.add(mine, 1);
+        Ok(answer)
     }
 
     /// Create Federation Execution (HLA 1.3, federation management), with the text of its FED file, and records it.

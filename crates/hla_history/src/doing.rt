@@ -1,0 +1,99 @@
+//! Doing the step of a record that stands written in the history as it was foreseen.
+
+ghost use Rattle.std.specs.Prelude.{◌≡◌, ◌<◌, ◌++◌, ◌∷◌, [], IfOk, IfErr, OnOk, OnErr, vec_len, vec_capacity};
+ghost use Rattle.hla_history.specs.Heard.{callback_in};
+ghost use Rattle.hla_history.specs.Hosting.{components_hosted, components_after, heard_of, heard_table, heard_then_of, CanDeliver, IsStepAct};
+
+use crate::delivering::fails_at;
+use crate::preparing::{advance, copied_callback};
+use crate::writing::{Ended, take_away, write_copy};
+use hla_base::{Fault, Plain};
+use hla_callbacks::{Callback, Ear, FederateAmbassador};
+use hla_federation::Federation;
+use hla_machine::{Outcome, Record};
+
+/// What goes out of a record: the answer to the caller, and the callback to the ear.
+#[derive(Drop)]
+struct Outgoing {
+    answer: Outcome,
+    callback: Option<Callback>,
+}
+
+/// The copies of what goes out of a record.
+fn copied_out(made: &Record) -> Result<Outgoing, Fault>
+    ensures answer { IfOk result (λ x. x.answer ≡ made.now.outcome) }
+    ensures callback { IfOk result (λ x. x.callback ≡ callback_in made.now.outcome) }
+    ensures err { IfErr result (λ e. e ≡ Fault.OutOfMemory) }
+{
+    let answer = made.outcome.copy()?;
+    match copied_callback(&made.outcome) {
+        Ok(callback) => Ok(Outgoing { answer, callback }),
+        Err(fault) => {
+            drop(answer);
+            Err(fault)
+        }
+    }
+}
+
+/// Does the step of a record whose copy is to be written in the transcript, which has room. `OutOfMemory`, and nothing done
+/// or written, where a growth was refused.
+fn advance_copied(
+    federation: &mut Federation,
+    made: &Record,
+    transcript: &mut Vec<Record>,
+) -> Result<(), Fault>
+    requires act { IsStepAct made.now.act }
+    requires room { vec_len transcript.old < vec_capacity transcript.old }
+    ensures state { OnOk result (components_hosted federation.new
+        ≡ components_after (components_hosted federation.old) made.now.act) }
+    ensures copied { OnOk result (transcript.new.items ≡ transcript.old.items ++ made.now ∷ []) }
+    ensures err { IfErr result (λ e. e ≡ Fault.OutOfMemory) }
+    ensures unchanged { OnErr result (federation.new ≡ federation.old) }
+    ensures unwritten { OnErr result (transcript.new.items ≡ transcript.old.items) }
+{
+    write_copy(made, transcript)?;
+    match advance(federation, &made.act) {
+        Ok(()) => Ok(()),
+        Err(fault) => {
+            take_away(transcript);
+            Err(fault)
+        }
+    }
+}
+
+/// Does the step of a record, writes its copy in the transcript, which has room, and gives its callback to the ear of its
+/// federate, which has room, too. `OutOfMemory`, and nothing done or written, where a growth was refused.
+pub(crate) fn carry_out<B: FederateAmbassador>(
+    federation: &mut Federation,
+    ears: &mut Vec<Option<Ear<B>>>,
+    made: &Record,
+    transcript: &mut Vec<Record>,
+) -> Result<Ended, Fault>
+    requires act { IsStepAct made.now.act }
+    requires ready { CanDeliver (callback_in made.now.outcome) made.now.act ears.old.items }
+    requires room { vec_len transcript.old < vec_capacity transcript.old }
+    ensures answer { IfOk result (λ x. x.answer ≡ made.now.outcome) }
+    ensures state { OnOk result (components_hosted federation.new
+        ≡ components_after (components_hosted federation.old) made.now.act) }
+    ensures copied { OnOk result (transcript.new.items ≡ transcript.old.items ++ made.now ∷ []) }
+    ensures heard { OnOk result (heard_table (heard_of ears.new.items)
+        ≡ heard_then_of (heard_table (heard_of ears.old.items)) made.now.act (callback_in made.now.outcome)) }
+    ensures len { vec_len ears.new ≡ vec_len ears.old }
+    ensures err { IfErr result (λ e. e ≡ Fault.OutOfMemory) }
+    ensures unchanged { OnErr result (federation.new ≡ federation.old) }
+    ensures unheard { OnErr result (ears.new.items ≡ ears.old.items) }
+    ensures unwritten { OnErr result (transcript.new.items ≡ transcript.old.items) }
+{
+    let Outgoing { answer, callback } = copied_out(made)?;
+    match advance_copied(federation, made, transcript) {
+        Ok(()) => {
+            let failed = fails_at(ears, &made.act, callback);
+            Ok(Ended { answer, failed })
+        }
+        Err(fault) => {
+            drop(answer);
+            drop(callback);
+            Err(fault)
+        }
+    }
+}
