@@ -1,5 +1,5 @@
 -- What a call makes of its caller.
-use Rattle.std.proofs.Common.{◌≡◌, ℕ, ◌+◌, List, [], ◌∷◌, ◌++◌, sym, ◌∙◌, ap, inl, ◌⊎◌, subst}
+use Rattle.std.proofs.Common.{◌≡◌, ℕ, ◌+◌, List, [], ◌∷◌, ◌++◌, refl, sym, ◌∙◌, ap, inl, ◌⊎◌, subst}
 use Rattle.std.specs.Prelude.{Result, Ok, Err, IfOk, IfErr}
 use Rattle.hla_base.specs.declared.fault.Fault.{Fault}
 use Rattle.hla_machine.specs.declared.step.Act.{Act}
@@ -26,6 +26,15 @@ pub has_answered : (old new : Caller) (name : List ℕ) (a : Act) (own own' : Re
     → new.number ≡ old.number → new.transcript ≡ old.transcript ++ own' ∷ [] → new.share ≡ old.share + 1 → HasAnswered old name a result new
 has_answered old new name a own own' out out' chosen result is same ends answers number grows counts =
     inl (out, answers ∙ ap answer_given (sym ends), has_acted old new name a own out chosen is number (grows ∙ ap (λ (r : Record). old.transcript ++ r ∷ []) (sym same)) counts)
+
+-- with what was written in the transcript
+pub written_answered : (old new : Caller) (name : List ℕ) (a : Act) (mid : List Record) (out : Outcome) (chosen : Choice) (result : Result Answer Fault)
+    → result ≡ answer_given out → new.number ≡ old.number → mid ≡ old.transcript
+    → new.transcript ≡ mid ++ record { actor = old.number; execution = name; act = a; outcome = out; choice = chosen } ∷ [] → new.share ≡ old.share + 1
+    → HasAnswered old name a result new
+written_answered old new name a mid out chosen result answers number same grows counts =
+    let own : Record = record { actor = old.number; execution = name; act = a; outcome = out; choice = chosen } in
+    inl (out, answers, has_acted old new name a own out chosen refl number (grows ∙ ap (λ (rs : List Record). rs ++ own ∷ []) same) counts)
 
 -- ---- a joining
 pub joined_acted : {E : Type 0} (old new : Caller) (name : List ℕ) (a : Act) (own : Record) (out : Outcome) (chosen : Choice) (result : Result ℕ E)

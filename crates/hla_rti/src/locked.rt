@@ -1,6 +1,6 @@
 //! What lies under the lock: the history with its executions, and the board beside it.
 
-ghost use Rattle.std.specs.Prelude.{◌≡◌, ◌+◌, ◌<◌, ◌⊎◌, ◌↔◌, ◌++◌, ◌∷◌, [], List, length, true, false, None, Some, is_some, Err, IfOk, IfErr, IfSome, OnOk, OnErr, MatchResult, if◌then◌else◌};
+ghost use Rattle.std.specs.Prelude.{◌≡◌, ◌+◌, ◌<◌, ◌⊎◌, ◌↔◌, ◌++◌, ◌∷◌, [], List, length, true, false, None, Some, is_some, Err, IfOk, IfErr, IfSome, OnOk, OnErr, MatchResult, if◌then◌else◌, vec_len, vec_capacity};
 ghost use mathlib.Core.List.{IsPrefix};
 ghost use Rattle.hla_machine.specs.declared.service.Service.TheVariants as service;
 ghost use Rattle.hla_machine.specs.declared.step.Act.TheVariants as act;
@@ -11,6 +11,7 @@ ghost use Rattle.hla_history.specs.Creating.{catalogue_from, is_accepted, heard_
 ghost use Rattle.hla_history.specs.Forms.{NoAnswer, AFederate, EndsInForm, step_form};
 ghost use Rattle.hla_history.specs.Hosts.{IsPlain, with_record};
 ghost use Rattle.hla_history.specs.Hosting.{held_of};
+ghost use Rattle.hla_history.specs.Writing.{step_record, chosen_in};
 ghost use Rattle.hla_rti.specs.Close.{AllHere, AllAgree, DiffersFirst};
 ghost use Rattle.hla_rti.specs.Locked.{IsPosted};
 
@@ -19,12 +20,12 @@ use crate::seat::{Left, Seat};
 use hla_base::{ExecutionName, Fault, FederateNo, List};
 use hla_callbacks::FederateAmbassador;
 use hla_history::{Shared, Stepped};
-use hla_machine::{Record, ResignAction, Step};
+use hla_machine::{Outcome, Record, ResignAction, Step};
 use hla_monitor::{Board, Monitor, Naming, Publisher, Told};
 use std::marker::Model;
 use std::sync::ledger::{Ledger, Share};
 
-/// The history with its executions, and the board that shows it to monitors: each record is noted there before the lock is
+/// The history with its executions, and the board that shows it to monitors: each record is kept there before the lock is
 /// given back. Contracts see both, and whether the records have gone out, as closing does.
 #[derive(Drop)]
 pub struct Locked<L: Ledger + Naming, B: FederateAmbassador, W: Publisher<L>> {
@@ -43,11 +44,29 @@ impl<L: Ledger + Naming, B: FederateAmbassador, W: Publisher<L>> Model for Locke
     ghost invariant = { λ l. IsPostedWhile l.ended l.shared.history l.board };
 }
 
-/// Notes a record of the history on the board. Where memory is refused its counts wait, and no answer changes.
+/// Keeps a record of the history on the board. Where memory is refused its counts wait, and no answer changes.
 fn noted<L: Naming, W: Publisher<L>>(board: &mut Board<L, W>, entry: &Record)
     ensures { (h : List Entry) → IsPosted h board.old → IsPosted (h ++ entry.now ∷ []) board.new }
 {
-    let _ = board.note(entry);
+    let _ = board.keep(entry);
+}
+
+/// Keeps the last record of a transcript on the board.
+fn last_noted<L: Naming, W: Publisher<L>>(board: &mut Board<L, W>, transcript: &[Record])
+    ensures { (h ts : List Entry) (r : Entry) → transcript.now ≡ ts ++ r ∷ [] → IsPosted h board.old
+        → IsPosted (h ++ r ∷ []) board.new }
+{
+    if let Some(entry) = transcript.last() {
+        noted(board, entry);
+    }
+}
+
+/// Publishes the records that wait, which no monitor could read before. Where memory is refused they wait on.
+fn caught_up<L: Naming, W: Publisher<L>>(board: &mut Board<L, W>)
+    ensures posted { (h : List Entry) → IsPosted h board.old → IsPosted h board.new }
+    ensures monitors { board.new.monitors ≡ board.old.monitors }
+{
+    let _ = board.catch_up();
 }
 
 impl<L: Ledger + Naming, B: FederateAmbassador, W: Publisher<L>> Locked<L, B, W> {
@@ -64,37 +83,39 @@ impl<L: Ledger + Naming, B: FederateAmbassador, W: Publisher<L>> Locked<L, B, W>
         }
     }
 
-    /// Does a step that is no joining and no resigning, gives its callback to the ambassador of the federate that ticks, and
-    /// records it. `HistoryFull` where the history holds its limit, and `OutOfMemory` where a growth was refused; then
-    /// nothing has changed. Any other fault is the step's answer, and is recorded.
+    /// Does a step that is no joining and no resigning, gives its callback to the ambassador of the federate that ticks, records
+    /// it, and writes the caller's copy of the record at the end of its transcript, which has room. `HistoryFull` where the
+    /// history holds its limit, and `OutOfMemory` where a growth was refused; then nothing has changed. Any other fault is the
+    /// step's answer, and is recorded.
     pub(crate) fn step(
         &mut self,
         actor: u32,
-        execution: ExecutionName,
+        execution: &ExecutionName,
         step: Step,
         mine: &mut Share<L>,
-    ) -> Result<Stepped, Fault>
+        transcript: &mut Vec<Record>,
+    ) -> Result<Outcome, Fault>
         requires part { 0 < mine.old.parts }
         requires plain { IsPlain step }
-        ensures asked { IfOk result (λ s. s.own ≡ record {
-          actor = actor;
-          execution = execution;
-          act = act.Step step;
-          outcome = s.answer;
-          choice = s.own.choice;
-        }) }
-        ensures form { IfOk result (λ s. EndsInForm (step_form step) s.answer) }
-        ensures recorded { IfOk result (λ s. held_of self.new.held ≡ with_record (held_of self.old.held) s.own) }
+        requires room { vec_len transcript.old < vec_capacity transcript.old }
+        ensures asked { IfOk result (λ out. transcript.new.items ≡ transcript.old.items ++ step_record actor execution.now step out
+            (chosen_in ((held_of self.old.held).hosts.host execution.now) step) ∷ []) }
+        ensures form { IfOk result (λ out. EndsInForm (step_form step) out) }
+        ensures recorded { IfOk result (λ out. held_of self.new.held ≡ with_record (held_of self.old.held)
+            (step_record actor execution.now step out (chosen_in ((held_of self.old.held).hosts.host execution.now) step))) }
         ensures full { result ≡ Err Fault.HistoryFull ↔ (length self.old.held.history ≡ self.old.held.limit) }
         ensures refused { IfErr result (λ e. (e ≡ Fault.HistoryFull) ⊎ (e ≡ Fault.OutOfMemory)) }
         ensures unchanged { OnErr result (self.new ≡ self.old) }
+        ensures unwritten { OnErr result (transcript.new.items ≡ transcript.old.items) }
         ensures share { MatchResult result (λ _. mine.new.amount ≡ mine.old.amount + 1)
             (λ _. mine.new.amount ≡ mine.old.amount) }
         ensures parts { mine.new.parts ≡ mine.old.parts }
     {
-        let stepped = self.shared.step(actor, execution, step, mine)?;
-        noted(&mut self.board, &stepped.own);
-        Ok(stepped)
+        let answer = self
+            .shared
+            .step_into(actor, execution, step, mine, transcript)?;
+        last_noted(&mut self.board, transcript.as_slice());
+        Ok(answer)
     }
 
     /// Create Federation Execution (HLA 1.3, federation management), with the text of its FED file, and records it.
@@ -239,24 +260,27 @@ impl<L: Ledger + Naming, B: FederateAmbassador, W: Publisher<L>> Locked<L, B, W>
         Ok(resigned)
     }
 
-    /// The beginning of the history that monitors are shown.
-    pub(crate) fn tell(&self) -> Told<L>
-        ensures told { result ≡ self.now.posted.published }
-        ensures begins { self.now.ended ≡ false → IsPrefix result self.now.held.history }
+    /// The beginning of the history that monitors are shown. What waits is published first.
+    pub(crate) fn tell(&mut self) -> Told<L>
+        ensures told { result ≡ self.new.posted.published }
+        ensures begins { self.old.ended ≡ false → IsPrefix result self.new.held.history }
+        ensures held { self.new.held ≡ self.old.held }
     {
+        caught_up(&mut self.board);
         self.board.tell()
     }
 
-    /// A monitor, which knows what is shown. `LimitReached` where `MAX_MONITORS` were handed out, or there is no reader for
-    /// it.
+    /// A monitor, which knows what is shown. What waits is published first. `LimitReached` where `MAX_MONITORS` were handed
+    /// out, or there is no reader for it.
     pub(crate) fn monitor(&mut self) -> Result<Monitor<L>, Fault>
-        ensures knows { IfOk result (λ m. m ≡ self.old.posted.published) }
+        ensures knows { IfOk result (λ m. m ≡ self.new.posted.published) }
         ensures below { OnOk result (self.old.posted.monitors < 8) }
         ensures err { IfErr result (λ e. e ≡ Fault.LimitReached) }
         ensures counted { MatchResult result (λ _. self.new.posted.monitors ≡ self.old.posted.monitors + 1)
             (λ _. self.new.posted.monitors ≡ self.old.posted.monitors) }
         ensures held { self.new.held ≡ self.old.held }
     {
+        caught_up(&mut self.board);
         self.board.monitor()
     }
 

@@ -167,10 +167,13 @@ impl<L: Ledger + Naming> Seat<L> {
             return Err(Fault::OutOfMemory);
         }
         let number = self.number;
-        let Stepped { own, answer } = shared
-            .lock(rt)
-            .step(number, execution, step, &mut self.share)?;
-        self.transcript.push_reserved(own);
+        let answer = shared.lock(rt).step(
+            number,
+            &execution,
+            step,
+            &mut self.share,
+            &mut self.transcript,
+        )?;
         answered(answer)
     }
 
