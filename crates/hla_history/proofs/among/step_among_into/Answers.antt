@@ -1,4 +1,4 @@
-use Rattle.std.proofs.Common.{List, sym, ◌∙◌, ap, ◌≡◌, Option, Some, None}
+use Rattle.std.proofs.Common.{List, sym, ◌∙◌, ap, ◌≡◌, Option, None}
 use Rattle.std.specs.List.{position}
 use Rattle.std.specs.Str.{bytes_eq}
 use Rattle.hla_history.specs.Hosts.{Host}
