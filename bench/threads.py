@@ -10,8 +10,8 @@ It prints a line a script, and in it how many records the runs made. A run must 
 `monitor N G` for all G grants; its federates must have been given all that there is for them, and the same in each run, in the same
 order; where one differs the status is 1.
 
-The scripts of many federates are short: a tick with nothing to give makes its federate have everybody announce and carry a
-message over each wire, which for sixteen federates are 257 records, and the history holds 32,768.
+The scripts of many federates are short: where all threads wait, one of them has everybody announce and carries a
+message over each wire, which for sixteen federates are 256 records, and the history holds 32,768.
 """
 import os
 import pathlib
