@@ -1,5 +1,7 @@
 -- What a service puts on the wires
 pub mod Sending
+-- Updates as their receivers are shown them
+pub mod Reflecting
 -- The services that request an advance
 pub mod Advancing
 -- The discoveries of a new object

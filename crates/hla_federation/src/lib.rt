@@ -15,6 +15,7 @@ mod lookups;
 mod naming;
 mod pairs;
 mod parts;
+mod reflecting;
 mod refusals;
 mod registering;
 mod regulating;

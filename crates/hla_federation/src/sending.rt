@@ -6,14 +6,12 @@ ghost use Rattle.hla_base.specs.declared.content.HandleValuePair.{HandleValuePai
 ghost use Rattle.hla_base.specs.declared.fault.Fault.TheVariants.{OutOfMemory};
 ghost use Rattle.hla_base.specs.Tables.{is_other, one_if};
 ghost use Rattle.std.specs.List.{list_all};
-ghost use Rattle.std.specs.Option.{option_map_or};
 ghost use Rattle.hla_catalogue.specs.Lookup.{attribute_order, contains_number, has_parameter};
 ghost use Rattle.hla_catalogue.specs.declared.declared.Order.TheVariants.{Receive};
 ghost use Rattle.hla_retraction.specs.Receivers.{receiver_set};
-ghost use Rattle.hla_machine.specs.Directory.{AnInteraction, AnUpdate, ADeletion, is_receiver, reflection_of, subscribed_values, values_of_order, part_sent, is_of_order};
+ghost use Rattle.hla_machine.specs.Directory.{AnInteraction, AnUpdate, ADeletion, is_receiver, values_of_order, part_sent, is_of_order};
 ghost use Rattle.hla_machine.specs.declared.service.Service.TheVariants as service;
 ghost use Rattle.hla_machine.specs.declared.step.Step.TheVariants as step;
-ghost use Rattle.hla_null_message.specs.declared.message.Message.{Message};
 ghost use Rattle.hla_members.specs.Noting.{handle_noted};
 ghost use Rattle.hla_federation.specs.Steps.Sending.{HasAdded, heading_of, said_under, said_messages, message_to, part_to};
 ghost use Rattle.hla_federation.specs.Steps.Soundness.{MayCall};
@@ -27,7 +25,6 @@ use hla_base::{
     Serial, SharedEvent, SharedList, Ticks,
 };
 use hla_catalogue::Order;
-use hla_declaration::Receiver;
 use hla_machine::Answer;
 use hla_members::{Note, Outbox};
 use hla_null_message::Message;
@@ -66,29 +63,6 @@ impl Parts {
         Ok(shown)
     }
 
-    /// The values of the attributes that a federate subscribes at a class.
-    fn shown_attributes(
-        &self,
-        federate: FederateNo,
-        class: ClassNo,
-        values: &[HandleValuePair],
-    ) -> Result<List<HandleValuePair>, Fault>
-        ensures ok { IfOk result (λ shown. shown ≡ subscribed_values (state_of self.now).directory federate
-            class values.now) }
-        ensures err { IfErr result (λ e. e ≡ Fault.OutOfMemory) }
-    {
-        let mut shown = List::with_room(self.alloc, values.len())?;
-        for value in values {
-            if self
-                .declarations
-                .subscribes_attribute(federate, class, value.handle)
-            {
-                shown.push(value.copy()?)?;
-            }
-        }
-        Ok(shown)
-    }
-
     /// Whether a class has all the parameters of these values.
     fn shows_parameters(&self, class: ClassNo, values: &[HandleValuePair]) -> bool
         ensures { result ≡ list_all (λ (v : HandleValuePair). has_parameter self.now.catalogue class v.handle)
@@ -116,52 +90,6 @@ impl Parts {
         let shown = self.shown_parameters(class, values.as_slice())?;
         let shared = SharedList::from_list(shown)?;
         Ok(shared)
-    }
-
-    /// Whether a federate subscribes at a class all the attributes of these values.
-    fn shows_attributes(
-        &self,
-        federate: FederateNo,
-        class: ClassNo,
-        values: &[HandleValuePair],
-    ) -> bool
-        ensures { result ≡ list_all (λ (v : HandleValuePair). option_map_or (contains_number v.handle)
-            ((state_of self.now).directory.subscribed federate class) false) values.now }
-    {
-        let subscribed = self.declarations.subscribed_attributes(federate, class);
-        values.iter().all(|v| subscribed.contains(&v.handle))
-    }
-
-    /// The update as a federate receives it at a class: with the attributes that it subscribes there, so a share of `whole`
-    /// where it subscribes all of them; none where it subscribes none.
-    fn reflection_for(
-        &self,
-        whole: &SharedEvent,
-        heading: Heading,
-        object: ObjectNo,
-        values: &SharedList<HandleValuePair>,
-        receiver: Receiver,
-    ) -> Result<Option<Message>, Fault>
-        requires { whole.now ≡ said_under heading (content.Reflection object values.now) }
-        ensures ok { IfOk result (λ m. option_map_or (λ (x : Message). x ∷ []) m [] ≡ said_messages heading
-            (reflection_of object (subscribed_values (state_of self.now).directory receiver.federate receiver.class
-            values.now))) }
-        ensures err { IfErr result (λ e. e ≡ Fault.OutOfMemory) }
-    {
-        if values.is_empty() {
-            return Ok(None);
-        }
-        if self.shows_attributes(receiver.federate, receiver.class, values.as_slice()) {
-            let share = whole.share()?;
-            return Ok(Some(Message::Event(share)));
-        }
-        let shown = self.shown_attributes(receiver.federate, receiver.class, values.as_slice())?;
-        if shown.is_empty() {
-            return Ok(None);
-        }
-        let values = SharedList::from_list(shown)?;
-        let event = heading.event(self.alloc, Content::Reflection { object, values })?;
-        Ok(Some(Message::Event(event)))
     }
 
     /// The interaction as those receive it who do so at a class: with the parameters that the class has.
@@ -328,10 +256,13 @@ impl Parts {
             values: values.copy()?,
         };
         let whole = heading.event(self.alloc, content)?;
+        let mut made = Vec::new(self.alloc);
         for receiver in receivers.as_slice() {
-            let reflection = self.reflection_for(&whole, heading, object, values, *receiver)?;
-            if let Some(message) = reflection {
-                outbox.put(receiver.federate, message)?;
+            let reflection = self.shared_reflection(
+                &mut made, &whole, heading, object, values, *receiver,
+            )?;
+            if let Some(event) = reflection {
+                outbox.put(receiver.federate, Message::Event(event))?;
                 told.add(receiver.federate);
             }
         }

@@ -3,18 +3,20 @@ use Rattle.std.specs.List.{All}
 use Rattle.std.specs.Option.{option_map_or}
 use Rattle.std.proofs.Math.Path.{fun_ext}
 use Rattle.std.proofs.lemmas.List.{take_all, append-nil}
-use Rattle.std.proofs.lemmas.List.Elements.{All-get_or}
+use Rattle.std.proofs.lemmas.List.Elements.{All-get_or, All-nil}
 use Rattle.hla_declaration.specs.Declarations as declared
 use Rattle.hla_declaration.specs.Receivers.{receivers_of, object_class_served, IsReceiver}
 use Rattle.hla_declaration.specs.declared.receiver.Receiver.{Receiver}
 use Rattle.hla_declaration.proofs.ReceiverLemmas.{object_receivers}
 use Rattle.hla_object_registry.specs.Registered.{registry_of}
 use Rattle.hla_null_message.specs.declared.message.Message.{Message}
+use Rattle.hla_null_message.specs.declared.message.Message.TheVariants as message
 use Rattle.hla_retraction.specs.Receivers as told
 use Rattle.hla_machine.specs.Directory.{AnUpdate}
 use Rattle.hla_federation.specs.FederationValue.{FederationValue}
 use Rattle.hla_members.specs.MemberValue.{item}
 use Rattle.hla_federation.specs.Steps.Sending.{said_messages, messages_among}
+use Rattle.hla_federation.specs.Steps.Reflecting.{IsMade, messages_of}
 use Rattle.hla_federation.specs.Steps.State.{state_of}
 use Rattle.hla_federation.proofs.Steps.Addressing.{reflection_at, among-more, among-none, added_more, update_added}
 use Rattle.hla_federation.proofs.Steps.Receiving.{has_message, told_more, told_are}
@@ -25,6 +27,7 @@ pub loop-receiver-init : goal.loop-receiver-init
 loop-receiver-init c = record {
   added = λ h. sym (append-nil (item [] c.args.outbox.now h));
   told = λ g. ap (λ (t : ℕ → Bool). t g) c.new-told.ensures;
+  made = subst (All (IsMade c.args.heading c.args.object c.args.values.now)) (sym c.new-made.ensures.items) (All-nil _);
 }
 
 pub put-requires-clause-some : goal.put-requires-clause-some
@@ -66,20 +69,21 @@ loop-receiver-preserved c =
     let none : Receiver = record { federate = 0; class = 0 } in
     let to = (get_or items i none).federate in
     let made = λ (r : Receiver). said_messages c.args.heading (reflection_at (state_of c.args.self.now).directory c.args.object c.args.values.now r.federate r.class) in
-    let listed = λ (o : Option Message). option_map_or (λ (m : Message). m ∷ []) o [] in
+    let listed = messages_of in
     elim c.match-reflection.branch [
       | in-Some+in_ok-put w ↦
           let said = ap listed (sym w.in-Some.is) ∙ c.in_ok-reflection.ensures.ok in
           record {
             added = λ h. ap (λ (o : List (List Message)). item [] o h) w.outbox-is
-                ∙ added_more (messages_among made (take i items)) c.args.outbox.now c.loop-receiver.outbox w.put.new.self to w.in-Some.message c.loop-receiver.invariant.added w.in_ok-put.ensures.ok h
+                ∙ added_more (messages_among made (take i items)) c.args.outbox.now c.loop-receiver.outbox w.put.new.self to (message.Event w.in-Some.event) c.loop-receiver.invariant.added w.in_ok-put.ensures.ok h
                 ∙ ap (λ (ms : List Message). item [] c.args.outbox.now h ++ (messages_among made (take i items) h ++ cond (eqb to h) ms [])) said
                 ∙ ap (λ (ms : List Message). item [] c.args.outbox.now h ++ ms) (sym (among-more made h items i none (omega arith)));
             told = λ g. ap (λ (rs : List Bool). told.receiver_set rs g) w.told-is
                 ∙ ap (λ (t : ℕ → Bool). t g) w.add.ensures
-                ∙ told_more (told.receiver_set c.loop-receiver.told) (messages_among made (take i items)) to w.in-Some.message c.loop-receiver.invariant.told g
+                ∙ told_more (told.receiver_set c.loop-receiver.told) (messages_among made (take i items)) to (message.Event w.in-Some.event) c.loop-receiver.invariant.told g
                 ∙ ap (λ (ms : List Message). has_message (messages_among made (take i items) g ++ cond (eqb to g) ms [])) said
                 ∙ ap has_message (sym (among-more made g items i none (omega arith)));
+            made = c.in_ok-reflection.ensures.made;
           }
       | in_default w ↦
           let nothing = sym (ap listed (sym w.in_default.is) ∙ c.in_ok-reflection.ensures.ok) in
@@ -90,6 +94,7 @@ loop-receiver-preserved c =
             told = λ g. ap (λ (rs : List Bool). told.receiver_set rs g) w.told-is
                 ∙ c.loop-receiver.invariant.told g
                 ∙ ap has_message (sym (among-none made g items i none (omega arith) nothing));
+            made = c.in_ok-reflection.ensures.made;
           }
     ]
 

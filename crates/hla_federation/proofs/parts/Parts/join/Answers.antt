@@ -1,4 +1,4 @@
-use Rattle.std.proofs.Common.{◌≡◌, ◌+◌, ℕ, sym, ap, ◌∙◌}
+use Rattle.std.proofs.Common.{◌≡◌, ◌+◌, ◌≤◌, ℕ, sym, ap, ◌∙◌, arith}
 use Rattle.hla_machine.specs.declared.step.Step.TheVariants.{Join}
 use Rattle.hla_machine.specs.declared.step.Answer.TheVariants as answer
 use Rattle.hla_declaration.specs.Declarations as declared
@@ -15,6 +15,19 @@ use Rattle.hla_federation.proofs.Steps.Declaring.{joined_state}
 use Rattle.hla_members.proofs.MemberTables.{nobody_at}
 use Rattle.hla_federation.proofs.Steps.Wholes.{whole_admitted, few_joined, nobody_yet}
 use Rattle.hla_federation.proofs.parts.Parts.join.Goals as goal
+
+pub admit-requires : goal.admit-requires
+admit-requires c =
+    let whole = rw (← c.self.view_is) at c.requires.whole in
+    let fault_is = rw (← c.self.view_is) at c.join_fault.ensures in
+    let few : (members_of c.self.inside.members.shown).next_federate ≤ 16 = few_joined _ _ _ (sym fault_is ∙ c.in_default.is) in
+    omega (arith, few, whole.parts.federates)
+
+pub admit-requires-2-clause-few : goal.admit-requires-2-clause-few
+admit-requires-2-clause-few c =
+    let fault_is = rw (← c.self.view_is) at c.join_fault.ensures in
+    let few : (members_of c.self.inside.members.shown).next_federate ≤ 16 = few_joined _ _ _ (sym fault_is ∙ c.in_default.is) in
+    rw c.in_ok-reserve_one.ensures.same few
 
 pub returns-clause-whole : goal.returns-clause-whole
 returns-clause-whole c =

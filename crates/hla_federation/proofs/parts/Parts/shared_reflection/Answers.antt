@@ -1,0 +1,26 @@
+-- What was made for those who subscribe the same is what this one is shown.
+use Rattle.std.proofs.Common.{◌≡◌, ℕ, false, List, [], filter, Option, Some, None, refl, sym, ap, ◌∙◌}
+use Rattle.std.specs.Option.{option_map_or}
+use Rattle.std.proofs.lemmas.List.Elements.{All-contains}
+use Rattle.hla_base.specs.declared.content.HandleValuePair.{HandleValuePair}
+use Rattle.hla_catalogue.specs.Lookup.{contains_number}
+use Rattle.hla_declaration.specs.Declarations as declared
+use Rattle.hla_machine.specs.Directory.{reflection_of}
+use Rattle.hla_federation.specs.Steps.Reflecting.{IsMade, messages_of}
+use Rattle.hla_federation.specs.Steps.Sending.{said_messages}
+use Rattle.hla_federation.proofs.parts.Parts.shared_reflection.Goals as goal
+
+shown_as : (o : Option (List ℕ)) (values : List HandleValuePair) → filter (λ (v : HandleValuePair). contains_number v.handle (option_map_or (λ xs. xs) o [])) values ≡ filter (λ (v : HandleValuePair). option_map_or (contains_number v.handle) o false) values
+shown_as None values = refl
+shown_as (Some xs) values = refl
+
+pub returns-in-Some-clause-ok : goal.returns-in-Some-clause-ok
+returns-in-Some-clause-ok c =
+    let values = c.args.values.now in
+    let says = λ (vs : List HandleValuePair). said_messages c.args.heading (reflection_of c.args.object vs) in
+    let there = rw c.deref.ensures.value at c.in-Some.ensures.made in
+    let made = All-contains (IsMade c.args.heading c.args.object values) _ c.in-Some.same.now c.requires.made there in
+    rw (← c.self.view_is) (ap messages_of c.in_ok-share.ensures.ok
+    ∙ made
+    ∙ ap (λ (subscribed : List ℕ). says (filter (λ (v : HandleValuePair). contains_number v.handle subscribed) values)) (c.in-Some.ensures.same ∙ c.subscribed_attributes-subscribed.ensures)
+    ∙ ap says (shown_as ((declared.declarations_of c.self.inside.declarations).subscribed c.args.receiver.federate c.args.receiver.class) values))

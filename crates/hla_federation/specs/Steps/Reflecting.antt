@@ -1,0 +1,20 @@
+-- Updates as their receivers are shown them
+use Rattle.std.specs.Prelude.{◌≡◌, ℕ, List, [], ◌∷◌, Option, filter}
+use Rattle.std.specs.Option.{option_map_or}
+use Rattle.hla_base.specs.declared.content.Event.{Event}
+use Rattle.hla_base.specs.declared.content.HandleValuePair.{HandleValuePair}
+use Rattle.hla_catalogue.specs.Lookup.{contains_number}
+use Rattle.hla_null_message.specs.declared.message.Message.{Message}
+use Rattle.hla_null_message.specs.declared.message.Message.TheVariants as message
+use Rattle.hla_machine.specs.Directory.{reflection_of}
+use Rattle.hla_federation.specs.declared.heading.Heading.{Heading}
+use Rattle.hla_federation.specs.declared.reflecting.Made.{Made}
+use Rattle.hla_federation.specs.Steps.Sending.{said_messages}
+
+-- the message that carries an event, if there is one
+abbrev pub messages_of : Option Event → List Message
+messages_of e = option_map_or (λ (x : Event). message.Event x ∷ []) e []
+
+-- what was made of an update for those who subscribe some attributes is what they are shown
+abbrev pub IsMade : Heading → ℕ → List HandleValuePair → Made → Type 0
+IsMade head object values m = messages_of m.event ≡ said_messages head (reflection_of object (filter (λ (v : HandleValuePair). contains_number v.handle m.subscribed.now) values))
