@@ -1,10 +1,18 @@
 -- Finding and removing an event by its place, and the least stamp step by step
 mod QueueLemmas
--- The order of keys, and that of names
-mod KeyLemmas
 -- Lists of events in which no sender and serial comes twice: what an insertion and a removal leave to be found
 pub mod EventLemmas
--- How the maps and the slab follow the list of events
-mod KeptLemmas
 -- A queue in order begins with the events that move
 mod MovingLemmas
+-- Lists of events in order: their parts, an insertion into one of them, and the stamps
+mod OrderLemmas
+-- The place at which a search by a test ends, and an insertion there into events that lie with the greatest first
+mod PlaceLemmas
+-- Blocks of events, of which the greatest is first, and the list that they make
+mod JoinedLemmas
+-- Finding and removing an event: among events that lie with the greatest first, in parts of a list, and among blocks
+mod RemovalLemmas
+-- Going through blocks from the least on: the event at a place, how many are below a bound, and their handles
+mod StepLemmas
+-- How the first block, the later ones and the count of a queue follow the list of its events
+mod KeptLemmas

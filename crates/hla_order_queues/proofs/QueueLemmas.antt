@@ -15,7 +15,7 @@ slice_get_past [] i h = refl
 slice_get_past (x ∷ xs) zero h = absurd (omega arith)
 slice_get_past (x ∷ xs) (suc i) h = slice_get_past xs i (omega arith)
 
-find_event-find : (g m : ℕ) (xs : List Event) → find_event g m xs ≡ find (is_event g m) xs
+pub find_event-find : (g m : ℕ) (xs : List Event) → find_event g m xs ≡ find (is_event g m) xs
 unfolding find_event
 find_event-find g m [] = refl
 find_event-find g m (x ∷ xs) = rw (find_event-find g m xs)
@@ -25,12 +25,12 @@ removed_head : (x : Event) (xs rest : List Event) (n : ℕ) (b : Bool) → rest 
 removed_head x xs rest n true e = refl
 removed_head x xs rest n false e = let s : 1 + n ≡ suc n = omega arith in rw (s, e)
 
-remove_event-place : (g m : ℕ) (xs : List Event) → remove_event g m xs ≡ remove xs (position_or_len (is_event g m) xs)
+pub remove_event-place : (g m : ℕ) (xs : List Event) → remove_event g m xs ≡ remove xs (position_or_len (is_event g m) xs)
 unfolding remove_event
 remove_event-place g m [] = refl
 remove_event-place g m (x ∷ xs) = removed_head x xs _ _ (is_event g m x) (remove_event-place g m xs)
 
-within : (n k i : ℕ) (b : Bool) → ltb n k ≡ b → Some i ≡ cond b (Some n) None → (i ≡ n) × (i < k)
+pub within : (n k i : ℕ) (b : Bool) → ltb n k ≡ b → Some i ≡ cond b (Some n) None → (i ≡ n) × (i < k)
 within n k i true is e = let same : i ≡ n = cc in (same, rw same (ltb-true n k is))
 within n k i false is e = absurd (cc)
 

@@ -1,64 +1,56 @@
--- How a queue in time-stamp order keeps its events: in a slab, at the places that an ordered map has for their keys,
--- with the stamp of each in a second map
-use Rattle.std.specs.Prelude.{◌≡◌, ℕ, Option, Some, None, List, [], ◌∷◌, length, option_map}
-use Rattle.std.specs.declared.cmp.Ordering.{Ordering}
-use Rattle.std.specs.Ordering.{nat_cmp, ordering_then}
-use Rattle.std.specs.BTreeMap.{BTreeMap}
-use Rattle.std.specs.BTreeMap as tree
-use Rattle.slab.specs.Slab.{Slab, slab_len}
-use Rattle.slab.specs.Slab as slab
+-- How a queue in time-stamp order keeps its events: in blocks, of which none is empty
+use Rattle.std.specs.Prelude.{◌≡◌, ℕ, suc, ◌<◌, ◌^◌, eqb, ltb, ◌&&◌, ◌||◌, Bool, true, false, None, IsSome, List, [], ◌∷◌, ◌++◌, length, drop, slice_index_or}
+use Rattle.std.specs.List.{AllByRecursion}
 use Rattle.hla_base.specs.declared.content.Event.{Event}
 use Rattle.hla_order_queues.specs.declared.key.EventKey.{EventKey}
-use Rattle.hla_order_queues.specs.declared.key.EventName.{EventName}
-use Rattle.hla_order_queues.specs.Queues.{find_event}
+use Rattle.hla_order_queues.specs.Queues.{is_before, find_event}
 
 abbrev pub key_of : Event → EventKey
 key_of e = record { stamp = e.stamp; sender = e.sender; serial = e.serial }
 
--- the order of keys, and that of names
-abbrev pub key_cmp : EventKey → EventKey → Ordering
-key_cmp a b = ordering_then (nat_cmp a.stamp b.stamp) (ordering_then (nat_cmp a.sender b.sender) (nat_cmp a.serial b.serial))
+-- the event with this key comes before the other
+abbrev pub is_key_before : EventKey → Event → Bool
+is_key_before k e = ltb k.stamp e.stamp || (eqb k.stamp e.stamp && (ltb k.sender e.sender || (eqb k.sender e.sender && ltb k.serial e.serial)))
 
-abbrev pub name_cmp : EventName → EventName → Ordering
-name_cmp a b = ordering_then (nat_cmp a.sender b.sender) (nat_cmp a.serial b.serial)
+-- there is no event, or the first comes after this key
+abbrev pub first_after : EventKey → List Event → Bool
+first_after k [] = true
+first_after k (x ∷ xs) = is_key_before k x
 
--- an event before others, if it is there
-abbrev pub with_event : Option Event → List Event → List Event
-with_event None xs = xs
-with_event (Some x) xs = x ∷ xs
+-- no event comes before an earlier one
+unfoldable pub IsInOrder : List Event → Type 0
+IsInOrder [] = Unit {0}
+IsInOrder (x ∷ xs) = AllByRecursion (λ y. is_before y x ≡ false) xs × IsInOrder xs
 
--- the events at these places
-unfoldable pub events_at : Slab Event → List (EventKey × ℕ) → List Event
-events_at s [] = []
-events_at s (e ∷ es) = with_event (slab.get s e.1) (events_at s es)
+-- the events of blocks, of which the greatest is first
+unfoldable pub joined : List (List Event) → List Event
+joined [] = []
+joined (b ∷ bs) = joined bs ++ b
 
--- the slab has this event at the place, whose key is that of the event
-pub record HasEvent (s : Slab Event) (e : EventKey × ℕ) (x : Event) : Type 0 where
-  pub found : slab.get s e.1 ≡ Some x
-  pub key : key_of x ≡ e.0
-
--- at the places are these events, in this order
-unfoldable pub HoldEvents : Slab Event → List (EventKey × ℕ) → List Event → Type 0
-HoldEvents s [] [] = Unit {0}
-HoldEvents s [] (x ∷ xs) = ⊥
-HoldEvents s (e ∷ es) [] = ⊥
-HoldEvents s (e ∷ es) (x ∷ xs) = HasEvent s e x × HoldEvents s es xs
+-- none of the blocks is empty
+unfoldable pub AreFilled : List (List Event) → Type 0
+AreFilled [] = Unit {0}
+AreFilled (b ∷ bs) = (0 < length b) × AreFilled bs
 
 -- no two events have one sender and one serial
 unfoldable pub IsUnique : List Event → Type 0
 IsUnique [] = Unit {0}
 IsUnique (x ∷ xs) = (find_event x.sender x.serial xs ≡ None) × IsUnique xs
 
-abbrev pub stamp_of : EventName → List Event → Option ℕ
-stamp_of n xs = option_map (λ x. x.stamp) (find_event n.sender n.serial xs)
+-- what is kept of the blocks behind the first
+pub record AreBlocks (bs : List (List Event)) : Type 0 where
+  pub filled : AreFilled bs
+  pub ordered : IsInOrder (joined bs)
 
--- the slab and the two maps have these events
-pub record HasEvents (s : Slab Event) (es : List (EventKey × ℕ)) (stamps : BTreeMap EventName ℕ) (xs : List Event) : Type 0 where
-  pub placed : HoldEvents s es xs
-  pub counted : slab_len s ≡ length es
-  pub unique : IsUnique xs
-  pub named : (n : EventName) → tree.get name_cmp stamps n ≡ stamp_of n xs
+-- what is kept of the first block, the later events, and how many there are
+pub record AreInOrder (first later : List Event) (count : ℕ) : Type 0 where
+  pub ordered : IsInOrder (first ++ later)
+  pub filled : first ≡ [] → later ≡ []
+  pub counted : count ≡ length (first ++ later)
+  pub small : count < 2 ^ 64
 
--- the two maps and the slab have the same events
-abbrev pub AreSameEvents : Slab Event → List (EventKey × ℕ) → BTreeMap EventName ℕ → Type 0
-AreSameEvents s es stamps = HasEvents s es stamps (events_at s es)
+-- the block at this place has an event of the sender with the serial, and none of the lesser ones has
+pub record IsFirstWith (g m : ℕ) (bs : List (List Event)) (i : ℕ) : Type 0 where
+  pub within : i < length bs
+  pub behind : find_event g m (joined (drop (suc i) bs)) ≡ None
+  pub there : IsSome (find_event g m (slice_index_or bs i []))

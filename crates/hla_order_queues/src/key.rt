@@ -1,20 +1,14 @@
 //! What a queue in time-stamp order finds its events by.
 
 ghost use Rattle.std.specs.Prelude.{◌≡◌};
+ghost use Rattle.hla_order_queues.specs.Kept.{key_of, is_key_before};
 
-use hla_base::{Event, EventHandle, FederateNo, Serial, Ticks};
+use hla_base::{Event, FederateNo, Serial, Ticks};
 
 /// The place of an event in time-stamp order: by stamp, at equal stamps by sender, then by serial.
-#[derive(Clone, Copy, Debug, PartialEq, Eq, PartialOrd, Ord)]
+#[derive(Clone, Copy, Debug)]
 pub struct EventKey {
     pub stamp: Ticks,
-    pub sender: FederateNo,
-    pub serial: Serial,
-}
-
-/// The name of an event: its sender, and the sender's serial.
-#[derive(Clone, Copy, Debug, PartialEq, Eq, PartialOrd, Ord)]
-pub struct EventName {
     pub sender: FederateNo,
     pub serial: Serial,
 }
@@ -22,11 +16,7 @@ pub struct EventName {
 impl EventKey {
     /// The key of an event.
     pub fn of(event: &Event) -> EventKey
-        ensures { result ≡ record {
-          stamp = event.now.stamp;
-          sender = event.now.sender;
-          serial = event.now.serial;
-        } }
+        ensures { result ≡ key_of event.now }
     {
         EventKey {
             stamp: event.stamp,
@@ -35,23 +25,13 @@ impl EventKey {
         }
     }
 
-    /// The name of the event that has this key.
-    pub fn name(self) -> EventName
-        ensures { result ≡ record { sender = self.sender; serial = self.serial } }
+    /// Whether the event with this key comes before another.
+    pub fn is_before(self, event: &Event) -> bool
+        ensures { result ≡ is_key_before self event.now }
     {
-        EventName {
-            sender: self.sender,
-            serial: self.serial,
-        }
-    }
-
-    /// The handle of the event that has this key.
-    pub fn handle(self) -> EventHandle
-        ensures { result ≡ record { sender = self.sender; serial = self.serial } }
-    {
-        EventHandle {
-            sender: self.sender,
-            serial: self.serial,
-        }
+        self.stamp < event.stamp
+            || (self.stamp == event.stamp
+                && (self.sender < event.sender
+                    || (self.sender == event.sender && self.serial < event.serial)))
     }
 }

@@ -1,8 +1,11 @@
 //! The queues in which a component keeps what has arrived and is not yet picked up.
 #![tactic(auto)]
 
+mod block;
+mod blocks;
 mod control;
 mod key;
+mod ordered;
 mod receive;
 mod tso;
 

@@ -6,34 +6,26 @@ ghost use Rattle.hla_base.specs.declared.fault.Fault.TheVariants.{OutOfMemory};
 ghost use Rattle.hla_order_queues.specs.Queues.{insert_event, find_event, remove_event, first_stamp, handles_of};
 ghost use Rattle.hla_order_queues.specs.Moving.{is_moved, IsRising};
 
-use crate::key::{EventKey, EventName};
+use crate::ordered::Ordered;
 use crate::receive::RoQueue;
 use hla_base::{Event, EventHandle, FOREVER, Fault, FederateNo, Serial, Ticks};
-use slab::Slab;
-use std::alloc::{AllocError, Global};
-use std::collections::BTreeMap;
+use std::alloc::Global;
 use std::marker::Model;
 
 /// The events that a component has received in time-stamp order and not yet given, by stamp, at equal stamps by sender,
 /// then by serial. Contracts see the list of them in that order.
 #[derive(Debug, Drop)]
 pub struct TsoQueue {
-    events: Slab<Event>,
-    /// The key of the slab at which each event lies.
-    places: BTreeMap<EventKey, usize>,
-    stamps: BTreeMap<EventName, Ticks>,
+    events: Ordered,
 }
 
 impl Model for TsoQueue {
     ghost use Rattle.std.specs.Prelude.{List};
     ghost use Rattle.hla_base.specs.declared.content.Event.{Event};
-    ghost use Rattle.hla_order_queues.specs.Kept.{events_at, AreSameEvents};
 
     ghost Value = { List Event };
 
-    ghost view = { λ q. events_at q.events q.places.entries };
-
-    ghost invariant = { λ q. AreSameEvents q.events q.places.entries q.stamps };
+    ghost view = { λ q. q.events };
 }
 
 impl TsoQueue {
@@ -42,9 +34,7 @@ impl TsoQueue {
         ensures { result ≡ [] }
     {
         TsoQueue {
-            events: Slab::new(alloc),
-            places: BTreeMap::new(alloc),
-            stamps: BTreeMap::new(alloc),
+            events: Ordered::new(alloc),
         }
     }
 
@@ -52,37 +42,31 @@ impl TsoQueue {
     pub fn len(&self) -> usize
         ensures { result ≡ length self.now }
     {
-        self.places.len()
+        self.events.len()
     }
 
     /// The first event, if there is one.
     pub fn least(&self) -> Option<&Event>
         ensures { option_copied result ≡ slice_get self.now 0 }
     {
-        match self.places.first_key_value() {
-            Some((_, place)) => self.events.get(*place),
-            None => None,
-        }
+        self.events.first()
     }
 
     /// The stamp of the first event, and `FOREVER` where there is none.
     pub fn least_stamp(&self) -> Ticks
         ensures { result ≡ first_stamp self.now }
     {
-        match self.places.first_key_value() {
-            Some((key, _)) => key.stamp,
+        match self.events.first() {
+            Some(event) => event.stamp,
             None => FOREVER,
         }
     }
 
-    /// The event at place `i`, counted from 0, if there are so many. It goes through the keys before it.
+    /// The event at place `i`, counted from 0, if there are so many. It goes through the blocks before it.
     pub fn nth(&self, i: usize) -> Option<&Event>
         ensures { option_copied result ≡ slice_get self.now i }
     {
-        match self.places.values().nth(i) {
-            Some(place) => self.events.get(*place),
-            None => None,
-        }
+        self.events.nth(i)
     }
 
     /// Whether an event that `sender` sent with that serial is in the queue.
@@ -90,64 +74,35 @@ impl TsoQueue {
         ensures { MatchBool result (IsSome (find_event sender serial self.now))
             (find_event sender serial self.now ≡ None) }
     {
-        self.stamps.contains_key(&EventName { sender, serial })
+        self.events.has_event(sender, serial)
     }
 
-    /// Puts an event at its place; the event comes back, and the queue is as it was, where a growth was refused. The time
-    /// grows with the logarithm of the events.
+    /// Puts an event at its place; the event comes back, and the queue is as it was, where a growth was refused. It looks
+    /// at a logarithm of the events, and moves fewer than lie in a block.
     pub fn insert(&mut self, event: Event) -> Result<(), Event>
         requires { find_event event.sender event.serial self.old ≡ None }
         ensures ok { OnOk result (self.new ≡ insert_event event self.old) }
         ensures err { IfErr result (λ e. e ≡ event) }
         ensures unchanged { OnErr result (self.new ≡ self.old) }
     {
-        let key = EventKey::of(&event);
-        let Ok(()) = self.events.reserve(1) else {
-            return Err(event);
-        };
-        let place = self.events.vacant_key();
-        let Ok(_) = self.places.insert(key, place) else {
-            return Err(event);
-        };
-        let Ok(_) = self.stamps.insert(key.name(), key.stamp) else {
-            let _ = self.places.remove(&key);
-            return Err(event);
-        };
-        let _ = self.events.insert_reserved(event);
-        Ok(())
+        self.events.insert(event)
     }
 
-    /// Takes the first event, if there is one. It takes no memory, and time that grows with the logarithm of the events.
+    /// Takes the first event, if there is one. It takes no memory, and no other event moves.
     pub fn take_least(&mut self) -> Option<Event>
         ensures least { result ≡ slice_get self.old 0 }
         ensures rest { self.new ≡ drop 1 self.old }
     {
-        match self.places.pop_first() {
-            Some((key, place)) => {
-                let _ = self.stamps.remove(&key.name());
-                self.events.try_remove(place)
-            }
-            None => None,
-        }
+        self.events.take_first()
     }
 
-    /// Takes the event that `sender` sent with that serial, if there is one. It takes no memory, and time that grows with
-    /// the logarithm of the events.
+    /// Takes the event that `sender` sent with that serial, if there is one. It takes no memory, and goes through the
+    /// events before it.
     pub fn remove(&mut self, sender: FederateNo, serial: Serial) -> Option<Event>
         ensures found { result ≡ find_event sender serial self.old }
         ensures rest { self.new ≡ remove_event sender serial self.old }
     {
-        match self.stamps.remove(&EventName { sender, serial }) {
-            Some(stamp) => match self.places.remove(&EventKey {
-                stamp,
-                sender,
-                serial,
-            }) {
-                Some(place) => self.events.try_remove(place),
-                None => None,
-            },
-            None => None,
-        }
+        self.events.remove(sender, serial)
     }
 
     /// Moves the events with a stamp below `bound` to the end of a receive-order queue, in their order; `FOREVER` moves
@@ -179,14 +134,11 @@ impl TsoQueue {
         ensures count { result ≡ prefix_len (is_moved bound) self.now }
         ensures rising { IsRising self.now }
     {
-        self.places
-            .keys()
-            .take_while(|key| key.stamp < bound || bound == FOREVER)
-            .count()
+        self.events.count_below(bound)
     }
 
     /// The handles of the events with a stamp below `bound`, in their order; of all for `FOREVER`. `OutOfMemory` where
-    /// room for them was refused. It goes through the keys of these events alone.
+    /// room for them was refused. It goes through these events alone.
     pub fn handles_below(&self, alloc: Global, bound: Ticks) -> Result<Vec<EventHandle>, Fault>
         ensures below { bound < FOREVER → IfOk result (λ v. v.items ≡ handles_of (filter
             (λ e. nat_lt e.stamp bound) self.now)) }
@@ -194,16 +146,9 @@ impl TsoQueue {
         ensures err { IfErr result (λ e. e ≡ Fault.OutOfMemory) }
     {
         let count = self.count_below(bound);
-        let handles: Result<Vec<EventHandle>, AllocError> = self
-            .places
-            .keys()
-            .take(count)
-            .map(|key| key.handle())
-            .collect(alloc);
-        match handles {
-            Ok(handles) => Ok(handles),
-            Err(_) => Err(Fault::OutOfMemory),
-        }
+        let mut handles = Vec::new(alloc);
+        self.events.put_handles(count, &mut handles)?;
+        Ok(handles)
     }
 
     /// Takes all events out.
@@ -211,7 +156,5 @@ impl TsoQueue {
         ensures { self.new ≡ [] }
     {
         self.events.clear();
-        self.places.clear();
-        self.stamps.clear();
     }
 }

@@ -1,0 +1,181 @@
+//! A stretch of a queue in time-stamp order.
+
+ghost use Rattle.std.specs.Prelude.{◌≡◌, ◌++◌, ◌<◌, ◌≤◌, [], length, take, drop, slice_get, position, None, IsSome, MatchBool, IfErr, IfOk, OnOk, OnErr, option_copied};
+ghost use Rattle.std.specs.List.{prefix_len};
+ghost use Rattle.hla_base.specs.declared.fault.Fault.TheVariants.{OutOfMemory};
+ghost use Rattle.hla_order_queues.specs.Queues.{insert_event, find_event, remove_event, is_event, handles_of};
+ghost use Rattle.hla_order_queues.specs.Moving.{is_moved};
+ghost use Rattle.hla_order_queues.specs.Kept.{first_after, IsInOrder};
+
+use crate::key::EventKey;
+use hla_base::{Event, EventHandle, FOREVER, Fault, FederateNo, Serial, Ticks};
+use std::alloc::{AllocError, Global};
+use std::marker::Model;
+use std::mem;
+
+/// Events in time-stamp order. Contracts see the list of them, the least first; they lie with the greatest first, so that
+/// the least is taken off the end and no other moves.
+#[derive(Debug, Drop)]
+pub(crate) struct Block {
+    events: Vec<Event>,
+}
+
+impl Model for Block {
+    ghost use Rattle.std.specs.Prelude.{List, reverse};
+    ghost use Rattle.hla_base.specs.declared.content.Event.{Event};
+
+    ghost Value = { List Event };
+
+    ghost view = { λ b. reverse b.events.items };
+}
+
+impl Block {
+    /// An empty block; it takes no memory.
+    pub fn new(alloc: Global) -> Block
+        ensures { result ≡ [] }
+    {
+        Block {
+            events: Vec::new(alloc),
+        }
+    }
+
+    /// How many events there are.
+    pub fn len(&self) -> usize
+        ensures { result ≡ length self.now }
+    {
+        self.events.len()
+    }
+
+    /// The first event, if there is one.
+    pub fn first(&self) -> Option<&Event>
+        ensures { option_copied result ≡ slice_get self.now 0 }
+    {
+        self.events.last()
+    }
+
+    /// The event at place `i`, counted from 0, if there are so many.
+    pub fn nth(&self, i: usize) -> Option<&Event>
+        ensures { option_copied result ≡ slice_get self.now i }
+    {
+        let len = self.events.len();
+        if i < len {
+            self.events.get(len - 1 - i)
+        } else {
+            None
+        }
+    }
+
+    /// Whether there is no event, or the first comes after this key.
+    pub fn is_after(&self, key: EventKey) -> bool
+        ensures { result ≡ first_after key self.now }
+    {
+        match self.first() {
+            Some(first) => key.is_before(first),
+            None => true,
+        }
+    }
+
+    /// Puts an event at its place; the event comes back, and the block is as it was, where a growth was refused.
+    pub fn insert(&mut self, event: Event) -> Result<(), Event>
+        requires { IsInOrder self.old }
+        ensures ok { OnOk result (self.new ≡ insert_event event self.old) }
+        ensures err { IfErr result (λ e. e ≡ event) }
+        ensures unchanged { OnErr result (self.new ≡ self.old) }
+    {
+        let key = EventKey::of(&event);
+        let place = self.events.partition_point(|other| key.is_before(other));
+        match self.events.insert(place, event) {
+            Ok(()) => Ok(()),
+            Err(failed) => Err(failed.value),
+        }
+    }
+
+    /// Takes the first event, if there is one.
+    pub fn take_first(&mut self) -> Option<Event>
+        ensures first { result ≡ slice_get self.old 0 }
+        ensures rest { self.new ≡ drop 1 self.old }
+    {
+        self.events.pop()
+    }
+
+    /// The place of the event that `sender` sent with that serial, if there is one.
+    pub fn place_of(&self, sender: FederateNo, serial: Serial) -> Option<usize>
+        ensures { result ≡ position (is_event sender serial) self.now }
+    {
+        self.events
+            .iter()
+            .rev()
+            .position(|event| sender == event.sender && serial == event.serial)
+    }
+
+    /// Whether an event that `sender` sent with that serial is there.
+    pub fn has_event(&self, sender: FederateNo, serial: Serial) -> bool
+        ensures { MatchBool result (IsSome (find_event sender serial self.now)) (find_event sender serial self.now ≡ None) }
+    {
+        self.place_of(sender, serial).is_some()
+    }
+
+    /// Takes the event that `sender` sent with that serial, if there is one. It goes through the events before it.
+    pub fn remove(&mut self, sender: FederateNo, serial: Serial) -> Option<Event>
+        ensures found { result ≡ find_event sender serial self.old }
+        ensures rest { self.new ≡ remove_event sender serial self.old }
+    {
+        let len = self.events.len();
+        match self.place_of(sender, serial) {
+            Some(place) => Some(self.events.remove(len - 1 - place)),
+            None => None,
+        }
+    }
+
+    /// Keeps the lesser half of the events, and gives the greater; nothing changes where memory for it was refused.
+    pub fn split(&mut self) -> Result<Block, AllocError>
+        requires { 2 ≤ length self.old }
+        ensures ok { IfOk result (λ b. self.new ++ b ≡ self.old) }
+        ensures kept { OnOk result (0 < length self.new) }
+        ensures given { IfOk result (λ b. 0 < length b) }
+        ensures err { OnErr result (self.new ≡ self.old) }
+    {
+        let half = self.events.len() / 2;
+        let lesser = self.events.split_off(half)?;
+        Ok(Block {
+            events: mem::replace(&mut self.events, lesser),
+        })
+    }
+
+    /// How many of the first events have a stamp below `bound`; for `FOREVER` it is all. It goes through these alone.
+    pub fn count_below(&self, bound: Ticks) -> usize
+        ensures { result ≡ prefix_len (is_moved bound) self.now }
+    {
+        self.events
+            .iter()
+            .rev()
+            .take_while(|event| event.stamp < bound || bound == FOREVER)
+            .count()
+    }
+
+    /// Puts the handles of the first `count` events at the end of others; `OutOfMemory` where room for them was refused.
+    pub fn put_handles(&self, count: usize, handles: &mut Vec<EventHandle>) -> Result<(), Fault>
+        ensures ok { OnOk result (handles.new.items ≡ handles.old.items ++ handles_of (take count self.now)) }
+        ensures err { IfErr result (λ e. e ≡ Fault.OutOfMemory) }
+    {
+        for i in 0..count {
+            if let Some(event) = self.nth(i) {
+                let handle = EventHandle {
+                    sender: event.sender,
+                    serial: event.serial,
+                };
+                let Ok(()) = handles.push(handle) else {
+                    return Err(Fault::OutOfMemory);
+                };
+            }
+        }
+        Ok(())
+    }
+
+    /// Takes all events out.
+    pub fn clear(&mut self)
+        ensures { self.new ≡ [] }
+    {
+        self.events.clear();
+    }
+}

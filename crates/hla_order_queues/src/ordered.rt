@@ -1,0 +1,219 @@
+//! The events of a queue in time-stamp order.
+
+ghost use Rattle.std.specs.Prelude.{◌≡◌, ◌++◌, [], None, length, take as list_take, drop, slice_get, IfErr, IfNone, OnOk, OnErr, MatchBool, IsSome, option_copied};
+ghost use Rattle.std.specs.List.{prefix_len};
+ghost use Rattle.hla_base.specs.declared.fault.Fault.TheVariants.{OutOfMemory};
+ghost use Rattle.hla_order_queues.specs.Queues.{insert_event, find_event, remove_event, handles_of};
+ghost use Rattle.hla_order_queues.specs.Moving.{is_moved, IsRising};
+ghost use Rattle.hla_order_queues.specs.Kept.{IsInOrder};
+
+use crate::block::Block;
+use crate::blocks::{Blocks, FULL};
+use crate::key::EventKey;
+use hla_base::{Event, EventHandle, Fault, FederateNo, Serial, Ticks};
+use std::alloc::Global;
+use std::marker::Model;
+
+/// Events in time-stamp order. Contracts see the list of them.
+#[derive(Debug, Drop)]
+pub(crate) struct Ordered {
+    /// The least events; it is empty only where there are no others.
+    first: Block,
+    later: Blocks,
+    count: usize,
+}
+
+impl Model for Ordered {
+    ghost use Rattle.std.specs.Prelude.{List, ◌++◌};
+    ghost use Rattle.hla_base.specs.declared.content.Event.{Event};
+    ghost use Rattle.hla_order_queues.specs.Kept.{AreInOrder};
+
+    ghost Value = { List Event };
+
+    ghost view = { λ q. q.first ++ q.later };
+
+    ghost invariant = { λ q. AreInOrder q.first q.later q.count };
+}
+
+impl Ordered {
+    /// No events; it takes no memory.
+    pub fn new(alloc: Global) -> Ordered
+        ensures { result ≡ [] }
+    {
+        Ordered {
+            first: Block::new(alloc),
+            later: Blocks::new(alloc),
+            count: 0,
+        }
+    }
+
+    /// How many events there are.
+    pub fn len(&self) -> usize
+        ensures { result ≡ length self.now }
+    {
+        self.count
+    }
+
+    /// The first event, if there is one.
+    pub fn first(&self) -> Option<&Event>
+        ensures { option_copied result ≡ slice_get self.now 0 }
+    {
+        self.first.first()
+    }
+
+    /// The event at place `i`, counted from 0, if there are so many. It goes through the blocks before it.
+    pub fn nth(&self, i: usize) -> Option<&Event>
+        ensures { option_copied result ≡ slice_get self.now i }
+    {
+        let len = self.first.len();
+        if i < len {
+            self.first.nth(i)
+        } else {
+            self.later.nth(i - len)
+        }
+    }
+
+    /// Puts an event at its place; the event comes back, and all is as it was, where a growth was refused.
+    pub fn insert(&mut self, event: Event) -> Result<(), Event>
+        ensures ok { OnOk result (self.new ≡ insert_event event self.old) }
+        ensures err { IfErr result (λ e. e ≡ event) }
+        ensures unchanged { OnErr result (self.new ≡ self.old) }
+    {
+        let Some(count) = self.count.checked_add(1) else {
+            return Err(event);
+        };
+        match put(&mut self.first, &mut self.later, event) {
+            Ok(()) => {
+                self.count = count;
+                Ok(())
+            }
+            Err(event) => Err(event),
+        }
+    }
+
+    /// Takes the first event, if there is one. It takes no memory.
+    pub fn take_first(&mut self) -> Option<Event>
+        ensures first { result ≡ slice_get self.old 0 }
+        ensures rest { self.new ≡ drop 1 self.old }
+    {
+        match self.first.take_first() {
+            Some(event) => {
+                self.count -= 1;
+                fill(&mut self.first, &mut self.later);
+                Some(event)
+            }
+            None => None,
+        }
+    }
+
+    /// Takes the event that `sender` sent with that serial, if there is one. It goes through the events before it.
+    pub fn remove(&mut self, sender: FederateNo, serial: Serial) -> Option<Event>
+        ensures found { result ≡ find_event sender serial self.old }
+        ensures rest { self.new ≡ remove_event sender serial self.old }
+    {
+        match take(&mut self.first, &mut self.later, sender, serial) {
+            Some(event) => {
+                self.count -= 1;
+                fill(&mut self.first, &mut self.later);
+                Some(event)
+            }
+            None => None,
+        }
+    }
+
+    /// Whether an event that `sender` sent with that serial is there.
+    pub fn has_event(&self, sender: FederateNo, serial: Serial) -> bool
+        ensures { MatchBool result (IsSome (find_event sender serial self.now)) (find_event sender serial self.now ≡ None) }
+    {
+        self.first.has_event(sender, serial) || self.later.has_event(sender, serial)
+    }
+
+    /// How many of the first events have a stamp below `bound`; for `FOREVER` it is all. It goes through these alone.
+    pub fn count_below(&self, bound: Ticks) -> usize
+        ensures count { result ≡ prefix_len (is_moved bound) self.now }
+        ensures rising { IsRising self.now }
+    {
+        let count = self.first.count_below(bound);
+        if count < self.first.len() {
+            count
+        } else {
+            count + self.later.count_below(bound)
+        }
+    }
+
+    /// Puts the handles of the first `count` events at the end of others; `OutOfMemory` where room for them was refused.
+    pub fn put_handles(&self, count: usize, handles: &mut Vec<EventHandle>) -> Result<(), Fault>
+        ensures ok { OnOk result (handles.new.items ≡ handles.old.items ++ handles_of (list_take count self.now)) }
+        ensures err { IfErr result (λ e. e ≡ Fault.OutOfMemory) }
+    {
+        let here = count.min(self.first.len());
+        self.first.put_handles(here, handles)?;
+        self.later.put_handles(count - here, handles)
+    }
+
+    /// Takes all events out.
+    pub fn clear(&mut self)
+        ensures { self.new ≡ [] }
+    {
+        self.first.clear();
+        self.later.clear();
+        self.count = 0;
+    }
+}
+
+/// Puts an event at its place, behind all of the first block only where no later one is before it; the event comes back,
+/// and all is as it was, where a growth was refused.
+fn put(first: &mut Block, later: &mut Blocks, event: Event) -> Result<(), Event>
+    requires { IsInOrder (first.old ++ later.old) }
+    ensures ok { OnOk result (first.new ++ later.new ≡ insert_event event (first.old ++ later.old)) }
+    ensures err { IfErr result (λ e. e ≡ event) }
+    ensures unchanged { OnErr result (first.new ++ later.new ≡ first.old ++ later.old) }
+    ensures filled { (first.old ≡ [] → later.old ≡ []) → first.new ≡ [] → later.new ≡ [] }
+{
+    let key = EventKey::of(&event);
+    if !has_room(first, later, key) {
+        return Err(event);
+    }
+    if later.is_after(key) {
+        first.insert(event)
+    } else {
+        later.insert(event)
+    }
+}
+
+/// Whether the first block has room without much to move, should the event with this key belong there: a full one is split.
+/// The events stay the same.
+fn has_room(first: &mut Block, later: &mut Blocks, key: EventKey) -> bool
+    requires { IsInOrder (first.old ++ later.old) }
+    ensures same { first.new ++ later.new ≡ first.old ++ later.old }
+    ensures filled { (first.old ≡ [] → later.old ≡ []) → first.new ≡ [] → later.new ≡ [] }
+{
+    if first.len() < FULL || !later.is_after(key) {
+        return true;
+    }
+    later.split_first(first)
+}
+
+/// Takes the event that `sender` sent with that serial, if there is one.
+fn take(first: &mut Block, later: &mut Blocks, sender: FederateNo, serial: Serial) -> Option<Event>
+    ensures found { result ≡ find_event sender serial (first.old ++ later.old) }
+    ensures rest { first.new ++ later.new ≡ remove_event sender serial (first.old ++ later.old) }
+    ensures filled { IfNone result ((first.old ≡ [] → later.old ≡ []) → first.new ≡ [] → later.new ≡ []) }
+{
+    match first.remove(sender, serial) {
+        Some(event) => Some(event),
+        None => later.remove(sender, serial),
+    }
+}
+
+/// Puts the next block in place of the first, if that is empty; the events stay the same.
+fn fill(first: &mut Block, later: &mut Blocks)
+    ensures same { first.new ++ later.new ≡ first.old ++ later.old }
+    ensures filled { first.new ≡ [] → later.new ≡ [] }
+{
+    if first.len() == 0 {
+        if let Some(block) = later.take_first() {
+            *first = block;
+        }
+    }
+}
