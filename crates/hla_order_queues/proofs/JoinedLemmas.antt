@@ -137,13 +137,17 @@ fails_if : (p : Bool) (k : EventKey) (b c : List Event) (bs : List (List Event))
 fails_if false k b c bs n is e rest = let same : c ≡ b = cc in rw same is
 fails_if true k b c bs n is e rest = rest (let s : 1 + n ≡ suc n = omega arith in rw s at e)
 
-fails_there : (k : EventKey) (bs : List (List Event)) (c : List Event) → Some c ≡ slice_get bs (prefix_len (first_after k) bs) → first_after k c ≡ false
+pub fails_there : (k : EventKey) (bs : List (List Event)) (c : List Event) → Some c ≡ slice_get bs (prefix_len (first_after k) bs) → first_after k c ≡ false
 fails_there k [] c e = absurd (cc)
 fails_there k (b ∷ bs) c e = fails_if (first_after k b) k b c bs (prefix_len (first_after k) bs) refl e (fails_there k bs c)
 
-not_first : (k : EventKey) (b c : List Event) → first_after k b ≡ false → first_after k (b ++ c) ≡ false
+pub not_first : (k : EventKey) (b c : List Event) → first_after k b ≡ false → first_after k (b ++ c) ≡ false
 not_first k [] c e = absurd (cc)
 not_first k (x ∷ xs) c e = e
+
+-- the blocks before the place that a search found are after the key
+pub later_after : (k : EventKey) (bs : List (List Event)) → first_after k (joined (take (prefix_len (first_after k) bs) bs)) ≡ true
+later_after k bs = all_first k (take (prefix_len (first_after k) bs) bs) (before_place (first_after k) bs)
 
 -- an insertion into the block that a search found
 pub inserted_block : (e : Event) (bs : List (List Event)) (i : ℕ) (b : List Event) → AreBlocks bs → i ≡ prefix_len (first_after (key_of e)) bs → Some b ≡ slice_get bs i → joined (set bs i (insert_event e b)) ≡ insert_event e (joined bs)
@@ -153,7 +157,7 @@ inserted_block e bs i b h is at =
     let l = joined (take i bs) in
     let no = not_first k b l (fails_there k bs b (at ∙ ap (slice_get bs) is)) in
     let none = none_after k j (b ++ l) (subst IsInOrder (joined_at bs i b at) h.ordered) no in
-    let later : first_after k l ≡ true = ap (λ n. first_after k (joined (take n bs))) is ∙ all_first k (take (prefix_len (first_after k) bs) bs) (before_place (first_after k) bs) in
+    let later : first_after k l ≡ true = ap (λ n. first_after k (joined (take n bs))) is ∙ later_after k bs in
     joined_set bs i b (insert_event e b) at
     ∙ ap (λ zs. j ++ zs) (sym (insert_event-front e b l later))
     ∙ sym (insert_event-back e j (b ++ l) none)

@@ -1,8 +1,10 @@
--- How a queue in time-stamp order keeps its events: in blocks, of which none is empty
-use Rattle.std.specs.Prelude.{◌≡◌, ℕ, suc, ◌<◌, ◌^◌, eqb, ltb, ◌&&◌, ◌||◌, Bool, true, false, None, IsSome, List, [], ◌∷◌, ◌++◌, length, drop, slice_index_or}
+-- How a queue in time-stamp order keeps its events: in blocks, of which none is empty, with an index of their stamps by name
+use Rattle.std.specs.Prelude.{◌≡◌, ℕ, suc, ◌<◌, ◌^◌, eqb, ltb, ◌&&◌, ◌||◌, Bool, true, false, None, IsSome, List, [], ◌∷◌, ◌++◌, length, drop, slice_index_or, cond, nat_eq, Option, option_map}
 use Rattle.std.specs.List.{AllByRecursion}
+use Rattle.std.specs.Map.{lookup}
 use Rattle.hla_base.specs.declared.content.Event.{Event}
 use Rattle.hla_order_queues.specs.declared.key.EventKey.{EventKey}
+use Rattle.hla_order_queues.specs.declared.key.EventName.{EventName}
 use Rattle.hla_order_queues.specs.Queues.{is_before, find_event}
 
 abbrev pub key_of : Event → EventKey
@@ -54,3 +56,23 @@ pub record IsFirstWith (g m : ℕ) (bs : List (List Event)) (i : ℕ) : Type 0 w
   pub within : i < length bs
   pub behind : find_event g m (joined (drop (suc i) bs)) ≡ None
   pub there : IsSome (find_event g m (slice_index_or bs i []))
+
+-- whether two names are the same
+abbrev pub name_eq : EventName → EventName → Bool
+name_eq a b = nat_eq a.sender b.sender && nat_eq a.serial b.serial
+
+-- the stamp that the index with these entries has at a name
+abbrev pub stamp_at : List (EventName × ℕ) → EventName → Option ℕ
+stamp_at entries n = lookup (name_eq n) entries
+
+-- the stamp of the event with this name
+abbrev pub stamp_of : EventName → List Event → Option ℕ
+stamp_of n xs = option_map (λ x. x.stamp) (find_event n.sender n.serial xs)
+
+-- the entries of the index are the stamps of these events
+pub record AreStampsOf (entries : List (EventName × ℕ)) (xs : List Event) : Type 0 where
+  pub named : (n : EventName) → stamp_at entries n ≡ stamp_of n xs
+
+-- the later entries have this at the name, and at each other name what the earlier ones have
+pub record SetsStamp (old new : List (EventName × ℕ)) (k : EventName) (w : Option ℕ) : Type 0 where
+  pub named : (n : EventName) → stamp_at new n ≡ cond (name_eq k n) w (stamp_at old n)

@@ -1,15 +1,18 @@
 //! A stretch of a queue in time-stamp order.
 
-ghost use Rattle.std.specs.Prelude.{◌≡◌, ◌++◌, ◌<◌, ◌≤◌, [], length, take, drop, slice_get, position, None, IsSome, MatchBool, IfErr, IfOk, OnOk, OnErr, option_copied};
+ghost use Rattle.std.specs.Prelude.{◌≡◌, ◌++◌, ◌<◌, ◌≤◌, [], length, take, drop, slice_get, position, None, IsSome, MatchBool, IfErr, IfOk, OnOk, OnErr, List, option_copied};
+ghost use Rattle.std.specs.Bool.{OnTrue};
 ghost use Rattle.std.specs.List.{prefix_len};
+ghost use Rattle.hla_base.specs.declared.content.Event.{Event};
 ghost use Rattle.hla_base.specs.declared.fault.Fault.TheVariants.{OutOfMemory};
 ghost use Rattle.hla_order_queues.specs.Queues.{insert_event, find_event, remove_event, is_event, handles_of};
 ghost use Rattle.hla_order_queues.specs.Moving.{is_moved};
-ghost use Rattle.hla_order_queues.specs.Kept.{first_after, IsInOrder};
+ghost use Rattle.hla_order_queues.specs.Kept.{first_after, IsInOrder, AreStampsOf};
 
-use crate::key::EventKey;
+use crate::key::{EventKey, EventName};
 use hla_base::{Event, EventHandle, FOREVER, Fault, FederateNo, Serial, Ticks};
 use std::alloc::{AllocError, Global};
+use std::collections::HashMap;
 use std::marker::Model;
 use std::mem;
 
@@ -170,6 +173,20 @@ impl Block {
             }
         }
         Ok(())
+    }
+
+    /// Puts each event's stamp at its name; false where memory for that was refused.
+    pub fn put_stamps(&self, stamps: &mut HashMap<EventName, Ticks>) -> bool
+        ensures { (xs : List Event) → AreStampsOf stamps.old.entries xs → OnTrue result
+            (AreStampsOf stamps.new.entries (self.now ++ xs)) }
+    {
+        for event in self.events.iter() {
+            let key = EventKey::of(event);
+            let Ok(_) = stamps.insert(key.name(), key.stamp) else {
+                return false;
+            };
+        }
+        true
     }
 
     /// Takes all events out.

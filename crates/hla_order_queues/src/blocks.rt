@@ -1,16 +1,19 @@
 //! The later stretches of a queue in time-stamp order.
 
-ghost use Rattle.std.specs.Prelude.{◌≡◌, ◌++◌, ◌<◌, ◌≤◌, ◌+◌, ◌^◌, [], None, false, length, take, drop, slice_get, slice_index_or, IfErr, OnOk, OnErr, MatchOption, MatchBool, IsSome, option_copied};
+ghost use Rattle.std.specs.Prelude.{◌≡◌, ◌++◌, ◌<◌, ◌≤◌, ◌+◌, ◌^◌, [], None, Some, false, List, length, take, drop, slice_get, slice_index_or, IfErr, OnOk, OnErr, MatchOption, MatchBool, IsSome, option_copied};
+ghost use Rattle.std.specs.Bool.{OnTrue};
 ghost use Rattle.std.specs.List.{prefix_len, remove as list_remove};
+ghost use Rattle.hla_base.specs.declared.content.Event.{Event};
 ghost use Rattle.hla_base.specs.declared.fault.Fault.TheVariants.{OutOfMemory};
 ghost use Rattle.hla_order_queues.specs.Queues.{insert_event, find_event, remove_event, handles_of};
 ghost use Rattle.hla_order_queues.specs.Moving.{is_moved};
-ghost use Rattle.hla_order_queues.specs.Kept.{key_of, first_after, IsInOrder, AreFilled, AreBlocks, IsFirstWith, joined};
+ghost use Rattle.hla_order_queues.specs.Kept.{key_of, first_after, IsInOrder, AreFilled, AreBlocks, AreStampsOf, IsFirstWith, IsUnique, stamp_of, joined};
 
 use crate::block::Block;
-use crate::key::EventKey;
+use crate::key::{EventKey, EventName};
 use hla_base::{Event, EventHandle, Fault, FederateNo, Serial, Ticks};
 use std::alloc::Global;
+use std::collections::HashMap;
 use std::marker::Model;
 
 /// A block with so many events is split before one more is put in: an insertion moves at most so many, of 40 bytes each.
@@ -99,13 +102,22 @@ impl Blocks {
         ensures rest { self.new ≡ remove_event sender serial self.old }
     {
         match place_with(&self.blocks, sender, serial) {
-            Some(place) => {
-                let event = self.blocks[place].remove(sender, serial);
-                drop_empty(&mut self.blocks, place);
-                event
-            }
+            Some(place) => take_from(&mut self.blocks, place, sender, serial),
             None => None,
         }
+    }
+
+    /// Takes the event with this key, which is there and not before all. It looks at a logarithm of the blocks, and goes
+    /// through one.
+    pub fn remove_key(&mut self, key: EventKey) -> Option<Event>
+        requires unique { IsUnique self.old }
+        requires there { stamp_of (record { sender = key.sender; serial = key.serial }) self.old ≡ Some key.stamp }
+        requires within { first_after key self.old ≡ false }
+        ensures found { result ≡ find_event key.sender key.serial self.old }
+        ensures rest { self.new ≡ remove_event key.sender key.serial self.old }
+    {
+        let place = place_of(&self.blocks, key);
+        take_from(&mut self.blocks, place, key.sender, key.serial)
     }
 
     /// Whether an event that `sender` sent with that serial is there.
@@ -160,6 +172,19 @@ impl Blocks {
             }
         }
         Ok(())
+    }
+
+    /// Puts each event's stamp at its name; false where memory for that was refused.
+    pub fn put_stamps(&self, stamps: &mut HashMap<EventName, Ticks>) -> bool
+        ensures { (xs : List Event) → AreStampsOf stamps.old.entries xs → OnTrue result
+            (AreStampsOf stamps.new.entries (self.now ++ xs)) }
+    {
+        for block in self.blocks.iter() {
+            if !block.put_stamps(stamps) {
+                return false;
+            }
+        }
+        true
     }
 
     /// Takes all events out.
@@ -226,6 +251,24 @@ fn split_at(blocks: &mut Vec<Block>, place: usize) -> bool
         return false;
     };
     blocks.insert(place, greater).is_ok()
+}
+
+/// Takes the event that `sender` sent with that serial out of the block at that place, which is the first that has one.
+fn take_from(
+    blocks: &mut Vec<Block>,
+    place: usize,
+    sender: FederateNo,
+    serial: Serial,
+) -> Option<Event>
+    requires filled { AreFilled blocks.old.items }
+    requires first { IsFirstWith sender serial blocks.old.items place }
+    ensures found { result ≡ find_event sender serial (joined blocks.old.items) }
+    ensures rest { joined blocks.new.items ≡ remove_event sender serial (joined blocks.old.items) }
+    ensures filled { AreFilled blocks.new.items }
+{
+    let event = blocks[place].remove(sender, serial);
+    drop_empty(blocks, place);
+    event
 }
 
 /// Takes the block at that place out, if it is empty. The events stay the same.

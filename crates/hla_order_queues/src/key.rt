@@ -13,6 +13,13 @@ pub struct EventKey {
     pub serial: Serial,
 }
 
+/// The name of an event: its sender, and the sender's serial. Names have no order.
+#[derive(Clone, Copy, Debug, PartialEq, Eq, Hash)]
+pub struct EventName {
+    pub sender: FederateNo,
+    pub serial: Serial,
+}
+
 impl EventKey {
     /// The key of an event.
     pub fn of(event: &Event) -> EventKey
@@ -22,6 +29,16 @@ impl EventKey {
             stamp: event.stamp,
             sender: event.sender,
             serial: event.serial,
+        }
+    }
+
+    /// The name of the event that has this key.
+    pub fn name(self) -> EventName
+        ensures { result ≡ record { sender = self.sender; serial = self.serial } }
+    {
+        EventName {
+            sender: self.sender,
+            serial: self.serial,
         }
     }
 

@@ -1,17 +1,18 @@
 //! The events of a queue in time-stamp order.
 
-ghost use Rattle.std.specs.Prelude.{◌≡◌, ◌++◌, [], None, length, take as list_take, drop, slice_get, IfErr, IfNone, OnOk, OnErr, MatchBool, IsSome, option_copied};
+ghost use Rattle.std.specs.Prelude.{◌≡◌, ◌++◌, [], None, Some, MatchOption, length, take as list_take, drop, slice_get, IfErr, IfNone, OnOk, OnErr, MatchBool, IsSome, option_copied};
 ghost use Rattle.std.specs.List.{prefix_len};
 ghost use Rattle.hla_base.specs.declared.fault.Fault.TheVariants.{OutOfMemory};
 ghost use Rattle.hla_order_queues.specs.Queues.{insert_event, find_event, remove_event, handles_of};
 ghost use Rattle.hla_order_queues.specs.Moving.{is_moved, IsRising};
-ghost use Rattle.hla_order_queues.specs.Kept.{IsInOrder};
+ghost use Rattle.hla_order_queues.specs.Kept.{IsInOrder, IsUnique, AreStampsOf, stamp_of};
 
 use crate::block::Block;
 use crate::blocks::{Blocks, FULL};
-use crate::key::EventKey;
+use crate::key::{EventKey, EventName};
 use hla_base::{Event, EventHandle, Fault, FederateNo, Serial, Ticks};
 use std::alloc::Global;
+use std::collections::HashMap;
 use std::marker::Model;
 
 /// Events in time-stamp order. Contracts see the list of them.
@@ -52,6 +53,11 @@ impl Ordered {
         ensures { result ≡ length self.now }
     {
         self.count
+    }
+
+    /// Whether there are more events than a block has.
+    pub fn is_long(&self) -> bool {
+        self.count > FULL
     }
 
     /// The first event, if there is one.
@@ -121,6 +127,23 @@ impl Ordered {
         }
     }
 
+    /// Takes the event with this key, which is there. It looks at a logarithm of the blocks, and goes through one.
+    pub fn remove_key(&mut self, key: EventKey) -> Option<Event>
+        requires unique { IsUnique self.old }
+        requires there { stamp_of (record { sender = key.sender; serial = key.serial }) self.old ≡ Some key.stamp }
+        ensures found { result ≡ find_event key.sender key.serial self.old }
+        ensures rest { self.new ≡ remove_event key.sender key.serial self.old }
+    {
+        match take_key(&mut self.first, &mut self.later, key) {
+            Some(event) => {
+                self.count -= 1;
+                fill(&mut self.first, &mut self.later);
+                Some(event)
+            }
+            None => None,
+        }
+    }
+
     /// Whether an event that `sender` sent with that serial is there.
     pub fn has_event(&self, sender: FederateNo, serial: Serial) -> bool
         ensures { MatchBool result (IsSome (find_event sender serial self.now)) (find_event sender serial self.now ≡ None) }
@@ -149,6 +172,18 @@ impl Ordered {
         let here = count.min(self.first.len());
         self.first.put_handles(here, handles)?;
         self.later.put_handles(count - here, handles)
+    }
+
+    /// The stamp of each event at its name; none where memory for that was refused.
+    pub fn stamps(&self, alloc: Global) -> Option<HashMap<EventName, Ticks>>
+        ensures { MatchOption result (Unit {0}) (λ m. AreStampsOf m.entries self.now) }
+    {
+        let mut stamps = HashMap::new(alloc);
+        if self.later.put_stamps(&mut stamps) && self.first.put_stamps(&mut stamps) {
+            Some(stamps)
+        } else {
+            None
+        }
     }
 
     /// Takes all events out.
@@ -203,6 +238,21 @@ fn take(first: &mut Block, later: &mut Blocks, sender: FederateNo, serial: Seria
     match first.remove(sender, serial) {
         Some(event) => Some(event),
         None => later.remove(sender, serial),
+    }
+}
+
+/// Takes the event with this key, which is there.
+fn take_key(first: &mut Block, later: &mut Blocks, key: EventKey) -> Option<Event>
+    requires unique { IsUnique (first.old ++ later.old) }
+    requires ordered { IsInOrder (first.old ++ later.old) }
+    requires there { stamp_of (record { sender = key.sender; serial = key.serial }) (first.old ++ later.old) ≡ Some key.stamp }
+    ensures found { result ≡ find_event key.sender key.serial (first.old ++ later.old) }
+    ensures rest { first.new ++ later.new ≡ remove_event key.sender key.serial (first.old ++ later.old) }
+{
+    if later.is_after(key) {
+        first.remove(key.sender, key.serial)
+    } else {
+        later.remove_key(key)
     }
 }
 

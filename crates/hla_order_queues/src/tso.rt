@@ -1,15 +1,18 @@
 //! The queue of events in time-stamp order.
 
-ghost use Rattle.std.specs.Prelude.{◌≡◌, ◌++◌, ◌<◌, [], None, length, drop, slice_get, filter, not, nat_lt, IfErr, IfOk, OnOk, OnErr, MatchBool, IsSome, option_copied};
+ghost use Rattle.std.specs.Prelude.{◌≡◌, ◌++◌, ◌<◌, [], None, Some, MatchOption, length, drop, slice_get, filter, not, nat_lt, IfErr, IfOk, OnOk, OnErr, MatchBool, IsSome, option_copied};
 ghost use Rattle.std.specs.List.{prefix_len};
 ghost use Rattle.hla_base.specs.declared.fault.Fault.TheVariants.{OutOfMemory};
 ghost use Rattle.hla_order_queues.specs.Queues.{insert_event, find_event, remove_event, first_stamp, handles_of};
 ghost use Rattle.hla_order_queues.specs.Moving.{is_moved, IsRising};
+ghost use Rattle.hla_order_queues.specs.Kept.{SetsStamp};
 
+use crate::key::{EventKey, EventName};
 use crate::ordered::Ordered;
 use crate::receive::RoQueue;
 use hla_base::{Event, EventHandle, FOREVER, Fault, FederateNo, Serial, Ticks};
 use std::alloc::Global;
+use std::collections::HashMap;
 use std::marker::Model;
 
 /// The events that a component has received in time-stamp order and not yet given, by stamp, at equal stamps by sender,
@@ -17,15 +20,22 @@ use std::marker::Model;
 #[derive(Debug, Drop)]
 pub struct TsoQueue {
     events: Ordered,
+    /// The stamp of each event at its name, from the first removal on that found more events than a block has: without it
+    /// each removal of an event that is no longer there would go through all.
+    stamps: Option<HashMap<EventName, Ticks>>,
+    alloc: Global,
 }
 
 impl Model for TsoQueue {
-    ghost use Rattle.std.specs.Prelude.{List};
+    ghost use Rattle.std.specs.Prelude.{List, MatchOption};
     ghost use Rattle.hla_base.specs.declared.content.Event.{Event};
+    ghost use Rattle.hla_order_queues.specs.Kept.{AreStampsOf, IsUnique};
 
     ghost Value = { List Event };
 
     ghost view = { λ q. q.events };
+
+    ghost invariant = { λ q. IsUnique q.events × MatchOption q.stamps (Unit {0}) (λ m. AreStampsOf m.entries q.events) };
 }
 
 impl TsoQueue {
@@ -35,6 +45,8 @@ impl TsoQueue {
     {
         TsoQueue {
             events: Ordered::new(alloc),
+            stamps: None,
+            alloc,
         }
     }
 
@@ -74,7 +86,10 @@ impl TsoQueue {
         ensures { MatchBool result (IsSome (find_event sender serial self.now))
             (find_event sender serial self.now ≡ None) }
     {
-        self.events.has_event(sender, serial)
+        match &self.stamps {
+            Some(stamps) => stamps.contains_key(&EventName { sender, serial }),
+            None => self.events.has_event(sender, serial),
+        }
     }
 
     /// Puts an event at its place; the event comes back, and the queue is as it was, where a growth was refused. It looks
@@ -85,7 +100,14 @@ impl TsoQueue {
         ensures err { IfErr result (λ e. e ≡ event) }
         ensures unchanged { OnErr result (self.new ≡ self.old) }
     {
-        self.events.insert(event)
+        let key = EventKey::of(&event);
+        match self.events.insert(event) {
+            Ok(()) => {
+                note(&mut self.stamps, key);
+                Ok(())
+            }
+            Err(event) => Err(event),
+        }
     }
 
     /// Takes the first event, if there is one. It takes no memory, and no other event moves.
@@ -93,16 +115,42 @@ impl TsoQueue {
         ensures least { result ≡ slice_get self.old 0 }
         ensures rest { self.new ≡ drop 1 self.old }
     {
-        self.events.take_first()
+        match self.events.take_first() {
+            Some(event) => {
+                forget(&mut self.stamps, EventKey::of(&event).name());
+                Some(event)
+            }
+            None => None,
+        }
     }
 
-    /// Takes the event that `sender` sent with that serial, if there is one. It takes no memory, and goes through the
-    /// events before it.
+    /// Takes the event that `sender` sent with that serial, if there is one. The first time it goes through all events; after
+    /// that, if there was memory to note their stamps, it looks at a logarithm of them and goes through one block.
     pub fn remove(&mut self, sender: FederateNo, serial: Serial) -> Option<Event>
         ensures found { result ≡ find_event sender serial self.old }
         ensures rest { self.new ≡ remove_event sender serial self.old }
     {
-        self.events.remove(sender, serial)
+        self.index();
+        match &mut self.stamps {
+            Some(stamps) => match stamps.remove(&EventName { sender, serial }) {
+                Some(stamp) => self.events.remove_key(EventKey {
+                    stamp,
+                    sender,
+                    serial,
+                }),
+                None => None,
+            },
+            None => self.events.remove(sender, serial),
+        }
+    }
+
+    /// Notes the stamps of many events, if they are not noted and there is memory for it.
+    fn index(&mut self)
+        ensures { self.new ≡ self.old }
+    {
+        if self.stamps.is_none() && self.events.is_long() {
+            self.stamps = self.events.stamps(self.alloc);
+        }
     }
 
     /// Moves the events with a stamp below `bound` to the end of a receive-order queue, in their order; `FOREVER` moves
@@ -156,5 +204,29 @@ impl TsoQueue {
         ensures { self.new ≡ [] }
     {
         self.events.clear();
+        self.stamps = None;
+    }
+}
+
+/// Notes the stamp of an event at its name, if others are noted; where memory for that is refused none are.
+fn note(stamps: &mut Option<HashMap<EventName, Ticks>>, key: EventKey)
+    ensures { MatchOption stamps.new (Unit {0}) (λ m. MatchOption stamps.old ⊥ (λ o. SetsStamp o.entries m.entries
+        (record { sender = key.sender; serial = key.serial }) (Some key.stamp))) }
+{
+    let refused = match stamps {
+        Some(stamps) => stamps.insert(key.name(), key.stamp).is_err(),
+        None => false,
+    };
+    if refused {
+        *stamps = None;
+    }
+}
+
+/// Takes the stamp at a name out, if stamps are noted.
+fn forget(stamps: &mut Option<HashMap<EventName, Ticks>>, name: EventName)
+    ensures { MatchOption stamps.new (Unit {0}) (λ m. MatchOption stamps.old ⊥ (λ o. SetsStamp o.entries m.entries name None)) }
+{
+    if let Some(stamps) = stamps {
+        let _ = stamps.remove(&name);
     }
 }
