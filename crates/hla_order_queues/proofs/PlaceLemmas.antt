@@ -1,12 +1,12 @@
--- The place at which a search by a test ends, and an insertion there into events that lie with the greatest first
-use Rattle.std.proofs.Common.{◌≡◌, ℕ, zero, suc, ◌+◌, ◌≤◌, ◌<◌, Bool, true, false, cond, get_or, List, [], ◌∷◌, ◌++◌, length, take, drop, reverse, refl, sym, ap, subst, ◌∙◌, append_assoc, arith}
+-- The place at which a search by a test ends, and an insertion there into events that are in order
+use Rattle.std.proofs.Common.{◌≡◌, ℕ, zero, suc, ◌+◌, ◌≤◌, ◌<◌, Bool, true, false, cond, not, get_or, List, [], ◌∷◌, ◌++◌, length, take, drop, reverse, refl, sym, ap, subst, ◌∙◌, append_assoc, arith}
 use Rattle.std.proofs.lemmas.List.{reverse-append, reverse-reverse, take-append-drop}
 use Rattle.std.specs.List.{AllByRecursion, prefix_len, insert}
 use Rattle.hla_base.specs.declared.content.Event.{Event}
 use Rattle.hla_order_queues.specs.declared.key.EventKey.{EventKey}
-use Rattle.hla_order_queues.specs.Queues.{insert_event}
+use Rattle.hla_order_queues.specs.Queues.{is_before, insert_event}
 use Rattle.hla_order_queues.specs.Kept.{key_of, is_key_before, first_after, IsInOrder}
-use Rattle.hla_order_queues.proofs.OrderLemmas.{All-append, NoneAfter, AllAfter, none_after, parts_of, insert_event-between}
+use Rattle.hla_order_queues.proofs.OrderLemmas.{All-implies, before_then}
 
 -- where one element does not pass, none behind it does
 unfoldable pub Falls : {X : Type 0} → (X → Bool) → List X → Type 0
@@ -47,44 +47,22 @@ pub before_place : {X : Type 0} (p : X → Bool) (xs : List X) → AllByRecursio
 before_place p [] = tt
 before_place p (x ∷ xs) = before_if (p x) p x xs (prefix_len p xs) refl (before_place p xs)
 
-behind_if : {X : Type 0} (b : Bool) (p : X → Bool) (x : X) (xs : List X) (n : ℕ) → p x ≡ b → (p x ≡ false → AllByRecursion (λ y. p y ≡ false) xs) → AllByRecursion (λ y. p y ≡ false) (drop n xs) → AllByRecursion (λ y. p y ≡ false) (drop (cond b (1 + n) 0) (x ∷ xs))
-behind_if true p x xs n is none h = let s : 1 + n ≡ suc n = omega arith in rw s h
-behind_if false p x xs n is none h = (is, none is)
+-- where the events are in order, those that do not come after a key are first
+not_false : (b : Bool) → not b ≡ false → b ≡ true
+not_false true h = refl
+not_false false h = absurd (cc)
 
-pub behind_place : {X : Type 0} (p : X → Bool) (xs : List X) → Falls p xs → AllByRecursion (λ y. p y ≡ false) (drop (prefix_len p xs) xs)
-unfolding Falls
-behind_place p [] h = tt
-behind_place p (x ∷ xs) h = behind_if (p x) p x xs (prefix_len p xs) refl h.0 (behind_place p xs h.1)
+pub falls_ordered : (k : EventKey) (xs : List Event) → IsInOrder xs → Falls (λ x. not (is_key_before k x)) xs
+unfolding IsInOrder Falls
+falls_ordered k [] h = tt
+falls_ordered k (x ∷ xs) h = (λ no. All-implies (λ y q. ap not (before_then k x y (not_false (is_key_before k x) no) q)) xs h.0, falls_ordered k xs h.1)
 
--- lists that lie the other way round
-pub reverse_cons : {X : Type 0} (x : X) (xs : List X) → reverse (x ∷ xs) ≡ reverse xs ++ x ∷ []
-reverse_cons x xs = reverse-append (x ∷ []) xs
+-- an event behind these is at its place
+inserted_if : (b : Bool) (e x : Event) (xs later : List Event) (n : ℕ) → insert xs n e ≡ later → insert (x ∷ xs) (cond (not b) (1 + n) 0) e ≡ cond b (e ∷ x ∷ xs) (x ∷ later)
+inserted_if true e x xs later n h = refl
+inserted_if false e x xs later n h = let s : 1 + n ≡ suc n = omega arith in rw s (ap (λ zs. x ∷ zs) h)
 
-pub All-reverse : (P : Event → Type 0) (xs : List Event) → AllByRecursion P xs → AllByRecursion P (reverse xs)
-All-reverse P [] h = tt
-All-reverse P (x ∷ xs) h = subst (AllByRecursion P) (sym (reverse_cons x xs)) (All-append P (reverse xs) (x ∷ []) (All-reverse P xs h.1) (h.0, tt))
-
-pub falls_events : (k : EventKey) (v : List Event) → IsInOrder (reverse v) → Falls (is_key_before k) v
-unfolding Falls
-falls_events k [] h = tt
-falls_events k (x ∷ v) h =
-    let ordered = subst IsInOrder (reverse_cons x v) h in
-    (λ no. subst (NoneAfter k) (reverse-reverse v) (All-reverse (λ y. is_key_before k y ≡ false) (reverse v) (none_after k (reverse v) (x ∷ []) ordered no)), falls_events k v (parts_of (reverse v) (x ∷ []) ordered).front)
-
-first_of_after : (k : EventKey) (xs : List Event) → AllAfter k xs → first_after k xs ≡ true
-first_of_after k [] h = refl
-first_of_after k (x ∷ xs) h = h.0
-
--- an event at its place is at its place in the list
-pub inserted_there : (e : Event) (v : List Event) (n : ℕ) → IsInOrder (reverse v) → n ≡ prefix_len (is_key_before (key_of e)) v → reverse (insert v n e) ≡ insert_event e (reverse v)
-inserted_there e v n h is =
-    let p : Event → Bool = is_key_before (key_of e) in
-    let a = take n v in
-    let b = drop n v in
-    let later : AllAfter (key_of e) (reverse a) = All-reverse (λ y. p y ≡ true) a (subst (λ m. AllByRecursion (λ y. p y ≡ true) (take m v)) (sym is) (before_place p v)) in
-    let earlier : NoneAfter (key_of e) (reverse b) = All-reverse (λ y. p y ≡ false) b (subst (λ m. AllByRecursion (λ y. p y ≡ false) (drop m v)) (sym is) (behind_place p v (falls_events (key_of e) v h))) in
-    reverse-append a (e ∷ b)
-    ∙ ap (λ zs. zs ++ reverse a) (reverse_cons e b)
-    ∙ append_assoc (reverse b) (e ∷ []) (reverse a)
-    ∙ sym (insert_event-between e (reverse b) (reverse a) earlier (first_of_after (key_of e) (reverse a) later))
-    ∙ ap (insert_event e) (sym (reverse-append a b) ∙ ap reverse (take-append-drop n v))
+pub inserted_there : (e : Event) (xs : List Event) → insert xs (prefix_len (λ x. not (is_key_before (key_of e) x)) xs) e ≡ insert_event e xs
+unfolding insert_event
+inserted_there e [] = refl
+inserted_there e (x ∷ xs) = inserted_if (is_before e x) e x xs (insert_event e xs) (prefix_len (λ y. not (is_key_before (key_of e) y)) xs) (inserted_there e xs)

@@ -1,4 +1,4 @@
--- Finding and removing an event: among events that lie with the greatest first, in parts of a list, and among blocks
+-- Finding and removing an event: in parts of a list, and among blocks
 use Rattle.std.proofs.Common.{◌≡◌, ℕ, zero, suc, ◌-◌, ◌<◌, Bool, true, false, cond, get_or, set, List, [], ◌∷◌, ◌++◌, length, take, drop, reverse, Option, Some, None, refl, sym, ap, subst, ◌∙◌, append_assoc, drop-cons, length-drop, length-append, arith}
 use Rattle.std.proofs.lemmas.List.{append-nil, get_or_read, get_or_default, reverse-append, length-reverse, take-append-drop, take_at, drop_at, get_or-reverse}
 use Rattle.std.proofs.lemmas.List.Folds.{find_at}
@@ -11,39 +11,7 @@ use Rattle.hla_order_queues.specs.Queues.{is_before, is_event, find_event, remov
 use Rattle.hla_order_queues.specs.Kept.{IsInOrder, joined, AreFilled, IsFirstWith}
 use Rattle.hla_order_queues.proofs.EventLemmas.{missed_head, missed_later}
 use Rattle.hla_order_queues.proofs.QueueLemmas.{within, find_event-find, remove_event-place, not_found}
-use Rattle.hla_order_queues.proofs.PlaceLemmas.{reverse_cons}
 use Rattle.hla_order_queues.proofs.JoinedLemmas.{joined_at, joined_set}
-
--- among events that lie with the greatest first
-pub reverse_remove : (v : List Event) (i : ℕ) (x : Event) → i < length v → reverse (remove v (length v - 1 - i)) ≡ remove (reverse v) i
-reverse_remove v i x h =
-    let k = length v - 1 - i in
-    let low : k < length v = omega arith in
-    let y = get_or v k x in
-    let a = take k v in
-    let b = drop (suc k) v in
-    let whole : reverse v ≡ reverse b ++ y ∷ reverse a =
-    ap reverse (sym (take-append-drop k v) ∙ ap (λ zs. a ++ zs) (drop-cons v k x low))
-    ∙ reverse-append a (y ∷ b)
-    ∙ ap (λ zs. zs ++ reverse a) (reverse_cons y b)
-    ∙ append_assoc (reverse b) (y ∷ []) (reverse a) in
-    let front : length (reverse b) ≡ i = length-reverse b ∙ length-drop (suc k) v ∙ omega arith in
-    let longer : length (reverse b ++ y ∷ []) ≡ suc i = length-append (reverse b) (y ∷ []) ∙ omega arith in
-    reverse-append a b
-    ∙ ap (λ zs. zs ++ reverse a) (sym (take_at (reverse b) (y ∷ reverse a) i front))
-    ∙ ap (λ zs. take i (reverse b ++ y ∷ reverse a) ++ zs) (sym (ap (drop (suc i)) (sym (append_assoc (reverse b) (y ∷ []) (reverse a))) ∙ drop_at (reverse b ++ y ∷ []) (reverse a) (suc i) longer))
-    ∙ ap (λ zs. remove zs i) (sym whole)
-
-pub removed_back : (g m : ℕ) (v zs now : List Event) (n i : ℕ) (x : Event) → reverse v ≡ now → n ≡ length v → Some i ≡ position (is_event g m) now → x ≡ get_or v (n - 1 - i) x → zs ≡ remove v (n - 1 - i) → (Some x ≡ find_event g m now) × (reverse zs ≡ remove_event g m now)
-removed_back g m v zs now n i x view size e read rest =
-    let at = within (position_or_len (is_event g m) now) (length now) i _ refl e in
-    let long : length now ≡ length v = ap length (sym view) ∙ length-reverse v in
-    let low : i < length v = omega (arith, at.1) in
-    let place : n - 1 - i ≡ length v - 1 - i = ap (λ l. l - 1 - i) size in
-    let there : x ≡ get_or now i x = read ∙ ap (λ k. get_or v k x) place ∙ sym (get_or-reverse v i x low) ∙ ap (λ xs. get_or xs i x) view in (
-      sym (slice_get_read now (length now) i x refl at.1 there) ∙ ap (slice_get now) at.0 ∙ sym (find_event-find g m now ∙ find_at (is_event g m) now),
-      ap reverse (rest ∙ ap (remove v) place) ∙ reverse_remove v i x low ∙ ap (λ xs. remove xs i) view ∙ ap (remove now) at.0 ∙ sym (remove_event-place g m now),
-    )
 
 some_below : (xs : List Event) (i : ℕ) → i < length xs → IsSome (slice_get xs i)
 some_below [] i h = absurd (omega arith)

@@ -1,5 +1,5 @@
 -- The index of stamps: what it has after an insertion and a removal, and once all events are noted
-use Rattle.std.proofs.Common.{◌≡◌, ℕ, Bool, true, false, cond, eqb, ◌&&◌, ◌+◌, ◌<◌, get_or, List, [], ◌∷◌, ◌++◌, length, take, drop, reverse, append_assoc, Option, Some, None, refl, sym, ap, subst, ◌∙◌, arith}
+use Rattle.std.proofs.Common.{◌≡◌, ℕ, zero, suc, Bool, true, false, cond, eqb, ◌&&◌, ◌+◌, ◌<◌, get_or, List, [], ◌∷◌, ◌++◌, length, take, drop, reverse, append_assoc, Option, Some, None, refl, sym, ap, subst, ◌∙◌, arith}
 use Rattle.std.proofs.lemmas.Bool.Decides.{nat_tests}
 use Rattle.std.proofs.lemmas.List.{reverse-append, take_more}
 use Rattle.std.specs.Bool.{MatchBool}
@@ -80,6 +80,22 @@ stamp_noted old new x xs sets h = record {
   named = λ n. sets.named n ∙ rw (name_eq-turned (name_of (key_of x)) n, h.named n) (sym (stamp_if (is_event n.sender n.serial x) x (find_event n.sender n.serial xs)));
 }
 
+-- the event at a place, before those behind it
+pub one_before : (xs : List Event) (i next now : ℕ) (x : Event) → Some x ≡ slice_get xs i → i + 1 ≡ next → i ≡ now → x ∷ drop next xs ≡ drop now xs
+one_before xs i next now x there e f =
+    let s : next ≡ suc i = omega arith in
+    rw (s, sym f) (dropped xs i x there)
+  where
+    dropped : (xs : List Event) (i : ℕ) (x : Event) → Some x ≡ slice_get xs i → x ∷ drop (suc i) xs ≡ drop i xs
+    dropped [] i x there = absurd (cc)
+    dropped (y ∷ ys) zero x there = let same : y ≡ x = cc in rw same refl
+    dropped (y ∷ ys) (suc i) x there = dropped ys i x there
+
+pub none_behind : (xs : List Event) (i : ℕ) → None ≡ slice_get xs i → i < length xs → ⊥
+none_behind [] i none h = omega arith
+none_behind (y ∷ ys) zero none h = absurd (cc)
+none_behind (y ∷ ys) (suc i) none h = none_behind ys i none (omega arith)
+
 -- what the index says of an event
 there_if : (b : Bool) (t : Option ℕ) (o : Option Event) → b ≡ is_some t → t ≡ option_map (λ x. x.stamp) o → MatchBool b (IsSome o) (o ≡ None)
 there_if b t None is e = rw (is, e) refl
@@ -112,13 +128,6 @@ has_key_if k xs (Some x) is e =
 
 pub has_key : (k : EventKey) (xs : List Event) → stamp_of (name_of k) xs ≡ Some k.stamp → HasKey k xs
 has_key k xs e = has_key_if k xs (find_event k.sender k.serial xs) refl e
-
--- one event more, and one block more, of those that are noted from the greatest on
-pub event_noted : (items : List Event) (i : ℕ) (x : Event) (xs : List Event) → i < length items → x ≡ get_or items i x → reverse (take (i + 1) items) ++ xs ≡ x ∷ (reverse (take i items) ++ xs)
-event_noted items i x xs h read =
-    ap (λ zs. reverse zs ++ xs) (take_more items i x h)
-    ∙ ap (λ zs. zs ++ xs) (reverse-append (take i items) (get_or items i x ∷ []))
-    ∙ ap (λ y. y ∷ (reverse (take i items) ++ xs)) (sym read)
 
 pub block_noted : (bs : List (List Event)) (i : ℕ) (b xs : List Event) → i < length bs → b ≡ get_or bs i b → joined (take (i + 1) bs) ++ xs ≡ b ++ (joined (take i bs) ++ xs)
 block_noted bs i b xs h read =

@@ -12,24 +12,23 @@ ghost use Rattle.hla_order_queues.specs.Kept.{first_after, IsInOrder, AreStampsO
 use crate::key::{EventKey, EventName};
 use hla_base::{Event, EventHandle, FOREVER, Fault, FederateNo, Serial, Ticks};
 use std::alloc::{AllocError, Global};
-use std::collections::HashMap;
+use std::collections::{HashMap, VecDeque};
 use std::marker::Model;
-use std::mem;
 
-/// Events in time-stamp order. Contracts see the list of them, the least first; they lie with the greatest first, so that
-/// the least is taken off the end and no other moves.
+/// Events in time-stamp order. Contracts see the list of them, the least first. Both ends of a deque are open: the least is
+/// taken off and no other moves, nor does any where the new one is the greatest, as it is where stamps rise.
 #[derive(Debug, Drop)]
 pub(crate) struct Block {
-    events: Vec<Event>,
+    events: VecDeque<Event>,
 }
 
 impl Model for Block {
-    ghost use Rattle.std.specs.Prelude.{List, reverse};
+    ghost use Rattle.std.specs.Prelude.{List};
     ghost use Rattle.hla_base.specs.declared.content.Event.{Event};
 
     ghost Value = { List Event };
 
-    ghost view = { λ b. reverse b.events.items };
+    ghost view = { λ b. b.events.items };
 }
 
 impl Block {
@@ -38,7 +37,7 @@ impl Block {
         ensures { result ≡ [] }
     {
         Block {
-            events: Vec::new(alloc),
+            events: VecDeque::new(alloc),
         }
     }
 
@@ -53,19 +52,14 @@ impl Block {
     pub fn first(&self) -> Option<&Event>
         ensures { option_copied result ≡ slice_get self.now 0 }
     {
-        self.events.last()
+        self.events.front()
     }
 
     /// The event at place `i`, counted from 0, if there are so many.
     pub fn nth(&self, i: usize) -> Option<&Event>
         ensures { option_copied result ≡ slice_get self.now i }
     {
-        let len = self.events.len();
-        if i < len {
-            self.events.get(len - 1 - i)
-        } else {
-            None
-        }
+        self.events.get(i)
     }
 
     /// Whether there is no event, or the first comes after this key.
@@ -86,7 +80,7 @@ impl Block {
         ensures unchanged { OnErr result (self.new ≡ self.old) }
     {
         let key = EventKey::of(&event);
-        let place = self.events.partition_point(|other| key.is_before(other));
+        let place = self.events.partition_point(|other| !key.is_before(other));
         match self.events.insert(place, event) {
             Ok(()) => Ok(()),
             Err(failed) => Err(failed.value),
@@ -98,7 +92,7 @@ impl Block {
         ensures first { result ≡ slice_get self.old 0 }
         ensures rest { self.new ≡ drop 1 self.old }
     {
-        self.events.pop()
+        self.events.pop_front()
     }
 
     /// The place of the event that `sender` sent with that serial, if there is one.
@@ -107,7 +101,6 @@ impl Block {
     {
         self.events
             .iter()
-            .rev()
             .position(|event| sender == event.sender && serial == event.serial)
     }
 
@@ -123,9 +116,8 @@ impl Block {
         ensures found { result ≡ find_event sender serial self.old }
         ensures rest { self.new ≡ remove_event sender serial self.old }
     {
-        let len = self.events.len();
         match self.place_of(sender, serial) {
-            Some(place) => Some(self.events.remove(len - 1 - place)),
+            Some(place) => self.events.remove(place),
             None => None,
         }
     }
@@ -139,10 +131,8 @@ impl Block {
         ensures err { OnErr result (self.new ≡ self.old) }
     {
         let half = self.events.len() / 2;
-        let lesser = self.events.split_off(half)?;
-        Ok(Block {
-            events: mem::replace(&mut self.events, lesser),
-        })
+        let greater = self.events.split_off(half)?;
+        Ok(Block { events: greater })
     }
 
     /// How many of the first events have a stamp below `bound`; for `FOREVER` it is all. It goes through these alone.
@@ -151,7 +141,6 @@ impl Block {
     {
         self.events
             .iter()
-            .rev()
             .take_while(|event| event.stamp < bound || bound == FOREVER)
             .count()
     }
@@ -180,11 +169,14 @@ impl Block {
         ensures { (xs : List Event) → AreStampsOf stamps.old.entries xs → OnTrue result
             (AreStampsOf stamps.new.entries (self.now ++ xs)) }
     {
-        for event in self.events.iter() {
-            let key = EventKey::of(event);
-            let Ok(_) = stamps.insert(key.name(), key.stamp) else {
-                return false;
-            };
+        let len = self.len();
+        for i in 0..len {
+            if let Some(event) = self.nth(len - 1 - i) {
+                let key = EventKey::of(event);
+                let Ok(_) = stamps.insert(key.name(), key.stamp) else {
+                    return false;
+                };
+            }
         }
         true
     }
