@@ -12,6 +12,8 @@ pub mod IndexLemmas
 pub mod RangeLemmas
 -- Tests of all that waits are tests of the keys in a range of the index
 pub mod QueryLemmas
+-- Lower bounds of the stamps of what waits, after a change and in a test
+pub mod StampLemmas
 -- Accounts by number
 pub mod AccountLemmas
 -- Tests of accounts decide the bounds of the central machine

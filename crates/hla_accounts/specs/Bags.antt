@@ -1,6 +1,6 @@
 -- What waits for one federate, as a table by sender and serial
-use Rattle.std.specs.Prelude.{ℕ, ◌≡◌, cond, eqb, ◌&&◌, Bool, Option, None, option_map, List, [], ◌∷◌, find}
-use Rattle.std.specs.List.{list_any}
+use Rattle.std.specs.Prelude.{ℕ, ◌≡◌, ◌≤◌, cond, eqb, ◌&&◌, Bool, Option, None, option_map, List, [], ◌∷◌, find}
+use Rattle.std.specs.List.{list_any, All}
 use Rattle.hla_base.specs.declared.number.EventHandle.{EventHandle}
 use Rattle.hla_callbacks.specs.declared.callback.Delivery.{Delivery}
 use Rattle.hla_callbacks.specs.declared.callback.Delivery.TheVariants.{Receive, Demoted, TimeStamp}
@@ -18,6 +18,15 @@ waiting_at ws g m = find (is_of g m) ws
 abbrev pub AreApart : List Waiting → Type 0
 AreApart [] = Unit {0}
 AreApart (w ∷ ws) = (waiting_at ws w.event.sender w.event.serial ≡ None) × AreApart ws
+
+-- ---- lower bounds: what goes in time-stamp order has a stamp from the first on, what was moved to receive order from the second on
+abbrev pub IsNotBelow : ℕ → ℕ → Delivery → Type 0
+IsNotBelow ordered demoted Receive = Unit {0}
+IsNotBelow ordered demoted (Demoted stamp) = demoted ≤ stamp
+IsNotBelow ordered demoted (TimeStamp stamp) = ordered ≤ stamp
+
+abbrev pub AreNotBelow : ℕ → ℕ → List Waiting → Type 0
+AreNotBelow ordered demoted ws = All (λ (w : Waiting). IsNotBelow ordered demoted w.delivery) ws
 
 -- ---- demotion: what was sent in time-stamp order is to be given in receive order
 abbrev pub demoted_delivery : Delivery → Delivery

@@ -1,18 +1,18 @@
 //! What waits for one federate.
 
-ghost use Rattle.std.specs.Prelude.{◌≡◌, ◌↔◌, ◌∷◌, ℕ, Option, false, IsTrue, [], None, Some, slice_get, IfSome, OnOk, OnErr, IfErr};
+ghost use Rattle.std.specs.Prelude.{◌≡◌, ◌↔◌, ◌∷◌, ◌≤◌, ℕ, Option, false, true, IsTrue, [], None, Some, slice_get, IfSome, OnOk, OnErr, IfErr};
 ghost use Rattle.std.specs.List.{position};
 ghost use Rattle.std.specs.Option.{option_copied, option_map_or};
 ghost use Rattle.hla_base.specs.declared.fault.Fault.TheVariants.{OutOfMemory};
 ghost use Rattle.hla_callbacks.specs.declared.callback.Delivery.{Delivery};
 ghost use Rattle.hla_base.specs.Tables.{upd2};
 ghost use Rattle.hla_accounts.specs.Accounts.{copy_at, copy_given};
-ghost use Rattle.hla_accounts.specs.Bags.{is_of, is_listed, waiting_at, demoted_delivery, with_listed_demoted, AreApart};
+ghost use Rattle.hla_accounts.specs.Bags.{is_of, is_listed, waiting_at, demoted_delivery, with_listed_demoted, AreApart, IsNotBelow, AreNotBelow};
 ghost use Rattle.hla_accounts.specs.Indexes.{delivery_at, IsIndexOf};
 
 use crate::index::Index;
 use crate::line::Line;
-use hla_base::{Content, EventHandle, Fault, Plain};
+use hla_base::{Content, EventHandle, FOREVER, Fault, Plain, Ticks};
 use hla_callbacks::Delivery;
 use std::alloc::Global;
 use std::marker::Model;
@@ -32,25 +32,31 @@ pub struct Waiting {
 const INDEXED_FROM: usize = 64;
 
 /// The messages that one federate has not picked up, in the order of their sending. No two of them have one sender and
-/// one serial. Contracts see the list; `waiting_at` reads it as a table by sender and serial. Where much waits there is an
-/// index; where memory for it was refused, each call looks at all that waits.
+/// one serial. Contracts see the list; `waiting_at` reads it as a table by sender and serial. Where much waits, the first
+/// call that takes a message out, or moves one to receive order, makes an index, which stays until the bag is cleared.
+/// Before that, and where memory for it was refused, a message is looked for among all that waits.
 #[derive(Debug, Drop)]
 pub struct Bag {
     waiting: Line,
-    /// Where much waits, and memory for it was not refused.
+    /// Made where much waits as a message is taken out or moved to receive order, unless memory for it is refused.
     index: Option<Index>,
+    /// No message that is to be given in time-stamp order has a lesser stamp, in ticks. Taking one out leaves it as it is.
+    least_ordered: Ticks,
+    /// No message that was moved to receive order has a lesser stamp, in ticks. Taking one out leaves it as it is.
+    least_demoted: Ticks,
 }
 
 impl Model for Bag {
     ghost use Rattle.std.specs.Prelude.{List};
     ghost use Rattle.hla_accounts.specs.declared.bag.Waiting.{Waiting};
+    ghost use Rattle.hla_accounts.specs.Bags.{AreNotBelow};
     ghost use Rattle.hla_accounts.specs.Indexes.{IsKept};
 
     ghost Value = { List Waiting };
 
     ghost view = { λ b. b.waiting };
 
-    ghost invariant = { λ b. IsKept b.waiting b.index };
+    ghost invariant = { λ b. IsKept b.waiting b.index × AreNotBelow b.least_ordered b.least_demoted b.waiting };
 }
 
 /// A message that was sent in time-stamp order is to be given in receive order.
@@ -91,6 +97,8 @@ impl Bag {
         Bag {
             waiting: Line::new(alloc),
             index: None,
+            least_ordered: FOREVER,
+            least_demoted: FOREVER,
         }
     }
 
@@ -112,6 +120,38 @@ impl Bag {
         self.index.as_ref()
     }
 
+    /// Whether it is known, with no look at the messages, that none of what is to be given in time-stamp order has a stamp
+    /// below a time, in ticks.
+    pub(crate) fn has_no_ordered_below(&self, time: Ticks) -> bool
+        ensures { result ≡ true → AreNotBelow time 0 self.now }
+    {
+        let _ = &self.waiting;
+        time <= self.least_ordered
+    }
+
+    /// Whether it is known, with no look at the messages, that none of what was moved to receive order has a stamp below a
+    /// time, in ticks.
+    pub(crate) fn has_no_demoted_below(&self, time: Ticks) -> bool
+        ensures { result ≡ true → AreNotBelow 0 time self.now }
+    {
+        let _ = &self.waiting;
+        time <= self.least_demoted
+    }
+
+    /// Makes an index where much waits and there is none, unless memory for it is refused. Then it looks at all that waits.
+    fn make_index(&mut self)
+        ensures same { self.new ≡ self.old }
+        ensures apart { AreApart self.new }
+    {
+        if self.index.is_some() {
+            return;
+        }
+        let waiting = self.waiting.as_slice();
+        if waiting.len() >= INDEXED_FROM {
+            self.index = Index::of(self.waiting.allocator(), waiting);
+        }
+    }
+
     /// Where the message stands that an event handle names. What the index gives is looked at first.
     fn place_of(&self, event: EventHandle) -> Option<usize>
         ensures { result ≡ position (is_of event.sender event.serial) self.now }
@@ -127,7 +167,8 @@ impl Bag {
         }
     }
 
-    /// The message that an event handle names, if it waits. The time grows with the logarithm of what waits.
+    /// The message that an event handle names, if it waits. The time grows with the logarithm of what waits; until a message
+    /// is taken out or moved to receive order it looks at all that waits in front of the one.
     pub fn find(&self, event: EventHandle) -> Option<&Waiting>
         ensures { option_copied result ≡ waiting_at self.now event.sender event.serial }
     {
@@ -151,7 +192,7 @@ impl Bag {
     }
 
     /// Puts a message behind the others. `OutOfMemory`, and all as it was, where a growth was refused. Over many calls the
-    /// time of one grows with the logarithm of what waits.
+    /// time of one is constant, and where there is an index it grows with the logarithm of what waits.
     pub fn put(&mut self, waiting: Waiting) -> Result<(), Fault>
         requires { waiting_at self.old waiting.event.sender waiting.event.serial ≡ None }
         ensures ok { OnOk result (waiting_at self.new ≡ upd2 (waiting_at self.old) waiting.event.sender
@@ -163,16 +204,19 @@ impl Bag {
         let event = waiting.event;
         let delivery = waiting.delivery;
         self.waiting.push(waiting)?;
-        add_to_index(&mut self.index, &self.waiting, event, delivery);
+        lower(&mut self.least_ordered, &mut self.least_demoted, delivery);
+        add_to_index(&mut self.index, event, delivery);
         Ok(())
     }
 
-    /// The message that an event handle names waits no longer. It finds it as `find`, and moves the messages behind it, or those
-    /// in front of it where these are fewer.
+    /// The message that an event handle names waits no longer. The first call where much waits makes an index of all that
+    /// waits. From then on the time to find the message grows with the logarithm of what waits; the messages behind it move,
+    /// or those in front of it where these are fewer.
     pub fn remove(&mut self, event: EventHandle)
         ensures table { waiting_at self.new ≡ upd2 (waiting_at self.old) event.sender event.serial None }
         ensures apart { AreApart self.new }
     {
+        self.make_index();
         if let Some(place) = self.place_of(event) {
             let delivery = self.waiting.as_slice()[place].delivery;
             self.waiting.remove(place);
@@ -189,17 +233,18 @@ impl Bag {
             let before = self.waiting.as_slice()[place].delivery;
             let after = demoted(before);
             self.waiting.set_delivery(place, after);
+            lower(&mut self.least_ordered, &mut self.least_demoted, after);
             change_in_index(&mut self.index, event, before, after);
         }
     }
 
     /// These messages, as far as they were sent in time-stamp order, are to be given in receive order. It finds each as
-    /// `find`.
+    /// `remove`.
     pub fn demote(&mut self, events: &[EventHandle])
         ensures table { waiting_at self.new ≡ with_listed_demoted events.now (waiting_at self.old) }
         ensures apart { AreApart self.new }
     {
-        let _ = &self.waiting;
+        self.make_index();
         for event in events {
             self.demote_one(*event);
         }
@@ -211,29 +256,34 @@ impl Bag {
     {
         self.waiting.clear();
         self.index = None;
+        self.least_ordered = FOREVER;
+        self.least_demoted = FOREVER;
     }
 }
 
-/// A message was put behind the others. Where a growth was refused there is no index any more. Making one looks at all that
-/// waits, and so is tried only each time that as much again has come.
-fn add_to_index(index: &mut Option<Index>, waiting: &Line, event: EventHandle, delivery: Delivery)
-    requires { AreApart waiting.now }
+/// Lowers two bounds, as far as need be, to the stamp of a message: that of what is to be given in time-stamp order, and that
+/// of what was moved to receive order.
+fn lower(ordered: &mut Ticks, demoted: &mut Ticks, delivery: Delivery)
+    ensures ordered { ordered.new ≤ ordered.old }
+    ensures demoted { demoted.new ≤ demoted.old }
+    ensures kept { IsNotBelow ordered.new demoted.new delivery }
+{
+    match delivery {
+        Delivery::TimeStamp { stamp } => *ordered = stamp.min(*ordered),
+        Delivery::Demoted { stamp } => *demoted = stamp.min(*demoted),
+        Delivery::Receive => {}
+    }
+}
+
+/// A message was put behind the others. Where a growth was refused there is no index any more.
+fn add_to_index(index: &mut Option<Index>, event: EventHandle, delivery: Delivery)
     ensures { (t : ℕ → ℕ → Option Delivery) → IfSome index.old (λ i. IsIndexOf i t) →
         t event.sender event.serial ≡ None →
-        delivery_at waiting.now ≡ upd2 t event.sender event.serial (Some delivery) →
-        IfSome index.new (λ i. IsIndexOf i (delivery_at waiting.now)) }
+        IfSome index.new (λ i. IsIndexOf i (upd2 t event.sender event.serial (Some delivery))) }
 {
-    match index {
-        Some(known) => {
-            if known.add(event, delivery).is_err() {
-                *index = None;
-            }
-        }
-        None => {
-            let messages = waiting.as_slice();
-            if messages.len() >= INDEXED_FROM && messages.len().is_power_of_two() {
-                *index = Index::of(waiting.allocator(), messages);
-            }
+    if let Some(known) = index {
+        if known.add(event, delivery).is_err() {
+            *index = None;
         }
     }
 }

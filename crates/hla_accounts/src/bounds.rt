@@ -52,11 +52,14 @@ impl Accounts {
             Some(index) => index
                 .ordered_below(time)
                 .all(|key| self.is_retracted(key.event())),
-            None => account
-                .bag
-                .as_slice()
-                .iter()
-                .all(|waiting| self.is_at_most_waiting(time, waiting)),
+            None => {
+                account.bag.has_no_ordered_below(time)
+                    || account
+                        .bag
+                        .as_slice()
+                        .iter()
+                        .all(|waiting| self.is_at_most_waiting(time, waiting))
+            }
         }
     }
 

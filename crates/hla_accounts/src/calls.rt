@@ -89,11 +89,14 @@ impl Accounts {
             Some(index) => index
                 .demoted_below(time)
                 .all(|key| self.is_retracted(key.event())),
-            None => account
-                .bag
-                .as_slice()
-                .iter()
-                .all(|waiting| self.is_at_most_demoted(time, waiting)),
+            None => {
+                account.bag.has_no_demoted_below(time)
+                    || account
+                        .bag
+                        .as_slice()
+                        .iter()
+                        .all(|waiting| self.is_at_most_demoted(time, waiting))
+            }
         }
     }
 

@@ -148,11 +148,12 @@ impl Accounts {
             return true;
         };
         let Some(index) = account.bag.index() else {
-            return account
-                .bag
-                .as_slice()
-                .iter()
-                .all(|waiting| self.is_among_if_below(time, events, waiting));
+            return account.bag.has_no_ordered_below(time)
+                || account
+                    .bag
+                    .as_slice()
+                    .iter()
+                    .all(|waiting| self.is_among_if_below(time, events, waiting));
         };
         match names_of(*self.accounts.allocator(), events) {
             Some(names) => index.ordered_below(time).all(|key| {

@@ -1,4 +1,4 @@
--- The keys below the time are retracted or among the events.
+-- The keys below the time are retracted or among the events, or no stamp lies below it.
 use Rattle.std.proofs.Common.{◌∙◌, ◌||◌, Bool, ap, sym, rules, tests}
 use Rattle.std.specs.List.{list_all}
 use Rattle.std.specs.BTreeSet as sorted
@@ -10,6 +10,7 @@ use Rattle.hla_accounts.specs.declared.index.Key.{Key}
 use Rattle.hla_accounts.specs.Indexes.{name_cmp}
 use Rattle.hla_accounts.specs.Ticks.{is_among_if_below}
 use Rattle.hla_accounts.proofs.QueryLemmas.{is_key_retracted, is_key_among, among_keys, among_names}
+use Rattle.hla_accounts.proofs.StampLemmas.{none_among_below}
 use Rattle.hla_accounts.proofs.accounts.Accounts.are_all_among.Goals as goal
 
 pub returns-in-None : goal.returns-in-None
@@ -29,4 +30,9 @@ returns-in-Some-names_of c =
     counted
     ∙ among_names c.args.self.now c.args.events.now names _ c.in-Some-names_of.ensures
     ∙ sym (among_keys c.args.self.now c.args.time c.args.events.now c.in-Some-index.index.now c.in-Some.account.now.bag known.kept known.apart)
+    ∙ ap (λ (a : Account). list_all (is_among_if_below c.args.self.now c.args.time c.args.events.now) a.bag) (sym c.in-Some.ensures)
+
+pub returns-then-has_no_ordered_below : goal.returns-then-has_no_ordered_below
+returns-then-has_no_ordered_below c =
+    c.if-has_no_ordered_below.true ∙ sym (none_among_below c.args.self.now c.args.time c.args.events.now c.in-Some.account.now.bag (c.has_no_ordered_below.ensures c.if-has_no_ordered_below.true))
     ∙ ap (λ (a : Account). list_all (is_among_if_below c.args.self.now c.args.time c.args.events.now) a.bag) (sym c.in-Some.ensures)

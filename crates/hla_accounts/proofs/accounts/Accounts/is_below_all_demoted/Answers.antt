@@ -1,4 +1,4 @@
--- The keys below the time are all retracted.
+-- The keys below the time are all retracted, or no stamp lies below it.
 use Rattle.std.proofs.Common.{◌∙◌, ap, sym, rules, tests}
 use Rattle.std.specs.Map.Iter.{deref}
 use Rattle.std.proofs.lemmas.Iterator.Consumers.{YieldsList-from_rest}
@@ -7,6 +7,7 @@ use Rattle.std.specs.List.{list_all}
 use Rattle.hla_accounts.specs.declared.account.Account.{Account}
 use Rattle.hla_accounts.specs.Calls.{is_at_most_demoted}
 use Rattle.hla_accounts.proofs.QueryLemmas.{is_key_retracted, demoted_keys}
+use Rattle.hla_accounts.proofs.StampLemmas.{none_demoted_below}
 use Rattle.hla_accounts.proofs.accounts.Accounts.is_below_all_demoted.Goals as goal
 
 pub returns-in-Some-index : goal.returns-in-Some-index
@@ -14,4 +15,9 @@ returns-in-Some-index c =
     let counted = all_from_yields_List (is_key_retracted c.args.self.now) _ _ c.all.result c.all.ensures.ran (YieldsList-from_rest {shows = deref} _ c.demoted_below.ensures.keys) (λ x b q k. search (rules, tests)) in
     let known = c.in-Some-index.ensures in
     counted ∙ sym (demoted_keys c.args.self.now c.args.time c.in-Some-index.index.now c.in-Some.account.now.bag known.kept known.apart)
+    ∙ ap (λ (a : Account). list_all (is_at_most_demoted c.args.self.now c.args.time) a.bag) (sym c.in-Some.ensures)
+
+pub returns-then-has_no_demoted_below : goal.returns-then-has_no_demoted_below
+returns-then-has_no_demoted_below c =
+    c.if-has_no_demoted_below.true ∙ sym (none_demoted_below c.args.self.now c.args.time c.in-Some.account.now.bag (c.has_no_demoted_below.ensures c.if-has_no_demoted_below.true))
     ∙ ap (λ (a : Account). list_all (is_at_most_demoted c.args.self.now c.args.time) a.bag) (sym c.in-Some.ensures)

@@ -14,11 +14,11 @@ returns-in-Some-place_of c =
     let m = c.args.event.serial in
     let place = c.in-Some-place_of.place in
     let there = subst (λ (ws : List Waiting). option_map_or (is_of g m) (slice_get ws place) false ≡ true) c.as_slice-waiting.ensures (sym c.stands_at.ensures ∙ c.if-stands_at.true) in
-    subst (λ (ws : List Waiting). Some place ≡ position (is_of g m) ws) c.self.view_is (sym (stands_there c.self.inside.waiting g m c.self.invariant.0 place there))
+    subst (λ (ws : List Waiting). Some place ≡ position (is_of g m) ws) c.self.view_is (sym (stands_there c.self.inside.waiting g m c.self.invariant.0.0 place there))
 
 pub returns-in-None-place_of : goal.returns-in-None-place_of
 returns-in-None-place_of c =
     let g = c.args.event.sender in
     let m = c.args.event.serial in
-    let kept = subst (λ o. IfSome o (λ i. IsIndexOf i (delivery_at c.self.inside.waiting))) c.in-Some.is c.self.invariant.1 in
+    let kept = subst (λ o. IfSome o (λ i. IsIndexOf i (delivery_at c.self.inside.waiting))) c.in-Some.is c.self.invariant.0.1 in
     subst (λ (ws : List Waiting). None ≡ position (is_of g m) ws) c.self.view_is (sym (none_found c.self.inside.waiting g m (undelivered c.self.inside.waiting g m (c.in-None-place_of.ensures (delivery_at c.self.inside.waiting) kept))))
