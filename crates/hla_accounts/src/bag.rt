@@ -12,6 +12,7 @@ ghost use Rattle.hla_accounts.specs.Indexes.{delivery_at, IsIndexOf};
 
 use crate::index::Index;
 use crate::line::Line;
+use crate::places::Places;
 use hla_base::{Content, EventHandle, FOREVER, Fault, Plain, Ticks};
 use hla_callbacks::Delivery;
 use std::alloc::Global;
@@ -34,12 +35,14 @@ const INDEXED_FROM: usize = 64;
 /// The messages that one federate has not picked up, in the order of their sending. No two of them have one sender and
 /// one serial. Contracts see the list; `waiting_at` reads it as a table by sender and serial. Where much waits, the first
 /// call that takes a message out, or moves one to receive order, makes an index, which stays until the bag is cleared.
-/// Before that, and where memory for it was refused, a message is looked for among all that waits.
+/// Before that it is noted where each message was put. Where memory was refused, a message is looked for among all that waits.
 #[derive(Debug, Drop)]
 pub struct Bag {
     waiting: Line,
     /// Made where much waits as a message is taken out or moved to receive order, unless memory for it is refused.
     index: Option<Index>,
+    /// Made where much waits and there is no index; gone once a message is taken out.
+    places: Option<Places>,
     /// No message that is to be given in time-stamp order has a lesser stamp, in ticks. Taking one out leaves it as it is.
     least_ordered: Ticks,
     /// No message that was moved to receive order has a lesser stamp, in ticks. Taking one out leaves it as it is.
@@ -80,6 +83,17 @@ fn stands_at(waiting: &[Waiting], place: usize, event: EventHandle) -> bool
     }
 }
 
+/// Where the message stands that an event handle names: at the place that was noted for it, or wherever it is found.
+fn place_by_note(waiting: &[Waiting], noted: Option<usize>, event: EventHandle) -> Option<usize>
+    requires { AreApart waiting.now }
+    ensures { result ≡ position (is_of event.sender event.serial) waiting.now }
+{
+    match noted {
+        Some(noted) if stands_at(waiting, noted, event) => Some(noted),
+        _ => scan(waiting, event),
+    }
+}
+
 /// Where the message stands that an event handle names. It looks at each message that stands before it.
 fn scan(waiting: &[Waiting], event: EventHandle) -> Option<usize>
     ensures { result ≡ position (is_of event.sender event.serial) waiting.now }
@@ -97,6 +111,7 @@ impl Bag {
         Bag {
             waiting: Line::new(alloc),
             index: None,
+            places: None,
             least_ordered: FOREVER,
             least_demoted: FOREVER,
         }
@@ -163,12 +178,15 @@ impl Bag {
                 Some(_) => scan(waiting, event),
                 None => None,
             },
-            None => scan(waiting, event),
+            None => {
+                let noted = noted_place(&self.places, event);
+                place_by_note(waiting, noted, event)
+            }
         }
     }
 
     /// The message that an event handle names, if it waits. The time grows with the logarithm of what waits; until a message
-    /// is taken out or moved to receive order it looks at all that waits in front of the one.
+    /// is taken out or moved to receive order all is looked at where the message does not wait.
     pub fn find(&self, event: EventHandle) -> Option<&Waiting>
         ensures { option_copied result ≡ waiting_at self.now event.sender event.serial }
     {
@@ -205,6 +223,7 @@ impl Bag {
         let delivery = waiting.delivery;
         self.waiting.push(waiting)?;
         lower(&mut self.least_ordered, &mut self.least_demoted, delivery);
+        note_place(&mut self.places, self.index.is_some(), &self.waiting, event);
         add_to_index(&mut self.index, event, delivery);
         Ok(())
     }
@@ -219,6 +238,7 @@ impl Bag {
         self.make_index();
         if let Some(place) = self.place_of(event) {
             let delivery = self.waiting.as_slice()[place].delivery;
+            forget_places(&mut self.places);
             self.waiting.remove(place);
             remove_from_index(&mut self.index, place, event, delivery);
         }
@@ -256,6 +276,7 @@ impl Bag {
     {
         self.waiting.clear();
         self.index = None;
+        self.places = None;
         self.least_ordered = FOREVER;
         self.least_demoted = FOREVER;
     }
@@ -272,6 +293,36 @@ fn lower(ordered: &mut Ticks, demoted: &mut Ticks, delivery: Delivery)
         Delivery::TimeStamp { stamp } => *ordered = stamp.min(*ordered),
         Delivery::Demoted { stamp } => *demoted = stamp.min(*demoted),
         Delivery::Receive => {}
+    }
+}
+
+/// Where a message was put, if that was noted.
+fn noted_place(places: &Option<Places>, event: EventHandle) -> Option<usize> {
+    match places {
+        Some(places) => places.place_of(event),
+        None => None,
+    }
+}
+
+/// A message is taken out, so that others move.
+fn forget_places(places: &mut Option<Places>) {
+    *places = None;
+}
+
+/// A message was put behind the others: its place is noted, where much waits and there is no index. To note all looks at all
+/// that waits, and so is tried only each time that as much again has come.
+fn note_place(places: &mut Option<Places>, is_indexed: bool, waiting: &Line, event: EventHandle) {
+    let messages = waiting.as_slice();
+    if is_indexed {
+        return;
+    }
+    match places {
+        Some(known) => known.note(event, messages.len().saturating_sub(1)),
+        None => {
+            if messages.len() >= INDEXED_FROM && messages.len().is_power_of_two() {
+                *places = Places::of(waiting.allocator(), messages);
+            }
+        }
     }
 }
 

@@ -16,6 +16,7 @@ mod joining;
 mod line;
 mod messages;
 mod offers;
+mod places;
 mod refusals;
 mod retracting;
 mod row_change;
