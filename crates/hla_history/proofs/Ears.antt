@@ -41,7 +41,7 @@ pub same_heard : (xs : List (Option Hearing)) (f : ℕ) (v : Option Hearing) (e 
 same_heard xs f v e e' is at same =
     map-set_same heard_in xs f (Some e') v (ap (λ h. Some h) same ∙ ap heard_in (sym is) ∙ ap heard_in at)
 
-at_set : {X : Type 0} (xs : List X) (f : ℕ) (y : X) → f < length xs → slice_get (set xs f y) f ≡ Some y
+pub at_set : {X : Type 0} (xs : List X) (f : ℕ) (y : X) → f < length xs → slice_get (set xs f y) f ≡ Some y
 at_set xs f y lt =
     let l : f < length (set xs f y) = rw (length-set xs f y) lt in
     slice_get-get_or (set xs f y) f y l ∙ ap (λ z. Some z) (get_or-set_same xs f y y lt)

@@ -9,3 +9,4 @@ pub mod Places
 pub mod Seats
 pub mod Creations
 pub mod Written
+pub mod Matching

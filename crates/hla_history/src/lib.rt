@@ -14,5 +14,6 @@ mod seating;
 mod shared;
 mod writing;
 
+pub use comparing::Unmatched;
 pub use preparing::Stepped;
 pub use shared::Shared;

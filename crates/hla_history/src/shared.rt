@@ -1,6 +1,6 @@
 //! The value under the lock of the run-time infrastructure.
 
-ghost use Rattle.std.specs.Prelude.{◌≡◌, ◌≢◌, ◌+◌, ◌<◌, ◌⊎◌, ◌↔◌, ◌++◌, ◌∷◌, ℕ, [], length, vec_len, vec_capacity, None, Some, is_some, IsTrue, IfOk, IfErr, IfSome, OnErr, MatchResult, if◌then◌else◌};
+ghost use Rattle.std.specs.Prelude.{◌≡◌, ◌≢◌, ◌+◌, ◌<◌, ◌⊎◌, ◌↔◌, ◌++◌, ◌∷◌, ℕ, [], length, vec_len, vec_capacity, None, Some, is_some, IsTrue, IfOk, IfErr, IfSome, OnErr, MatchResult, slice_get, if◌then◌else◌};
 ghost use Rattle.hla_machine.specs.declared.service.Service.TheVariants as service;
 ghost use Rattle.hla_machine.specs.declared.step.Act.TheVariants as act;
 ghost use Rattle.hla_machine.specs.declared.step.Choice.TheVariants as choice;
@@ -13,7 +13,7 @@ ghost use Rattle.hla_history.specs.Hosting.{held_of, hosts_of};
 ghost use Rattle.hla_history.specs.Writing.{step_record, chosen_in};
 
 use crate::among::{step_among, step_among_into};
-use crate::comparing::is_transcript;
+use crate::comparing::{Unmatched, is_transcript, match_all};
 use crate::counts::Counts;
 use crate::creating::{catalogue_read, create_among, destroy_among};
 use crate::host::Hosted;
@@ -352,6 +352,15 @@ impl<L: Ledger, B: FederateAmbassador> Shared<L, B> {
         ensures { IsTrue result ↔ (transcript.now ≡ records_by actor self.now.history) }
     {
         is_transcript(self.history.as_slice(), actor, transcript)
+    }
+
+    /// Matches transcripts, each at its actor's number, with the history, which is gone over once for all of them. Just those
+    /// that are their actor's records in the history, in order, are matched to their ends.
+    pub fn match_all(&self, transcripts: &mut [Unmatched])
+        ensures { (n : ℕ) → (slice_get transcripts.new n ≡ Some (Some []))
+            ↔ (slice_get transcripts.old n ≡ Some (Some (records_by n self.now.history))) }
+    {
+        match_all(self.history.as_slice(), transcripts);
     }
 
     /// Takes the records out, where all shares have come together. No execution stays, and an empty history without room.
