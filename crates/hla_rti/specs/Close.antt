@@ -1,5 +1,5 @@
 -- When all callers have come back, and whether their transcripts are the history's
-use Rattle.std.specs.Prelude.{◌≡◌, ℕ, ◌≤◌, ◌<◌, ◌⊎◌, ◌==◌, List, Some, true, slice_get, length}
+use Rattle.std.specs.Prelude.{◌≡◌, ℕ, ◌≤◌, ◌<◌, ◌⊎◌, ◌==◌, List, Option, Some, true, slice_get, length}
 use Rattle.std.specs.List.{list_any}
 use Rattle.hla_machine.specs.declared.step.Record.{Record}
 use Rattle.hla_history.specs.Closing.{records_by}
@@ -26,3 +26,15 @@ DiffersFirst history lefts own k =
 -- all agree
 abbrev pub AllAgree : List Record → List Leaver → Caller → Type 0
 AllAgree history lefts own = AgreeBefore history lefts (length lefts) × Agrees history own
+
+-- the caller's whole transcript stands at its number
+abbrev pub Stands : List (Option (List Record)) → Caller → Type 0
+Stands table c = slice_get table c.number ≡ Some (Some c.transcript)
+
+-- the transcripts of the callers before this place stand at their numbers
+abbrev pub StandBefore : List (Option (List Record)) → List Leaver → ℕ → Type 0
+StandBefore table lefts k = (j : ℕ) (l : Leaver) → j < k → slice_get lefts j ≡ Some l → Stands table l.caller
+
+-- those of all do
+abbrev pub AllStand : List (Option (List Record)) → List Leaver → Caller → Type 0
+AllStand table lefts own = StandBefore table lefts (length lefts) × Stands table own

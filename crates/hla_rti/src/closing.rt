@@ -7,6 +7,7 @@ ghost use Rattle.hla_machine.specs.Runs.{Executions, no_executions, AreRun};
 ghost use Rattle.hla_rti.specs.Callers.{Leaver};
 ghost use Rattle.hla_rti.specs.Close.{AllHere, AllAgree, DiffersFirst};
 
+use crate::comparing::first_differing;
 use crate::rti::Rti;
 use crate::seat::{Left, Seat};
 use hla_callbacks::FederateAmbassador;
@@ -86,26 +87,6 @@ fn all_here<L: Ledger, B: FederateAmbassador>(handed: u32, lefts: &[Left<L, B>])
     true
 }
 
-/// The place of the first transcript that differs from the history, if one does.
-fn first_differing<L: Ledger, B: FederateAmbassador>(
-    shared: &Shared<L, B>,
-    lefts: &[Left<L, B>],
-    own: &Seat<L>,
-) -> Option<usize>
-    ensures none { IfNone result (AllAgree shared.now.history lefts.now own.now) }
-    ensures some { IfSome result (λ k. DiffersFirst shared.now.history lefts.now own.now k) }
-{
-    for (k, left) in lefts.iter().enumerate() {
-        if !left.agrees_with(shared) {
-            return Some(k);
-        }
-    }
-    if !own.agrees_with(shared) {
-        return Some(lefts.len());
-    }
-    None
-}
-
 /// The shares of all, put together.
 fn merged<L: Ledger, B: FederateAmbassador>(mut all: Share<L>, lefts: Vec<Left<L, B>>) -> Share<L>
     ensures parts { result.parts ≡ all.parts + vec_len lefts }
@@ -143,7 +124,8 @@ pub fn settle<L: Ledger, B: FederateAmbassador>(
     ensures back { IfErr result (λ u. (u.seat ≡ seat) × (u.rest ≡ rest) × (u.lefts ≡ lefts)) }
     ensures same { OnErr result (shared.new ≡ shared.old) }
 {
-    if let Some(place) = first_differing(shared, lefts.as_slice(), &seat) {
+    let alloc = *lefts.allocator();
+    if let Some(place) = first_differing(alloc, shared, lefts.as_slice(), &seat) {
         return Err(Unsettled {
             place,
             seat,

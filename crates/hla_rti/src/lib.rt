@@ -3,6 +3,7 @@
 
 mod answers;
 mod closing;
+mod comparing;
 mod courier;
 mod federate;
 mod locked;

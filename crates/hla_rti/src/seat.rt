@@ -1,6 +1,6 @@
 //! A caller of the run-time infrastructure.
 
-ghost use Rattle.std.specs.Prelude.{◌≡◌, ◌==◌, ◌↔◌, ◌⊎◌, [], None, Some, Err, option_map, is_some, not, IsTrue, IfOk, IfErr};
+ghost use Rattle.std.specs.Prelude.{◌≡◌, ◌==◌, ◌↔◌, ◌⊎◌, [], None, Some, Err, option_map, is_some, slice_get, not, IsTrue, IfOk, IfErr};
 ghost use Rattle.hla_machine.specs.declared.service.Service.TheVariants as service;
 ghost use Rattle.hla_machine.specs.declared.step.Act.TheVariants as act;
 ghost use Rattle.hla_machine.specs.declared.step.Answer.TheVariants as answer;
@@ -9,13 +9,13 @@ ghost use Rattle.hla_machine.specs.declared.step.Step.TheVariants as step;
 ghost use Rattle.hla_history.specs.Creating.{catalogue_from, is_accepted};
 ghost use Rattle.hla_history.specs.Forms.{NoAnswer, AFederate, IsOfForm, EndsInForm, step_form};
 ghost use Rattle.hla_history.specs.Hosts.{IsPlain};
-ghost use Rattle.hla_rti.specs.Callers.{answer_given, HasActed, HasNotActed, HasAnswered, HasResigned};
-ghost use Rattle.hla_rti.specs.Close.{Agrees};
+ghost use Rattle.hla_rti.specs.Callers.{Caller, answer_given, HasActed, HasNotActed, HasAnswered, HasResigned};
+ghost use Rattle.hla_rti.specs.Close.{Agrees, Stands};
 
 use crate::locked::Locked;
 use hla_base::{ExecutionName, Fault, FederateNo, List};
 use hla_callbacks::FederateAmbassador;
-use hla_history::{Shared, Stepped};
+use hla_history::{Shared, Stepped, Unmatched};
 use hla_machine::{Answer, Outcome, Record, ResignAction, Step};
 use hla_monitor::{Naming, Publisher};
 use std::marker::Model;
@@ -80,6 +80,21 @@ impl<L: Ledger, B: FederateAmbassador> Left<L, B> {
         ensures { IsTrue result ↔ Agrees shared.now.history self.now.caller }
     {
         self.seat.agrees_with(shared)
+    }
+
+    /// Puts the transcript at the caller's number; not where the table has no such place, or a transcript is there.
+    pub(crate) fn put_into<'a>(&'a self, table: &mut [Unmatched<'a>]) -> bool
+        ensures put { IsTrue result → Stands table.new self.now.caller }
+        ensures kept { (c : Caller) → Stands table.old c → Stands table.new c }
+    {
+        self.seat.put_into(table)
+    }
+
+    /// Whether the transcript at the caller's number is matched to its end.
+    pub(crate) fn is_matched_in(&self, table: &[Unmatched]) -> bool
+        ensures { IsTrue result ↔ (slice_get table.now self.now.caller.number ≡ Some (Some [])) }
+    {
+        self.seat.is_matched_in(table)
     }
 
     /// The caller's share of the ledger.
@@ -287,6 +302,29 @@ impl<L: Ledger> Seat<L> {
         ensures { IsTrue result ↔ Agrees shared.now.history self.now }
     {
         shared.agrees(self.number, self.transcript.as_slice())
+    }
+
+    /// Puts the transcript at this caller's number; not where the table has no such place, or a transcript is there.
+    pub(crate) fn put_into<'a>(&'a self, table: &mut [Unmatched<'a>]) -> bool
+        ensures put { IsTrue result → Stands table.new self.now }
+        ensures kept { (c : Caller) → Stands table.old c → Stands table.new c }
+    {
+        let place = self.number as usize;
+        if place >= table.len() || !table[place].is_none() {
+            return false;
+        }
+        table[place] = Unmatched::of(self.transcript.as_slice());
+        true
+    }
+
+    /// Whether the transcript at this caller's number is matched to its end.
+    pub(crate) fn is_matched_in(&self, table: &[Unmatched]) -> bool
+        ensures { IsTrue result ↔ (slice_get table.now self.now.number ≡ Some (Some [])) }
+    {
+        match table.get(self.number as usize) {
+            Some(unmatched) => unmatched.is_matched(),
+            None => false,
+        }
     }
 
     /// The share of the ledger.
