@@ -3,7 +3,7 @@
 //! Here and in the modules below what is large goes to `drop` by name: such a call is proved once, and what goes out of scope
 //! is taken apart, variant by variant, in the proof of each function that lets it.
 
-ghost use Rattle.std.specs.Prelude.{◌≡◌, ◌||◌, IfOk, IfErr};
+ghost use Rattle.std.specs.Prelude.{◌≡◌, ◌||◌, [], IfOk, IfErr};
 ghost use Rattle.std.specs.Io.KnownBytes.{Appends};
 ghost use Rattle.hla_machine.specs.Runs as machine;
 ghost use Rattle.hla_machine.specs.Runs.{AreRun};
@@ -41,6 +41,17 @@ pub enum PlayFault {
     Memory,
 }
 
+/// No records, and room for one of each line, so that none is moved while they grow; where that room was refused, it is
+/// taken as they come.
+fn no_records(alloc: Global, script: &Script<'_>) -> Vec<Record>
+    ensures { result.items ≡ [] }
+{
+    match Vec::with_capacity(alloc, script.as_slice().len()) {
+        Ok(records) => records,
+        Err(_) => Vec::new(alloc),
+    }
+}
+
 /// Plays the lines of a script one after another, and writes how each ended.
 fn play_lines<W: Write>(
     alloc: Global,
@@ -57,7 +68,7 @@ fn play_lines<W: Write>(
         return Err(StopFault::Memory);
     };
     let mut execution = Execution::new(alloc, name, catalogue);
-    let mut records = Vec::new(alloc);
+    let mut records = no_records(alloc, script);
     let mut text = Text::new(alloc);
     for line in script.as_slice() {
         text.clear();

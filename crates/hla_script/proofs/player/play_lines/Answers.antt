@@ -14,8 +14,8 @@ pub loop-line-init : goal.loop-line-init
 loop-line-init g c = record {
   name = c.new-execution.ensures.name ∙ c.in-Ok.ensures.ok;
   catalogue = c.new-execution.ensures.catalogue;
-  kept = rw (c.new-records.ensures.items, c.new-execution.ensures.creates, c.new-execution.ensures.federation, c.new-execution.ensures.members) keeps_nothing;
-  played = rw c.new-records.ensures.items (played_nothing c.args.catalogue (g.W.Write.contents c.args.out.now.inner));
+  kept = rw (c.no_records-records.ensures, c.new-execution.ensures.creates, c.new-execution.ensures.federation, c.new-execution.ensures.members) keeps_nothing;
+  played = rw c.no_records-records.ensures (played_nothing c.args.catalogue (g.W.Write.contents c.args.out.now.inner));
   sound = refl;
 }
 
