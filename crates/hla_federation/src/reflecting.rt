@@ -9,7 +9,7 @@ ghost use Rattle.hla_base.specs.declared.content.HandleValuePair.{HandleValuePai
 ghost use Rattle.hla_base.specs.declared.fault.Fault.TheVariants.{OutOfMemory};
 ghost use Rattle.hla_catalogue.specs.Lookup.{contains_number};
 ghost use Rattle.hla_machine.specs.Directory.{reflection_of, subscribed_values};
-ghost use Rattle.hla_federation.specs.Steps.Reflecting.{IsMade, messages_of};
+ghost use Rattle.hla_federation.specs.Steps.Reflecting.{IsMade, event_messages};
 ghost use Rattle.hla_federation.specs.Steps.Sending.{said_under, said_messages};
 ghost use Rattle.hla_federation.specs.Steps.State.{state_of};
 
@@ -99,7 +99,7 @@ impl Parts {
         subscribed: &[AttributeNo],
     ) -> Result<Option<SharedEvent>, Fault>
         requires { whole.now ≡ said_under heading (content.Reflection object values.now) }
-        ensures ok { IfOk result (λ e. messages_of e ≡ said_messages heading (reflection_of object (filter
+        ensures ok { IfOk result (λ e. event_messages e ≡ said_messages heading (reflection_of object (filter
             (λ (v : HandleValuePair). contains_number v.handle subscribed.now) values.now))) }
         ensures err { IfErr result (λ e. e ≡ Fault.OutOfMemory) }
     {
@@ -134,7 +134,7 @@ impl Parts {
         requires whole { whole.now ≡ said_under heading (content.Reflection object values.now) }
         requires made { All (IsMade heading object values.now) made.old.items }
         ensures made { OnOk result (All (IsMade heading object values.now) made.new.items) }
-        ensures ok { IfOk result (λ e. messages_of e ≡ said_messages heading (reflection_of object
+        ensures ok { IfOk result (λ e. event_messages e ≡ said_messages heading (reflection_of object
             (subscribed_values (state_of self.now).directory receiver.federate receiver.class values.now))) }
         ensures err { IfErr result (λ e. e ≡ Fault.OutOfMemory) }
     {

@@ -12,9 +12,9 @@ use Rattle.hla_federation.specs.declared.reflecting.Made.{Made}
 use Rattle.hla_federation.specs.Steps.Sending.{said_messages}
 
 -- the message that carries an event, if there is one
-abbrev pub messages_of : Option Event → List Message
-messages_of e = option_map_or (λ (x : Event). message.Event x ∷ []) e []
+abbrev pub event_messages : Option Event → List Message
+event_messages e = option_map_or (λ (x : Event). message.Event x ∷ []) e []
 
 -- what was made of an update for those who subscribe some attributes is what they are shown
 abbrev pub IsMade : Heading → ℕ → List HandleValuePair → Made → Type 0
-IsMade head object values m = messages_of m.event ≡ said_messages head (reflection_of object (filter (λ (v : HandleValuePair). contains_number v.handle m.subscribed.now) values))
+IsMade head object values m = event_messages m.event ≡ said_messages head (reflection_of object (filter (λ (v : HandleValuePair). contains_number v.handle m.subscribed.now) values))

@@ -16,7 +16,7 @@ use Rattle.hla_machine.specs.Directory.{AnUpdate}
 use Rattle.hla_federation.specs.FederationValue.{FederationValue}
 use Rattle.hla_members.specs.MemberValue.{item}
 use Rattle.hla_federation.specs.Steps.Sending.{said_messages, messages_among}
-use Rattle.hla_federation.specs.Steps.Reflecting.{IsMade, messages_of}
+use Rattle.hla_federation.specs.Steps.Reflecting.{IsMade, event_messages}
 use Rattle.hla_federation.specs.Steps.State.{state_of}
 use Rattle.hla_federation.proofs.Steps.Addressing.{reflection_at, among-more, among-none, added_more, update_added}
 use Rattle.hla_federation.proofs.Steps.Receiving.{has_message, told_more, told_are}
@@ -69,7 +69,7 @@ loop-receiver-preserved c =
     let none : Receiver = record { federate = 0; class = 0 } in
     let to = (get_or items i none).federate in
     let made = λ (r : Receiver). said_messages c.args.heading (reflection_at (state_of c.args.self.now).directory c.args.object c.args.values.now r.federate r.class) in
-    let listed = messages_of in
+    let listed = event_messages in
     elim c.match-reflection.branch [
       | in-Some+in_ok-put w ↦
           let said = ap listed (sym w.in-Some.is) ∙ c.in_ok-reflection.ensures.ok in

@@ -6,7 +6,7 @@ use Rattle.hla_base.specs.declared.content.HandleValuePair.{HandleValuePair}
 use Rattle.hla_catalogue.specs.Lookup.{contains_number}
 use Rattle.hla_declaration.specs.Declarations as declared
 use Rattle.hla_machine.specs.Directory.{reflection_of}
-use Rattle.hla_federation.specs.Steps.Reflecting.{IsMade, messages_of}
+use Rattle.hla_federation.specs.Steps.Reflecting.{IsMade, event_messages}
 use Rattle.hla_federation.specs.Steps.Sending.{said_messages}
 use Rattle.hla_federation.proofs.parts.Parts.shared_reflection.Goals as goal
 
@@ -20,7 +20,7 @@ returns-in-Some-clause-ok c =
     let says = λ (vs : List HandleValuePair). said_messages c.args.heading (reflection_of c.args.object vs) in
     let there = rw c.deref.ensures.value at c.in-Some.ensures.made in
     let made = All-contains (IsMade c.args.heading c.args.object values) _ c.in-Some.same.now c.requires.made there in
-    rw (← c.self.view_is) (ap messages_of c.in_ok-share.ensures.ok
+    rw (← c.self.view_is) (ap event_messages c.in_ok-share.ensures.ok
     ∙ made
     ∙ ap (λ (subscribed : List ℕ). says (filter (λ (v : HandleValuePair). contains_number v.handle subscribed) values)) (c.in-Some.ensures.same ∙ c.subscribed_attributes-subscribed.ensures)
     ∙ ap says (shown_as ((declared.declarations_of c.self.inside.declarations).subscribed c.args.receiver.federate c.args.receiver.class) values))
