@@ -6,11 +6,11 @@ pub mod EventLemmas
 mod MovingLemmas
 -- Lists of events in order: their parts, an insertion into one of them, and the stamps
 mod OrderLemmas
--- The place at which a search by a test ends, and an insertion there into events that lie with the greatest first
+-- The place at which a search by a test ends, and an insertion there into events that are in order
 mod PlaceLemmas
 -- Blocks of events, of which the greatest is first, and the list that they make
 mod JoinedLemmas
--- Finding and removing an event: among events that lie with the greatest first, in parts of a list, and among blocks
+-- Finding and removing an event: in parts of a list, and among blocks
 mod RemovalLemmas
 -- Going through blocks from the least on: the event at a place, how many are below a bound, and their handles
 mod StepLemmas
@@ -20,3 +20,5 @@ mod KeptLemmas
 mod StampLemmas
 -- Finding an event by its key: it is in the last part of a list that does not come after the key
 mod KeyLemmas
+-- The greatest serial of each sender's events
+mod NewestLemmas

@@ -103,7 +103,7 @@ All-inserted_if : (P : Event → Type 0) (b : Bool) (e x : Event) (xs later : Li
 All-inserted_if P true e x xs later p h g = (p, h)
 All-inserted_if P false e x xs later p h g = (h.0, g)
 
-All-insert_event : (P : Event → Type 0) (e : Event) (xs : List Event) → P e → AllByRecursion P xs → AllByRecursion P (insert_event e xs)
+pub All-insert_event : (P : Event → Type 0) (e : Event) (xs : List Event) → P e → AllByRecursion P xs → AllByRecursion P (insert_event e xs)
 unfolding insert_event
 All-insert_event P e [] p h = (p, tt)
 All-insert_event P e (x ∷ xs) p h = All-inserted_if P (is_before e x) e x xs (insert_event e xs) p h (All-insert_event P e xs p h.1)

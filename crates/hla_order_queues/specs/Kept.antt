@@ -1,5 +1,5 @@
 -- How a queue in time-stamp order keeps its events: in blocks, of which none is empty, with an index of their stamps by name
-use Rattle.std.specs.Prelude.{◌≡◌, ℕ, suc, ◌<◌, ◌^◌, eqb, ltb, ◌&&◌, ◌||◌, Bool, true, false, None, IsSome, List, [], ◌∷◌, ◌++◌, length, drop, slice_index_or, cond, nat_eq, Option, option_map}
+use Rattle.std.specs.Prelude.{◌≡◌, ℕ, suc, ◌<◌, ◌^◌, eqb, ltb, ◌&&◌, ◌||◌, Bool, true, false, None, IsSome, List, [], ◌∷◌, ◌++◌, length, drop, slice_index_or, cond, nat_eq, Option, option_map, ◌≤◌, get_or}
 use Rattle.std.specs.List.{AllByRecursion}
 use Rattle.std.specs.Map.{lookup}
 use Rattle.hla_base.specs.declared.content.Event.{Event}
@@ -38,6 +38,13 @@ AreFilled (b ∷ bs) = (0 < length b) × AreFilled bs
 unfoldable pub IsUnique : List Event → Type 0
 IsUnique [] = Unit {0}
 IsUnique (x ∷ xs) = (find_event x.sender x.serial xs ≡ None) × IsUnique xs
+
+-- a serial is at most the greatest that is noted of its sender, if any is noted of that
+abbrev pub IsNoted : List ℕ → ℕ → ℕ → Type 0
+IsNoted newest g m = g < length newest → m ≤ get_or newest g 0
+
+abbrev pub AreNoted : List ℕ → List Event → Type 0
+AreNoted newest xs = AllByRecursion (λ x. IsNoted newest x.sender x.serial) xs
 
 -- what is kept of the blocks behind the first
 pub record AreBlocks (bs : List (List Event)) : Type 0 where

@@ -1,25 +1,31 @@
 //! The queue of events in time-stamp order.
 
-ghost use Rattle.std.specs.Prelude.{◌≡◌, ◌++◌, ◌<◌, [], None, Some, MatchOption, length, drop, slice_get, filter, not, nat_lt, IfErr, IfOk, OnOk, OnErr, MatchBool, IsSome, option_copied};
+ghost use Rattle.std.specs.Prelude.{◌≡◌, ◌++◌, ◌<◌, ℕ, true, [], None, Some, MatchOption, length, get_or, drop, slice_get, filter, not, nat_lt, IfErr, IfOk, OnOk, OnErr, MatchBool, IsSome, option_copied};
 ghost use Rattle.std.specs.List.{prefix_len};
 ghost use Rattle.hla_base.specs.declared.fault.Fault.TheVariants.{OutOfMemory};
 ghost use Rattle.hla_order_queues.specs.Queues.{insert_event, find_event, remove_event, first_stamp, handles_of};
 ghost use Rattle.hla_order_queues.specs.Moving.{is_moved, IsRising};
-ghost use Rattle.hla_order_queues.specs.Kept.{SetsStamp};
+ghost use Rattle.hla_order_queues.specs.Kept.{SetsStamp, IsNoted};
 
 use crate::key::{EventKey, EventName};
 use crate::ordered::Ordered;
 use crate::receive::RoQueue;
-use hla_base::{Event, EventHandle, FOREVER, Fault, FederateNo, Serial, Ticks};
+use hla_base::{Event, EventHandle, FOREVER, Fault, FederateNo, MAX_JOINS, Serial, Ticks};
 use std::alloc::Global;
 use std::collections::HashMap;
 use std::marker::Model;
+
+/// How many numbers of senders there are: those of federates, which are counted from 1, and 0.
+const SENDERS: usize = MAX_JOINS + 1;
 
 /// The events that a component has received in time-stamp order and not yet given, by stamp, at equal stamps by sender,
 /// then by serial. Contracts see the list of them in that order.
 #[derive(Debug, Drop)]
 pub struct TsoQueue {
     events: Ordered,
+    /// The greatest serial that each sender's events had, by its number: an event with a greater one is not there, so who asks
+    /// for one that is yet to be put need not go through all.
+    newest: [Serial; SENDERS],
     /// The stamp of each event at its name, from the first removal on that found more events than a block has: without it
     /// each removal of an event that is no longer there would go through all.
     stamps: Option<HashMap<EventName, Ticks>>,
@@ -29,13 +35,13 @@ pub struct TsoQueue {
 impl Model for TsoQueue {
     ghost use Rattle.std.specs.Prelude.{List, MatchOption};
     ghost use Rattle.hla_base.specs.declared.content.Event.{Event};
-    ghost use Rattle.hla_order_queues.specs.Kept.{AreStampsOf, IsUnique};
+    ghost use Rattle.hla_order_queues.specs.Kept.{AreStampsOf, IsUnique, AreNoted};
 
     ghost Value = { List Event };
 
     ghost view = { λ q. q.events };
 
-    ghost invariant = { λ q. IsUnique q.events × MatchOption q.stamps (Unit {0}) (λ m. AreStampsOf m.entries q.events) };
+    ghost invariant = { λ q. (IsUnique q.events × MatchOption q.stamps (Unit {0}) (λ m. AreStampsOf m.entries q.events)) × AreNoted q.newest q.events };
 }
 
 impl TsoQueue {
@@ -45,6 +51,7 @@ impl TsoQueue {
     {
         TsoQueue {
             events: Ordered::new(alloc),
+            newest: [0; SENDERS],
             stamps: None,
             alloc,
         }
@@ -81,8 +88,21 @@ impl TsoQueue {
         self.events.nth(i)
     }
 
-    /// Whether an event that `sender` sent with that serial is in the queue.
+    /// Whether an event that `sender` sent with that serial is in the queue. One with a greater serial than all of its sender
+    /// needs no look; else, where no removal has made the index of a long queue, it goes through the events.
     pub fn has_event(&self, sender: FederateNo, serial: Serial) -> bool
+        ensures { MatchBool result (IsSome (find_event sender serial self.now))
+            (find_event sender serial self.now ≡ None) }
+    {
+        if is_newer(&self.newest, sender, serial) {
+            false
+        } else {
+            self.has_noted(sender, serial)
+        }
+    }
+
+    /// The same: by the stamps, where they are noted, or else all events are gone through.
+    fn has_noted(&self, sender: FederateNo, serial: Serial) -> bool
         ensures { MatchBool result (IsSome (find_event sender serial self.now))
             (find_event sender serial self.now ≡ None) }
     {
@@ -93,7 +113,8 @@ impl TsoQueue {
     }
 
     /// Puts an event at its place; the event comes back, and the queue is as it was, where a growth was refused. It looks
-    /// at a logarithm of the events, and moves fewer than lie in a block.
+    /// at a logarithm of the events, and moves fewer than lie in a block. Once in some thirty times a block is split, and
+    /// the list of those after it moves.
     pub fn insert(&mut self, event: Event) -> Result<(), Event>
         requires { find_event event.sender event.serial self.old ≡ None }
         ensures ok { OnOk result (self.new ≡ insert_event event self.old) }
@@ -104,6 +125,7 @@ impl TsoQueue {
         match self.events.insert(event) {
             Ok(()) => {
                 note(&mut self.stamps, key);
+                raise(&mut self.newest, key);
                 Ok(())
             }
             Err(event) => Err(event),
@@ -205,6 +227,26 @@ impl TsoQueue {
     {
         self.events.clear();
         self.stamps = None;
+    }
+}
+
+/// Whether a sender's events all had lesser serials, as far as that is noted.
+fn is_newer(newest: &[Serial; SENDERS], sender: FederateNo, serial: Serial) -> bool
+    ensures sender { result ≡ true → sender < length newest.now }
+    ensures serial { result ≡ true → get_or newest.now sender 0 < serial }
+{
+    let place = sender as usize;
+    place < SENDERS && newest[place] < serial
+}
+
+/// Notes the serial of an event, if its sender's had none as great.
+fn raise(newest: &mut [Serial; SENDERS], key: EventKey)
+    ensures kept { (g m : ℕ) → IsNoted newest.old g m → IsNoted newest.new g m }
+    ensures noted { IsNoted newest.new key.sender key.serial }
+{
+    let place = key.sender as usize;
+    if place < SENDERS && newest[place] < key.serial {
+        newest[place] = key.serial;
     }
 }
 

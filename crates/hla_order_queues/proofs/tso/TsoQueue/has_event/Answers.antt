@@ -1,13 +1,10 @@
--- A name is in the index where its event is in the list.
+-- What is newer than all of its sender is not there.
 use Rattle.std.proofs.Common.{◌≡◌, List, None, subst}
-use Rattle.std.specs.Bool.{MatchBool}
-use Rattle.std.specs.Option.{IsSome}
 use Rattle.hla_base.specs.declared.content.Event.{Event}
 use Rattle.hla_order_queues.specs.Queues.{find_event}
-use Rattle.hla_order_queues.proofs.StampLemmas.{has_name}
+use Rattle.hla_order_queues.proofs.NewestLemmas.{newer_missing}
 use Rattle.hla_order_queues.proofs.tso.TsoQueue.has_event.Goals as goal
 
-pub returns-in-Some : goal.returns-in-Some
-returns-in-Some c =
-    let Tells : List Event → Type 0 = λ xs. MatchBool c.contains_key.result (IsSome (find_event c.args.sender c.args.serial xs)) (find_event c.args.sender c.args.serial xs ≡ None) in
-    subst Tells c.self.view_is (has_name c.in-Some.stamps.entries c.self.inside.events c.args.sender c.args.serial c.contains_key.result (rw c.in-Some.is at c.self.invariant.1) c.contains_key.ensures)
+pub returns-then-is_newer : goal.returns-then-is_newer
+returns-then-is_newer c =
+    subst (λ (xs : List Event). find_event c.args.sender c.args.serial xs ≡ None) c.self.view_is (newer_missing c.self.inside.newest c.args.sender c.args.serial c.self.inside.events (c.is_newer.ensures.sender c.if-is_newer.true) (c.is_newer.ensures.serial c.if-is_newer.true) c.self.invariant.1)

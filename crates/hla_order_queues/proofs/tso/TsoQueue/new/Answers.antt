@@ -5,4 +5,4 @@ use Rattle.hla_order_queues.proofs.StampLemmas.{not_indexed}
 use Rattle.hla_order_queues.proofs.tso.TsoQueue.new.Goals as goal
 
 pub invariant_of-result : goal.invariant_of-result
-invariant_of-result c = not_indexed {A = List (EventName × ℕ)} (λ entries. entries) c.new.result c.new.ensures
+invariant_of-result c = (not_indexed {A = List (EventName × ℕ)} (λ entries. entries) c.new.result c.new.ensures, rw c.new.ensures tt)
