@@ -43,7 +43,8 @@ pub struct Bag {
     index: Option<Index>,
     /// Made where much waits and there is no index; gone once a message is taken out.
     places: Option<Places>,
-    /// No message that is to be given in time-stamp order has a lesser stamp, in ticks. Taking one out leaves it as it is.
+    /// No message that is to be given in time-stamp order has a lesser stamp, in ticks. Taking one out leaves it as it is, until
+    /// places are noted.
     least_ordered: Ticks,
     /// No message that was moved to receive order has a lesser stamp, in ticks. Taking one out leaves it as it is.
     least_demoted: Ticks,
@@ -223,7 +224,14 @@ impl Bag {
         let delivery = waiting.delivery;
         self.waiting.push(waiting)?;
         lower(&mut self.least_ordered, &mut self.least_demoted, delivery);
-        note_place(&mut self.places, self.index.is_some(), &self.waiting, event);
+        note_place(
+            &mut self.places,
+            self.index.is_some(),
+            &self.waiting,
+            event,
+            &mut self.least_ordered,
+            &mut self.least_demoted,
+        );
         add_to_index(&mut self.index, event, delivery);
         Ok(())
     }
@@ -309,9 +317,32 @@ fn forget_places(places: &mut Option<Places>) {
     *places = None;
 }
 
+/// The least stamps, in ticks, of these messages: of what is to be given in time-stamp order, and of what was moved to receive
+/// order; `FOREVER` where there is none.
+fn least_stamps(waiting: &[Waiting]) -> (Ticks, Ticks)
+    ensures { AreNotBelow result.0 result.1 waiting.now }
+{
+    let mut ordered = FOREVER;
+    let mut demoted = FOREVER;
+    for message in waiting {
+        lower(&mut ordered, &mut demoted, message.delivery);
+    }
+    (ordered, demoted)
+}
+
 /// A message was put behind the others: its place is noted, where much waits and there is no index. To note all looks at all
-/// that waits, and so is tried only each time that as much again has come.
-fn note_place(places: &mut Option<Places>, is_indexed: bool, waiting: &Line, event: EventHandle) {
+/// that waits, and so is tried only each time that as much again has come. The two bounds are then made those of what waits,
+/// since they may be of messages that are gone.
+fn note_place(
+    places: &mut Option<Places>,
+    is_indexed: bool,
+    waiting: &Line,
+    event: EventHandle,
+    ordered: &mut Ticks,
+    demoted: &mut Ticks,
+)
+    ensures { AreNotBelow ordered.old demoted.old waiting.now → AreNotBelow ordered.new demoted.new waiting.now }
+{
     let messages = waiting.as_slice();
     if is_indexed {
         return;
@@ -321,6 +352,9 @@ fn note_place(places: &mut Option<Places>, is_indexed: bool, waiting: &Line, eve
         None => {
             if messages.len() >= INDEXED_FROM && messages.len().is_power_of_two() {
                 *places = Places::of(waiting.allocator(), messages);
+                let (least_ordered, least_demoted) = least_stamps(messages);
+                *ordered = least_ordered;
+                *demoted = least_demoted;
             }
         }
     }

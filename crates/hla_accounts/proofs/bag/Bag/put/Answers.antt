@@ -30,7 +30,7 @@ invariant_of-self-2 c =
         apart ws c.args.self.now c.push.new.self w c.self.view_is c.requires c.self.invariant.0.0 grown.ok,
         subst (λ t. IfSome c.add_to_index.new.index (λ i. IsIndexOf i t)) (sym (ap delivery_at grown.ok ∙ delivered_push ws w none)) indexed,
       ),
-      bounds c.self.inside.least_ordered c.self.inside.least_demoted c.lower.new.ordered c.lower.new.demoted ws c.push.new.self w lowered.ordered lowered.demoted lowered.kept c.self.invariant.1 grown.ok,
+      c.note_place.ensures (bounds c.self.inside.least_ordered c.self.inside.least_demoted c.lower.new.ordered c.lower.new.demoted ws c.push.new.self w lowered.ordered lowered.demoted lowered.kept c.self.invariant.1 grown.ok),
     )
 
 pub returns-clause-ok : goal.returns-clause-ok
