@@ -50,46 +50,6 @@ pub(crate) fn refused_step(
     recorded(alloc, actor, execution, Act::Step(step), outcome)
 }
 
-/// Does a step that is no joining and no resigning, of the execution of this name.
-pub(crate) fn step_among<B: FederateAmbassador>(
-    executions: &mut Vec<Hosted<B>>,
-    actor: u32,
-    execution: ExecutionName,
-    step: Step,
-) -> Result<(Record, Stepped), Fault>
-    requires plain { IsPlain step }
-    requires ambassadors { (name : List ℕ) (h : Host) → table_of executions.old.items name ≡ Some h
-        → HasAmbassadors h }
-    ensures record { IfOk result (λ p. p.0 ≡ record {
-      actor = actor;
-      execution = execution;
-      act = act.Step step;
-      outcome = p.0.outcome;
-      choice = p.0.choice;
-    }) }
-    ensures ends { IfOk result (λ p. EndsIn (table_of executions.old.items execution) step p.0.outcome
-        p.0.choice) }
-    ensures own { IfOk result (λ p. p.1.own ≡ p.0) }
-    ensures answer { IfOk result (λ p. p.1.answer ≡ p.0.outcome) }
-    ensures hosts { IfOk result (λ p. table_of executions.new.items
-        ≡ hosts_after_step (table_of executions.old.items) execution
-        (table_of executions.old.items execution) step p.0.outcome) }
-    ensures err { IfErr result (λ e. e ≡ Fault.OutOfMemory) }
-    ensures unchanged { OnErr result (executions.new.items ≡ executions.old.items) }
-{
-    match place_of(executions.as_slice(), &execution) {
-        None => {
-            let alloc = *executions.allocator();
-            let refused = refused_step(alloc, actor, &execution, step)?;
-            Ok(refused)
-        }
-        Some(place) => {
-            let done = executions[place].step(actor, step)?;
-            Ok(done)
-        }
-    }
-}
-
 /// Writes the record of a step of an execution that does not exist at the end of the history, and its copy at the end of a
 /// transcript, which both have room. `OutOfMemory`, and nothing written, where a growth was refused.
 fn refuse_into(

@@ -1,16 +1,14 @@
 //! Giving the callback of a tick to the ear of its federate.
 
-ghost use Rattle.std.specs.Prelude.{◌≡◌, ◌++◌, ◌∷◌, [], true, Some, IfErr, OnOk, slice_get, length, vec_len};
-ghost use Rattle.hla_base.specs.Tables.{upd};
+ghost use Rattle.std.specs.Prelude.{◌≡◌, ◌++◌, ◌∷◌, [], true, Some, IfErr, OnOk, slice_get, vec_len};
 ghost use Rattle.hla_callbacks.specs.Hearing.{Hearing};
 ghost use Rattle.hla_history.specs.Heard.{callback_in, failed_outcome, given_outcome};
-ghost use Rattle.hla_history.specs.Hosts.{with_callback, table_after};
+ghost use Rattle.hla_history.specs.Hosts.{with_callback};
 ghost use Rattle.hla_history.specs.Hosting.{heard_of, heard_table, heard_then_of, IsReady, CanDeliver};
 
-use crate::preparing::{Prepared, Stepped};
 use hla_base::{Fault, FederateNo};
 use hla_callbacks::{Callback, Ear, FederateAmbassador, FederateFault};
-use hla_machine::{Act, Answer, Outcome, Record, Step};
+use hla_machine::{Act, Answer, Outcome, Step};
 
 /// Has the ear of a federate make room, if it has one.
 fn make_room_at<B: FederateAmbassador>(
@@ -103,51 +101,4 @@ pub(crate) fn fails_at<B: FederateAmbassador>(
         unreachable!()
     };
     give_at(ears, *federate, callback).is_err()
-}
-
-/// Gives the callback of a tick to the ear of its federate. Where the ambassador fails, the record and its copies say so.
-pub(crate) fn delivered<B: FederateAmbassador>(
-    ears: &mut Vec<Option<Ear<B>>>,
-    prepared: Prepared,
-) -> (Record, Stepped)
-    requires own { prepared.stepped.own ≡ prepared.record }
-    requires answer { prepared.stepped.answer ≡ prepared.record.outcome }
-    requires callback { prepared.callback ≡ callback_in prepared.record.outcome }
-    requires ready { CanDeliver prepared.callback prepared.record.act ears.old.items }
-    ensures own { result.1.own ≡ result.0 }
-    ensures answer { result.1.answer ≡ result.0.outcome }
-    ensures same { result.0 ≡ record {
-      actor = prepared.record.actor;
-      execution = prepared.record.execution;
-      act = prepared.record.act;
-      outcome = result.0.outcome;
-      choice = prepared.record.choice;
-    } }
-    ensures given { given_outcome result.0.outcome ≡ given_outcome prepared.record.outcome }
-    ensures callback { callback_in result.0.outcome ≡ prepared.callback }
-    ensures heard { heard_table (heard_of ears.new.items)
-        ≡ heard_then_of (heard_table (heard_of ears.old.items)) prepared.record.act prepared.callback }
-    ensures len { vec_len ears.new ≡ vec_len ears.old }
-{
-    let Prepared {
-        mut record,
-        stepped,
-        callback,
-    } = prepared;
-    let Some(callback) = callback else {
-        return (record, stepped);
-    };
-    let Stepped {
-        mut own,
-        mut answer,
-    } = stepped;
-    let Act::Step(Step::Tick { federate }) = &record.act else {
-        unreachable!()
-    };
-    if give_at(ears, *federate, callback).is_err() {
-        record.outcome = failed(record.outcome);
-        own.outcome = failed(own.outcome);
-        answer = failed(answer);
-    }
-    (record, Stepped { own, answer })
 }

@@ -14,9 +14,9 @@ ghost use Rattle.hla_history.specs.Hosting.{components_hosted, host_of};
 ghost use Rattle.hla_history.specs.Hosts.{IsPlain, HasAmbassadors, host_after, new_host};
 ghost use Rattle.hla_history.specs.Writing.{step_record};
 
-use crate::delivering::{delivered, ready};
+use crate::delivering::ready;
 use crate::doing::carry_out;
-use crate::preparing::{Stepped, advance, prepare, taken};
+use crate::preparing::{Stepped, taken};
 use crate::seating::{seated, unseated};
 use crate::writing::{answered, take_away, write_foreseen};
 use hla_base::{ExecutionName, Fault, FederateNo, List, MAX_JOINS, Plain, SharedList};
@@ -81,44 +81,6 @@ impl<B: FederateAmbassador> Hosted<B> {
         ensures { result ≡ bytes_eq name.now self.now.name }
     {
         name.as_slice() == self.name.as_slice()
-    }
-
-    /// Does a step that is no joining and no resigning, and gives its callback to the ear of its federate. `OutOfMemory`,
-    /// and nothing done, where a growth was refused.
-    pub(crate) fn step(&mut self, actor: u32, step: Step) -> Result<(Record, Stepped), Fault>
-        requires plain { IsPlain step }
-        requires ambassadors { HasAmbassadors (host_of self.old) }
-        ensures record { IfOk result (λ p. p.0 ≡ record {
-          actor = actor;
-          execution = self.old.name;
-          act = act.Step step;
-          outcome = p.0.outcome;
-          choice = (next (components_hosted self.old.federation) step).choice;
-        }) }
-        ensures given { IfOk result (λ p. given_outcome p.0.outcome ≡ (next (components_hosted self.old.federation) step).outcome) }
-        ensures own { IfOk result (λ p. p.1.own ≡ p.0) }
-        ensures answer { IfOk result (λ p. p.1.answer ≡ p.0.outcome) }
-        ensures name { self.new.name ≡ self.old.name }
-        ensures host { IfOk result (λ p. host_of self.new ≡ host_after (host_of self.old) step p.0.outcome) }
-        ensures err { IfErr result (λ e. e ≡ Fault.OutOfMemory) }
-        ensures unchanged { OnErr result (self.new ≡ self.old) }
-    {
-        if let Err(fault) = ready(&mut self.ears, &step) {
-            drop(step);
-            return Err(fault);
-        }
-        let Ok(execution) = self.name.copy() else {
-            drop(step);
-            return Err(Fault::OutOfMemory);
-        };
-        let prepared = prepare(&self.federation, actor, execution, step)?;
-        match advance(&mut self.federation, &prepared.record.act) {
-            Ok(()) => Ok(delivered(&mut self.ears, prepared)),
-            Err(fault) => {
-                drop(prepared);
-                Err(fault)
-            }
-        }
     }
 
     /// Does a step that is no joining and no resigning, gives its callback to the ear of its federate, and writes the record at

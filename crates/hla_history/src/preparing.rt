@@ -3,7 +3,7 @@
 //! Where a growth is refused, what was made so far goes to `drop` by name: such a call is proved once, and what goes out of
 //! scope is taken apart, variant by variant, in the proof of each function that lets it.
 
-ghost use Rattle.std.specs.Prelude.{◌≡◌, IfOk, IfErr, MatchResult, OnErr, OnOk};
+ghost use Rattle.std.specs.Prelude.{◌≡◌, IfOk, IfErr, OnErr, OnOk};
 ghost use Rattle.hla_components.specs.Next.{next};
 ghost use Rattle.hla_history.specs.Heard.{callback_in};
 ghost use Rattle.hla_history.specs.Hosting.{components_hosted, components_after, IsStepAct};
@@ -23,14 +23,6 @@ pub struct Stepped {
     pub own: Record,
     /// How the act ended, as the record says.
     pub answer: Outcome,
-}
-
-/// What a step needs, made before it.
-#[derive(Drop)]
-pub(crate) struct Prepared {
-    pub record: Record,
-    pub stepped: Stepped,
-    pub callback: Option<Callback>,
 }
 
 /// The callback in an outcome, copied.
@@ -78,29 +70,6 @@ fn with_copies(made: Record) -> Result<(Record, Stepped), Fault>
         Ok(stepped) => Ok((made, stepped)),
         Err(fault) => {
             drop(made);
-            Err(fault)
-        }
-    }
-}
-
-/// A record, the caller's copies of it, and one of the callback.
-fn with_callback(made: Record) -> Result<Prepared, Fault>
-    ensures record { IfOk result (λ p. p.record ≡ made) }
-    ensures own { IfOk result (λ p. p.stepped.own ≡ p.record) }
-    ensures answer { IfOk result (λ p. p.stepped.answer ≡ p.record.outcome) }
-    ensures callback { IfOk result (λ p. p.callback ≡ callback_in p.record.outcome) }
-    ensures err { IfErr result (λ e. e ≡ Fault.OutOfMemory) }
-{
-    let (record, stepped) = with_copies(made)?;
-    match copied_callback(&record.outcome) {
-        Ok(callback) => Ok(Prepared {
-            record,
-            stepped,
-            callback,
-        }),
-        Err(fault) => {
-            drop(record);
-            drop(stepped);
             Err(fault)
         }
     }
@@ -170,28 +139,6 @@ fn foreseen(
             Err(fault)
         }
     }
-}
-
-/// Foresees a step, and makes its record, the caller's copies, and one of the callback.
-pub(crate) fn prepare(
-    federation: &Federation,
-    actor: u32,
-    execution: SharedList<u8>,
-    step: Step,
-) -> Result<Prepared, Fault>
-    ensures record { IfOk result (λ p. p.record ≡ record {
-      actor = actor;
-      execution = execution;
-      act = act.Step step;
-      outcome = (next (components_hosted federation.now) step).outcome;
-      choice = (next (components_hosted federation.now) step).choice;
-    }) }
-    ensures own { IfOk result (λ p. p.stepped.own ≡ p.record) }
-    ensures answer { IfOk result (λ p. p.stepped.answer ≡ p.record.outcome) }
-    ensures callback { IfOk result (λ p. p.callback ≡ callback_in p.record.outcome) }
-    ensures err { IfErr result (λ e. e ≡ Fault.OutOfMemory) }
-{
-    with_callback(foreseen(federation, actor, execution, step)?)
 }
 
 /// Does the step of an act that was foreseen. `OutOfMemory`, and nothing done, where a growth was refused.

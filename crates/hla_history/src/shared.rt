@@ -12,7 +12,7 @@ ghost use Rattle.hla_history.specs.Hosts.{IsPlain, IsLockKept, with_record};
 ghost use Rattle.hla_history.specs.Hosting.{held_of, hosts_of};
 ghost use Rattle.hla_history.specs.Writing.{step_record, chosen_in};
 
-use crate::among::{step_among, step_among_into};
+use crate::among::step_among_into;
 use crate::comparing::{Unmatched, is_transcript, match_all};
 use crate::counts::Counts;
 use crate::creating::{catalogue_read, create_among, destroy_among};
@@ -127,10 +127,15 @@ impl<L: Ledger, B: FederateAmbassador> Shared<L, B> {
             drop(step);
             return Err(Fault::HistoryFull);
         }
-        let (record, stepped) = step_among(&mut self.executions, actor, execution, step)?;
-        self.history.push_reserved(record);
-        self.book.add(mine, 1);
-        Ok(stepped)
+        let Ok(mut own) = Vec::with_capacity(*self.history.allocator(), 1) else {
+            drop(step);
+            return Err(Fault::OutOfMemory);
+        };
+        let answer = self.step_into(actor, &execution, step, mine, &mut own)?;
+        match own.pop() {
+            Some(own) => Ok(Stepped { own, answer }),
+            None => unreachable!(),
+        }
     }
 
     /// Does a step as `step` does, and writes the caller's copy of the record at the end of its transcript, which has room, in
