@@ -107,6 +107,13 @@ fn turns_after(ticks: u32) -> u32 {
     }
 }
 
+/// Gives the thread's turn away so often. One that is held by a gate is waited for so, since it may be let go at any time.
+fn give_turns_away(turns: u32) {
+    for _ in 0..turns {
+        thread::yield_now();
+    }
+}
+
 /// Gives the thread's turn away, so often at most, until all threads have begun.
 fn stand_back(rt: &impl Wait, room: &RestingRoom, turns: u32) {
     for _ in 0..turns {
@@ -130,6 +137,8 @@ fn after_nothing<L: Ledger + Naming, P: Publisher<L>, G: Gate>(
         Rested::Alone => {
             if exchange(rt, courier, stage.execution, stage.joined) {
                 stage.room.bring_news(rt);
+            } else if stage.gate.may_hold() {
+                give_turns_away(turns_after(ticks));
             }
         }
         Rested::TooEarly => {
