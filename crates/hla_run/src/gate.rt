@@ -9,11 +9,6 @@ pub trait Gate {
 
     /// Called when the line is done.
     fn after(&self, federate: FederateNo, line: usize);
-
-    /// Whether `before` may hold a line at all; where it may, other threads don't wait for one that is in it.
-    fn may_hold(&self) -> bool {
-        true
-    }
 }
 
 /// A gate that does nothing.
@@ -24,8 +19,4 @@ impl Gate for OpenGate {
     fn before(&self, _federate: FederateNo, _line: usize) {}
 
     fn after(&self, _federate: FederateNo, _line: usize) {}
-
-    fn may_hold(&self) -> bool {
-        false
-    }
 }

@@ -107,13 +107,6 @@ fn turns_after(ticks: u32) -> u32 {
     }
 }
 
-/// Gives the thread's turn away so often. One that is held by a gate is waited for so, since it may be let go at any time.
-fn give_turns_away(turns: u32) {
-    for _ in 0..turns {
-        thread::yield_now();
-    }
-}
-
 /// Gives the thread's turn away, so often at most, until all threads have begun.
 fn stand_back(rt: &impl Wait, room: &RestingRoom, turns: u32) {
     for _ in 0..turns {
@@ -137,8 +130,6 @@ fn after_nothing<L: Ledger + Naming, P: Publisher<L>, G: Gate>(
         Rested::Alone => {
             if exchange(rt, courier, stage.execution, stage.joined) {
                 stage.room.bring_news(rt);
-            } else if stage.gate.may_hold() {
-                give_turns_away(turns_after(ticks));
             }
         }
         Rested::TooEarly => {
@@ -193,19 +184,9 @@ fn done<L: Ledger + Naming, P: Publisher<L>, G: Gate>(
     }
 }
 
-/// Passes the gate before a line. A thread that is held there counts as one that rests: others don't wait for it.
-fn pass<G: Gate>(rt: &impl Wait, stage: &Stage<G>, number: FederateNo, line: usize) {
-    if stage.gate.may_hold() {
-        stage.room.hold(rt);
-        stage.gate.before(number, line);
-        stage.room.let_go(rt);
-    } else {
-        stage.gate.before(number, line);
-    }
-}
-
 impl<L: Ledger + Naming, P: Publisher<L>> Life<L, P> {
-    /// Does the line at a place of the script, between the two calls of the gate.
+    /// Does the line at a place of the script, between the two calls of the gate. A thread that is in one of these counts as held:
+    /// others don't wait for it.
     fn next<G: Gate>(
         self,
         rt: &impl Wait,
@@ -222,8 +203,10 @@ impl<L: Ledger + Naming, P: Publisher<L>> Life<L, P> {
             mut told,
             lacks_memory,
         } = self;
-        pass(rt, stage, number, line);
+        stage.gate.before(number, line);
+        stage.room.let_go(rt);
         let Acted { player, outcome } = done(rt, stage, player, &mut courier, call);
+        stage.room.hold(rt);
         stage.gate.after(number, line);
         let is_kept = told.push(Told { place, outcome }).is_ok();
         Life {

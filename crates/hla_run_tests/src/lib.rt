@@ -5,6 +5,8 @@
 #[cfg(test)]
 mod gates;
 #[cfg(test)]
+mod rests;
+#[cfg(test)]
 mod scripts;
 #[cfg(test)]
 mod texts;

@@ -94,7 +94,7 @@ const ORDERED_TEXT: &[u8] = b"1 ok
 ";
 
 /// The script on threads: what it writes, and a run of the central machine.
-fn in_lockstep<L: Ledger + Naming + Send + Sync, R: Threads + Wait + Abort + Sync>(
+pub fn in_lockstep<L: Ledger + Naming + Send + Sync, R: Threads + Wait + Abort + Sync>(
     rt: &R,
     alloc: Global,
     blank: Blank,
