@@ -1,6 +1,6 @@
 //! What is published of the history, and by whom.
 
-ghost use Rattle.std.specs.Prelude.{◌≡◌, ◌+◌, ◌<◌, ◌++◌, ◌∷◌, [], true, if◌then◌else◌, IfOk, IfErr, OnOk, OnErr, MatchBool, MatchResult};
+ghost use Rattle.std.specs.Prelude.{◌≡◌, ◌+◌, ◌<◌, ◌⊎◌, ◌++◌, ◌∷◌, [], true, if◌then◌else◌, IfOk, IfErr, OnOk, OnErr, MatchBool, MatchResult};
 ghost use mathlib.Core.List.{IsPrefix};
 ghost use Rattle.left_right.specs.Handles.{published, pending};
 
@@ -87,6 +87,8 @@ pub struct Board<J: Naming, W: Publisher<J>> {
     whole: bool,
     shown: Told<J>,
     publisher: W,
+    /// Whether anything was published, so that the publisher has the memory for what follows.
+    has_posted: bool,
     monitors: u32,
 }
 
@@ -136,6 +138,7 @@ pub fn open_board<J: Naming, R: Wait + Drop>(
         whole: true,
         shown,
         publisher,
+        has_posted: false,
         monitors: 0,
     })
 }
@@ -161,13 +164,14 @@ impl<J: Naming, W: Publisher<J>> Board<J, W> {
     }
 
     /// Keeps the next record of the history, as `note` does, and shows monitors the counts up to it where one was handed out.
-    /// Where none was, the counts wait for `catch_up`, and it costs less than `note`. `OutOfMemory` where a growth was refused:
-    /// then they wait, too. `LimitReached` as of `note`.
+    /// Where none was, the counts wait for `catch_up`, which costs less than `note`; but the first of all are published at once, as
+    /// the publisher takes its memory then, and none later. `OutOfMemory` where a growth was refused: then they wait, too.
+    /// `LimitReached` as of `note`.
     pub fn keep(&mut self, entry: &Record) -> Result<(), Fault>
         ensures ok { OnOk result (self.new.shown ≡ self.old.shown ++ entry.now ∷ []) }
         ensures published { 0 < self.old.monitors → OnOk result (self.new.published ≡ self.new.shown) }
         ensures waits { OnErr result (self.new.published ≡ self.old.published) }
-        ensures unread { self.old.monitors ≡ 0 → self.new.published ≡ self.old.published }
+        ensures either { OnOk result ((self.new.published ≡ self.new.shown) ⊎ (self.new.published ≡ self.old.published)) }
         ensures err { IfErr result (λ e. e ≡ (if self.new.whole then Fault.OutOfMemory else Fault.LimitReached)) }
         ensures shown { MatchBool self.new.whole
             ((self.old.whole ≡ true) × (self.new.shown ≡ self.old.shown ++ entry.now ∷ []))
@@ -177,7 +181,7 @@ impl<J: Naming, W: Publisher<J>> Board<J, W> {
         if !self.adds(entry) {
             return Err(Fault::LimitReached);
         }
-        if self.monitors > 0 {
+        if self.monitors > 0 || !self.has_posted {
             self.catch_up()
         } else {
             Ok(())
@@ -199,7 +203,9 @@ impl<J: Naming, W: Publisher<J>> Board<J, W> {
         if self.publisher.told().status().steps == self.shown.status().steps {
             return Ok(());
         }
-        self.publisher.post(&self.shown)
+        self.publisher.post(&self.shown)?;
+        self.has_posted = true;
+        Ok(())
     }
 
     /// Adds a record to what is shown, and says whether it did. It did not where this record or one before could not be added.
