@@ -47,6 +47,11 @@ pub enum Rested {
     Alone,
 }
 
+/// The part of a count by which a thread sleeps on it.
+fn low_bits(count: u64) -> u32 {
+    (count % (1 << 32)) as u32
+}
+
 /// Where a thread whose federate was given nothing waits, at next to no cost, until there is something new. The last of all that comes
 /// to rest is sent away, to bring what federates have for each other.
 #[derive(Drop)]
@@ -140,7 +145,8 @@ impl RestingRoom {
             if let Some(rested) = self.risen(rt, seen, moments > 0, false) {
                 return rested;
             }
-            self.news.park_timeout(rt, seen as u32, Duration::from_millis(MOMENT));
+            self.news
+                .park_timeout(rt, low_bits(seen), Duration::from_millis(MOMENT));
         }
         self.risen(rt, seen, true, true).unwrap_or(Rested::Alone)
     }
