@@ -62,11 +62,6 @@ unfolding AreFilled
 filled_parts [] bs h = (tt, h)
 filled_parts (c ∷ cs) bs h = let rest = filled_parts cs bs h.1 in ((h.0, rest.0), rest.1)
 
-pub filled_together : (cs bs : List (List Event)) → AreFilled cs → AreFilled bs → AreFilled (cs ++ bs)
-unfolding AreFilled
-filled_together [] bs h g = g
-filled_together (c ∷ cs) bs h g = (h.0, filled_together cs bs h.1 g)
-
 -- no blocks
 pub no_blocks : (bs : List (List Event)) → bs ≡ [] → AreBlocks bs × (joined bs ≡ [])
 unfolding AreFilled joined IsInOrder

@@ -1,16 +1,14 @@
 -- How the first block, the later ones and the count of a queue follow the list of its events
-use Rattle.std.proofs.Common.{◌≡◌, ℕ, suc, ◌+◌, ◌-◌, ◌<◌, ◌≤◌, ◌^◌, min, Bool, true, false, List, [], ◌∷◌, ◌++◌, length, take, drop, Option, Some, None, Result, Ok, Err, refl, sym, ap, subst, ◌∙◌, append_assoc, arith}
-use Rattle.std.specs.Bool.{MatchBool}
+use Rattle.std.proofs.Common.{◌≡◌, ℕ, suc, ◌+◌, ◌-◌, ◌<◌, ◌≤◌, ◌^◌, min, true, false, List, [], ◌∷◌, ◌++◌, length, take, drop, Some, Result, Ok, Err, refl, sym, ap, subst, ◌∙◌, append_assoc, arith}
 use Rattle.std.specs.List.{slice_get}
-use Rattle.std.specs.Option.{IsSome, IfNone}
 use Rattle.std.specs.Result.{OnOk, OnErr}
 use Rattle.hla_base.specs.declared.content.Event.{Event}
 use Rattle.hla_base.specs.declared.number.EventHandle.{EventHandle}
 use Rattle.hla_order_queues.specs.Queues.{insert_event, find_event, remove_event, handles_of}
 use Rattle.hla_order_queues.specs.Kept.{key_of, first_after, IsInOrder, AreInOrder}
-use Rattle.hla_order_queues.proofs.EventLemmas.{length-insert_event, length-remove_event, remove_event_missed}
+use Rattle.hla_order_queues.proofs.EventLemmas.{length-insert_event, length-remove_event}
 use Rattle.hla_order_queues.proofs.OrderLemmas.{IsInOrder-insert_event, none_after, insert_event-front, insert_event-back}
-use Rattle.hla_order_queues.proofs.RemovalLemmas.{IsInOrder-remove_event, IsInOrder-drop_first, find_event_before, find_event_behind}
+use Rattle.hla_order_queues.proofs.RemovalLemmas.{IsInOrder-remove_event, IsInOrder-drop_first}
 use Rattle.hla_order_queues.proofs.StepLemmas.{handles_of-append, take-parts}
 
 pub kept_nothing : (f l : List Event) → f ≡ [] → l ≡ [] → AreInOrder f l 0
@@ -20,14 +18,6 @@ kept_nothing f l e g = record {
   filled = λ h. g;
   counted = rw (e, g) refl;
   small = omega arith;
-}
-
-pub kept_same : (f l first later : List Event) (n : ℕ) → AreInOrder f l n → first ++ later ≡ f ++ l → (first ≡ [] → later ≡ []) → AreInOrder first later n
-kept_same f l first later n h e filled = record {
-  ordered = subst IsInOrder (sym e) h.ordered;
-  filled = filled;
-  counted = h.counted ∙ ap length (sym e);
-  small = h.small;
 }
 
 pub kept_inserted : (x : Event) (f l first later : List Event) (n m : ℕ) → AreInOrder f l n → first ++ later ≡ insert_event x (f ++ l) → (first ≡ [] → later ≡ []) → m ≡ n + 1 → m < 2 ^ 64 → AreInOrder first later m
@@ -96,25 +86,6 @@ pub put_filled : {E : Type 0} (x : Event) (f first l : List Event) (r : Result (
 put_filled x f first l (Ok u) put same filled none =
     let size : suc (length f) ≡ 0 = sym (length-insert_event x f) ∙ ap length (sym put ∙ none) in absurd (omega arith)
 put_filled x f first l (Err e) put same filled none = filled (sym same ∙ none)
-
--- an event is found in the first block or behind it
-some_before : (g m : ℕ) (f l : List Event) (o : Option Event) → find_event g m f ≡ o → IsSome o → IsSome (find_event g m (f ++ l))
-some_before g m f l None is some = absurd (cc)
-some_before g m f l (Some x) is some = rw (find_event_before g m f l x is) refl
-
-pub has_front : (g m : ℕ) (f l now : List Event) (b : Bool) → f ++ l ≡ now → b ≡ true → IsSome (find_event g m f) → MatchBool b (IsSome (find_event g m now)) (find_event g m now ≡ None)
-has_front g m f l now b whole is some = rw is (subst (λ xs. IsSome (find_event g m xs)) whole (some_before g m f l (find_event g m f) refl some))
-
-pub has_behind : (g m : ℕ) (f l now : List Event) (b : Bool) → f ++ l ≡ now → find_event g m f ≡ None → MatchBool b (IsSome (find_event g m l)) (find_event g m l ≡ None) → MatchBool b (IsSome (find_event g m now)) (find_event g m now ≡ None)
-has_behind g m f l now b whole none h =
-    subst (λ (o : Option Event). MatchBool b (IsSome o) (o ≡ None)) (sym (find_event_behind g m f l none) ∙ ap (find_event g m) whole) h
-
-pub unchanged_if : (g m : ℕ) (f first l later : List Event) (r : Option Event) → None ≡ find_event g m f → first ≡ remove_event g m f → r ≡ find_event g m l → later ≡ remove_event g m l → IfNone r ((f ≡ [] → l ≡ []) → first ≡ [] → later ≡ [])
-unchanged_if g m f first l later None none e missed d =
-    λ filled nothing.
-    let same : first ≡ f = e ∙ remove_event_missed g m f (sym none) in
-    d ∙ remove_event_missed g m l (sym missed) ∙ filled (sym same ∙ nothing)
-unchanged_if g m f first l later (Some x) none e missed d = tt
 
 -- the handles of the first events
 pub put_both : {E : Type 0} (f l now : List Event) (h h1 h2 : List EventHandle) (count here : ℕ) (r : Result (Unit {0}) E) → f ++ l ≡ now → here ≡ min count (length f) → h1 ≡ h ++ handles_of (take here f) → OnOk r (h2 ≡ h1 ++ handles_of (take (count - here) l)) → OnOk r (h2 ≡ h ++ handles_of (take count now))

@@ -16,9 +16,9 @@ mod RemovalLemmas
 mod StepLemmas
 -- How the first block, the later ones and the count of a queue follow the list of its events
 mod KeptLemmas
--- The index of stamps: what it has after an insertion and a removal, and once all events are noted
+-- The stamps by name: what is at each name after an insertion and a removal
 mod StampLemmas
 -- Finding an event by its key: it is in the last part of a list that does not come after the key
 mod KeyLemmas
--- The greatest serial of each sender's events
-mod NewestLemmas
+-- The order of names, and what the map of their stamps has at a name
+mod NameLemmas

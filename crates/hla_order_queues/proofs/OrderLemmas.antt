@@ -1,5 +1,5 @@
 -- Lists of events in order: their parts, an insertion into one of them, and the stamps
-use Rattle.std.proofs.Common.{◌≡◌, ◌≤◌, Bool, true, false, cond, List, [], ◌∷◌, ◌++◌, refl, ap, ◌∙◌, arith}
+use Rattle.std.proofs.Common.{◌≡◌, ◌≤◌, Bool, true, false, cond, List, [], ◌∷◌, ◌++◌, refl, ap, arith}
 use Rattle.std.proofs.lemmas.Bool.Decides.{nat_tests}
 use Rattle.std.specs.List.{AllByRecursion}
 use Rattle.hla_base.specs.declared.content.Event.{Event}
@@ -32,10 +32,6 @@ pub All-implies : {P Q : Event → Type 0} → ((x : Event) → P x → Q x) →
 All-implies {P} {Q} f [] h = tt
 All-implies {P} {Q} f (x ∷ xs) h = (f x h.0, All-implies f xs h.1)
 
-pub All-append : (P : Event → Type 0) (xs ys : List Event) → AllByRecursion P xs → AllByRecursion P ys → AllByRecursion P (xs ++ ys)
-All-append P [] ys h g = g
-All-append P (x ∷ xs) ys h g = (h.0, All-append P xs ys h.1 g)
-
 pub All-append_parts : (P : Event → Type 0) (xs ys : List Event) → AllByRecursion P (xs ++ ys) → AllByRecursion P xs × AllByRecursion P ys
 All-append_parts P [] ys h = (tt, h)
 All-append_parts P (x ∷ xs) ys h = let rest = All-append_parts P xs ys h.1 in ((h.0, rest.0), rest.1)
@@ -53,14 +49,6 @@ parts_of (x ∷ xs) ys h =
     let rest = parts_of xs ys h.1 in
     let here = All-append_parts (λ y. is_before y x ≡ false) xs ys h.0 in
     record { front = (here.0, rest.front); back = rest.back; apart = (here.1, rest.apart) }
-
-pub from_parts : (xs ys : List Event) → AreParts xs ys → IsInOrder (xs ++ ys)
-unfolding IsInOrder
-from_parts [] ys h = h.back
-from_parts (x ∷ xs) ys h = (
-  All-append (λ y. is_before y x ≡ false) xs ys h.front.0 h.apart.0,
-  from_parts xs ys (record { front = h.front.1; back = h.back; apart = h.apart.1 }),
-)
 
 -- where the first event is after a key, all are
 pub all_after : (k : EventKey) (xs : List Event) → IsInOrder xs → first_after k xs ≡ true → AllAfter k xs
@@ -92,11 +80,6 @@ pub insert_event-back : (e : Event) (xs ys : List Event) → NoneAfter (key_of e
 unfolding insert_event
 insert_event-back e [] ys h = refl
 insert_event-back e (x ∷ xs) ys h = rw h.0 (ap (λ zs. x ∷ zs) (insert_event-back e xs ys h.1))
-
-pub insert_event-between : (e : Event) (xs ys : List Event) → NoneAfter (key_of e) xs → first_after (key_of e) ys ≡ true → insert_event e (xs ++ ys) ≡ xs ++ e ∷ ys
-unfolding insert_event
-insert_event-between e xs [] h p = insert_event-back e xs [] h
-insert_event-between e xs (y ∷ ys) h p = insert_event-back e xs (y ∷ ys) h ∙ rw p
 
 -- an insertion keeps the order
 All-inserted_if : (P : Event → Type 0) (b : Bool) (e x : Event) (xs later : List Event) → P e → AllByRecursion P (x ∷ xs) → AllByRecursion P later → AllByRecursion P (cond b (e ∷ x ∷ xs) (x ∷ later))

@@ -1,11 +1,10 @@
 -- The place at which a search by a test ends, and an insertion there into events that are in order
-use Rattle.std.proofs.Common.{◌≡◌, ℕ, zero, suc, ◌+◌, ◌≤◌, ◌<◌, Bool, true, false, cond, not, get_or, List, [], ◌∷◌, ◌++◌, length, take, drop, reverse, refl, sym, ap, subst, ◌∙◌, append_assoc, arith}
-use Rattle.std.proofs.lemmas.List.{reverse-append, reverse-reverse, take-append-drop}
+use Rattle.std.proofs.Common.{◌≡◌, ℕ, zero, suc, ◌+◌, ◌≤◌, ◌<◌, Bool, true, false, cond, not, get_or, List, [], ◌∷◌, length, take, refl, ap, arith}
 use Rattle.std.specs.List.{AllByRecursion, prefix_len, insert}
 use Rattle.hla_base.specs.declared.content.Event.{Event}
 use Rattle.hla_order_queues.specs.declared.key.EventKey.{EventKey}
 use Rattle.hla_order_queues.specs.Queues.{is_before, insert_event}
-use Rattle.hla_order_queues.specs.Kept.{key_of, is_key_before, first_after, IsInOrder}
+use Rattle.hla_order_queues.specs.Kept.{key_of, is_key_before, IsInOrder}
 use Rattle.hla_order_queues.proofs.OrderLemmas.{All-implies, before_then}
 
 -- where one element does not pass, none behind it does

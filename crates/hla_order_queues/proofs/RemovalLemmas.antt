@@ -1,28 +1,14 @@
 -- Finding and removing an event: in parts of a list, and among blocks
-use Rattle.std.proofs.Common.{◌≡◌, ℕ, zero, suc, ◌-◌, ◌<◌, Bool, true, false, cond, get_or, set, List, [], ◌∷◌, ◌++◌, length, take, drop, reverse, Option, Some, None, refl, sym, ap, subst, ◌∙◌, append_assoc, drop-cons, length-drop, length-append, arith}
-use Rattle.std.proofs.lemmas.List.{append-nil, get_or_read, get_or_default, reverse-append, length-reverse, take-append-drop, take_at, drop_at, get_or-reverse}
-use Rattle.std.proofs.lemmas.List.Folds.{find_at}
+use Rattle.std.proofs.Common.{◌≡◌, ℕ, zero, suc, ◌<◌, Bool, true, false, cond, get_or, set, List, [], ◌∷◌, ◌++◌, length, take, drop, Option, Some, None, refl, sym, ap, subst, ◌∙◌, arith}
+use Rattle.std.proofs.lemmas.List.{append-nil, get_or_read}
 use Rattle.std.proofs.lemmas.Option.{slice_get_read}
-use Rattle.std.specs.Option.{IsSome, is_some, MatchOption}
-use Rattle.std.specs.Bool.{MatchBool}
-use Rattle.std.specs.List.{AllByRecursion, slice_get, position, position_or_len, remove}
+use Rattle.std.specs.Option.{IsSome}
+use Rattle.std.specs.List.{AllByRecursion, slice_get, remove}
 use Rattle.hla_base.specs.declared.content.Event.{Event}
 use Rattle.hla_order_queues.specs.Queues.{is_before, is_event, find_event, remove_event}
 use Rattle.hla_order_queues.specs.Kept.{IsInOrder, joined, AreFilled, IsFirstWith}
 use Rattle.hla_order_queues.proofs.EventLemmas.{missed_head, missed_later}
-use Rattle.hla_order_queues.proofs.QueueLemmas.{within, find_event-find, remove_event-place, not_found}
 use Rattle.hla_order_queues.proofs.JoinedLemmas.{joined_at, joined_set}
-
-some_below : (xs : List Event) (i : ℕ) → i < length xs → IsSome (slice_get xs i)
-some_below [] i h = absurd (omega arith)
-some_below (x ∷ xs) zero h = refl
-some_below (x ∷ xs) (suc i) h = some_below xs i (omega arith)
-
-pub has_found : (g m : ℕ) (xs : List Event) (b : Bool) (r : Option ℕ) → b ≡ is_some r → r ≡ position (is_event g m) xs → MatchBool b (IsSome (find_event g m xs)) (find_event g m xs ≡ None)
-has_found g m xs b None is e = rw is (not_found g m xs e).0
-has_found g m xs b (Some i) is e =
-    let at = within (position_or_len (is_event g m) xs) (length xs) i _ refl e in
-    rw is (rw (find_event-find g m xs ∙ find_at (is_event g m) xs ∙ ap (slice_get xs) (sym at.0)) (some_below xs i at.1))
 
 -- in parts of a list
 pub find_event_behind : (g m : ℕ) (xs ys : List Event) → find_event g m xs ≡ None → find_event g m (xs ++ ys) ≡ find_event g m ys
@@ -134,23 +120,3 @@ pub removed_with : (g m : ℕ) (bs : List (List Event)) (i : ℕ) (b : List Even
 removed_with g m bs i b h read =
     let same : get_or bs i [] ≡ b = sym (get_or_read bs i b h.within read []) in
     removed_from g m bs i b (find_event g m b) (block_at bs i b h.within read) h.behind refl (subst (λ c. IsSome (find_event g m c)) same h.there)
-
--- a step of the search for the block
-joined_dropped : (bs : List (List Event)) (i : ℕ) (b : List Event) → Some b ≡ slice_get bs i → joined (drop i bs) ≡ joined (drop (suc i) bs) ++ b
-unfolding joined
-joined_dropped [] i b e = absurd (cc)
-joined_dropped (x ∷ xs) zero b e = let same : x ≡ b = cc in ap (λ y. joined xs ++ y) same
-joined_dropped (x ∷ xs) (suc i) b e = joined_dropped xs i b e
-
-pub none_in : (g m : ℕ) (bs : List (List Event)) (i : ℕ) (b : List Event) → i < length bs → b ≡ get_or bs i b → find_event g m b ≡ None → find_event g m (joined (drop (suc i) bs)) ≡ None → find_event g m (joined (drop i bs)) ≡ None
-none_in g m bs i b h read none behind =
-    ap (find_event g m) (joined_dropped bs i b (block_at bs i b h read))
-    ∙ find_event_behind g m (joined (drop (suc i) bs)) b behind
-    ∙ none
-
-pub has_in_blocks : (g m : ℕ) (bs : List (List Event)) (now : List Event) (b : Bool) (r : Option ℕ) → b ≡ is_some r → joined bs ≡ now → MatchOption r (find_event g m (joined bs) ≡ None) (IsFirstWith g m bs) → MatchBool b (IsSome (find_event g m now)) (find_event g m now ≡ None)
-has_in_blocks g m bs now b None is view h = rw is (ap (find_event g m) (sym view) ∙ h)
-has_in_blocks g m bs now b (Some i) is view h =
-    let x = get_or bs i [] in
-    let found = (removed_with g m bs i x h (get_or_default bs i [] x h.within)).found in
-    rw is (subst (λ o. IsSome o) (sym found ∙ ap (find_event g m) view) h.there)

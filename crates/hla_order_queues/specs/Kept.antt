@@ -1,5 +1,5 @@
--- How a queue in time-stamp order keeps its events: in blocks, of which none is empty, with an index of their stamps by name
-use Rattle.std.specs.Prelude.{◌≡◌, ℕ, suc, ◌<◌, ◌^◌, eqb, ltb, ◌&&◌, ◌||◌, Bool, true, false, None, IsSome, List, [], ◌∷◌, ◌++◌, length, drop, slice_index_or, cond, nat_eq, Option, option_map, ◌≤◌, get_or}
+-- How a queue in time-stamp order keeps its events: in blocks, of which none is empty, with their stamps by name
+use Rattle.std.specs.Prelude.{◌≡◌, ℕ, suc, ◌<◌, ◌^◌, eqb, ltb, ◌&&◌, ◌||◌, Bool, true, false, None, IsSome, List, [], ◌∷◌, ◌++◌, length, drop, slice_index_or, nat_eq, Option, option_map}
 use Rattle.std.specs.List.{AllByRecursion}
 use Rattle.std.specs.Map.{lookup}
 use Rattle.hla_base.specs.declared.content.Event.{Event}
@@ -39,13 +39,6 @@ unfoldable pub IsUnique : List Event → Type 0
 IsUnique [] = Unit {0}
 IsUnique (x ∷ xs) = (find_event x.sender x.serial xs ≡ None) × IsUnique xs
 
--- a serial is at most the greatest that is noted of its sender, if any is noted of that
-abbrev pub IsNoted : List ℕ → ℕ → ℕ → Type 0
-IsNoted newest g m = g < length newest → m ≤ get_or newest g 0
-
-abbrev pub AreNoted : List ℕ → List Event → Type 0
-AreNoted newest xs = AllByRecursion (λ x. IsNoted newest x.sender x.serial) xs
-
 -- what is kept of the blocks behind the first
 pub record AreBlocks (bs : List (List Event)) : Type 0 where
   pub filled : AreFilled bs
@@ -68,7 +61,11 @@ pub record IsFirstWith (g m : ℕ) (bs : List (List Event)) (i : ℕ) : Type 0 w
 abbrev pub name_eq : EventName → EventName → Bool
 name_eq a b = nat_eq a.sender b.sender && nat_eq a.serial b.serial
 
--- the stamp that the index with these entries has at a name
+-- the name of the event that has this key
+abbrev pub name_of : EventKey → EventName
+name_of k = record { sender = k.sender; serial = k.serial }
+
+-- the stamp that names with these stamps have at a name
 abbrev pub stamp_at : List (EventName × ℕ) → EventName → Option ℕ
 stamp_at entries n = lookup (name_eq n) entries
 
@@ -76,10 +73,7 @@ stamp_at entries n = lookup (name_eq n) entries
 abbrev pub stamp_of : EventName → List Event → Option ℕ
 stamp_of n xs = option_map (λ x. x.stamp) (find_event n.sender n.serial xs)
 
--- the entries of the index are the stamps of these events
-pub record AreStampsOf (entries : List (EventName × ℕ)) (xs : List Event) : Type 0 where
+-- no two events have one name, and at each name is the stamp of its event
+pub record AreNamed (entries : List (EventName × ℕ)) (xs : List Event) : Type 0 where
+  pub unique : IsUnique xs
   pub named : (n : EventName) → stamp_at entries n ≡ stamp_of n xs
-
--- the later entries have this at the name, and at each other name what the earlier ones have
-pub record SetsStamp (old new : List (EventName × ℕ)) (k : EventName) (w : Option ℕ) : Type 0 where
-  pub named : (n : EventName) → stamp_at new n ≡ cond (name_eq k n) w (stamp_at old n)

@@ -7,12 +7,12 @@ ghost use Rattle.hla_base.specs.declared.content.Event.{Event};
 ghost use Rattle.hla_base.specs.declared.fault.Fault.TheVariants.{OutOfMemory};
 ghost use Rattle.hla_order_queues.specs.Queues.{insert_event, find_event, remove_event, is_event, handles_of};
 ghost use Rattle.hla_order_queues.specs.Moving.{is_moved};
-ghost use Rattle.hla_order_queues.specs.Kept.{first_after, IsInOrder, AreStampsOf};
+ghost use Rattle.hla_order_queues.specs.Kept.{first_after, IsInOrder};
 
-use crate::key::{EventKey, EventName};
+use crate::key::EventKey;
 use hla_base::{Event, EventHandle, FOREVER, Fault, FederateNo, Serial, Ticks};
 use std::alloc::{AllocError, Global};
-use std::collections::{HashMap, VecDeque};
+use std::collections::VecDeque;
 use std::marker::Model;
 
 /// Events in time-stamp order. Contracts see the list of them, the least first. Both ends of a deque are open: the least is
@@ -104,13 +104,6 @@ impl Block {
             .position(|event| sender == event.sender && serial == event.serial)
     }
 
-    /// Whether an event that `sender` sent with that serial is there.
-    pub fn has_event(&self, sender: FederateNo, serial: Serial) -> bool
-        ensures { MatchBool result (IsSome (find_event sender serial self.now)) (find_event sender serial self.now ≡ None) }
-    {
-        self.place_of(sender, serial).is_some()
-    }
-
     /// Takes the event that `sender` sent with that serial, if there is one. It goes through the events before it.
     pub fn remove(&mut self, sender: FederateNo, serial: Serial) -> Option<Event>
         ensures found { result ≡ find_event sender serial self.old }
@@ -162,23 +155,6 @@ impl Block {
             }
         }
         Ok(())
-    }
-
-    /// Puts each event's stamp at its name; false where memory for that was refused.
-    pub fn put_stamps(&self, stamps: &mut HashMap<EventName, Ticks>) -> bool
-        ensures { (xs : List Event) → AreStampsOf stamps.old.entries xs → OnTrue result
-            (AreStampsOf stamps.new.entries (self.now ++ xs)) }
-    {
-        let len = self.len();
-        for i in 0..len {
-            if let Some(event) = self.nth(len - 1 - i) {
-                let key = EventKey::of(event);
-                let Ok(_) = stamps.insert(key.name(), key.stamp) else {
-                    return false;
-                };
-            }
-        }
-        true
     }
 
     /// Takes all events out.

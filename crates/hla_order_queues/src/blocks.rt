@@ -7,13 +7,12 @@ ghost use Rattle.hla_base.specs.declared.content.Event.{Event};
 ghost use Rattle.hla_base.specs.declared.fault.Fault.TheVariants.{OutOfMemory};
 ghost use Rattle.hla_order_queues.specs.Queues.{insert_event, find_event, remove_event, handles_of};
 ghost use Rattle.hla_order_queues.specs.Moving.{is_moved};
-ghost use Rattle.hla_order_queues.specs.Kept.{key_of, first_after, IsInOrder, AreFilled, AreBlocks, AreStampsOf, IsFirstWith, IsUnique, stamp_of, joined};
+ghost use Rattle.hla_order_queues.specs.Kept.{key_of, first_after, IsInOrder, AreFilled, AreBlocks, IsFirstWith, IsUnique, stamp_of, joined};
 
 use crate::block::Block;
-use crate::key::{EventKey, EventName};
+use crate::key::EventKey;
 use hla_base::{Event, EventHandle, Fault, FederateNo, Serial, Ticks};
 use std::alloc::Global;
-use std::collections::HashMap;
 use std::marker::Model;
 
 /// A block with so many events is split before one more is put in: an insertion moves at most so many, of 40 bytes each.
@@ -96,17 +95,6 @@ impl Blocks {
         self.blocks[place].insert(event)
     }
 
-    /// Takes the event that `sender` sent with that serial, if there is one. It goes through the events before it.
-    pub fn remove(&mut self, sender: FederateNo, serial: Serial) -> Option<Event>
-        ensures found { result ≡ find_event sender serial self.old }
-        ensures rest { self.new ≡ remove_event sender serial self.old }
-    {
-        match place_with(&self.blocks, sender, serial) {
-            Some(place) => take_from(&mut self.blocks, place, sender, serial),
-            None => None,
-        }
-    }
-
     /// Takes the event with this key, which is there and not before all. It looks at a logarithm of the blocks, and goes
     /// through one.
     pub fn remove_key(&mut self, key: EventKey) -> Option<Event>
@@ -118,13 +106,6 @@ impl Blocks {
     {
         let place = place_of(&self.blocks, key);
         take_from(&mut self.blocks, place, key.sender, key.serial)
-    }
-
-    /// Whether an event that `sender` sent with that serial is there.
-    pub fn has_event(&self, sender: FederateNo, serial: Serial) -> bool
-        ensures { MatchBool result (IsSome (find_event sender serial self.now)) (find_event sender serial self.now ≡ None) }
-    {
-        place_with(&self.blocks, sender, serial).is_some()
     }
 
     /// The event at place `i`, counted from 0, if there are so many. It goes through the blocks before it.
@@ -174,19 +155,6 @@ impl Blocks {
         Ok(())
     }
 
-    /// Puts each event's stamp at its name; false where memory for that was refused.
-    pub fn put_stamps(&self, stamps: &mut HashMap<EventName, Ticks>) -> bool
-        ensures { (xs : List Event) → AreStampsOf stamps.old.entries xs → OnTrue result
-            (AreStampsOf stamps.new.entries (self.now ++ xs)) }
-    {
-        for block in self.blocks.iter() {
-            if !block.put_stamps(stamps) {
-                return false;
-            }
-        }
-        true
-    }
-
     /// Takes all events out.
     pub fn clear(&mut self)
         ensures { self.new ≡ [] }
@@ -201,20 +169,6 @@ fn place_of(blocks: &[Block], key: EventKey) -> usize
     ensures { result ≡ prefix_len (first_after key) blocks.now }
 {
     blocks.partition_point(|block| block.is_after(key))
-}
-
-/// The place of the first block in which there is an event that `sender` sent with that serial, if there is one.
-fn place_with(blocks: &[Block], sender: FederateNo, serial: Serial) -> Option<usize>
-    ensures { MatchOption result (find_event sender serial (joined blocks.now) ≡ None) (IsFirstWith sender serial blocks.now) }
-{
-    let mut place = blocks.len();
-    while place > 0 {
-        place -= 1;
-        if blocks[place].has_event(sender, serial) {
-            return Some(place);
-        }
-    }
-    None
 }
 
 /// The same once that block has room without much to move, which may take memory; the events stay the same.

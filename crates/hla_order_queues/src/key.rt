@@ -13,8 +13,8 @@ pub struct EventKey {
     pub serial: Serial,
 }
 
-/// The name of an event: its sender, and the sender's serial. Names have no order.
-#[derive(Clone, Copy, Debug, PartialEq, Eq, Hash)]
+/// The name of an event: its sender, and the sender's serial.
+#[derive(Clone, Copy, Debug, PartialEq, Eq, PartialOrd, Ord)]
 pub struct EventName {
     pub sender: FederateNo,
     pub serial: Serial,

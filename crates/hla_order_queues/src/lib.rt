@@ -5,6 +5,7 @@ mod block;
 mod blocks;
 mod control;
 mod key;
+mod names;
 mod ordered;
 mod receive;
 mod tso;

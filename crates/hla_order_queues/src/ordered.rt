@@ -5,14 +5,13 @@ ghost use Rattle.std.specs.List.{prefix_len};
 ghost use Rattle.hla_base.specs.declared.fault.Fault.TheVariants.{OutOfMemory};
 ghost use Rattle.hla_order_queues.specs.Queues.{insert_event, find_event, remove_event, handles_of};
 ghost use Rattle.hla_order_queues.specs.Moving.{is_moved, IsRising};
-ghost use Rattle.hla_order_queues.specs.Kept.{IsInOrder, IsUnique, AreStampsOf, stamp_of};
+ghost use Rattle.hla_order_queues.specs.Kept.{IsInOrder, IsUnique, stamp_of};
 
 use crate::block::Block;
 use crate::blocks::{Blocks, FULL};
-use crate::key::{EventKey, EventName};
+use crate::key::EventKey;
 use hla_base::{Event, EventHandle, Fault, FederateNo, Serial, Ticks};
 use std::alloc::Global;
-use std::collections::HashMap;
 use std::marker::Model;
 
 /// Events in time-stamp order. Contracts see the list of them.
@@ -53,11 +52,6 @@ impl Ordered {
         ensures { result ≡ length self.now }
     {
         self.count
-    }
-
-    /// Whether there are more events than a block has.
-    pub fn is_long(&self) -> bool {
-        self.count > FULL
     }
 
     /// The first event, if there is one.
@@ -112,21 +106,6 @@ impl Ordered {
         }
     }
 
-    /// Takes the event that `sender` sent with that serial, if there is one. It goes through the events before it.
-    pub fn remove(&mut self, sender: FederateNo, serial: Serial) -> Option<Event>
-        ensures found { result ≡ find_event sender serial self.old }
-        ensures rest { self.new ≡ remove_event sender serial self.old }
-    {
-        match take(&mut self.first, &mut self.later, sender, serial) {
-            Some(event) => {
-                self.count -= 1;
-                fill(&mut self.first, &mut self.later);
-                Some(event)
-            }
-            None => None,
-        }
-    }
-
     /// Takes the event with this key, which is there. It looks at a logarithm of the blocks, and goes through one.
     pub fn remove_key(&mut self, key: EventKey) -> Option<Event>
         requires unique { IsUnique self.old }
@@ -142,13 +121,6 @@ impl Ordered {
             }
             None => None,
         }
-    }
-
-    /// Whether an event that `sender` sent with that serial is there.
-    pub fn has_event(&self, sender: FederateNo, serial: Serial) -> bool
-        ensures { MatchBool result (IsSome (find_event sender serial self.now)) (find_event sender serial self.now ≡ None) }
-    {
-        self.first.has_event(sender, serial) || self.later.has_event(sender, serial)
     }
 
     /// How many of the first events have a stamp below `bound`; for `FOREVER` it is all. It goes through these alone.
@@ -172,18 +144,6 @@ impl Ordered {
         let here = count.min(self.first.len());
         self.first.put_handles(here, handles)?;
         self.later.put_handles(count - here, handles)
-    }
-
-    /// The stamp of each event at its name; none where memory for that was refused.
-    pub fn stamps(&self, alloc: Global) -> Option<HashMap<EventName, Ticks>>
-        ensures { MatchOption result (Unit {0}) (λ m. AreStampsOf m.entries self.now) }
-    {
-        let mut stamps = HashMap::new(alloc);
-        if self.later.put_stamps(&mut stamps) && self.first.put_stamps(&mut stamps) {
-            Some(stamps)
-        } else {
-            None
-        }
     }
 
     /// Takes all events out.
@@ -227,18 +187,6 @@ fn has_room(first: &mut Block, later: &mut Blocks, key: EventKey) -> bool
         return true;
     }
     later.split_first(first)
-}
-
-/// Takes the event that `sender` sent with that serial, if there is one.
-fn take(first: &mut Block, later: &mut Blocks, sender: FederateNo, serial: Serial) -> Option<Event>
-    ensures found { result ≡ find_event sender serial (first.old ++ later.old) }
-    ensures rest { first.new ++ later.new ≡ remove_event sender serial (first.old ++ later.old) }
-    ensures filled { IfNone result ((first.old ≡ [] → later.old ≡ []) → first.new ≡ [] → later.new ≡ []) }
-{
-    match first.remove(sender, serial) {
-        Some(event) => Some(event),
-        None => later.remove(sender, serial),
-    }
 }
 
 /// Takes the event with this key, which is there.

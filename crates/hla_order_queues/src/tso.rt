@@ -5,43 +5,34 @@ ghost use Rattle.std.specs.List.{prefix_len};
 ghost use Rattle.hla_base.specs.declared.fault.Fault.TheVariants.{OutOfMemory};
 ghost use Rattle.hla_order_queues.specs.Queues.{insert_event, find_event, remove_event, first_stamp, handles_of};
 ghost use Rattle.hla_order_queues.specs.Moving.{is_moved, IsRising};
-ghost use Rattle.hla_order_queues.specs.Kept.{SetsStamp, IsNoted};
 
 use crate::key::{EventKey, EventName};
+use crate::names::Names;
 use crate::ordered::Ordered;
 use crate::receive::RoQueue;
-use hla_base::{Event, EventHandle, FOREVER, Fault, FederateNo, MAX_JOINS, Serial, Ticks};
+use hla_base::{Event, EventHandle, FOREVER, Fault, FederateNo, Serial, Ticks};
 use std::alloc::Global;
-use std::collections::HashMap;
 use std::marker::Model;
-
-/// How many numbers of senders there are: those of federates, which are counted from 1, and 0.
-const SENDERS: usize = MAX_JOINS + 1;
 
 /// The events that a component has received in time-stamp order and not yet given, by stamp, at equal stamps by sender,
 /// then by serial. Contracts see the list of them in that order.
 #[derive(Debug, Drop)]
 pub struct TsoQueue {
     events: Ordered,
-    /// The greatest serial that each sender's events had, by its number: an event with a greater one is not there, so who asks
-    /// for one that is yet to be put need not go through all.
-    newest: [Serial; SENDERS],
-    /// The stamp of each event at its name, from the first removal on that found more events than a block has: without it
-    /// each removal of an event that is no longer there would go through all.
-    stamps: Option<HashMap<EventName, Ticks>>,
-    alloc: Global,
+    /// The stamp of each event, by which an event is found where its name alone is known.
+    names: Names,
 }
 
 impl Model for TsoQueue {
-    ghost use Rattle.std.specs.Prelude.{List, MatchOption};
+    ghost use Rattle.std.specs.Prelude.{List};
     ghost use Rattle.hla_base.specs.declared.content.Event.{Event};
-    ghost use Rattle.hla_order_queues.specs.Kept.{AreStampsOf, IsUnique, AreNoted};
+    ghost use Rattle.hla_order_queues.specs.Kept.{AreNamed};
 
     ghost Value = { List Event };
 
     ghost view = { λ q. q.events };
 
-    ghost invariant = { λ q. (IsUnique q.events × MatchOption q.stamps (Unit {0}) (λ m. AreStampsOf m.entries q.events)) × AreNoted q.newest q.events };
+    ghost invariant = { λ q. AreNamed q.names q.events };
 }
 
 impl TsoQueue {
@@ -51,9 +42,7 @@ impl TsoQueue {
     {
         TsoQueue {
             events: Ordered::new(alloc),
-            newest: [0; SENDERS],
-            stamps: None,
-            alloc,
+            names: Names::new(alloc),
         }
     }
 
@@ -88,28 +77,12 @@ impl TsoQueue {
         self.events.nth(i)
     }
 
-    /// Whether an event that `sender` sent with that serial is in the queue. One with a greater serial than all of its sender
-    /// needs no look; else, where no removal has made the index of a long queue, it goes through the events.
+    /// Whether an event that `sender` sent with that serial is in the queue. It looks at a logarithm of the names.
     pub fn has_event(&self, sender: FederateNo, serial: Serial) -> bool
         ensures { MatchBool result (IsSome (find_event sender serial self.now))
             (find_event sender serial self.now ≡ None) }
     {
-        if is_newer(&self.newest, sender, serial) {
-            false
-        } else {
-            self.has_noted(sender, serial)
-        }
-    }
-
-    /// The same: by the stamps, where they are noted, or else all events are gone through.
-    fn has_noted(&self, sender: FederateNo, serial: Serial) -> bool
-        ensures { MatchBool result (IsSome (find_event sender serial self.now))
-            (find_event sender serial self.now ≡ None) }
-    {
-        match &self.stamps {
-            Some(stamps) => stamps.contains_key(&EventName { sender, serial }),
-            None => self.events.has_event(sender, serial),
-        }
+        self.names.has(EventName { sender, serial })
     }
 
     /// Puts an event at its place; the event comes back, and the queue is as it was, where a growth was refused. It looks
@@ -122,56 +95,46 @@ impl TsoQueue {
         ensures unchanged { OnErr result (self.new ≡ self.old) }
     {
         let key = EventKey::of(&event);
+        if !self.names.put(key) {
+            return Err(event);
+        }
         match self.events.insert(event) {
-            Ok(()) => {
-                note(&mut self.stamps, key);
-                raise(&mut self.newest, key);
-                Ok(())
+            Ok(()) => Ok(()),
+            Err(event) => {
+                let _ = self.names.take(key.name());
+                Err(event)
             }
-            Err(event) => Err(event),
         }
     }
 
-    /// Takes the first event, if there is one. It takes no memory, and no other event moves.
+    /// Takes the first event, if there is one. It takes no memory, and no other event moves; its name goes in time that
+    /// grows with the logarithm of the events.
     pub fn take_least(&mut self) -> Option<Event>
         ensures least { result ≡ slice_get self.old 0 }
         ensures rest { self.new ≡ drop 1 self.old }
     {
         match self.events.take_first() {
             Some(event) => {
-                forget(&mut self.stamps, EventKey::of(&event).name());
+                let _ = self.names.take(EventKey::of(&event).name());
                 Some(event)
             }
             None => None,
         }
     }
 
-    /// Takes the event that `sender` sent with that serial, if there is one. The first time it goes through all events; after
-    /// that, if there was memory to note their stamps, it looks at a logarithm of them and goes through one block.
+    /// Takes the event that `sender` sent with that serial, if there is one. It takes no memory, looks at a logarithm of the
+    /// events, and goes through one block.
     pub fn remove(&mut self, sender: FederateNo, serial: Serial) -> Option<Event>
         ensures found { result ≡ find_event sender serial self.old }
         ensures rest { self.new ≡ remove_event sender serial self.old }
     {
-        self.index();
-        match &mut self.stamps {
-            Some(stamps) => match stamps.remove(&EventName { sender, serial }) {
-                Some(stamp) => self.events.remove_key(EventKey {
-                    stamp,
-                    sender,
-                    serial,
-                }),
-                None => None,
-            },
-            None => self.events.remove(sender, serial),
-        }
-    }
-
-    /// Notes the stamps of many events, if they are not noted and there is memory for it.
-    fn index(&mut self)
-        ensures { self.new ≡ self.old }
-    {
-        if self.stamps.is_none() && self.events.is_long() {
-            self.stamps = self.events.stamps(self.alloc);
+        match self.names.take(EventName { sender, serial }) {
+            Some(stamp) => self.events.remove_key(EventKey {
+                stamp,
+                sender,
+                serial,
+            }),
+            None => None,
         }
     }
 
@@ -226,49 +189,6 @@ impl TsoQueue {
         ensures { self.new ≡ [] }
     {
         self.events.clear();
-        self.stamps = None;
-    }
-}
-
-/// Whether a sender's events all had lesser serials, as far as that is noted.
-fn is_newer(newest: &[Serial; SENDERS], sender: FederateNo, serial: Serial) -> bool
-    ensures sender { result ≡ true → sender < length newest.now }
-    ensures serial { result ≡ true → get_or newest.now sender 0 < serial }
-{
-    let place = sender as usize;
-    place < SENDERS && newest[place] < serial
-}
-
-/// Notes the serial of an event, if its sender's had none as great.
-fn raise(newest: &mut [Serial; SENDERS], key: EventKey)
-    ensures kept { (g m : ℕ) → IsNoted newest.old g m → IsNoted newest.new g m }
-    ensures noted { IsNoted newest.new key.sender key.serial }
-{
-    let place = key.sender as usize;
-    if place < SENDERS && newest[place] < key.serial {
-        newest[place] = key.serial;
-    }
-}
-
-/// Notes the stamp of an event at its name, if others are noted; where memory for that is refused none are.
-fn note(stamps: &mut Option<HashMap<EventName, Ticks>>, key: EventKey)
-    ensures { MatchOption stamps.new (Unit {0}) (λ m. MatchOption stamps.old ⊥ (λ o. SetsStamp o.entries m.entries
-        (record { sender = key.sender; serial = key.serial }) (Some key.stamp))) }
-{
-    let refused = match stamps {
-        Some(stamps) => stamps.insert(key.name(), key.stamp).is_err(),
-        None => false,
-    };
-    if refused {
-        *stamps = None;
-    }
-}
-
-/// Takes the stamp at a name out, if stamps are noted.
-fn forget(stamps: &mut Option<HashMap<EventName, Ticks>>, name: EventName)
-    ensures { MatchOption stamps.new (Unit {0}) (λ m. MatchOption stamps.old ⊥ (λ o. SetsStamp o.entries m.entries name None)) }
-{
-    if let Some(stamps) = stamps {
-        let _ = stamps.remove(&name);
+        self.names.clear();
     }
 }

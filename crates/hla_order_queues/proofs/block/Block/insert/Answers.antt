@@ -1,10 +1,10 @@
 -- The search ends behind the events that do not come later, and there the new event goes.
-use Rattle.std.proofs.Common.{◌≡◌, ◌≤◌, length, not, ap, ◌∙◌, rules, arith}
-use Rattle.std.specs.List.{prefix_len, insert}
+use Rattle.std.proofs.Common.{◌≤◌, length, not, ap, ◌∙◌, rules, arith}
+use Rattle.std.specs.List.{insert}
 use Rattle.std.proofs.lemmas.List.Sorted.{IsPartitionPoint-from_clause}
 use Rattle.hla_base.specs.declared.content.Event.{Event}
 use Rattle.hla_order_queues.specs.Queues.{insert_event}
-use Rattle.hla_order_queues.specs.Kept.{key_of, is_key_before}
+use Rattle.hla_order_queues.specs.Kept.{is_key_before}
 use Rattle.hla_order_queues.proofs.PlaceLemmas.{partitioned, point_is, falls_ordered, inserted_there}
 use Rattle.hla_order_queues.proofs.block.Block.insert.Goals as goal
 use Rattle.hla_order_queues.proofs.block.Block.insert.Goals.{in-Ok, in-Err}

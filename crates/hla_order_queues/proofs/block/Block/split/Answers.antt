@@ -1,7 +1,6 @@
 -- The two halves make the whole.
-use Rattle.std.proofs.Common.{◌≡◌, ◌++◌, take, drop, sym, ap, ◌∙◌}
+use Rattle.std.proofs.Common.{◌∙◌}
 use Rattle.std.proofs.lemmas.List.{take-append-drop}
-use Rattle.hla_base.specs.declared.content.Event.{Event}
 use Rattle.hla_order_queues.proofs.block.Block.split.Goals as goal
 
 pub returns-clause-ok : goal.returns-clause-ok

@@ -1,8 +1,6 @@
--- Nothing is kept, and no index.
-use Rattle.std.proofs.Common.{ℕ, List}
-use Rattle.hla_order_queues.specs.declared.key.EventName.{EventName}
-use Rattle.hla_order_queues.proofs.StampLemmas.{not_indexed}
+-- No events, and no names.
+use Rattle.hla_order_queues.proofs.StampLemmas.{no_names}
 use Rattle.hla_order_queues.proofs.tso.TsoQueue.clear.Goals as goal
 
 pub invariant_of-self : goal.invariant_of-self
-invariant_of-self c = (not_indexed {A = List (EventName × ℕ)} (λ entries. entries) c.clear.new.self c.clear.ensures, rw c.clear.ensures tt)
+invariant_of-self c = no_names c.clear-2.new.self c.clear.new.self c.clear-2.ensures c.clear.ensures

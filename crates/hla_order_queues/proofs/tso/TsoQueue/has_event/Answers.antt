@@ -1,10 +1,13 @@
--- What is newer than all of its sender is not there.
+-- A name is there where its event is.
 use Rattle.std.proofs.Common.{◌≡◌, List, None, subst}
+use Rattle.std.specs.Bool.{MatchBool}
+use Rattle.std.specs.Option.{IsSome}
 use Rattle.hla_base.specs.declared.content.Event.{Event}
 use Rattle.hla_order_queues.specs.Queues.{find_event}
-use Rattle.hla_order_queues.proofs.NewestLemmas.{newer_missing}
+use Rattle.hla_order_queues.proofs.StampLemmas.{has_name}
 use Rattle.hla_order_queues.proofs.tso.TsoQueue.has_event.Goals as goal
 
-pub returns-then-is_newer : goal.returns-then-is_newer
-returns-then-is_newer c =
-    subst (λ (xs : List Event). find_event c.args.sender c.args.serial xs ≡ None) c.self.view_is (newer_missing c.self.inside.newest c.args.sender c.args.serial c.self.inside.events (c.is_newer.ensures.sender c.if-is_newer.true) (c.is_newer.ensures.serial c.if-is_newer.true) c.self.invariant.1)
+pub returns : goal.returns
+returns c =
+    let Tells : List Event → Type 0 = λ xs. MatchBool c.has.result (IsSome (find_event c.args.sender c.args.serial xs)) (find_event c.args.sender c.args.serial xs ≡ None) in
+    subst Tells c.self.view_is (has_name c.self.inside.names c.self.inside.events c.args.sender c.args.serial c.has.result c.self.invariant c.has.ensures)

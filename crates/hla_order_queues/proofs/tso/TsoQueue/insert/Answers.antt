@@ -1,10 +1,23 @@
--- The new event's stamp is noted where others are.
-use Rattle.hla_order_queues.proofs.NewestLemmas.{noted_inserted}
-use Rattle.hla_order_queues.proofs.StampLemmas.{indexed_inserted}
+-- The name is put first, and taken back where the event is refused.
+use Rattle.std.proofs.Common.{◌≡◌, None, ap, sym, subst, ◌∙◌}
+use Rattle.hla_order_queues.specs.declared.key.EventKey.{EventKey}
+use Rattle.hla_order_queues.specs.Kept.{key_of, name_of, stamp_at}
+use Rattle.hla_order_queues.specs.Queues.{find_event}
+use Rattle.hla_order_queues.proofs.StampLemmas.{named_inserted, named_same, named_back, not_named}
 use Rattle.hla_order_queues.proofs.tso.TsoQueue.insert.Goals as goal
 
+pub put-requires : goal.put-requires
+put-requires c =
+    let fresh : find_event c.args.event.sender c.args.event.serial c.self.inside.events ≡ None = ap (find_event c.args.event.sender c.args.event.serial) c.self.view_is ∙ c.requires in
+    subst (λ (k : EventKey). stamp_at c.self.inside.names (name_of k) ≡ None) (sym c.of-key.ensures) (not_named c.self.inside.names (name_of (key_of c.args.event)) c.self.inside.events c.self.invariant fresh)
+
 pub invariant_of-self : goal.invariant_of-self
-invariant_of-self c = (
-  indexed_inserted (λ m. m.entries) c.self.inside.stamps c.note.new.stamps c.args.event c.of-key.result c.self.inside.events c.insert.new.self c.args.self.now c.self.invariant.0 c.self.view_is c.requires c.of-key.ensures c.note.ensures c.in-Ok.ensures.ok,
-  noted_inserted c.self.inside.newest c.raise.new.newest c.args.event c.self.inside.events c.insert.new.self c.raise.ensures.kept (rw c.of-key.ensures at c.raise.ensures.noted) c.in-Ok.ensures.ok c.self.invariant.1,
-)
+invariant_of-self c = named_same c.self.inside.names c.put.new.self c.self.inside.events c.self.invariant (c.put.ensures.refused c.if-not-put.true)
+
+pub invariant_of-self-in-Ok : goal.invariant_of-self-in-Ok
+invariant_of-self-in-Ok c =
+    named_inserted c.self.inside.names c.put.new.self c.args.event c.of-key.result c.self.inside.events c.insert.new.self c.args.self.now c.self.invariant c.self.view_is c.requires c.of-key.ensures (c.put.ensures.noted c.if-not-put.false) c.in-Ok.ensures.ok
+
+pub invariant_of-self-in-Err : goal.invariant_of-self-in-Err
+invariant_of-self-in-Err c =
+    named_back c.self.inside.names c.put.new.self c.take.new.self c.args.event c.of-key.result c.name.result c.self.inside.events c.insert.new.self c.args.self.now c.self.invariant c.self.view_is c.requires c.of-key.ensures c.name.ensures (c.put.ensures.noted c.if-not-put.false) c.take.ensures.left c.in-Err.ensures.unchanged

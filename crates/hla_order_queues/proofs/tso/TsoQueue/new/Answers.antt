@@ -1,8 +1,6 @@
--- Nothing is kept, and no index.
-use Rattle.std.proofs.Common.{ℕ, List}
-use Rattle.hla_order_queues.specs.declared.key.EventName.{EventName}
-use Rattle.hla_order_queues.proofs.StampLemmas.{not_indexed}
+-- No events, and no names.
+use Rattle.hla_order_queues.proofs.StampLemmas.{no_names}
 use Rattle.hla_order_queues.proofs.tso.TsoQueue.new.Goals as goal
 
 pub invariant_of-result : goal.invariant_of-result
-invariant_of-result c = (not_indexed {A = List (EventName × ℕ)} (λ entries. entries) c.new.result c.new.ensures, rw c.new.ensures tt)
+invariant_of-result c = no_names c.new-2.result c.new.result c.new-2.ensures c.new.ensures
