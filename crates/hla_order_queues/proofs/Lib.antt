@@ -20,5 +20,7 @@ mod KeptLemmas
 mod StampLemmas
 -- Finding an event by its key: it is in the last part of a list that does not come after the key
 mod KeyLemmas
--- The order of names, and what the map of their stamps has at a name
-mod NameLemmas
+-- Notes with serials that rise: one that comes, one that goes, and the sweeping out of those without a stamp
+mod RisingLemmas
+-- The stamps by name: of all senders' notes, of the others, and of both
+mod NamesLemmas

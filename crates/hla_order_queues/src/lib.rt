@@ -8,6 +8,7 @@ mod key;
 mod names;
 mod ordered;
 mod receive;
+mod rising;
 mod tso;
 
 pub use control::Control;

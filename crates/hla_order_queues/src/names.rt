@@ -1,70 +1,175 @@
-//! The stamps of a queue's events, by name.
+//! The stamps of a queue's events, by their names.
 
-ghost use Rattle.std.specs.Prelude.{◌≡◌, true, false, cond, None, Some, is_some};
-ghost use Rattle.hla_order_queues.specs.declared.key.EventName.{EventName as NameValue};
-ghost use Rattle.hla_order_queues.specs.Kept.{name_of, name_eq, stamp_at};
+ghost use Rattle.std.specs.Prelude.{◌≡◌, ℕ, ◌<◌, true, None, Some, [], List, length, get_or, is_some};
+ghost use Rattle.std.specs.Bool.{OnTrue, OnFalse};
+ghost use Rattle.hla_order_queues.specs.declared.key.EventName.{EventName};
+ghost use Rattle.hla_order_queues.specs.Kept.{stamp_at};
+ghost use Rattle.hla_order_queues.specs.Names.{noted_at, AreLess, SetsAt};
 
 use crate::key::{EventKey, EventName};
-use hla_base::Ticks;
+use crate::rising::Rising;
+use hla_base::{FederateNo, MAX_JOINS, Ticks};
 use std::alloc::Global;
 use std::collections::BTreeMap;
 use std::marker::Model;
 
-/// The stamps of events by name. Contracts see them as a list in no order that is told, and ask it for the stamp at a name.
+/// The stamps of a queue's events, by name. Contracts see entries, of which the first with a name has its stamp.
 #[derive(Debug, Drop)]
 pub(crate) struct Names {
-    stamps: BTreeMap<EventName, Ticks>,
+    /// At each sender's number its events, as far as their serials rose as they were put. On a wire that is first in, first
+    /// out, all do, and then an event comes at the end of a list and mostly goes at the front: neither looks for it.
+    rising: Vec<Rising>,
+    /// The events whose serials did not rise, and those of senders whose numbers are greater than a federate's.
+    others: BTreeMap<EventName, Ticks>,
+    alloc: Global,
 }
 
 impl Model for Names {
     ghost use Rattle.std.specs.Prelude.{List, ℕ};
     ghost use Rattle.hla_order_queues.specs.declared.key.EventName.{EventName};
+    ghost use Rattle.hla_order_queues.specs.Names.{entries_of};
 
     ghost Value = { List (EventName × ℕ) };
 
-    ghost view = { λ q. q.stamps.entries };
+    ghost view = { λ q. entries_of q.rising.items q.others.entries };
 }
 
 impl Names {
-    /// No names; it takes no memory.
+    /// No stamps; it takes no memory.
     pub fn new(alloc: Global) -> Names
-        ensures { (n : NameValue) → stamp_at result n ≡ None }
+        ensures { (n : EventName) → stamp_at result n ≡ None }
     {
         Names {
-            stamps: BTreeMap::new(alloc),
+            rising: Vec::new(alloc),
+            others: BTreeMap::new(alloc),
+            alloc,
         }
     }
 
-    /// Whether there is a stamp at the name. It looks at a logarithm of the names.
+    /// Whether the event with this name is there. It looks at a logarithm of the events; in its sender's list a serial that is
+    /// greater than all needs no look.
     pub fn has(&self, name: EventName) -> bool
         ensures { result ≡ is_some (stamp_at self.now name) }
     {
-        self.stamps.contains_key(&name)
+        noted(&self.rising, name).is_some() || self.others.contains_key(&name)
     }
 
-    /// Puts the stamp of a key at its name, at which there is none; false, and all is as it was, where memory for it was
-    /// refused. The time grows with the logarithm of the names.
+    /// Puts an event's stamp at its name, where nothing is; false where memory for it was refused, and then all stays as it
+    /// is. Where the serial is greater than those of the sender's events before, it costs the same however many there are,
+    /// but for the growth of the room, for which each event pays a share; else it looks at a logarithm of them.
     pub fn put(&mut self, key: EventKey) -> bool
-        requires { stamp_at self.old (name_of key) ≡ None }
-        ensures noted { result ≡ true → (n : NameValue) → stamp_at self.new n ≡ cond (name_eq (name_of key) n) (Some key.stamp) (stamp_at self.old n) }
-        ensures refused { result ≡ false → (n : NameValue) → stamp_at self.new n ≡ stamp_at self.old n }
+        requires { stamp_at self.old (record { sender = key.sender; serial = key.serial }) ≡ None }
+        ensures put { OnTrue result (SetsAt (stamp_at self.old) (stamp_at self.new)
+            (record { sender = key.sender; serial = key.serial }) (Some key.stamp)) }
+        ensures refused { OnFalse result ((n : EventName) → stamp_at self.new n ≡ stamp_at self.old n) }
     {
-        self.stamps.insert(key.name(), key.stamp).is_ok()
+        if !reach(&mut self.rising, key.sender, self.alloc) {
+            return false;
+        }
+        if rises(&self.rising, key) {
+            push(&mut self.rising, key)
+        } else {
+            insert(&mut self.others, key)
+        }
     }
 
-    /// Takes the stamp at the name out, if there is one. It takes no memory, and time that grows with the logarithm of the
-    /// names.
+    /// Takes the stamp at a name, if the event is there. It takes no memory. Where the event is the first of its sender's it
+    /// costs the same however many there are; else it looks at a logarithm of them. What is swept out then was paid for
+    /// by the events that were put and taken before.
     pub fn take(&mut self, name: EventName) -> Option<Ticks>
-        ensures taken { result ≡ stamp_at self.old name }
-        ensures left { (n : NameValue) → stamp_at self.new n ≡ cond (name_eq name n) None (stamp_at self.old n) }
+        ensures found { result ≡ stamp_at self.old name }
+        ensures rest { SetsAt (stamp_at self.old) (stamp_at self.new) name None }
     {
-        self.stamps.remove(&name)
+        let stamp = take_noted(&mut self.rising, name);
+        let other = take_other(&mut self.others, name);
+        stamp.or(other)
     }
 
-    /// Takes all names out.
+    /// Takes all stamps out, and gives their memory back; the cost grows with the events.
     pub fn clear(&mut self)
-        ensures { (n : NameValue) → stamp_at self.new n ≡ None }
+        ensures { (n : EventName) → stamp_at self.new n ≡ None }
     {
-        self.stamps.clear();
+        self.rising.clear();
+        self.others.clear();
     }
+}
+
+/// The stamp that is noted at a name.
+fn noted(rising: &[Rising], name: EventName) -> Option<Ticks>
+    ensures { result ≡ noted_at rising.now name }
+{
+    match rising.get(name.sender as usize) {
+        Some(events) => events.get(name.serial),
+        None => None,
+    }
+}
+
+/// Makes the list as long as a sender's number needs, if it is one that a federate has; false where memory for it was
+/// refused.
+fn reach(rising: &mut Vec<Rising>, sender: FederateNo, alloc: Global) -> bool
+    ensures { (n : EventName) → noted_at rising.new.items n ≡ noted_at rising.old.items n }
+{
+    let place = sender as usize;
+    if place > MAX_JOINS {
+        return true;
+    }
+    for _ in rising.len()..place + 1 {
+        let Ok(()) = rising.push(Rising::new(alloc)) else {
+            return false;
+        };
+    }
+    true
+}
+
+/// Whether the sender of an event has a list, all of whose serials are less than the event's.
+fn rises(rising: &[Rising], key: EventKey) -> bool
+    ensures within { result ≡ true → key.sender < length rising.now }
+    ensures less { result ≡ true → AreLess key.serial (get_or rising.now key.sender []) }
+{
+    match rising.get(key.sender as usize) {
+        Some(events) => events.is_below(key.serial),
+        None => false,
+    }
+}
+
+/// Notes an event behind its sender's others, whose serials are all less; false where memory for it was refused.
+fn push(rising: &mut Vec<Rising>, key: EventKey) -> bool
+    requires within { key.sender < length rising.old.items }
+    requires less { AreLess key.serial (get_or rising.old.items key.sender []) }
+    ensures put { OnTrue result (SetsAt (noted_at rising.old.items) (noted_at rising.new.items)
+        (record { sender = key.sender; serial = key.serial }) (Some key.stamp)) }
+    ensures refused { OnFalse result ((n : EventName) → noted_at rising.new.items n ≡ noted_at rising.old.items n) }
+{
+    rising[key.sender as usize].push(key.serial, key.stamp)
+}
+
+/// Puts an event's stamp among the others; false where memory for it was refused.
+fn insert(others: &mut BTreeMap<EventName, Ticks>, key: EventKey) -> bool
+    ensures put { OnTrue result (SetsAt (stamp_at others.old.entries) (stamp_at others.new.entries)
+        (record { sender = key.sender; serial = key.serial }) (Some key.stamp)) }
+    ensures refused { OnFalse result (others.new.entries ≡ others.old.entries) }
+{
+    others.insert(key.name(), key.stamp).is_ok()
+}
+
+/// Takes the stamp that is noted at a name.
+fn take_noted(rising: &mut Vec<Rising>, name: EventName) -> Option<Ticks>
+    ensures found { result ≡ noted_at rising.old.items name }
+    ensures rest { SetsAt (noted_at rising.old.items) (noted_at rising.new.items) name None }
+{
+    match rising.get_mut(name.sender as usize) {
+        Some(events) => events.take(name.serial),
+        None => None,
+    }
+}
+
+/// Takes the stamp at a name among the others.
+fn take_other(others: &mut BTreeMap<EventName, Ticks>, name: EventName) -> Option<Ticks>
+    ensures found { result ≡ stamp_at others.old.entries name }
+    ensures rest { SetsAt (stamp_at others.old.entries) (stamp_at others.new.entries) name None }
+{
+    if others.is_empty() {
+        return None;
+    }
+    others.remove(&name)
 }

@@ -1,6 +1,11 @@
--- The map is asked by the order of names.
-use Rattle.hla_order_queues.proofs.NameLemmas.{has_at}
+-- The name is among what is noted, or among the others.
+use Rattle.hla_order_queues.proofs.NamesLemmas.{has_noted, has_other}
 use Rattle.hla_order_queues.proofs.names.Names.has.Goals as goal
 
-pub returns : goal.returns
-returns c = has_at c.self.inside.stamps.entries c.args.self.now c.args.name c.contains_key.result c.self.view_is c.contains_key.ensures
+pub returns-then-is_some : goal.returns-then-is_some
+returns-then-is_some c =
+    has_noted c.self.inside.rising.items c.self.inside.others.entries c.args.self.now c.args.name c.is_some.result c.noted.result c.self.view_is (rw c.deref.ensures.value at c.noted.ensures) c.is_some.ensures c.if-is_some.true
+
+pub returns-else-is_some : goal.returns-else-is_some
+returns-else-is_some c =
+    has_other c.self.inside.rising.items c.self.inside.others.entries c.args.self.now c.args.name c.is_some.result c.contains_key.result c.noted.result c.self.view_is (rw c.deref.ensures.value at c.noted.ensures) c.is_some.ensures c.if-is_some.false c.contains_key.ensures

@@ -1,10 +1,24 @@
--- The map has the stamp at the name, or is as it was.
-use Rattle.hla_order_queues.specs.Kept.{name_of}
-use Rattle.hla_order_queues.proofs.NameLemmas.{put_if, refused_if}
+-- The stamp is noted, or put among the others; a list that was made before has nothing.
+use Rattle.std.proofs.Common.{refl, ◌∙◌}
+use Rattle.hla_order_queues.proofs.NamesLemmas.{when_true, when_false, put_noted, put_other, put_none}
 use Rattle.hla_order_queues.proofs.names.Names.put.Goals as goal
 
-pub returns-clause-noted : goal.returns-clause-noted
-returns-clause-noted c = put_if _ _ _ c.self.inside.stamps.entries c.insert.new.self.entries c.args.self.now (name_of c.args.key) c.name.result c.args.key.stamp c.insert.result c.is_ok.result c.self.view_is c.name.ensures c.is_ok.ensures.value c.insert.ensures.updates
+pub returns-then-not-reach-clause-refused : goal.returns-then-not-reach-clause-refused
+returns-then-not-reach-clause-refused c =
+    put_none c.self.inside.rising.items c.reach.new.rising.items c.self.inside.others.entries c.self.inside.others.entries c.args.self.now c.self.view_is c.reach.ensures refl
 
-pub returns-clause-refused : goal.returns-clause-refused
-returns-clause-refused c = refused_if c.self.inside.stamps.entries c.insert.new.self.entries c.args.self.now c.insert.result c.is_ok.result c.self.view_is c.is_ok.ensures.value c.insert.ensures.err
+pub returns-then-rises-clause-put : goal.returns-then-rises-clause-put
+returns-then-rises-clause-put c =
+    when_true c.push.result _ _ (λ sets. put_noted c.self.inside.rising.items c.reach.new.rising.items c.push.new.rising.items c.self.inside.others.entries c.args.self.now (record { sender = c.args.key.sender; serial = c.args.key.serial }) c.args.key.stamp c.self.view_is c.reach.ensures sets) c.push.ensures.put
+
+pub returns-then-rises-clause-refused : goal.returns-then-rises-clause-refused
+returns-then-rises-clause-refused c =
+    when_false c.push.result _ _ (λ same. put_none c.self.inside.rising.items c.push.new.rising.items c.self.inside.others.entries c.self.inside.others.entries c.args.self.now c.self.view_is (λ n. same n ∙ c.reach.ensures n) refl) c.push.ensures.refused
+
+pub returns-else-rises-clause-put : goal.returns-else-rises-clause-put
+returns-else-rises-clause-put c =
+    when_true c.insert.result _ _ (λ sets. put_other c.self.inside.rising.items c.reach.new.rising.items c.self.inside.others.entries c.insert.new.others.entries c.args.self.now (record { sender = c.args.key.sender; serial = c.args.key.serial }) c.args.key.stamp c.self.view_is c.requires c.reach.ensures sets) c.insert.ensures.put
+
+pub returns-else-rises-clause-refused : goal.returns-else-rises-clause-refused
+returns-else-rises-clause-refused c =
+    when_false c.insert.result _ _ (λ kept. put_none c.self.inside.rising.items c.reach.new.rising.items c.self.inside.others.entries c.insert.new.others.entries c.args.self.now c.self.view_is c.reach.ensures kept) c.insert.ensures.refused

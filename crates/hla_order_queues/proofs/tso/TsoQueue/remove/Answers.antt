@@ -8,18 +8,18 @@ use Rattle.hla_order_queues.proofs.tso.TsoQueue.remove.Goals.{In-None}
 
 pub remove_key-requires-clause-there : goal.remove_key-requires-clause-there
 remove_key-requires-clause-there c =
-    sym (c.in-Some.ensures.taken ∙ c.self.invariant.named (record { sender = c.args.sender; serial = c.args.serial }))
+    sym (c.in-Some.ensures.found ∙ c.self.invariant.named (record { sender = c.args.sender; serial = c.args.serial }))
 
 pub invariant_of-self : goal.invariant_of-self
 invariant_of-self c =
-    named_removed c.self.inside.names c.take.new.self (record { sender = c.args.sender; serial = c.args.serial }) c.self.inside.events c.remove_key.new.self c.self.invariant c.take.ensures.left c.remove_key.ensures.rest
+    named_removed c.self.inside.names c.take.new.self (record { sender = c.args.sender; serial = c.args.serial }) c.self.inside.events c.remove_key.new.self c.self.invariant c.take.ensures.rest c.remove_key.ensures.rest
 
 missed : (c : In-None) → find_event c.args.sender c.args.serial c.self.inside.events ≡ None
-missed c = no_name c.self.inside.names c.self.inside.events c.args.sender c.args.serial c.self.invariant c.in-None.ensures.taken
+missed c = no_name c.self.inside.names c.self.inside.events c.args.sender c.args.serial c.self.invariant c.in-None.ensures.found
 
 pub invariant_of-self-in-None : goal.invariant_of-self-in-None
 invariant_of-self-in-None c =
-    named_missed c.self.inside.names c.take.new.self (record { sender = c.args.sender; serial = c.args.serial }) c.self.inside.events c.self.invariant c.take.ensures.left (missed (goal.at.invariant_of-self-in-None c).In-None)
+    named_missed c.self.inside.names c.take.new.self (record { sender = c.args.sender; serial = c.args.serial }) c.self.inside.events c.self.invariant c.take.ensures.rest (missed (goal.at.invariant_of-self-in-None c).In-None)
 
 pub returns-in-None-clause-found : goal.returns-in-None-clause-found
 returns-in-None-clause-found c = sym (ap (find_event c.args.sender c.args.serial) (sym c.self.view_is) ∙ missed (goal.at.returns-in-None-clause-found c).In-None)

@@ -4,5 +4,5 @@ use Rattle.hla_order_queues.proofs.tso.TsoQueue.take_least.Goals as goal
 
 pub invariant_of-self : goal.invariant_of-self
 invariant_of-self c =
-    named_removed c.self.inside.names c.take.new.self c.name.result c.self.inside.events c.take_first.new.self c.self.invariant c.take.ensures.left
+    named_removed c.self.inside.names c.take.new.self c.name.result c.self.inside.events c.take_first.new.self c.self.invariant c.take.ensures.rest
     (first_gone c.in-Some.event c.of.result c.name.result c.self.inside.events c.take_first.new.self c.in-Some.ensures.first c.of.ensures c.name.ensures c.take_first.ensures.rest)

@@ -1,0 +1,238 @@
+//! The stamps of one sender's events, by serials that rise.
+
+ghost use Rattle.std.specs.Prelude.{◌≡◌, ℕ, true, cond, eqb, None, Some, []};
+ghost use Rattle.std.specs.Bool.{OnTrue, OnFalse};
+ghost use Rattle.std.specs.List.{prefix_len};
+ghost use Rattle.hla_order_queues.specs.Names.{noted, AreRising, AreLess, Keeps, Takes, is_first_none, is_first_note, is_note_before};
+
+use hla_base::{Serial, Ticks};
+use std::alloc::Global;
+use std::collections::VecDeque;
+use std::marker::Model;
+
+/// How many more notes of events that are gone than of others there may be before they are swept out.
+const SPARE_NOTES: usize = 32;
+
+/// How much room is never given back.
+const SPARE_ROOM: usize = 64;
+
+/// An event's stamp, at its serial; `None` where the event is gone.
+#[derive(Clone, Copy, Debug)]
+pub(crate) struct Note {
+    pub serial: Serial,
+    pub stamp: Option<Ticks>,
+}
+
+/// The stamps of one sender's events, by serials that rise from note to note. Contracts see the notes.
+#[derive(Debug, Drop)]
+pub(crate) struct Rising {
+    notes: VecDeque<Note>,
+    /// About how many notes are of events that are gone: it tells when to sweep them out, and nothing else.
+    gone: usize,
+}
+
+impl Model for Rising {
+    ghost use Rattle.std.specs.Prelude.{List};
+    ghost use Rattle.hla_order_queues.specs.declared.rising.Note.{Note};
+    ghost use Rattle.hla_order_queues.specs.Names.{AreRising};
+
+    ghost Value = { List Note };
+
+    ghost view = { λ r. r.notes.items };
+
+    ghost invariant = { λ r. AreRising r.notes.items };
+}
+
+impl Rising {
+    /// No stamps; it takes no memory.
+    pub fn new(alloc: Global) -> Rising
+        ensures { result ≡ [] }
+    {
+        Rising {
+            notes: VecDeque::new(alloc),
+            gone: 0,
+        }
+    }
+
+    /// Whether all serials that are noted are less than this one.
+    pub fn is_below(&self, serial: Serial) -> bool
+        ensures { result ≡ true → AreLess serial self.now }
+    {
+        match self.notes.back() {
+            Some(last) => last.serial < serial,
+            None => true,
+        }
+    }
+
+    /// Notes a stamp at a serial that is greater than all others; false where memory for it was refused. It costs the same
+    /// however many there are, but for the growth of the room.
+    pub fn push(&mut self, serial: Serial, stamp: Ticks) -> bool
+        requires { AreLess serial self.old }
+        ensures put { (m : ℕ) → OnTrue result (noted m self.new ≡ cond (eqb serial m) (Some stamp) (noted m self.old)) }
+        ensures refused { OnFalse result (self.new ≡ self.old) }
+    {
+        let note = Note {
+            serial,
+            stamp: Some(stamp),
+        };
+        self.notes.push_back(note).is_ok()
+    }
+
+    /// The stamp at a serial, if the event is there. A serial that is greater than all needs no look; else it looks at a
+    /// logarithm of the notes, of which there are few more than twice as many as events.
+    pub fn get(&self, serial: Serial) -> Option<Ticks>
+        ensures { result ≡ noted serial self.now }
+    {
+        if self.is_below(serial) {
+            None
+        } else {
+            stamp_at(&self.notes, place_of(&self.notes, serial), serial)
+        }
+    }
+
+    /// Takes the stamp at a serial, if the event is there. Where it is the first event it costs the same however many there
+    /// are; else it looks at a logarithm of the notes. It sweeps, and gives room back, so seldom that the events that
+    /// were put and taken before have paid for it.
+    pub fn take(&mut self, serial: Serial) -> Option<Ticks>
+        ensures found { result ≡ noted serial self.old }
+        ensures rest { (m : ℕ) → noted m self.new ≡ cond (eqb serial m) None (noted m self.old) }
+    {
+        let stamp = take_from(&mut self.notes, &mut self.gone, serial);
+        tidy(&mut self.notes, &mut self.gone);
+        stamp
+    }
+}
+
+/// The place of the first note with no lesser serial.
+fn place_of(notes: &VecDeque<Note>, serial: Serial) -> usize
+    requires { AreRising notes.now.items }
+    ensures { result ≡ prefix_len (is_note_before serial) notes.now.items }
+{
+    notes.partition_point(|note| note.serial < serial)
+}
+
+/// The stamp in the note at a place, if the note has this serial.
+fn stamp_at(notes: &VecDeque<Note>, place: usize, serial: Serial) -> Option<Ticks>
+    requires rising { AreRising notes.now.items }
+    requires place { place ≡ prefix_len (is_note_before serial) notes.now.items }
+    ensures { result ≡ noted serial notes.now.items }
+{
+    let Some(note) = notes.get(place) else {
+        return None;
+    };
+    if note.serial == serial {
+        note.stamp
+    } else {
+        None
+    }
+}
+
+/// Takes the stamp at a serial, if the event is there.
+fn take_from(notes: &mut VecDeque<Note>, gone: &mut usize, serial: Serial) -> Option<Ticks>
+    requires { AreRising notes.old.items }
+    ensures { Takes serial notes.old.items notes.new.items result }
+{
+    if is_first(notes, serial) {
+        take_first(notes, serial)
+    } else {
+        let stamp = mark(notes, serial);
+        if stamp.is_some() {
+            *gone = gone.saturating_add(1);
+        }
+        stamp
+    }
+}
+
+/// Whether the first note has this serial.
+fn is_first(notes: &VecDeque<Note>, serial: Serial) -> bool
+    ensures { result ≡ is_first_note serial notes.now.items }
+{
+    match notes.front() {
+        Some(note) => note.serial == serial,
+        None => false,
+    }
+}
+
+/// Takes the first note, which has this serial, and gives its stamp.
+fn take_first(notes: &mut VecDeque<Note>, serial: Serial) -> Option<Ticks>
+    requires rising { AreRising notes.old.items }
+    requires first { is_first_note serial notes.old.items ≡ true }
+    ensures { Takes serial notes.old.items notes.new.items result }
+{
+    match notes.pop_front() {
+        Some(note) => note.stamp,
+        None => None,
+    }
+}
+
+/// Takes the stamp out of the note with this serial, if there is one. The note stays, so that no other moves.
+fn mark(notes: &mut VecDeque<Note>, serial: Serial) -> Option<Ticks>
+    requires { AreRising notes.old.items }
+    ensures { Takes serial notes.old.items notes.new.items result }
+{
+    let place = place_of(notes, serial);
+    let stamp = stamp_at(notes, place, serial);
+    if stamp.is_some() {
+        notes[place] = Note {
+            serial,
+            stamp: None,
+        };
+    }
+    stamp
+}
+
+/// Takes notes of events that are gone out, if there are any, and gives room back.
+fn tidy(notes: &mut VecDeque<Note>, gone: &mut usize)
+    requires { AreRising notes.old.items }
+    ensures { Keeps notes.old.items notes.new.items }
+{
+    if *gone > 0 {
+        drop_first(notes, gone);
+        drop_many(notes, gone);
+    }
+    give_back(notes);
+}
+
+/// Takes the notes before the first event out.
+fn drop_first(notes: &mut VecDeque<Note>, gone: &mut usize)
+    requires { AreRising notes.old.items }
+    ensures { Keeps notes.old.items notes.new.items }
+{
+    while is_first_gone(notes) {
+        let _ = notes.pop_front();
+        *gone = gone.saturating_sub(1);
+    }
+}
+
+/// Takes all notes of events that are gone out, where they are many. It goes through all notes, which the marking of each
+/// that is gone has paid for.
+fn drop_many(notes: &mut VecDeque<Note>, gone: &mut usize)
+    requires { AreRising notes.old.items }
+    ensures { Keeps notes.old.items notes.new.items }
+{
+    if gone.saturating_sub(SPARE_NOTES) > notes.len().saturating_sub(*gone) {
+        notes.retain(|note| note.stamp.is_some());
+        *gone = 0;
+    }
+}
+
+/// Whether the first note is of an event that is gone.
+fn is_first_gone(notes: &VecDeque<Note>) -> bool
+    ensures { result ≡ is_first_none notes.now.items }
+{
+    match notes.front() {
+        Some(note) => note.stamp.is_none(),
+        None => false,
+    }
+}
+
+/// Gives room back where there is much more than the notes need; if that is refused all stays as it is.
+fn give_back(notes: &mut VecDeque<Note>)
+    ensures { notes.new.items ≡ notes.old.items }
+{
+    let room = notes.capacity();
+    let len = notes.len();
+    if room > SPARE_ROOM && room / 4 > len {
+        notes.shrink_to(len * 2);
+    }
+}
