@@ -88,7 +88,7 @@ rising_there g (suc i) n (qs ∷ rest) h =
     ∙ rising_there (suc g) i n rest (omega arith)
 
 -- what is at a name is what is noted, or else what the others have
-pub stamp_there : (rising : List (List Note)) (others : List (EventName × ℕ)) (n : EventName) → stamp_at (entries_of rising others) n ≡ option_or (noted_at rising n) (stamp_at others n)
+stamp_there : (rising : List (List Note)) (others : List (EventName × ℕ)) (n : EventName) → stamp_at (entries_of rising others) n ≡ option_or (noted_at rising n) (stamp_at others n)
 unfolding entries_of
 stamp_there rising others n =
     lookup-append (name_eq n) (rising_entries 0 rising) others
@@ -103,7 +103,7 @@ is_eq-ordering_then Greater p = refl
 is_eq-nat_cmp : (a b : ℕ) → is_eq (nat_cmp a b) ≡ eqb a b
 is_eq-nat_cmp a b = grind (arith, nat_tests)
 
-pub is_eq-name_cmp : (k n : EventName) → is_eq (name_cmp k n) ≡ name_eq k n
+is_eq-name_cmp : (k n : EventName) → is_eq (name_cmp k n) ≡ name_eq k n
 is_eq-name_cmp k n = is_eq-ordering_then (nat_cmp k.sender n.sender) (nat_cmp k.serial n.serial) ∙ rw (is_eq-nat_cmp k.sender n.sender, is_eq-nat_cmp k.serial n.serial)
 
 lookup_alike : (f g : EventName → Bool) (es : List (EventName × ℕ)) → ((k : EventName) → f k ≡ g k) → lookup f es ≡ lookup g es

@@ -1,7 +1,7 @@
 -- Notes with serials that rise: one that comes, one that goes, and the sweeping out of those without a stamp
 use Rattle.std.proofs.Common.{◌≡◌, ℕ, zero, suc, ◌+◌, ◌-◌, ◌<◌, ◌≤◌, Bool, true, false, cond, eqb, ltb, get_or, set, filter, List, [], ◌∷◌, ◌++◌, length, drop, Option, Some, None, is_some, is_none, refl, sym, ap, subst, ◌∙◌, arith}
 use Rattle.std.proofs.lemmas.Bool.Decides.{nat_tests}
-use Rattle.std.specs.Bool.{OnTrue}
+use Rattle.std.specs.Bool.{MatchBool, OnTrue}
 use Rattle.std.specs.List.{AllByRecursion, prefix_len, slice_get}
 use Rattle.std.specs.Option.{option_or}
 use Rattle.hla_order_queues.specs.declared.rising.Note.{Note}
@@ -44,7 +44,7 @@ exchanged true false s t o apart = refl
 exchanged false true s t o apart = refl
 exchanged false false s t o apart = refl
 
-pub noted_push : (m s t : ℕ) (qs : List Note) → AreLess s qs → noted m (qs ++ (record { serial = s; stamp = Some t }) ∷ []) ≡ cond (eqb s m) (Some t) (noted m qs)
+noted_push : (m s t : ℕ) (qs : List Note) → AreLess s qs → noted m (qs ++ (record { serial = s; stamp = Some t }) ∷ []) ≡ cond (eqb s m) (Some t) (noted m qs)
 unfolding noted
 noted_push m s t [] h = refl
 noted_push m s t (q ∷ qs) h =
@@ -55,12 +55,12 @@ All-push : (P : Note → Type 0) (qs : List Note) (q : Note) → AllByRecursion 
 All-push P [] q h p = (p, tt)
 All-push P (r ∷ qs) q h p = (h.0, All-push P qs q h.1 p)
 
-pub rising_push : (q : Note) (qs : List Note) → AreRising qs → AreLess q.serial qs → AreRising (qs ++ q ∷ [])
+rising_push : (q : Note) (qs : List Note) → AreRising qs → AreLess q.serial qs → AreRising (qs ++ q ∷ [])
 unfolding AreRising
 rising_push q [] h less = (tt, tt)
 rising_push q (r ∷ qs) h less = (All-push (λ t. r.serial < t.serial) qs q h.0 less.0, rising_push q qs h.1 less.1)
 
-pub all_less : (m : ℕ) (qs : List Note) (last : Note) → AreRising qs → last ≡ get_or qs (length qs - 1) last → last.serial < m → AreLess m qs
+all_less : (m : ℕ) (qs : List Note) (last : Note) → AreRising qs → last ≡ get_or qs (length qs - 1) last → last.serial < m → AreLess m qs
 unfolding AreRising
 all_less m [] last h is lt = tt
 all_less m (q ∷ []) last h is lt = let e : q.serial ≡ last.serial = ap (λ (r : Note). r.serial) (sym is) in (omega arith, tt)
@@ -75,7 +75,7 @@ unfolding AreRising Falls
 falls_rising m [] h = tt
 falls_rising m (q ∷ qs) h = (λ behind. All-implies (λ r lt. let le = not_less q.serial m behind in fails r.serial m (omega arith)) qs h.0, falls_rising m qs h.1)
 
-pub none_greater : (m n : ℕ) (qs : List Note) → m ≤ n → AllByRecursion (λ q. n < q.serial) qs → noted m qs ≡ None
+none_greater : (m n : ℕ) (qs : List Note) → m ≤ n → AllByRecursion (λ q. n < q.serial) qs → noted m qs ≡ None
 unfolding noted
 none_greater m n [] le h = refl
 none_greater m n (q ∷ qs) le h = let lt = h.0 in rw (turned m q.serial (omega arith)) (none_greater m n qs le h.1)
@@ -100,7 +100,7 @@ there_if true m q qs is h later =
     rw (n, other q.serial m (is_less q.serial m is)) later
 there_if false m q qs is h later = here_if (eqb q.serial m) q.stamp (noted m qs) (none_greater m q.serial qs (not_less q.serial m is) h.0)
 
-pub noted_there : (m : ℕ) (qs : List Note) → AreRising qs → noted m qs ≡ stamp_in m (slice_get qs (prefix_len (is_note_before m) qs))
+noted_there : (m : ℕ) (qs : List Note) → AreRising qs → noted m qs ≡ stamp_in m (slice_get qs (prefix_len (is_note_before m) qs))
 unfolding noted AreRising
 noted_there m [] h = refl
 noted_there m (q ∷ qs) h = there_if (ltb q.serial m) m q qs refl h (noted_there m qs h.1)
@@ -111,7 +111,7 @@ without_if true k q qs is h = let e = same q.serial k is in none_greater k q.ser
 without_if false k q qs is h = refl
 
 -- the first note goes
-pub without_first : (q : Note) (qs : List Note) → AreRising (q ∷ qs) → Takes q.serial (q ∷ qs) qs q.stamp
+without_first : (q : Note) (qs : List Note) → AreRising (q ∷ qs) → Takes q.serial (q ∷ qs) qs q.stamp
 unfolding noted AreRising
 without_first q qs h = record {
   found = sym (rw (itself q.serial, none_greater q.serial q.serial qs (omega arith) h.0) (or_none q.stamp));
@@ -175,7 +175,7 @@ mark_if false t m q qs is h found later =
       rising = (subst P e h.0, h.1);
     }
 
-pub marked : (t m : ℕ) (qs : List Note) → AreRising qs → noted m qs ≡ Some t → Takes m qs (set qs (prefix_len (is_note_before m) qs) (gone m)) (Some t)
+marked : (t m : ℕ) (qs : List Note) → AreRising qs → noted m qs ≡ Some t → Takes m qs (set qs (prefix_len (is_note_before m) qs) (gone m)) (Some t)
 unfolding noted AreRising
 marked t m [] h found = absurd (nothing m t found)
   where
@@ -215,7 +215,7 @@ unfolding AreRising
 swept [] h = record { same = λ m. refl; rising = tt }
 swept (q ∷ qs) h = swept_if q.stamp q qs (filter is_there qs) refl h (All-filter (λ r. q.serial < r.serial) qs h.0) (swept qs h.1)
 
-pub first_swept : (qs : List Note) → AreRising qs → is_first_none qs ≡ true → Keeps qs (drop 1 qs)
+first_swept : (qs : List Note) → AreRising qs → is_first_none qs ≡ true → Keeps qs (drop 1 qs)
 unfolding AreRising
 first_swept [] h none = absurd (cc)
 first_swept (q ∷ qs) h none = first_if q.stamp q qs refl none h
@@ -224,14 +224,8 @@ first_swept (q ∷ qs) h none = first_if q.stamp q qs refl none h
     first_if None q qs is none h = swept_if None q qs qs is h h.0 (record { same = λ m. refl; rising = h.1 })
     first_if (Some t) q qs is none h = absurd (cc)
 
-pub keeps_then : (ps qs rs : List Note) → Keeps ps qs → Keeps qs rs → Keeps ps rs
+keeps_then : (ps qs rs : List Note) → Keeps ps qs → Keeps qs rs → Keeps ps rs
 keeps_then ps qs rs h g = record { same = λ m. g.same m ∙ h.same m; rising = g.rising }
-
-pub takes_then : (m : ℕ) (ps qs rs : List Note) (t : Option ℕ) → Takes m ps qs t → Keeps qs rs → Takes m ps rs t
-takes_then m ps qs rs t h g = record { found = h.found; rest = λ k. g.same k ∙ h.rest k; rising = g.rising }
-
-pub keeps_itself : (qs : List Note) → AreRising qs → Keeps qs qs
-keeps_itself qs h = record { same = λ m. refl; rising = h }
 
 -- ---- what the functions have at hand
 got : (qs : List Note) (i : ℕ) (q : Note) → i < length qs → q ≡ get_or qs i q → slice_get qs i ≡ Some q
@@ -307,10 +301,24 @@ push_says b ok s t qs rs now same_ok view h less is m =
     let L : List Note → Type 0 = λ zs. AreLess s zs in
     on_true b (noted m rs ≡ cond (eqb s m) (Some t) (noted m now)) (λ yes. (pushed ok s t qs rs h (subst L (sym view) less) is).1 m (sym same_ok ∙ yes) ∙ ap (λ zs. cond (eqb s m) (Some t) (noted m zs)) view)
 
-pub below_says : (m i : ℕ) (qs now : List Note) (last : Note) → AreRising qs → qs ≡ now → i ≡ length qs - 1 → last ≡ get_or qs i last → ltb last.serial m ≡ true → AreLess m now
-below_says m i qs now last h view place is lt =
+less_at : (m i : ℕ) (qs : List Note) (q : Note) → AreLess m qs → i < length qs → q ≡ get_or qs i q → q.serial < m
+less_at m i [] q h lt is = absurd (omega arith)
+less_at m zero (r ∷ qs) q h lt is = let S : Note → Type 0 = λ p. p.serial < m in subst S (sym is) h.0
+less_at m (suc i) (r ∷ qs) q h lt is = less_at m i qs q h.1 (omega arith) is
+
+below_if : (b : Bool) (m i : ℕ) (qs now : List Note) (last : Note) → AreRising qs → qs ≡ now → i < length qs → i ≡ length qs - 1 → last ≡ get_or qs i last → ltb last.serial m ≡ b → MatchBool b (AreLess m now) (AreLess m now → ⊥)
+below_if true m i qs now last h view lt place is less =
     let L : List Note → Type 0 = λ zs. AreLess m zs in
-    subst L view (all_less m qs last h (is ∙ ap (λ n. get_or qs n last) place) (is_less last.serial m lt))
+    subst L view (all_less m qs last h (is ∙ ap (λ n. get_or qs n last) place) (is_less last.serial m less))
+below_if false m i qs now last h view lt place is less =
+    λ below.
+    let L : List Note → Type 0 = λ zs. AreLess m zs in
+    let a = not_less last.serial m less in
+    let b = less_at m i qs last (subst L (sym view) below) lt is in
+    omega arith
+
+pub below_says : (m i : ℕ) (qs now : List Note) (last : Note) → AreRising qs → qs ≡ now → i < length qs → i ≡ length qs - 1 → last ≡ get_or qs i last → MatchBool (ltb last.serial m) (AreLess m now) (AreLess m now → ⊥)
+below_says m i qs now last h view lt place is = below_if (ltb last.serial m) m i qs now last h view lt place is refl
 
 pub swept_at : (qs rs : List Note) → AreRising qs → rs ≡ filter is_there qs → Keeps qs rs
 swept_at qs rs h is = let P : List Note → Type 0 = λ zs. Keeps qs zs in subst P (sym is) (swept qs h)

@@ -1,5 +1,5 @@
 -- How the stamps of events are kept by their names: each sender's by serials that rise
-use Rattle.std.specs.Prelude.{◌≡◌, ℕ, suc, ◌<◌, eqb, ltb, cond, Bool, false, Option, Some, None, is_none, get_or, List, [], ◌∷◌, ◌++◌}
+use Rattle.std.specs.Prelude.{◌≡◌, ℕ, suc, ◌<◌, eqb, ltb, cond, Bool, false, Option, Some, None, is_none, get_or, List, [], ◌∷◌, ◌++◌, length}
 use Rattle.std.specs.List.{AllByRecursion}
 use Rattle.std.specs.Option.{option_or}
 use Rattle.std.specs.declared.cmp.Ordering.{Ordering}
@@ -49,6 +49,10 @@ pub record Takes (m : ℕ) (old new : List Note) (stamp : Option ℕ) : Type 0 w
 -- the stamp at a name, among the notes of all senders
 abbrev pub noted_at : List (List Note) → EventName → Option ℕ
 noted_at rising n = noted n.serial (get_or rising n.sender [])
+
+-- a sender has a list, all of whose serials are less than this one
+abbrev pub Rises : List (List Note) → ℕ → ℕ → Type 0
+Rises rising g m = (g < length rising) × AreLess m (get_or rising g [])
 
 -- what is noted of a sender, by name
 abbrev pub with_entry : EventName → Option ℕ → List (EventName × ℕ) → List (EventName × ℕ)

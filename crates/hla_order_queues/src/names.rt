@@ -1,10 +1,10 @@
 //! The stamps of a queue's events, by their names.
 
-ghost use Rattle.std.specs.Prelude.{◌≡◌, ℕ, ◌<◌, true, None, Some, [], List, length, get_or, is_some};
+ghost use Rattle.std.specs.Prelude.{◌≡◌, ℕ, ◌<◌, ◌≤◌, None, Some, List, length, is_some, MatchBool};
 ghost use Rattle.std.specs.Bool.{OnTrue, OnFalse};
 ghost use Rattle.hla_order_queues.specs.declared.key.EventName.{EventName};
 ghost use Rattle.hla_order_queues.specs.Kept.{stamp_at};
-ghost use Rattle.hla_order_queues.specs.Names.{noted_at, AreLess, SetsAt};
+ghost use Rattle.hla_order_queues.specs.Names.{noted_at, Rises, SetsAt};
 
 use crate::key::{EventKey, EventName};
 use crate::rising::Rising;
@@ -46,8 +46,8 @@ impl Names {
         }
     }
 
-    /// Whether the event with this name is there. It looks at a logarithm of the events; in its sender's list a serial that is
-    /// greater than all needs no look.
+    /// Whether the event with this name is there. It looks at a logarithm of the events; in its sender's list a serial that
+    /// is greater than all needs no look.
     pub fn has(&self, name: EventName) -> bool
         ensures { result ≡ is_some (stamp_at self.now name) }
     {
@@ -73,9 +73,9 @@ impl Names {
         }
     }
 
-    /// Takes the stamp at a name, if the event is there. It takes no memory. Where the event is the first of its sender's it
-    /// costs the same however many there are; else it looks at a logarithm of them. What is swept out then was paid for
-    /// by the events that were put and taken before.
+    /// Takes the stamp at a name, if the event is there; it cannot fail. Where the event is the first of its sender's list,
+    /// and all events are in lists, it costs the same however many there are; else it looks at a logarithm of them. Where
+    /// it sweeps, or gives room back, the events that were put and taken before have paid for it.
     pub fn take(&mut self, name: EventName) -> Option<Ticks>
         ensures found { result ≡ stamp_at self.old name }
         ensures rest { SetsAt (stamp_at self.old) (stamp_at self.new) name None }
@@ -85,7 +85,7 @@ impl Names {
         stamp.or(other)
     }
 
-    /// Takes all stamps out, and gives their memory back; the cost grows with the events.
+    /// Takes all stamps out, and gives the memory of the lists back; the cost grows with the events.
     pub fn clear(&mut self)
         ensures { (n : EventName) → stamp_at self.new n ≡ None }
     {
@@ -107,7 +107,8 @@ fn noted(rising: &[Rising], name: EventName) -> Option<Ticks>
 /// Makes the list as long as a sender's number needs, if it is one that a federate has; false where memory for it was
 /// refused.
 fn reach(rising: &mut Vec<Rising>, sender: FederateNo, alloc: Global) -> bool
-    ensures { (n : EventName) → noted_at rising.new.items n ≡ noted_at rising.old.items n }
+    ensures same { (n : EventName) → noted_at rising.new.items n ≡ noted_at rising.old.items n }
+    ensures reached { OnTrue result (sender ≤ MAX_JOINS → sender < length rising.new.items) }
 {
     let place = sender as usize;
     if place > MAX_JOINS {
@@ -123,8 +124,7 @@ fn reach(rising: &mut Vec<Rising>, sender: FederateNo, alloc: Global) -> bool
 
 /// Whether the sender of an event has a list, all of whose serials are less than the event's.
 fn rises(rising: &[Rising], key: EventKey) -> bool
-    ensures within { result ≡ true → key.sender < length rising.now }
-    ensures less { result ≡ true → AreLess key.serial (get_or rising.now key.sender []) }
+    ensures { MatchBool result (Rises rising.now key.sender key.serial) (Rises rising.now key.sender key.serial → ⊥) }
 {
     match rising.get(key.sender as usize) {
         Some(events) => events.is_below(key.serial),
@@ -134,8 +134,7 @@ fn rises(rising: &[Rising], key: EventKey) -> bool
 
 /// Notes an event behind its sender's others, whose serials are all less; false where memory for it was refused.
 fn push(rising: &mut Vec<Rising>, key: EventKey) -> bool
-    requires within { key.sender < length rising.old.items }
-    requires less { AreLess key.serial (get_or rising.old.items key.sender []) }
+    requires { Rises rising.old.items key.sender key.serial }
     ensures put { OnTrue result (SetsAt (noted_at rising.old.items) (noted_at rising.new.items)
         (record { sender = key.sender; serial = key.serial }) (Some key.stamp)) }
     ensures refused { OnFalse result ((n : EventName) → noted_at rising.new.items n ≡ noted_at rising.old.items n) }

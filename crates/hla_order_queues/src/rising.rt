@@ -1,6 +1,6 @@
 //! The stamps of one sender's events, by serials that rise.
 
-ghost use Rattle.std.specs.Prelude.{◌≡◌, ℕ, true, cond, eqb, None, Some, []};
+ghost use Rattle.std.specs.Prelude.{◌≡◌, ℕ, true, cond, eqb, None, Some, [], MatchBool};
 ghost use Rattle.std.specs.Bool.{OnTrue, OnFalse};
 ghost use Rattle.std.specs.List.{prefix_len};
 ghost use Rattle.hla_order_queues.specs.Names.{noted, AreRising, AreLess, Keeps, Takes, is_first_none, is_first_note, is_note_before};
@@ -56,7 +56,7 @@ impl Rising {
 
     /// Whether all serials that are noted are less than this one.
     pub fn is_below(&self, serial: Serial) -> bool
-        ensures { result ≡ true → AreLess serial self.now }
+        ensures { MatchBool result (AreLess serial self.now) (AreLess serial self.now → ⊥) }
     {
         match self.notes.back() {
             Some(last) => last.serial < serial,

@@ -3,4 +3,4 @@ use Rattle.hla_order_queues.proofs.RisingLemmas.{none_less}
 use Rattle.hla_order_queues.proofs.rising.Rising.get.Goals as goal
 
 pub returns-then-is_below : goal.returns-then-is_below
-returns-then-is_below c = none_less c.args.serial c.args.self.now (c.is_below.ensures c.if-is_below.true)
+returns-then-is_below c = none_less c.args.serial c.args.self.now c.if-is_below.ensures
