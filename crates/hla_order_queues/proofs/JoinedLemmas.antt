@@ -1,216 +1,180 @@
--- Blocks of events, of which the greatest is first, and the list that they make
-use Rattle.std.proofs.Common.{◌≡◌, ◌↔◌, Result, Ok, Err, ℕ, zero, suc, ◌+◌, ◌-◌, ◌≤◌, ◌<◌, Bool, true, false, cond, set, List, [], ◌∷◌, ◌++◌, length, take, drop, Option, Some, None, refl, sym, ap, subst, ◌∙◌, append_assoc, arith}
-use Rattle.std.proofs.lemmas.List.{append-nil, drop_all, nil_from_length}
-use Rattle.std.specs.Option.{IsSome, MatchOption, option_to_list}
-use Rattle.std.specs.Result.{OnOk, OnErr}
-use Rattle.std.specs.List.{AllByRecursion, prefix_len, slice_get, insert}
+-- Blocks of events under their floors, and the list that they make
+use Rattle.std.proofs.Common.{◌≡◌, ◌<◌, Bool, true, false, List, [], ◌∷◌, ◌++◌, length, Some, refl, sym, ap, subst, ◌∙◌, append_assoc, arith}
+use Rattle.std.proofs.lemmas.Bool.Decides.{nat_tests}
+use Rattle.std.specs.List.{AllByRecursion, slice_get}
 use Rattle.hla_base.specs.declared.content.Event.{Event}
 use Rattle.hla_order_queues.specs.declared.key.EventKey.{EventKey}
 use Rattle.hla_order_queues.specs.Queues.{insert_event}
-use Rattle.hla_order_queues.specs.Kept.{key_of, first_after, IsInOrder, joined, AreFilled, AreBlocks}
+use Rattle.hla_order_queues.specs.Kept.{key_of, is_less, first_after, floor_after, IsInOrder, joined, events_of, AreAfter, AreBelow, AreFloored, AreBlocks}
 use Rattle.hla_order_queues.proofs.EventLemmas.{length-insert_event}
-use Rattle.hla_order_queues.proofs.OrderLemmas.{All-append_parts, NoneAfter, none_after, parts_of, first_after-append, insert_event-front, insert_event-back, IsInOrder-insert_event}
-use Rattle.hla_order_queues.proofs.PlaceLemmas.{Falls, before_place}
+use Rattle.hla_order_queues.proofs.OrderLemmas.{All-implies, All-append, NoneAfter, insert_event-front, insert_event-back, IsInOrder-insert_event, All-insert_event, parts_of}
+use Rattle.hla_order_queues.proofs.FloorLemmas.{less-trans, not_less}
 
 -- the list
-pub joined-append : (cs bs : List (List Event)) → joined (cs ++ bs) ≡ joined bs ++ joined cs
+pub events_of-append : (es fs : List (EventKey × List Event)) → events_of (es ++ fs) ≡ events_of es ++ events_of fs
 unfolding joined
-joined-append [] bs = sym (append-nil (joined bs))
-joined-append (c ∷ cs) bs = ap (λ zs. zs ++ c) (joined-append cs bs) ∙ append_assoc (joined bs) (joined cs) c
+events_of-append [] fs = refl
+events_of-append (e ∷ es) fs = ap (λ zs. e.1 ++ zs) (events_of-append es fs) ∙ sym (append_assoc e.1 (events_of es) (events_of fs))
 
-pub joined_push : (bs : List (List Event)) (b : List Event) → joined (bs ++ b ∷ []) ≡ b ++ joined bs
+pub events_at : (es : List (EventKey × List Event)) (f : EventKey) (b : List Event) (fs : List (EventKey × List Event)) → events_of (es ++ (f, b) ∷ fs) ≡ events_of es ++ (b ++ events_of fs)
 unfolding joined
-joined_push bs b = joined-append bs (b ∷ [])
+events_at es f b fs = events_of-append es ((f, b) ∷ fs)
 
-pub joined_set : (bs : List (List Event)) (i : ℕ) (b c : List Event) → Some b ≡ slice_get bs i → joined (set bs i c) ≡ joined (drop (suc i) bs) ++ (c ++ joined (take i bs))
+-- the floors behind
+All_back : (P : EventKey × List Event → Type 0) (es fs : List (EventKey × List Event)) → AllByRecursion P (es ++ fs) → AllByRecursion P fs
+All_back P [] fs h = h
+All_back P (e ∷ es) fs h = All_back P es fs h.1
+
+All_set : (P : EventKey × List Event → Type 0) (es : List (EventKey × List Event)) (e f : EventKey × List Event) (fs : List (EventKey × List Event)) → AllByRecursion P (es ++ e ∷ fs) → P f → AllByRecursion P (es ++ f ∷ fs)
+All_set P [] e f fs h p = (p, h.1)
+All_set P (g ∷ es) e f fs h p = (h.0, All_set P es e f fs h.1 p)
+
+All_at : (P : EventKey × List Event → Type 0) (es : List (EventKey × List Event)) (e : EventKey × List Event) (fs : List (EventKey × List Event)) → AllByRecursion P (es ++ e ∷ fs) → P e
+All_at P [] e fs h = h.0
+All_at P (g ∷ es) e fs h = All_at P es e fs h.1
+
+below_back : (xs : List Event) (es fs : List (EventKey × List Event)) → AreBelow xs (es ++ fs) → AreBelow xs fs
+below_back xs es fs h = All-implies (λ x p. All_back (λ e. is_less (key_of x) e.0 ≡ true) es fs p) xs h
+
+pub below_set : (xs : List Event) (es : List (EventKey × List Event)) (f : EventKey) (b c : List Event) (fs : List (EventKey × List Event)) → AreBelow xs (es ++ (f, b) ∷ fs) → AreBelow xs (es ++ (f, c) ∷ fs)
+below_set xs es f b c fs h =
+    All-implies (λ x p. All_set (λ e. is_less (key_of x) e.0 ≡ true) es (f, b) (f, c) fs p (All_at (λ e. is_less (key_of x) e.0 ≡ true) es (f, b) fs p)) xs h
+
+pub All_behind : (P : EventKey × List Event → Type 0) (es : List (EventKey × List Event)) (e : EventKey × List Event) (fs : List (EventKey × List Event)) → AllByRecursion P (es ++ e ∷ fs) → AllByRecursion P fs
+All_behind P es e fs h = (All_back P es (e ∷ fs) h).1
+
+pub record AreAt (es : List (EventKey × List Event)) (f : EventKey) (b : List Event) (fs : List (EventKey × List Event)) : Type 0 where
+  pub before : AreBelow (events_of es) ((f, b) ∷ fs)
+  pub from : AllByRecursion (λ x. is_less (key_of x) f ≡ false) b
+  pub below : AreBelow b fs
+  pub behind : AreFloored fs
+
+pub floored_at : (es : List (EventKey × List Event)) (f : EventKey) (b : List Event) (fs : List (EventKey × List Event)) → AreFloored (es ++ (f, b) ∷ fs) → AreAt es f b fs
+unfolding AreFloored joined
+floored_at [] f b fs h = record { before = tt; from = h.0; below = h.1; behind = h.2 }
+floored_at (e ∷ es) f b fs h =
+    let rest = floored_at es f b fs h.2 in
+    record {
+      before = All-append (λ x. AreAfter (key_of x) ((f, b) ∷ fs)) e.1 (events_of es) (below_back e.1 es ((f, b) ∷ fs) h.1) rest.before;
+      from = rest.from;
+      below = rest.below;
+      behind = rest.behind;
+    }
+
+pub floored_set : (es : List (EventKey × List Event)) (f : EventKey) (b c : List Event) (fs : List (EventKey × List Event)) → AreFloored (es ++ (f, b) ∷ fs) → AllByRecursion (λ x. is_less (key_of x) f ≡ false) c → AreBelow c fs → AreFloored (es ++ (f, c) ∷ fs)
+unfolding AreFloored
+floored_set [] f b c fs h from below = (from, below, h.2)
+floored_set (e ∷ es) f b c fs h from below = (h.0, below_set e.1 es f b c fs h.1, floored_set es f b c fs h.2 from below)
+
+-- an event between two floors
+none_before : (k x f : EventKey) → is_less k f ≡ false → is_less x f ≡ true → is_less k x ≡ false
+none_before k x f p q = grind (arith, nat_tests)
+
+pub none_first : (k f : EventKey) (b : List Event) (xs : List Event) (fs : List (EventKey × List Event)) → is_less k f ≡ false → AreBelow xs ((f, b) ∷ fs) → NoneAfter k xs
+none_first k f b xs fs low h = All-implies (λ x p. none_before k (key_of x) f low p.0) xs h
+
+after_first : (k f : EventKey) (b zs : List Event) → 0 < length b → is_less k f ≡ true → AllByRecursion (λ x. is_less (key_of x) f ≡ false) b → first_after k (b ++ zs) ≡ true
+after_first k f [] zs l p h = absurd (omega arith)
+after_first k f (x ∷ xs) zs l p h = less-trans k f (key_of x) p h.0
+
+pub after_all : (k : EventKey) (es : List (EventKey × List Event)) → AllByRecursion (λ e. 0 < length e.1) es → AreFloored es → AreAfter k es → first_after k (events_of es) ≡ true
+unfolding joined AreFloored
+after_all k [] filled floored h = refl
+after_all k (e ∷ es) filled floored h = after_first k e.0 e.1 (events_of es) filled.0 h.0 floored.0
+
+-- where the first floor is after a key, all are
+all_if : (k f : EventKey) (b : List Event) (fs : List (EventKey × List Event)) → 0 < length b → is_less k f ≡ true → AllByRecursion (λ x. is_less (key_of x) f ≡ false) b → AreBelow b fs → AreAfter k fs
+all_if k f [] fs l p h below = absurd (omega arith)
+all_if k f (x ∷ xs) fs l p h below = floors_after k (key_of x) fs (less-trans k f (key_of x) p h.0) below.0
+  where
+    floors_after : (k j : EventKey) (fs : List (EventKey × List Event)) → is_less k j ≡ true → AreAfter j fs → AreAfter k fs
+    floors_after k j [] p h = tt
+    floors_after k j (g ∷ gs) p h = (less-trans k j g.0 p (not_less j g.0 h.0), floors_after k j gs p h.1)
+
+pub floors_after : (k : EventKey) (es : List (EventKey × List Event)) → AllByRecursion (λ e. 0 < length e.1) es → AreFloored es → floor_after k es ≡ true → AreAfter k es
+unfolding AreFloored
+floors_after k [] filled floored h = tt
+floors_after k (e ∷ es) filled floored h = (h, all_if k e.0 e.1 es filled.0 h floored.0 floored.1)
+
+-- an insertion into the block of the place
+pub inserted_events : (x : Event) (es : List (EventKey × List Event)) (f : EventKey) (b : List Event) (fs : List (EventKey × List Event)) → AreBlocks (es ++ (f, b) ∷ fs) → is_less (key_of x) f ≡ false → AreAfter (key_of x) fs → events_of (es ++ (f, insert_event x b) ∷ fs) ≡ insert_event x (events_of (es ++ (f, b) ∷ fs))
+inserted_events x es f b fs h low high =
+    let at = floored_at es f b fs h.floored in
+    let after = after_all (key_of x) fs (All_back (λ e. 0 < length e.1) es ((f, b) ∷ fs) h.filled).1 at.behind high in
+    events_at es f (insert_event x b) fs
+    ∙ ap (λ zs. events_of es ++ zs) (sym (insert_event-front x b (events_of fs) after))
+    ∙ sym (insert_event-back x (events_of es) (b ++ events_of fs) (none_first (key_of x) f b (events_of es) fs low at.before))
+    ∙ ap (insert_event x) (sym (events_at es f b fs))
+
+pub blocks_inserted : (x : Event) (es : List (EventKey × List Event)) (f : EventKey) (b : List Event) (fs : List (EventKey × List Event)) → AreBlocks (es ++ (f, b) ∷ fs) → is_less (key_of x) f ≡ false → AreAfter (key_of x) fs → AreBlocks (es ++ (f, insert_event x b) ∷ fs)
+blocks_inserted x es f b fs h low high =
+    let at = floored_at es f b fs h.floored in
+    record {
+      filled = All_set (λ e. 0 < length e.1) es (f, b) (f, insert_event x b) fs h.filled (rw (length-insert_event x b) (omega arith));
+      floored = floored_set es f b (insert_event x b) fs h.floored (All-insert_event (λ y. is_less (key_of y) f ≡ false) x b low at.from) (All-insert_event (λ y. AreAfter (key_of y) fs) x b high at.below);
+      ordered = subst IsInOrder (sym (inserted_events x es f b fs h low high)) (IsInOrder-insert_event x _ h.ordered);
+    }
+
+-- no blocks, and the first block
+pub no_blocks : (es : List (EventKey × List Event)) → es ≡ [] → AreBlocks es
+unfolding AreFloored joined IsInOrder
+no_blocks es e = rw e (record { filled = tt; floored = tt; ordered = tt })
+
+pub no_events : (es : List (EventKey × List Event)) → es ≡ [] → events_of es ≡ []
 unfolding joined
-joined_set [] i b c e = absurd (cc)
-joined_set (x ∷ xs) zero b c e = ap (λ zs. joined xs ++ zs) (sym (append-nil c))
-joined_set (x ∷ xs) (suc i) b c e =
-    ap (λ zs. zs ++ x) (joined_set xs i b c e)
-    ∙ append_assoc (joined (drop (suc i) xs)) (c ++ joined (take i xs)) x
-    ∙ ap (λ zs. joined (drop (suc i) xs) ++ zs) (append_assoc c (joined (take i xs)) x)
+no_events es e = ap events_of e
 
-pub set_same : (bs : List (List Event)) (i : ℕ) (b : List Event) → Some b ≡ slice_get bs i → set bs i b ≡ bs
-set_same [] i b e = absurd (cc)
-set_same (x ∷ xs) zero b e = let same : b ≡ x = cc in ap (λ y. y ∷ xs) same
-set_same (x ∷ xs) (suc i) b e = ap (λ zs. x ∷ zs) (set_same xs i b e)
+pub record IsFirst (b : List Event) (es new : List (EventKey × List Event)) : Type 0 where
+  pub events : b ++ events_of new ≡ events_of es
+  pub filled : 0 < length b
+  pub below : AreBelow b new
+  pub left : AreBlocks new
 
-pub joined_at : (bs : List (List Event)) (i : ℕ) (b : List Event) → Some b ≡ slice_get bs i → joined bs ≡ joined (drop (suc i) bs) ++ (b ++ joined (take i bs))
-joined_at bs i b e = ap joined (sym (set_same bs i b e)) ∙ joined_set bs i b b e
+pub first_taken : (e : EventKey × List Event) (es new : List (EventKey × List Event)) → AreBlocks es → es ≡ e ∷ new → IsFirst e.1 es new
+unfolding AreFloored joined
+first_taken e es new h is =
+    let all = subst AreBlocks is h in
+    record {
+      events = ap events_of (sym is);
+      filled = all.filled.0;
+      below = all.floored.1;
+      left = record { filled = all.filled.1; floored = all.floored.2; ordered = (parts_of e.1 (events_of new) all.ordered).back };
+    }
 
--- none is empty
-pub filled_at : (bs : List (List Event)) (i : ℕ) (b : List Event) → AreFilled bs → Some b ≡ slice_get bs i → 0 < length b
-unfolding AreFilled
-filled_at [] i b h e = absurd (cc)
-filled_at (x ∷ xs) zero b h e = let same : b ≡ x = cc in rw same h.0
-filled_at (x ∷ xs) (suc i) b h e = filled_at xs i b h.1 e
+-- what the first floor says
+floor_if : (e : EventKey × List Event) (es : List (EventKey × List Event)) (k : EventKey) (b : Bool) → Some e ≡ slice_get es 0 → b ≡ is_less k e.0 → b ≡ floor_after k es
+floor_if e [] k b at is = absurd (cc)
+floor_if e (f ∷ es) k b at is = let same : e ≡ f = cc in is ∙ ap (λ (g : EventKey × List Event). is_less k g.0) same
 
-pub filled_set : (bs : List (List Event)) (i : ℕ) (c : List Event) → AreFilled bs → 0 < length c → AreFilled (set bs i c)
-unfolding AreFilled
-filled_set [] i c h l = tt
-filled_set (x ∷ xs) zero c h l = (l, h.1)
-filled_set (x ∷ xs) (suc i) c h l = (h.0, filled_set xs i c h.1 l)
+pub record IsTold (k : EventKey) (es : List (EventKey × List Event)) (b : Bool) : Type 0 where
+  pub after : b ≡ true → AreAfter k es
+  pub events : b ≡ true → first_after k (events_of es) ≡ true
+  pub within : b ≡ false → floor_after k es ≡ false
+  pub some : b ≡ false → 0 < length (events_of es)
 
-pub filled_push : (bs : List (List Event)) (b : List Event) → AreFilled bs → 0 < length b → AreFilled (bs ++ b ∷ [])
-unfolding AreFilled
-filled_push [] b h l = (l, tt)
-filled_push (x ∷ xs) b h l = (h.0, filled_push xs b h.1 l)
+some_first : (b zs : List Event) → 0 < length b → 0 < length (b ++ zs)
+some_first [] zs h = absurd (omega arith)
+some_first (x ∷ xs) zs h = omega arith
 
-pub filled_parts : (cs bs : List (List Event)) → AreFilled (cs ++ bs) → AreFilled cs × AreFilled bs
-unfolding AreFilled
-filled_parts [] bs h = (tt, h)
-filled_parts (c ∷ cs) bs h = let rest = filled_parts cs bs h.1 in ((h.0, rest.0), rest.1)
-
--- no blocks
-pub no_blocks : (bs : List (List Event)) → bs ≡ [] → AreBlocks bs × (joined bs ≡ [])
-unfolding AreFilled joined IsInOrder
-no_blocks bs e = rw e (record { filled = tt; ordered = tt }, refl)
-
--- a block of a list in order is in order
-pub ordered_at : (bs : List (List Event)) (i : ℕ) (b : List Event) → IsInOrder (joined bs) → Some b ≡ slice_get bs i → IsInOrder b
-ordered_at bs i b h e =
-    let whole = parts_of (joined (drop (suc i) bs)) (b ++ joined (take i bs)) (subst IsInOrder (joined_at bs i b e) h) in
-    (parts_of b (joined (take i bs)) whole.back).front
-
--- the first event
-filled_after : (k : EventKey) (b c : List Event) → 0 < length b → first_after k (b ++ c) ≡ first_after k b
-filled_after k [] c h = absurd (omega arith)
-filled_after k (x ∷ xs) c h = refl
-
-pub after_last : (k : EventKey) (bs : List (List Event)) (b : List Event) → AreFilled bs → Some b ≡ slice_get bs (length bs - 1) → first_after k b ≡ first_after k (joined bs)
+some_events : (k : EventKey) (es : List (EventKey × List Event)) → AllByRecursion (λ e. 0 < length e.1) es → floor_after k es ≡ false → 0 < length (events_of es)
 unfolding joined
-after_last k bs b h e =
-    let i = length bs - 1 in
-    let past : length bs ≤ suc i = omega arith in
-    let at = joined_at bs i b e ∙ ap (λ zs. joined zs ++ (b ++ joined (take i bs))) (drop_all (suc i) bs past) in
-    sym (ap (first_after k) at ∙ filled_after k b (joined (take i bs)) (filled_at bs i b h e))
+some_events k [] h e = absurd (cc)
+some_events k (x ∷ es) h e = some_first x.1 (events_of es) h.0
 
-none_there : (bs : List (List Event)) (i : ℕ) → i < length bs → None ≡ slice_get bs i → ⊥
-none_there [] i h e = omega arith
-none_there (x ∷ xs) zero h e = cc
-none_there (x ∷ xs) (suc i) h e = none_there xs i (omega arith) e
+pub told_first : (k : EventKey) (e : EventKey × List Event) (es : List (EventKey × List Event)) (b : Bool) → AreBlocks es → slice_get es 0 ≡ Some e → b ≡ is_less k e.0 → IsTold k es b
+told_first k e es b h at is =
+    let whole = floor_if e es k b (sym at) is in
+    record {
+      after = λ p. floors_after k es h.filled h.floored (sym whole ∙ p);
+      events = λ p. after_all k es h.filled h.floored (floors_after k es h.filled h.floored (sym whole ∙ p));
+      within = λ p. sym whole ∙ p;
+      some = λ p. some_events k es h.filled (sym whole ∙ p);
+    }
 
-pub no_last : (bs : List (List Event)) → None ≡ slice_get bs (length bs - 1) → bs ≡ []
-no_last [] e = refl
-no_last (x ∷ xs) e = absurd (none_there (x ∷ xs) (length (x ∷ xs) - 1) (omega arith) e)
-
-first_not : (k : EventKey) (b : List Event) → 0 < length b → NoneAfter k b → first_after k b ≡ false
-first_not k [] l h = absurd (omega arith)
-first_not k (x ∷ xs) l h = h.0
-
-all_first : (k : EventKey) (bs : List (List Event)) → AllByRecursion (λ b. first_after k b ≡ true) bs → first_after k (joined bs) ≡ true
+pub told_none : (k : EventKey) (es : List (EventKey × List Event)) → es ≡ [] → IsTold k es true
 unfolding joined
-all_first k [] h = refl
-all_first k (b ∷ bs) h = first_after-append k (joined bs) b (all_first k bs h.1) h.0
+told_none k es e = rw e (record { after = λ p. tt; events = λ p. refl; within = λ p. absurd (cc); some = λ p. absurd (cc) })
 
--- a search by the first event
-none_first : (k : EventKey) (bs : List (List Event)) → AreFilled bs → NoneAfter k (joined bs) → AllByRecursion (λ b. first_after k b ≡ false) bs
-unfolding joined AreFilled
-none_first k [] h none = tt
-none_first k (b ∷ bs) h none =
-    let parts = All-append_parts _ (joined bs) b none in
-    (first_not k b h.0 parts.1, none_first k bs h.1 parts.0)
-
-pub falls_blocks : (k : EventKey) (bs : List (List Event)) → AreFilled bs → IsInOrder (joined bs) → Falls (first_after k) bs
-unfolding Falls joined AreFilled
-falls_blocks k [] h ordered = tt
-falls_blocks k (b ∷ bs) h ordered =
-    (λ no. none_first k bs h.1 (none_after k (joined bs) b ordered no), falls_blocks k bs h.1 (parts_of (joined bs) b ordered).front)
-
-within_if : (p q : Bool) (k : EventKey) (b : List Event) (bs : List (List Event)) (n : ℕ) → first_after k b ≡ p → first_after k (joined bs) ≡ q → first_after k (joined bs ++ b) ≡ false → (q ≡ false → n < length bs) → cond p (1 + n) 0 < suc (length bs)
-within_if false q k b bs n is later unmet rest = omega arith
-within_if true true k b bs n is later unmet rest = let e : first_after k (joined bs ++ b) ≡ true = first_after-append k (joined bs) b later is in absurd (cc)
-within_if true false k b bs n is later unmet rest = let l : n < length bs = rest refl in omega arith
-
-pub place_within : (k : EventKey) (bs : List (List Event)) → first_after k (joined bs) ≡ false → prefix_len (first_after k) bs < length bs
-unfolding joined
-place_within k [] unmet = absurd (cc)
-place_within k (b ∷ bs) unmet = within_if (first_after k b) (first_after k (joined bs)) k b bs (prefix_len (first_after k) bs) refl refl unmet (place_within k bs)
-
-fails_if : (p : Bool) (k : EventKey) (b c : List Event) (bs : List (List Event)) (n : ℕ) → first_after k b ≡ p → Some c ≡ slice_get (b ∷ bs) (cond p (1 + n) 0) → (Some c ≡ slice_get bs n → first_after k c ≡ false) → first_after k c ≡ false
-fails_if false k b c bs n is e rest = let same : c ≡ b = cc in rw same is
-fails_if true k b c bs n is e rest = rest (let s : 1 + n ≡ suc n = omega arith in rw s at e)
-
-pub fails_there : (k : EventKey) (bs : List (List Event)) (c : List Event) → Some c ≡ slice_get bs (prefix_len (first_after k) bs) → first_after k c ≡ false
-fails_there k [] c e = absurd (cc)
-fails_there k (b ∷ bs) c e = fails_if (first_after k b) k b c bs (prefix_len (first_after k) bs) refl e (fails_there k bs c)
-
-pub not_first : (k : EventKey) (b c : List Event) → first_after k b ≡ false → first_after k (b ++ c) ≡ false
-not_first k [] c e = absurd (cc)
-not_first k (x ∷ xs) c e = e
-
--- the blocks before the place that a search found are after the key
-pub later_after : (k : EventKey) (bs : List (List Event)) → first_after k (joined (take (prefix_len (first_after k) bs) bs)) ≡ true
-later_after k bs = all_first k (take (prefix_len (first_after k) bs) bs) (before_place (first_after k) bs)
-
--- an insertion into the block that a search found
-pub inserted_block : (e : Event) (bs : List (List Event)) (i : ℕ) (b : List Event) → AreBlocks bs → i ≡ prefix_len (first_after (key_of e)) bs → Some b ≡ slice_get bs i → joined (set bs i (insert_event e b)) ≡ insert_event e (joined bs)
-inserted_block e bs i b h is at =
-    let k = key_of e in
-    let j = joined (drop (suc i) bs) in
-    let l = joined (take i bs) in
-    let no = not_first k b l (fails_there k bs b (at ∙ ap (slice_get bs) is)) in
-    let none = none_after k j (b ++ l) (subst IsInOrder (joined_at bs i b at) h.ordered) no in
-    let later : first_after k l ≡ true = ap (λ n. first_after k (joined (take n bs))) is ∙ later_after k bs in
-    joined_set bs i b (insert_event e b) at
-    ∙ ap (λ zs. j ++ zs) (sym (insert_event-front e b l later))
-    ∙ sym (insert_event-back e j (b ++ l) none)
-    ∙ ap (insert_event e) (sym (joined_at bs i b at))
-
-pub blocks_inserted : (e : Event) (bs : List (List Event)) (i : ℕ) (b : List Event) → AreBlocks bs → i ≡ prefix_len (first_after (key_of e)) bs → Some b ≡ slice_get bs i → AreBlocks (set bs i (insert_event e b))
-blocks_inserted e bs i b h is at = record {
-  filled = filled_set bs i (insert_event e b) h.filled (rw (length-insert_event e b) (omega arith));
-  ordered = subst IsInOrder (sym (inserted_block e bs i b h is at)) (IsInOrder-insert_event e (joined bs) h.ordered);
-}
-
--- a block is split
-pub split_joined : (bs : List (List Event)) (i : ℕ) (b l g : List Event) → Some b ≡ slice_get bs i → l ++ g ≡ b → joined (insert (set bs i l) i g) ≡ joined bs
-unfolding joined
-split_joined [] i b l g at e = absurd (cc)
-split_joined (x ∷ xs) zero b l g at e = let same : b ≡ x = cc in append_assoc (joined xs) l g ∙ ap (λ zs. joined xs ++ zs) (e ∙ same)
-split_joined (x ∷ xs) (suc i) b l g at e = ap (λ zs. zs ++ x) (split_joined xs i b l g at e)
-
-split_filled : (bs : List (List Event)) (i : ℕ) (b l g : List Event) → Some b ≡ slice_get bs i → AreFilled bs → 0 < length l → 0 < length g → AreFilled (insert (set bs i l) i g)
-unfolding AreFilled
-split_filled [] i b l g at h p q = absurd (cc)
-split_filled (x ∷ xs) zero b l g at h p q = (q, (p, h.1))
-split_filled (x ∷ xs) (suc i) b l g at h p q = (h.0, split_filled xs i b l g at h.1 p q)
-
-pub blocks_split : (bs : List (List Event)) (i : ℕ) (b l g : List Event) → AreBlocks bs → Some b ≡ slice_get bs i → l ++ g ≡ b → 0 < length l → 0 < length g → AreBlocks (insert (set bs i l) i g)
-blocks_split bs i b l g h at e p q = record {
-  filled = split_filled bs i b l g at h.filled p q;
-  ordered = subst IsInOrder (sym (split_joined bs i b l g at e)) h.ordered;
-}
-
--- the block with the least events comes, or goes
-pub blocks_pushed : (a b : List Event) (bs : List (List Event)) → AreBlocks bs → 0 < length b → IsInOrder (a ++ (b ++ joined bs)) → AreBlocks (bs ++ b ∷ [])
-blocks_pushed a b bs h l ordered = record {
-  filled = filled_push bs b h.filled l;
-  ordered = subst IsInOrder (sym (joined_push bs b)) (parts_of a (b ++ joined bs) ordered).back;
-}
-
-pub blocks_popped : (bs : List (List Event)) (b : List Event) → AreBlocks (bs ++ b ∷ []) → AreBlocks bs × (0 < length b)
-unfolding AreFilled
-blocks_popped bs b h =
-    let parts = filled_parts bs (b ∷ []) h.filled in
-    (record { filled = parts.0; ordered = (parts_of b (joined bs) (subst IsInOrder (joined_push bs b) h.ordered)).back }, parts.1.0)
-
-none_of : (n l : ℕ) → (IsSome {T = List Event} None ↔ (0 < n)) → n ≡ l → l ≡ 0
-none_of zero l some e = sym e
-none_of (suc n) l some e = let t : IsSome {T = List Event} None = some.1 (omega arith) in absurd (cc)
-
-pub popped : (old new : List (List Event)) (now : List Event) (r : Option (List Event)) (n : ℕ) → AreBlocks old → joined old ≡ now → old ≡ new ++ option_to_list r → (IsSome r ↔ (0 < n)) → n ≡ length old → AreBlocks new × MatchOption r ((now ≡ []) × (joined new ≡ [])) (λ b. (b ++ joined new ≡ now) × (0 < length b))
-popped old new now None n h view e some size =
-    let none : old ≡ [] = nil_from_length old (none_of n (length old) some size) in
-    let left : new ≡ [] = sym (append-nil new) ∙ sym e ∙ none in
-    ((no_blocks new left).0, (sym view ∙ (no_blocks old none).1, (no_blocks new left).1))
-popped old new now (Some b) n h view e some size =
-    let parts = blocks_popped new b (subst AreBlocks e h) in
-    (parts.0, (sym (joined_push new b) ∙ ap joined (sym e) ∙ view, parts.1))
-
-pub after_insert : (e : Event) (bs : List (List Event)) (now : List Event) (i : ℕ) (b c : List Event) (r : Result (Unit {0}) Event) → AreBlocks bs → joined bs ≡ now → i ≡ prefix_len (first_after (key_of e)) bs → Some b ≡ slice_get bs i → OnOk r (c ≡ insert_event e b) → OnErr r (c ≡ b) → AreBlocks (set bs i c) × OnOk r (joined (set bs i c) ≡ insert_event e now)
-after_insert e bs now i b c (Ok u) h view is at put same =
-    (subst (λ d. AreBlocks (set bs i d)) (sym put) (blocks_inserted e bs i b h is at), ap (λ d. joined (set bs i d)) put ∙ inserted_block e bs i b h is at ∙ ap (insert_event e) view)
-after_insert e bs now i b c (Err f) h view is at put same =
-    (subst (λ d. AreBlocks (set bs i d)) (sym same) (subst AreBlocks (sym (set_same bs i b at)) h), tt)
+pub nil_if : (es : List (EventKey × List Event)) → (0 < length es → ⊥) → es ≡ []
+nil_if [] h = refl
+nil_if (e ∷ es) h = absurd (h (omega arith))

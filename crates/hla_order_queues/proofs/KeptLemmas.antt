@@ -5,20 +5,17 @@ use Rattle.std.specs.Result.{OnOk, OnErr}
 use Rattle.hla_base.specs.declared.content.Event.{Event}
 use Rattle.hla_base.specs.declared.number.EventHandle.{EventHandle}
 use Rattle.hla_order_queues.specs.Queues.{insert_event, find_event, remove_event, handles_of}
-use Rattle.hla_order_queues.specs.Kept.{key_of, first_after, IsInOrder, AreInOrder}
+use Rattle.hla_order_queues.specs.Kept.{key_of, first_after, floor_after, IsInOrder, AreInOrder, AreAfter, AreBelow, joined, events_of}
 use Rattle.hla_order_queues.proofs.EventLemmas.{length-insert_event, length-remove_event}
-use Rattle.hla_order_queues.proofs.OrderLemmas.{IsInOrder-insert_event, none_after, insert_event-front, insert_event-back}
+use Rattle.hla_order_queues.specs.declared.key.EventKey.{EventKey}
+use Rattle.hla_order_queues.proofs.JoinedLemmas.{none_first}
+use Rattle.hla_order_queues.proofs.OrderLemmas.{NoneAfter, All-insert_event, IsInOrder-insert_event, insert_event-front, insert_event-back}
 use Rattle.hla_order_queues.proofs.RemovalLemmas.{IsInOrder-remove_event, IsInOrder-drop_first}
 use Rattle.hla_order_queues.proofs.StepLemmas.{handles_of-append, take-parts}
 
-pub kept_nothing : (f l : List Event) → f ≡ [] → l ≡ [] → AreInOrder f l 0
-unfolding IsInOrder
-kept_nothing f l e g = record {
-  ordered = rw (e, g) tt;
-  filled = λ h. g;
-  counted = rw (e, g) refl;
-  small = omega arith;
-}
+pub kept_nothing : (f : List Event) (es : List (EventKey × List Event)) → f ≡ [] → es ≡ [] → (AreInOrder f (events_of es) 0 × AreBelow f es) × (f ++ events_of es ≡ [])
+unfolding IsInOrder joined
+kept_nothing f es e g = rw (e, g) ((record { ordered = tt; filled = λ h. refl; counted = refl; small = omega arith }, tt), refl)
 
 pub kept_inserted : (x : Event) (f l first later : List Event) (n m : ℕ) → AreInOrder f l n → first ++ later ≡ insert_event x (f ++ l) → (first ≡ [] → later ≡ []) → m ≡ n + 1 → m < 2 ^ 64 → AreInOrder first later m
 kept_inserted x f l first later n m h e filled more small = record {
@@ -77,10 +74,17 @@ pub put_front : {E : Type 0} (x : Event) (f first l now : List Event) (r : Resul
 put_front x f first l now (Ok u) whole later put = ap (λ zs. zs ++ l) put ∙ sym (insert_event-front x f l later) ∙ ap (insert_event x) whole
 put_front x f first l now (Err e) whole later put = tt
 
-pub put_behind : {E : Type 0} (x : Event) (f l later now : List Event) (r : Result (Unit {0}) E) → f ++ l ≡ now → IsInOrder now → first_after (key_of x) l ≡ false → OnOk r (later ≡ insert_event x l) → OnOk r (f ++ later ≡ insert_event x now)
-put_behind x f l later now (Ok u) whole ordered is put =
-    ap (λ zs. f ++ zs) put ∙ sym (insert_event-back x f l (none_after (key_of x) f l (subst IsInOrder (sym whole) ordered) is)) ∙ ap (insert_event x) whole
-put_behind x f l later now (Err e) whole ordered is put = tt
+pub put_behind : {E : Type 0} (x : Event) (f l later now : List Event) (r : Result (Unit {0}) E) → f ++ l ≡ now → NoneAfter (key_of x) f → OnOk r (later ≡ insert_event x l) → OnOk r (f ++ later ≡ insert_event x now)
+put_behind x f l later now (Ok u) whole none put = ap (λ zs. f ++ zs) put ∙ sym (insert_event-back x f l none) ∙ ap (insert_event x) whole
+put_behind x f l later now (Err e) whole none put = tt
+
+pub put_below : {E : Type 0} (x : Event) (f first : List Event) (es : List (EventKey × List Event)) (r : Result (Unit {0}) E) → OnOk r (first ≡ insert_event x f) → OnErr r (first ≡ f) → AreAfter (key_of x) es → AreBelow f es → AreBelow first es
+put_below x f first es (Ok u) put same after below = subst (λ xs. AreBelow xs es) (sym put) (All-insert_event (λ y. AreAfter (key_of y) es) x f after below)
+put_below x f first es (Err e) put same after below = subst (λ xs. AreBelow xs es) (sym same) below
+
+pub none_in_front : (k : EventKey) (xs : List Event) (es : List (EventKey × List Event)) → floor_after k es ≡ false → AreBelow xs es → NoneAfter k xs
+none_in_front k xs [] e below = absurd (cc)
+none_in_front k xs (x ∷ es) e below = none_first k x.0 x.1 xs es e below
 
 pub put_filled : {E : Type 0} (x : Event) (f first l : List Event) (r : Result (Unit {0}) E) → OnOk r (first ≡ insert_event x f) → OnErr r (first ≡ f) → (f ≡ [] → l ≡ []) → first ≡ [] → l ≡ []
 put_filled x f first l (Ok u) put same filled none =

@@ -8,9 +8,15 @@ mod MovingLemmas
 mod OrderLemmas
 -- The place at which a search by a test ends, and an insertion there into events that are in order
 mod PlaceLemmas
--- Blocks of events, of which the greatest is first, and the list that they make
+-- The order of keys, and the search for a block by its floor
+mod FloorLemmas
+-- Blocks of events under their floors, and the list that they make
 mod JoinedLemmas
--- Finding and removing an event: in parts of a list, and among blocks
+-- What an insertion into a block, a removal from one, and its split leave of the blocks
+mod PutLemmas
+-- A block that is split: the order of its halves, and the blocks then
+mod SplitLemmas
+-- Finding and removing an event in parts of a list
 mod RemovalLemmas
 -- Going through blocks from the least on: the event at a place, how many are below a bound, and their handles
 mod StepLemmas

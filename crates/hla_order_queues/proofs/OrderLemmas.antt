@@ -12,9 +12,6 @@ use Rattle.hla_order_queues.specs.Kept.{key_of, is_key_before, first_after, IsIn
 pub before_then : (k : EventKey) (x y : Event) → is_key_before k x ≡ true → is_before y x ≡ false → is_key_before k y ≡ true
 before_then k x y p q = grind (arith, nat_tests)
 
-pub not_before_then : (k : EventKey) (x y : Event) → is_key_before k y ≡ false → is_before y x ≡ false → is_key_before k x ≡ false
-not_before_then k x y p q = grind (arith, nat_tests)
-
 pub not_both_ways : (x y : Event) → is_before x y ≡ true → is_before y x ≡ false
 not_both_ways x y p = grind (arith, nat_tests)
 
@@ -31,6 +28,10 @@ NoneAfter k = AllByRecursion (λ y. is_key_before k y ≡ false)
 pub All-implies : {P Q : Event → Type 0} → ((x : Event) → P x → Q x) → (xs : List Event) → AllByRecursion P xs → AllByRecursion Q xs
 All-implies {P} {Q} f [] h = tt
 All-implies {P} {Q} f (x ∷ xs) h = (f x h.0, All-implies f xs h.1)
+
+pub All-append : (P : Event → Type 0) (xs ys : List Event) → AllByRecursion P xs → AllByRecursion P ys → AllByRecursion P (xs ++ ys)
+All-append P [] ys h g = g
+All-append P (x ∷ xs) ys h g = (h.0, All-append P xs ys h.1 g)
 
 pub All-append_parts : (P : Event → Type 0) (xs ys : List Event) → AllByRecursion P (xs ++ ys) → AllByRecursion P xs × AllByRecursion P ys
 All-append_parts P [] ys h = (tt, h)
@@ -55,15 +56,6 @@ pub all_after : (k : EventKey) (xs : List Event) → IsInOrder xs → first_afte
 unfolding IsInOrder
 all_after k [] h p = tt
 all_after k (x ∷ xs) h p = (p, All-implies (λ y q. before_then k x y p q) xs h.0)
-
--- none of what is before an event that is not after the key is after it
-pub none_after : (k : EventKey) (xs ys : List Event) → IsInOrder (xs ++ ys) → first_after k ys ≡ false → NoneAfter k xs
-none_after k xs [] h p = absurd (cc)
-none_after k xs (y ∷ ys) h p = All-implies (λ x q. not_before_then k x y p q.0) xs (parts_of xs (y ∷ ys) h).apart
-
-pub first_after-append : (k : EventKey) (xs ys : List Event) → first_after k xs ≡ true → first_after k ys ≡ true → first_after k (xs ++ ys) ≡ true
-first_after-append k [] ys p q = q
-first_after-append k (x ∷ xs) ys p q = p
 
 -- an event goes to the first part where the second is after it, and to the second where none of the first is
 front_if : (b : Bool) (e x : Event) (xs ys later : List Event) → later ≡ insert_event e xs ++ ys → cond b (e ∷ x ∷ (xs ++ ys)) (x ∷ later) ≡ cond b (e ∷ x ∷ xs) (x ∷ insert_event e xs) ++ ys

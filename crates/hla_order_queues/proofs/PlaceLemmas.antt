@@ -1,5 +1,5 @@
 -- The place at which a search by a test ends, and an insertion there into events that are in order
-use Rattle.std.proofs.Common.{◌≡◌, ℕ, zero, suc, ◌+◌, ◌≤◌, ◌<◌, Bool, true, false, cond, not, get_or, List, [], ◌∷◌, length, take, refl, ap, arith}
+use Rattle.std.proofs.Common.{◌≡◌, ℕ, zero, suc, ◌+◌, ◌≤◌, ◌<◌, Bool, true, false, cond, not, get_or, List, [], ◌∷◌, length, refl, ap, arith}
 use Rattle.std.specs.List.{AllByRecursion, prefix_len, insert}
 use Rattle.hla_base.specs.declared.content.Event.{Event}
 use Rattle.hla_order_queues.specs.declared.key.EventKey.{EventKey}
@@ -37,14 +37,6 @@ point_is p (x ∷ xs) (suc i) le passing failing =
     let e : p x ≡ true = passing 0 x (omega arith) (omega arith) in
     let rest : i ≡ prefix_len p xs = point_is p xs i (omega arith) (λ k d a b. passing (suc k) d (omega arith) (omega arith)) (λ k d a b. failing (suc k) d (omega arith) (omega arith)) in
     rw e (omega arith)
-
-before_if : {X : Type 0} (b : Bool) (p : X → Bool) (x : X) (xs : List X) (n : ℕ) → p x ≡ b → AllByRecursion (λ y. p y ≡ true) (take n xs) → AllByRecursion (λ y. p y ≡ true) (take (cond b (1 + n) 0) (x ∷ xs))
-before_if true p x xs n is h = let s : 1 + n ≡ suc n = omega arith in rw s (is, h)
-before_if false p x xs n is h = tt
-
-pub before_place : {X : Type 0} (p : X → Bool) (xs : List X) → AllByRecursion (λ y. p y ≡ true) (take (prefix_len p xs) xs)
-before_place p [] = tt
-before_place p (x ∷ xs) = before_if (p x) p x xs (prefix_len p xs) refl (before_place p xs)
 
 -- where the events are in order, those that do not come after a key are first
 not_false : (b : Bool) → not b ≡ false → b ≡ true

@@ -1,14 +1,10 @@
--- Finding and removing an event: in parts of a list, and among blocks
-use Rattle.std.proofs.Common.{◌≡◌, ℕ, zero, suc, ◌<◌, Bool, true, false, cond, get_or, set, List, [], ◌∷◌, ◌++◌, length, take, drop, Option, Some, None, refl, sym, ap, subst, ◌∙◌, arith}
-use Rattle.std.proofs.lemmas.List.{append-nil, get_or_read}
-use Rattle.std.proofs.lemmas.Option.{slice_get_read}
-use Rattle.std.specs.Option.{IsSome}
-use Rattle.std.specs.List.{AllByRecursion, slice_get, remove}
+-- Finding and removing an event in parts of a list
+use Rattle.std.proofs.Common.{◌≡◌, ℕ, Bool, true, false, cond, List, [], ◌∷◌, ◌++◌, drop, Option, Some, None, refl, ap}
+use Rattle.std.specs.List.{AllByRecursion}
 use Rattle.hla_base.specs.declared.content.Event.{Event}
 use Rattle.hla_order_queues.specs.Queues.{is_before, is_event, find_event, remove_event}
-use Rattle.hla_order_queues.specs.Kept.{IsInOrder, joined, AreFilled, IsFirstWith}
+use Rattle.hla_order_queues.specs.Kept.{IsInOrder}
 use Rattle.hla_order_queues.proofs.EventLemmas.{missed_head, missed_later}
-use Rattle.hla_order_queues.proofs.JoinedLemmas.{joined_at, joined_set}
 
 -- in parts of a list
 pub find_event_behind : (g m : ℕ) (xs ys : List Event) → find_event g m xs ≡ None → find_event g m (xs ++ ys) ≡ find_event g m ys
@@ -44,7 +40,7 @@ All-removed_if : (P : Event → Type 0) (b : Bool) (x : Event) (xs later : List 
 All-removed_if P true x xs later h g = h.1
 All-removed_if P false x xs later h g = (h.0, g)
 
-All-remove_event : (P : Event → Type 0) (g m : ℕ) (xs : List Event) → AllByRecursion P xs → AllByRecursion P (remove_event g m xs)
+pub All-remove_event : (P : Event → Type 0) (g m : ℕ) (xs : List Event) → AllByRecursion P xs → AllByRecursion P (remove_event g m xs)
 unfolding remove_event
 All-remove_event P g m [] h = tt
 All-remove_event P g m (x ∷ xs) h = All-removed_if P (is_event g m x) x xs (remove_event g m xs) h (All-remove_event P g m xs h.1)
@@ -68,55 +64,3 @@ IsInOrder-remove_event g m (x ∷ xs) h =
 pub IsInOrder-drop_first : (xs : List Event) → IsInOrder xs → IsInOrder (drop 1 xs)
 IsInOrder-drop_first [] h = h
 IsInOrder-drop_first (x ∷ xs) h = (ordered_head x xs h).1
-
--- among blocks
-pub remove_set : (bs : List (List Event)) (i : ℕ) (c : List Event) → remove (set bs i c) i ≡ remove bs i
-remove_set [] i c = refl
-remove_set (x ∷ xs) zero c = refl
-remove_set (x ∷ xs) (suc i) c = ap (λ zs. x ∷ zs) (remove_set xs i c)
-
-pub filled_remove : (bs : List (List Event)) (i : ℕ) → AreFilled bs → AreFilled (remove bs i)
-unfolding AreFilled
-filled_remove [] zero h = tt
-filled_remove [] (suc i) h = tt
-filled_remove (x ∷ xs) zero h = h.1
-filled_remove (x ∷ xs) (suc i) h = (h.0, filled_remove xs i h.1)
-
-pub filled_back : (bs : List (List Event)) (i : ℕ) (b : List Event) → Some b ≡ slice_get bs i → 0 < length b → AreFilled (remove bs i) → AreFilled bs
-unfolding AreFilled
-filled_back [] i b e l h = absurd (cc)
-filled_back (x ∷ xs) zero b e l h = let same : x ≡ b = cc in (rw same l, h)
-filled_back (x ∷ xs) (suc i) b e l h = (h.0, filled_back xs i b e l h.1)
-
-pub joined_remove : (bs : List (List Event)) (i : ℕ) (b : List Event) → Some b ≡ slice_get bs i → length b ≡ 0 → joined (remove bs i) ≡ joined bs
-unfolding joined
-joined_remove [] i b e l = absurd (cc)
-joined_remove (x ∷ xs) zero [] e l = let same : x ≡ [] = cc in rw same (sym (append-nil (joined xs)))
-joined_remove (x ∷ xs) zero (y ∷ ys) e l = absurd (omega (arith, l))
-joined_remove (x ∷ xs) (suc i) b e l = ap (λ zs. zs ++ x) (joined_remove xs i b e l)
-
-pub record Removed (g m : ℕ) (bs : List (List Event)) (i : ℕ) (b : List Event) : Type 0 where
-  pub found : find_event g m (joined bs) ≡ find_event g m b
-  pub rest : remove_event g m (joined bs) ≡ joined (set bs i (remove_event g m b))
-
-removed_from : (g m : ℕ) (bs : List (List Event)) (i : ℕ) (b : List Event) (o : Option Event) → Some b ≡ slice_get bs i → find_event g m (joined (drop (suc i) bs)) ≡ None → find_event g m b ≡ o → IsSome o → Removed g m bs i b
-removed_from g m bs i b None at behind is some = absurd (cc)
-removed_from g m bs i b (Some x) at behind is some =
-    let j = joined (drop (suc i) bs) in
-    let l = joined (take i bs) in
-    record {
-      found = ap (find_event g m) (joined_at bs i b at) ∙ find_event_behind g m j (b ++ l) behind ∙ find_event_before g m b l x is ∙ sym is;
-      rest =
-          ap (remove_event g m) (joined_at bs i b at)
-          ∙ remove_event_behind g m j (b ++ l) behind
-          ∙ ap (λ zs. j ++ zs) (remove_event_before g m b l x is)
-          ∙ sym (joined_set bs i b (remove_event g m b) at);
-    }
-
-pub block_at : (bs : List (List Event)) (i : ℕ) (b : List Event) → i < length bs → b ≡ get_or bs i b → Some b ≡ slice_get bs i
-block_at bs i b h read = sym (slice_get_read bs (length bs) i b refl h read)
-
-pub removed_with : (g m : ℕ) (bs : List (List Event)) (i : ℕ) (b : List Event) → IsFirstWith g m bs i → b ≡ get_or bs i b → Removed g m bs i b
-removed_with g m bs i b h read =
-    let same : get_or bs i [] ≡ b = sym (get_or_read bs i b h.within read []) in
-    removed_from g m bs i b (find_event g m b) (block_at bs i b h.within read) h.behind refl (subst (λ c. IsSome (find_event g m c)) same h.there)

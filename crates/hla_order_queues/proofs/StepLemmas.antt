@@ -7,16 +7,15 @@ use Rattle.hla_base.specs.declared.content.Event.{Event}
 use Rattle.hla_base.specs.declared.number.EventHandle.{EventHandle}
 use Rattle.hla_order_queues.specs.Queues.{handle_of, handles_of}
 use Rattle.hla_order_queues.specs.Kept.{joined}
-use Rattle.hla_order_queues.proofs.JoinedLemmas.{joined_push}
 
--- the next block, as an iterator from the end gives it
-pub next_block : (old rest : List (List Event)) (b : List Event) → old ≡ rest ++ b ∷ [] → joined old ≡ b ++ joined rest
-next_block old rest b e = ap joined e ∙ joined_push rest b
-
-pub none_left : (old : List (List Event)) → length old ≡ 0 → joined old ≡ []
+-- the next block
+pub next_block : (old rest : List (List Event)) (b : List Event) → old ≡ b ∷ rest → joined old ≡ b ++ joined rest
 unfolding joined
-none_left [] e = refl
-none_left (b ∷ bs) e = absurd (omega (arith, e))
+next_block old rest b e = ap joined e
+
+pub none_left : (old : List (List Event)) → old ≡ [] → joined old ≡ []
+unfolding joined
+none_left old e = ap joined e
 
 -- the event at a place
 pub slice_get_front : (xs ys : List Event) (i : ℕ) → i < length xs → slice_get (xs ++ ys) i ≡ slice_get xs i
@@ -31,16 +30,16 @@ slice_get_back (x ∷ xs) ys (suc i) n e h =
     let s : i - length xs ≡ suc i - n = omega (arith, e) in
     slice_get_back xs ys i (length xs) refl (omega (arith, e)) ∙ ap (slice_get ys) s
 
-pub within_block : (old rest : List (List Event)) (b : List Event) (i n : ℕ) (o : Option Event) → old ≡ rest ++ b ∷ [] → n ≡ length b → i < n → slice_get (joined old) i ≡ o → slice_get b i ≡ o
+pub within_block : (old rest : List (List Event)) (b : List Event) (i n : ℕ) (o : Option Event) → old ≡ b ∷ rest → n ≡ length b → i < n → slice_get (joined old) i ≡ o → slice_get b i ≡ o
 within_block old rest b i n o e size h is =
     let low : i < length b = omega (arith, size) in
     sym (slice_get_front b (joined rest) i low) ∙ ap (λ zs. slice_get zs i) (sym (next_block old rest b e)) ∙ is
 
-pub passed_block : (old rest : List (List Event)) (b : List Event) (i n : ℕ) (o : Option Event) → old ≡ rest ++ b ∷ [] → n ≡ length b → n ≤ i → slice_get (joined old) i ≡ o → slice_get (joined rest) (i - n) ≡ o
+pub passed_block : (old rest : List (List Event)) (b : List Event) (i n : ℕ) (o : Option Event) → old ≡ b ∷ rest → n ≡ length b → n ≤ i → slice_get (joined old) i ≡ o → slice_get (joined rest) (i - n) ≡ o
 passed_block old rest b i n o e size h is =
     sym (slice_get_back b (joined rest) i n size h) ∙ ap (λ zs. slice_get zs i) (sym (next_block old rest b e)) ∙ is
 
-pub nothing_at : (old : List (List Event)) (i : ℕ) (o : Option Event) → length old ≡ 0 → slice_get (joined old) i ≡ o → None ≡ o
+pub nothing_at : (old : List (List Event)) (i : ℕ) (o : Option Event) → old ≡ [] → slice_get (joined old) i ≡ o → None ≡ o
 nothing_at old i o e is = ap (λ zs. slice_get zs i) (sym (none_left old e)) ∙ is
 
 -- how many are below a bound
@@ -72,7 +71,7 @@ pub record Counted (count here t : ℕ) (p : Event → Bool) (b : List Event) (r
   pub all : length b ≤ here → count + here + prefix_len p (joined rest) ≡ t
   pub some : here < length b → count + here ≡ t
 
-pub counted_block : (p : Event → Bool) (old rest : List (List Event)) (b : List Event) (count here t : ℕ) → old ≡ rest ++ b ∷ [] → here ≡ prefix_len p b → count + prefix_len p (joined old) ≡ t → Counted count here t p b rest
+pub counted_block : (p : Event → Bool) (old rest : List (List Event)) (b : List Event) (count here t : ℕ) → old ≡ b ∷ rest → here ≡ prefix_len p b → count + prefix_len p (joined old) ≡ t → Counted count here t p b rest
 counted_block p old rest b count here t e is sum =
     let parts = prefix_len-parts p b (joined rest) in
     let whole : prefix_len p (joined old) ≡ prefix_len p (b ++ joined rest) = ap (prefix_len p) (next_block old rest b e) in
@@ -126,7 +125,7 @@ take_none zero = refl
 take_none (suc n) = refl
 
 -- what is put and what is left to put
-pub more_handles : (old rest : List (List Event)) (b : List Event) (hs new all : List EventHandle) (left here : ℕ) → old ≡ rest ++ b ∷ [] → here ≡ min left (length b) → new ≡ hs ++ handles_of (take here b) → hs ++ handles_of (take left (joined old)) ≡ all → new ++ handles_of (take (left - here) (joined rest)) ≡ all
+pub more_handles : (old rest : List (List Event)) (b : List Event) (hs new all : List EventHandle) (left here : ℕ) → old ≡ b ∷ rest → here ≡ min left (length b) → new ≡ hs ++ handles_of (take here b) → hs ++ handles_of (take left (joined old)) ≡ all → new ++ handles_of (take (left - here) (joined rest)) ≡ all
 more_handles old rest b hs new all left here e size put is =
     ap (λ gs. gs ++ handles_of (take (left - here) (joined rest))) put
     ∙ append_assoc hs (handles_of (take here b)) (handles_of (take (left - here) (joined rest)))
@@ -137,7 +136,7 @@ pub handles_done : (rest : List (List Event)) (hs all : List EventHandle) (left 
 unfolding handles_of
 handles_done rest hs all left e is = sym (append-nil hs) ∙ ap (λ n. hs ++ handles_of (take n (joined rest))) (sym e) ∙ is
 
-pub handles_ended : (rest : List (List Event)) (hs all : List EventHandle) (left : ℕ) → length rest ≡ 0 → hs ++ handles_of (take left (joined rest)) ≡ all → hs ≡ all
+pub handles_ended : (rest : List (List Event)) (hs all : List EventHandle) (left : ℕ) → rest ≡ [] → hs ++ handles_of (take left (joined rest)) ≡ all → hs ≡ all
 unfolding handles_of
 handles_ended rest hs all left e is =
     sym (append-nil hs) ∙ ap (λ zs. hs ++ handles_of zs) (sym (take_none left) ∙ ap (take left) (sym (none_left rest e))) ∙ is

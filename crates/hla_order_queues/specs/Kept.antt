@@ -1,7 +1,10 @@
 -- How a queue in time-stamp order keeps its events: in blocks, of which none is empty, with their stamps by name
-use Rattle.std.specs.Prelude.{◌≡◌, ℕ, suc, ◌<◌, ◌^◌, eqb, ltb, ◌&&◌, ◌||◌, Bool, true, false, None, IsSome, List, [], ◌∷◌, ◌++◌, length, drop, slice_index_or, nat_eq, Option, option_map}
+use Rattle.std.specs.Prelude.{◌≡◌, ℕ, ◌<◌, ◌^◌, ◌/◌, eqb, ltb, ◌&&◌, ◌||◌, Bool, true, false, Some, None, List, [], ◌∷◌, ◌++◌, length, slice_get, nat_eq, Option, option_map}
 use Rattle.std.specs.List.{AllByRecursion}
-use Rattle.std.specs.Map.{lookup}
+use Rattle.std.specs.Map.{lookup, set_value, remove_entry, values_of}
+use Rattle.std.specs.BTreeMap.{is_at}
+use Rattle.std.specs.declared.cmp.Ordering.{Ordering}
+use Rattle.std.specs.Ordering.{nat_cmp, ordering_then}
 use Rattle.hla_base.specs.declared.content.Event.{Event}
 use Rattle.hla_order_queues.specs.declared.key.EventKey.{EventKey}
 use Rattle.hla_order_queues.specs.declared.key.EventName.{EventName}
@@ -10,9 +13,16 @@ use Rattle.hla_order_queues.specs.Queues.{is_before, find_event}
 abbrev pub key_of : Event → EventKey
 key_of e = record { stamp = e.stamp; sender = e.sender; serial = e.serial }
 
+-- the order of keys
+abbrev pub key_cmp : EventKey → EventKey → Ordering
+key_cmp a b = ordering_then (nat_cmp a.stamp b.stamp) (ordering_then (nat_cmp a.sender b.sender) (nat_cmp a.serial b.serial))
+
+abbrev pub is_less : EventKey → EventKey → Bool
+is_less a b = ltb a.stamp b.stamp || (eqb a.stamp b.stamp && (ltb a.sender b.sender || (eqb a.sender b.sender && ltb a.serial b.serial)))
+
 -- the event with this key comes before the other
 abbrev pub is_key_before : EventKey → Event → Bool
-is_key_before k e = ltb k.stamp e.stamp || (eqb k.stamp e.stamp && (ltb k.sender e.sender || (eqb k.sender e.sender && ltb k.serial e.serial)))
+is_key_before k e = is_less k (key_of e)
 
 -- there is no event, or the first comes after this key
 abbrev pub first_after : EventKey → List Event → Bool
@@ -24,15 +34,32 @@ unfoldable pub IsInOrder : List Event → Type 0
 IsInOrder [] = Unit {0}
 IsInOrder (x ∷ xs) = AllByRecursion (λ y. is_before y x ≡ false) xs × IsInOrder xs
 
--- the events of blocks, of which the greatest is first
+-- the events of blocks
 unfoldable pub joined : List (List Event) → List Event
 joined [] = []
-joined (b ∷ bs) = joined bs ++ b
+joined (b ∷ bs) = b ++ joined bs
 
--- none of the blocks is empty
-unfoldable pub AreFilled : List (List Event) → Type 0
-AreFilled [] = Unit {0}
-AreFilled (b ∷ bs) = (0 < length b) × AreFilled bs
+-- the events of blocks that lie under their floors
+abbrev pub events_of : List (EventKey × List Event) → List Event
+events_of es = joined (values_of es)
+
+-- there is no block, or the first floor comes after this key
+abbrev pub floor_after : EventKey → List (EventKey × List Event) → Bool
+floor_after k [] = true
+floor_after k (e ∷ es) = is_less k e.0
+
+-- all floors come after this key
+abbrev pub AreAfter : EventKey → List (EventKey × List Event) → Type 0
+AreAfter k es = AllByRecursion (λ e. is_less k e.0 ≡ true) es
+
+-- all floors come after these events
+abbrev pub AreBelow : List Event → List (EventKey × List Event) → Type 0
+AreBelow xs es = AllByRecursion (λ x. AreAfter (key_of x) es) xs
+
+-- no event comes before its block's floor, and the floors behind come after it
+unfoldable pub AreFloored : List (EventKey × List Event) → Type 0
+AreFloored [] = Unit {0}
+AreFloored (e ∷ es) = AllByRecursion (λ x. is_less (key_of x) e.0 ≡ false) e.1 × AreBelow e.1 es × AreFloored es
 
 -- no two events have one sender and one serial
 unfoldable pub IsUnique : List Event → Type 0
@@ -40,9 +67,44 @@ IsUnique [] = Unit {0}
 IsUnique (x ∷ xs) = (find_event x.sender x.serial xs ≡ None) × IsUnique xs
 
 -- what is kept of the blocks behind the first
-pub record AreBlocks (bs : List (List Event)) : Type 0 where
-  pub filled : AreFilled bs
-  pub ordered : IsInOrder (joined bs)
+pub record AreBlocks (es : List (EventKey × List Event)) : Type 0 where
+  pub filled : AllByRecursion (λ e. 0 < length e.1) es
+  pub floored : AreFloored es
+  pub ordered : IsInOrder (events_of es)
+
+-- the block under a floor, another in its place, and the blocks without it
+abbrev pub block_at : EventKey → List (EventKey × List Event) → Option (List Event)
+block_at f es = lookup (is_at (key_cmp f)) es
+
+abbrev pub set_block : EventKey → List (EventKey × List Event) → List Event → List (EventKey × List Event)
+set_block f es b = set_value (is_at (key_cmp f)) es b
+
+abbrev pub without_block : EventKey → List (EventKey × List Event) → List (EventKey × List Event)
+without_block f es = remove_entry (is_at (key_cmp f)) es
+
+-- a block lies under this floor, and lesser floors are before it
+pub record At (f : EventKey) (es : List (EventKey × List Event)) : Type 0 where
+  pub before : List (EventKey × List Event)
+  pub block : List Event
+  pub behind : List (EventKey × List Event)
+  pub whole : es ≡ before ++ (f, block) ∷ behind
+  pub lesser : AllByRecursion (λ e. is_less e.0 f ≡ true) before
+
+-- the event with this key belongs in the block under this floor
+pub record IsPlace (k f : EventKey) (es : List (EventKey × List Event)) : Type 0 where
+  pub at : At f es
+  pub low : is_less k f ≡ false
+  pub high : AreAfter k at.behind
+
+-- the block under this floor keeps its lesser half, and this is the greater
+pub record IsHalved (f : EventKey) (old new : List (EventKey × List Event)) (greater : List Event) : Type 0 where
+  pub block : List Event
+  pub lesser : List Event
+  pub was : block_at f old ≡ Some block
+  pub parts : lesser ++ greater ≡ block
+  pub kept : 0 < length lesser
+  pub given : slice_get greater 0 ≡ slice_get block (length block / 2)
+  pub now : new ≡ set_block f old lesser
 
 -- what is kept of the first block, the later events, and how many there are
 pub record AreInOrder (first later : List Event) (count : ℕ) : Type 0 where
@@ -50,12 +112,6 @@ pub record AreInOrder (first later : List Event) (count : ℕ) : Type 0 where
   pub filled : first ≡ [] → later ≡ []
   pub counted : count ≡ length (first ++ later)
   pub small : count < 2 ^ 64
-
--- the block at this place has an event of the sender with the serial, and none of the lesser ones has
-pub record IsFirstWith (g m : ℕ) (bs : List (List Event)) (i : ℕ) : Type 0 where
-  pub within : i < length bs
-  pub behind : find_event g m (joined (drop (suc i) bs)) ≡ None
-  pub there : IsSome (find_event g m (slice_index_or bs i []))
 
 -- whether two names are the same
 abbrev pub name_eq : EventName → EventName → Bool

@@ -1,19 +1,21 @@
 //! A stretch of a queue in time-stamp order.
 
-ghost use Rattle.std.specs.Prelude.{◌≡◌, ◌++◌, ◌<◌, ◌≤◌, [], length, take, drop, slice_get, position, None, IsSome, MatchBool, IfErr, IfOk, OnOk, OnErr, List, option_copied};
-ghost use Rattle.std.specs.Bool.{OnTrue};
+ghost use Rattle.std.specs.Prelude.{◌/◌, option_map, ◌≡◌, ◌++◌, ◌<◌, ◌≤◌, [], length, take, drop, slice_get, position, None, IfErr, IfOk, OnOk, OnErr, List, option_copied};
 ghost use Rattle.std.specs.List.{prefix_len};
 ghost use Rattle.hla_base.specs.declared.content.Event.{Event};
 ghost use Rattle.hla_base.specs.declared.fault.Fault.TheVariants.{OutOfMemory};
 ghost use Rattle.hla_order_queues.specs.Queues.{insert_event, find_event, remove_event, is_event, handles_of};
 ghost use Rattle.hla_order_queues.specs.Moving.{is_moved};
-ghost use Rattle.hla_order_queues.specs.Kept.{first_after, IsInOrder};
+ghost use Rattle.hla_order_queues.specs.Kept.{key_of, IsInOrder};
 
 use crate::key::EventKey;
 use hla_base::{Event, EventHandle, FOREVER, Fault, FederateNo, Serial, Ticks};
 use std::alloc::{AllocError, Global};
 use std::collections::VecDeque;
 use std::marker::Model;
+
+/// A block with room for no more events than so many gives none back.
+const LEAST_ROOM: usize = 8;
 
 /// Events in time-stamp order. Contracts see the list of them, the least first. Both ends of a deque are open: the least is
 /// taken off and no other moves, nor does any where the new one is the greatest, as it is where stamps rise.
@@ -62,16 +64,6 @@ impl Block {
         self.events.get(i)
     }
 
-    /// Whether there is no event, or the first comes after this key.
-    pub fn is_after(&self, key: EventKey) -> bool
-        ensures { result ≡ first_after key self.now }
-    {
-        match self.first() {
-            Some(first) => key.is_before(first),
-            None => true,
-        }
-    }
-
     /// Puts an event at its place; the event comes back, and the block is as it was, where a growth was refused.
     pub fn insert(&mut self, event: Event) -> Result<(), Event>
         requires { IsInOrder self.old }
@@ -104,15 +96,40 @@ impl Block {
             .position(|event| sender == event.sender && serial == event.serial)
     }
 
-    /// Takes the event that `sender` sent with that serial, if there is one. It goes through the events before it.
+    /// Takes the event that `sender` sent with that serial, if there is one. It goes through the events before it, and through
+    /// all where it gives memory back.
     pub fn remove(&mut self, sender: FederateNo, serial: Serial) -> Option<Event>
         ensures found { result ≡ find_event sender serial self.old }
         ensures rest { self.new ≡ remove_event sender serial self.old }
     {
         match self.place_of(sender, serial) {
-            Some(place) => self.events.remove(place),
+            Some(place) => {
+                let event = self.events.remove(place);
+                self.shrink();
+                event
+            }
             None => None,
         }
+    }
+
+    /// Gives memory back where there is room for more than four times the events, and keeps twice what they take: half of
+    /// them go before it does so again.
+    fn shrink(&mut self)
+        ensures { self.new ≡ self.old }
+    {
+        let room = self.events.capacity();
+        let len = self.events.len();
+        if room > LEAST_ROOM && room > len.saturating_mul(4) {
+            self.events.shrink_to(len.saturating_mul(2));
+        }
+    }
+
+    /// The key of the event with which the greater half would begin, if there is any event.
+    pub fn middle(&self) -> Option<EventKey>
+        ensures { result ≡ option_map (λ x. key_of x) (slice_get self.now (length self.now / 2)) }
+    {
+        let middle = self.events.get(self.events.len() / 2)?;
+        Some(EventKey::of(middle))
     }
 
     /// Keeps the lesser half of the events, and gives the greater; nothing changes where memory for it was refused.
@@ -120,7 +137,7 @@ impl Block {
         requires { 2 ≤ length self.old }
         ensures ok { IfOk result (λ b. self.new ++ b ≡ self.old) }
         ensures kept { OnOk result (0 < length self.new) }
-        ensures given { IfOk result (λ b. 0 < length b) }
+        ensures middle { IfOk result (λ b. slice_get b 0 ≡ slice_get self.old (length self.old / 2)) }
         ensures err { OnErr result (self.new ≡ self.old) }
     {
         let half = self.events.len() / 2;

@@ -6,7 +6,7 @@ ghost use Rattle.hla_order_queues.specs.Kept.{key_of, is_key_before};
 use hla_base::{Event, FederateNo, Serial, Ticks};
 
 /// The place of an event in time-stamp order: by stamp, at equal stamps by sender, then by serial.
-#[derive(Clone, Copy, Debug)]
+#[derive(Clone, Copy, Debug, PartialEq, Eq, PartialOrd, Ord)]
 pub struct EventKey {
     pub stamp: Ticks,
     pub sender: FederateNo,

@@ -1,11 +1,11 @@
 //! The events of a queue in time-stamp order.
 
-ghost use Rattle.std.specs.Prelude.{◌≡◌, ◌++◌, [], None, Some, MatchOption, length, take as list_take, drop, slice_get, IfErr, IfNone, OnOk, OnErr, MatchBool, IsSome, option_copied};
+ghost use Rattle.std.specs.Prelude.{◌≡◌, ◌++◌, [], None, Some, length, take as list_take, drop, slice_get, IfErr, OnOk, OnErr, option_copied};
 ghost use Rattle.std.specs.List.{prefix_len};
 ghost use Rattle.hla_base.specs.declared.fault.Fault.TheVariants.{OutOfMemory};
 ghost use Rattle.hla_order_queues.specs.Queues.{insert_event, find_event, remove_event, handles_of};
 ghost use Rattle.hla_order_queues.specs.Moving.{is_moved, IsRising};
-ghost use Rattle.hla_order_queues.specs.Kept.{IsInOrder, IsUnique, stamp_of};
+ghost use Rattle.hla_order_queues.specs.Kept.{events_of, name_of, stamp_of, IsInOrder, IsUnique, AreBelow};
 
 use crate::block::Block;
 use crate::blocks::{Blocks, FULL};
@@ -26,13 +26,13 @@ pub(crate) struct Ordered {
 impl Model for Ordered {
     ghost use Rattle.std.specs.Prelude.{List, ◌++◌};
     ghost use Rattle.hla_base.specs.declared.content.Event.{Event};
-    ghost use Rattle.hla_order_queues.specs.Kept.{AreInOrder};
+    ghost use Rattle.hla_order_queues.specs.Kept.{AreInOrder, AreBelow, events_of};
 
     ghost Value = { List Event };
 
-    ghost view = { λ q. q.first ++ q.later };
+    ghost view = { λ q. q.first ++ events_of q.later };
 
-    ghost invariant = { λ q. AreInOrder q.first q.later q.count };
+    ghost invariant = { λ q. AreInOrder q.first (events_of q.later) q.count × AreBelow q.first q.later };
 }
 
 impl Ordered {
@@ -73,8 +73,10 @@ impl Ordered {
         }
     }
 
-    /// Puts an event at its place; the event comes back, and all is as it was, where a growth was refused.
+    /// Puts an event at its place, where no two have one name; the event comes back, and all is as it was, where a growth was
+    /// refused. It looks at a logarithm of the blocks, and moves fewer events than lie in one, but for one that is split.
     pub fn insert(&mut self, event: Event) -> Result<(), Event>
+        requires { IsUnique self.old }
         ensures ok { OnOk result (self.new ≡ insert_event event self.old) }
         ensures err { IfErr result (λ e. e ≡ event) }
         ensures unchanged { OnErr result (self.new ≡ self.old) }
@@ -108,8 +110,7 @@ impl Ordered {
 
     /// Takes the event with this key, which is there. It looks at a logarithm of the blocks, and goes through one.
     pub fn remove_key(&mut self, key: EventKey) -> Option<Event>
-        requires unique { IsUnique self.old }
-        requires there { stamp_of (record { sender = key.sender; serial = key.serial }) self.old ≡ Some key.stamp }
+        requires { stamp_of (name_of key) self.old ≡ Some key.stamp }
         ensures found { result ≡ find_event key.sender key.serial self.old }
         ensures rest { self.new ≡ remove_event key.sender key.serial self.old }
     {
@@ -156,14 +157,17 @@ impl Ordered {
     }
 }
 
-/// Puts an event at its place, behind all of the first block only where no later one is before it; the event comes back,
-/// and all is as it was, where a growth was refused.
+/// Puts an event at its place, behind all of the first block only where no later floor is at most its key; the event comes
+/// back, and all is as it was, where a growth was refused.
 fn put(first: &mut Block, later: &mut Blocks, event: Event) -> Result<(), Event>
-    requires { IsInOrder (first.old ++ later.old) }
-    ensures ok { OnOk result (first.new ++ later.new ≡ insert_event event (first.old ++ later.old)) }
+    requires ordered { IsInOrder (first.old ++ events_of later.old) }
+    requires unique { IsUnique (first.old ++ events_of later.old) }
+    requires below { AreBelow first.old later.old }
+    ensures ok { OnOk result (first.new ++ events_of later.new ≡ insert_event event (first.old ++ events_of later.old)) }
     ensures err { IfErr result (λ e. e ≡ event) }
-    ensures unchanged { OnErr result (first.new ++ later.new ≡ first.old ++ later.old) }
-    ensures filled { (first.old ≡ [] → later.old ≡ []) → first.new ≡ [] → later.new ≡ [] }
+    ensures unchanged { OnErr result (first.new ++ events_of later.new ≡ first.old ++ events_of later.old) }
+    ensures below { AreBelow first.new later.new }
+    ensures filled { (first.old ≡ [] → events_of later.old ≡ []) → first.new ≡ [] → events_of later.new ≡ [] }
 {
     let key = EventKey::of(&event);
     if !has_room(first, later, key) {
@@ -179,9 +183,12 @@ fn put(first: &mut Block, later: &mut Blocks, event: Event) -> Result<(), Event>
 /// Whether the first block has room without much to move, should the event with this key belong there: a full one is split.
 /// The events stay the same.
 fn has_room(first: &mut Block, later: &mut Blocks, key: EventKey) -> bool
-    requires { IsInOrder (first.old ++ later.old) }
-    ensures same { first.new ++ later.new ≡ first.old ++ later.old }
-    ensures filled { (first.old ≡ [] → later.old ≡ []) → first.new ≡ [] → later.new ≡ [] }
+    requires ordered { IsInOrder (first.old ++ events_of later.old) }
+    requires unique { IsUnique (first.old ++ events_of later.old) }
+    requires below { AreBelow first.old later.old }
+    ensures same { first.new ++ events_of later.new ≡ first.old ++ events_of later.old }
+    ensures below { AreBelow first.new later.new }
+    ensures filled { (first.old ≡ [] → events_of later.old ≡ []) → first.new ≡ [] → events_of later.new ≡ [] }
 {
     if first.len() < FULL || !later.is_after(key) {
         return true;
@@ -191,11 +198,12 @@ fn has_room(first: &mut Block, later: &mut Blocks, key: EventKey) -> bool
 
 /// Takes the event with this key, which is there.
 fn take_key(first: &mut Block, later: &mut Blocks, key: EventKey) -> Option<Event>
-    requires unique { IsUnique (first.old ++ later.old) }
-    requires ordered { IsInOrder (first.old ++ later.old) }
-    requires there { stamp_of (record { sender = key.sender; serial = key.serial }) (first.old ++ later.old) ≡ Some key.stamp }
-    ensures found { result ≡ find_event key.sender key.serial (first.old ++ later.old) }
-    ensures rest { first.new ++ later.new ≡ remove_event key.sender key.serial (first.old ++ later.old) }
+    requires ordered { IsInOrder (first.old ++ events_of later.old) }
+    requires below { AreBelow first.old later.old }
+    requires there { stamp_of (name_of key) (first.old ++ events_of later.old) ≡ Some key.stamp }
+    ensures found { result ≡ find_event key.sender key.serial (first.old ++ events_of later.old) }
+    ensures rest { first.new ++ events_of later.new ≡ remove_event key.sender key.serial (first.old ++ events_of later.old) }
+    ensures below { AreBelow first.new later.new }
 {
     if later.is_after(key) {
         first.remove(key.sender, key.serial)
@@ -206,8 +214,10 @@ fn take_key(first: &mut Block, later: &mut Blocks, key: EventKey) -> Option<Even
 
 /// Puts the next block in place of the first, if that is empty; the events stay the same.
 fn fill(first: &mut Block, later: &mut Blocks)
-    ensures same { first.new ++ later.new ≡ first.old ++ later.old }
-    ensures filled { first.new ≡ [] → later.new ≡ [] }
+    requires { AreBelow first.old later.old }
+    ensures same { first.new ++ events_of later.new ≡ first.old ++ events_of later.old }
+    ensures below { AreBelow first.new later.new }
+    ensures filled { first.new ≡ [] → events_of later.new ≡ [] }
 {
     if first.len() == 0 {
         if let Some(block) = later.take_first() {

@@ -1,6 +1,6 @@
 //! The queue of events in time-stamp order.
 
-ghost use Rattle.std.specs.Prelude.{◌≡◌, ◌++◌, ◌<◌, ℕ, true, [], None, Some, MatchOption, length, get_or, drop, slice_get, filter, not, nat_lt, IfErr, IfOk, OnOk, OnErr, MatchBool, IsSome, option_copied};
+ghost use Rattle.std.specs.Prelude.{◌≡◌, ◌++◌, ◌<◌, [], None, Some, length, drop, slice_get, filter, not, nat_lt, IfErr, IfOk, OnOk, OnErr, MatchBool, IsSome, option_copied};
 ghost use Rattle.std.specs.List.{prefix_len};
 ghost use Rattle.hla_base.specs.declared.fault.Fault.TheVariants.{OutOfMemory};
 ghost use Rattle.hla_order_queues.specs.Queues.{insert_event, find_event, remove_event, first_stamp, handles_of};
@@ -86,8 +86,7 @@ impl TsoQueue {
     }
 
     /// Puts an event at its place; the event comes back, and the queue is as it was, where a growth was refused. It looks
-    /// at a logarithm of the events, and moves fewer than lie in a block. Once in some thirty times a block is split, and
-    /// the list of those after it moves.
+    /// at a logarithm of the events, and moves fewer than lie in a block.
     pub fn insert(&mut self, event: Event) -> Result<(), Event>
         requires { find_event event.sender event.serial self.old ≡ None }
         ensures ok { OnOk result (self.new ≡ insert_event event self.old) }
@@ -122,7 +121,7 @@ impl TsoQueue {
         }
     }
 
-    /// Takes the event that `sender` sent with that serial, if there is one. It takes no memory, looks at a logarithm of the
+    /// Takes the event that `sender` sent with that serial, if there is one. It needs no memory, looks at a logarithm of the
     /// events, and goes through one block.
     pub fn remove(&mut self, sender: FederateNo, serial: Serial) -> Option<Event>
         ensures found { result ≡ find_event sender serial self.old }

@@ -1,19 +1,23 @@
--- An empty block has no events, and without it none is empty.
-use Rattle.std.proofs.Common.{◌≡◌, ◌<◌, length, subst, sym, ap, ◌∙◌, arith}
-use Rattle.hla_order_queues.specs.Kept.{AreFilled, joined}
-use Rattle.hla_order_queues.proofs.RemovalLemmas.{block_at, joined_remove, filled_back}
+-- A block goes if it is empty, and else none is.
+use Rattle.std.proofs.Common.{arith}
+use Rattle.hla_order_queues.proofs.PutLemmas.{IsDropped, dropped, still_filled}
 use Rattle.hla_order_queues.proofs.blocks.drop_empty.Goals as goal
+use Rattle.hla_order_queues.proofs.blocks.drop_empty.Goals.{After-remove}
 
-pub returns-then-len-eq0-clause-same : goal.returns-then-len-eq0-clause-same
-returns-then-len-eq0-clause-same c =
-    let empty : length c.index.result.now ≡ 0 = omega arith in
-    ap joined c.remove.ensures.items
-    ∙ joined_remove c.args.blocks.now.items c.args.place c.index.result.now (block_at c.args.blocks.now.items c.args.place c.index.result.now c.requires.within c.index.ensures) empty
+gone : (c : After-remove) → IsDropped c.args.blocks.now.entries c.remove.new.self.entries
+gone c = dropped c.args.floor c.args.blocks.now.entries c.remove.new.self.entries c.len_at.result c.requires.at c.requires.floored c.requires.filled c.len_at.ensures c.if-len_at-eq0.true c.remove.ensures.entries
 
-pub returns-then-len-eq0-clause-filled : goal.returns-then-len-eq0-clause-filled
-returns-then-len-eq0-clause-filled c = subst AreFilled (sym c.remove.ensures.items) c.requires.others
+pub returns-then-len_at-eq0-clause-events : goal.returns-then-len_at-eq0-clause-events
+returns-then-len_at-eq0-clause-events c = (gone (goal.at.returns-then-len_at-eq0-clause-events c).After-remove).events
 
-pub returns-else-len-eq0-clause-filled : goal.returns-else-len-eq0-clause-filled
-returns-else-len-eq0-clause-filled c =
-    let some : 0 < length c.index.result.now = omega arith in
-    filled_back c.args.blocks.now.items c.args.place c.index.result.now (block_at c.args.blocks.now.items c.args.place c.index.result.now c.requires.within c.index.ensures) some c.requires.others
+pub returns-then-len_at-eq0-clause-floored : goal.returns-then-len_at-eq0-clause-floored
+returns-then-len_at-eq0-clause-floored c = (gone (goal.at.returns-then-len_at-eq0-clause-floored c).After-remove).floored
+
+pub returns-then-len_at-eq0-clause-filled : goal.returns-then-len_at-eq0-clause-filled
+returns-then-len_at-eq0-clause-filled c = (gone (goal.at.returns-then-len_at-eq0-clause-filled c).After-remove).filled
+
+pub returns-then-len_at-eq0-clause-below : goal.returns-then-len_at-eq0-clause-below
+returns-then-len_at-eq0-clause-below c = (gone (goal.at.returns-then-len_at-eq0-clause-below c).After-remove).below
+
+pub returns-else-len_at-eq0-clause-filled : goal.returns-else-len_at-eq0-clause-filled
+returns-else-len_at-eq0-clause-filled c = still_filled c.args.floor c.args.blocks.now.entries c.len_at.result c.requires.at c.requires.filled c.len_at.ensures (omega arith)

@@ -1,24 +1,43 @@
--- The greater half goes before the lesser, and there was room for it.
-use Rattle.std.proofs.Common.{◌≡◌, Some, true, set, sym, ap, subst, ◌∙◌, arith}
-use Rattle.std.specs.List.{slice_get, insert}
-use Rattle.std.specs.Result.{is_ok}
-use Rattle.hla_order_queues.specs.Kept.{joined, AreBlocks}
-use Rattle.hla_order_queues.proofs.JoinedLemmas.{split_joined, blocks_split}
-use Rattle.hla_order_queues.proofs.RemovalLemmas.{block_at}
+-- An empty block comes behind the one that is split, and then has its greater half.
+use Rattle.std.proofs.Common.{◌≡◌, [], ap, subst, sym, ◌∙◌}
+use Rattle.std.specs.BTreeMap.{insert_entry}
+use Rattle.hla_order_queues.specs.Kept.{key_cmp, events_of, without_block, AreBelow, AreBlocks}
+use Rattle.hla_order_queues.proofs.SplitLemmas.{IsMiddle, IsSplit, middle_known, still_many, closed, split_done}
 use Rattle.hla_order_queues.proofs.blocks.split_at.Goals as goal
+use Rattle.hla_order_queues.proofs.blocks.split_at.Goals.{In-Some, In-Ok, After-remove, After-insert-in-Some-halve}
 
-at : (c : goal.Joined-insert) → Some c.index_mut.result.now ≡ slice_get c.args.blocks.now.items c.args.place
-at c = rw (← c.reserve.ensures.items) (block_at c.reserve.new.self.items c.args.place c.index_mut.result.now (rw c.reserve.ensures.items c.requires.within) c.index_mut.ensures.value)
+middle : (c : In-Some) → IsMiddle c.args.floor c.in-Some.middle c.args.blocks.now.entries c.requires.at
+middle c = middle_known c.args.floor c.in-Some.middle c.args.blocks.now.entries c.requires.at c.requires.blocks c.requires.unique c.requires.many c.in-Some.ensures
 
-inserted : (c : goal.Joined-insert) → c.insert.new.self.items ≡ insert (set c.args.blocks.now.items c.args.place c.split.new.self) c.args.place c.in-Ok-split.greater
-inserted c =
-    let ok : is_ok c.insert.result ≡ true = c.insert.ensures.succeeds (omega (arith, c.in-Ok.ensures.ok)) in
-    c.insert.ensures.items ∙ rw ok (ap (λ bs. insert (set bs c.args.place c.split.new.self) c.args.place c.in-Ok-split.greater) c.reserve.ensures.items)
+opened : (c : In-Ok) → c.insert.new.self.entries ≡ insert_entry key_cmp c.args.blocks.now.entries c.in-Some.middle []
+opened c = c.in-Ok.ensures.entries ∙ ap (insert_entry key_cmp c.args.blocks.now.entries c.in-Some.middle) c.new.ensures
 
-pub returns-clause-same : goal.returns-clause-same
-returns-clause-same c =
-    ap joined (inserted c) ∙ split_joined c.args.blocks.now.items c.args.place c.index_mut.result.now c.split.new.self c.in-Ok-split.greater (at c) c.in-Ok-split.ensures.ok
+pub halve-requires : goal.halve-requires
+halve-requires c =
+    still_many c.args.floor c.in-Some.middle c.args.blocks.now.entries c.insert.new.self.entries c.requires.at (middle (goal.at.halve-requires c).In-Some) (opened (goal.at.halve-requires c).In-Ok) c.requires.many
 
-pub returns-clause-blocks : goal.returns-clause-blocks
-returns-clause-blocks c =
-    subst AreBlocks (sym (inserted c)) (blocks_split c.args.blocks.now.items c.args.place c.index_mut.result.now c.split.new.self c.in-Ok-split.greater c.requires.blocks (at c) c.in-Ok-split.ensures.ok c.in-Ok-split.ensures.kept c.in-Ok-split.ensures.given)
+split : (c : After-insert-in-Some-halve) → IsMiddle c.args.floor c.in-Some.middle c.args.blocks.now.entries c.requires.at → c.insert.new.self.entries ≡ insert_entry key_cmp c.args.blocks.now.entries c.in-Some.middle [] → IsSplit c.args.blocks.now.entries c.insert-in-Some-halve.new.self.entries
+split c m is =
+    split_done c.args.floor c.in-Some.middle c.args.blocks.now.entries c.insert.new.self.entries c.halve.new.blocks.entries c.insert-in-Some-halve.new.self.entries c.in-Some-halve.greater c.insert-in-Some-halve.result c.requires.at m c.requires.blocks is c.in-Some-halve.ensures c.insert-in-Some-halve.ensures.entries c.insert-in-Some-halve.ensures.absent
+
+pub returns-in-Some-halve-clause-same : goal.returns-in-Some-halve-clause-same
+returns-in-Some-halve-clause-same c = let at = goal.at.returns-in-Some-halve-clause-same c in (split at.After-insert-in-Some-halve (middle at.In-Some) (opened at.In-Ok)).same
+
+pub returns-in-Some-halve-clause-blocks : goal.returns-in-Some-halve-clause-blocks
+returns-in-Some-halve-clause-blocks c = let at = goal.at.returns-in-Some-halve-clause-blocks c in (split at.After-insert-in-Some-halve (middle at.In-Some) (opened at.In-Ok)).blocks
+
+pub returns-in-Some-halve-clause-below : goal.returns-in-Some-halve-clause-below
+returns-in-Some-halve-clause-below c = let at = goal.at.returns-in-Some-halve-clause-below c in (split at.After-insert-in-Some-halve (middle at.In-Some) (opened at.In-Ok)).below
+
+left : (c : After-remove) → IsMiddle c.args.floor c.in-Some.middle c.args.blocks.now.entries c.requires.at → c.insert.new.self.entries ≡ insert_entry key_cmp c.args.blocks.now.entries c.in-Some.middle [] → c.remove.new.self.entries ≡ c.args.blocks.now.entries
+left c m is =
+    closed c.args.floor c.in-Some.middle c.args.blocks.now.entries c.insert.new.self.entries c.remove.new.self.entries c.requires.at m is (c.remove.ensures.entries ∙ ap (without_block c.in-Some.middle) c.in-None.ensures)
+
+pub returns-in-None-clause-same : goal.returns-in-None-clause-same
+returns-in-None-clause-same c = let at = goal.at.returns-in-None-clause-same c in ap events_of (left at.After-remove (middle at.In-Some) (opened at.In-Ok))
+
+pub returns-in-None-clause-blocks : goal.returns-in-None-clause-blocks
+returns-in-None-clause-blocks c = let at = goal.at.returns-in-None-clause-blocks c in subst AreBlocks (sym (left at.After-remove (middle at.In-Some) (opened at.In-Ok))) c.requires.blocks
+
+pub returns-in-None-clause-below : goal.returns-in-None-clause-below
+returns-in-None-clause-below c = let at = goal.at.returns-in-None-clause-below c in λ xs q. subst (AreBelow xs) (sym (left at.After-remove (middle at.In-Some) (opened at.In-Ok))) q

@@ -5,11 +5,11 @@ use Rattle.hla_order_queues.proofs.block.Block.remove.Goals as goal
 
 pub returns-in-Some-clause-found : goal.returns-in-Some-clause-found
 returns-in-Some-clause-found c =
-    found_at c.args.sender c.args.serial c.args.self.now c.in-Some.place _ c.remove.result (c.self.inside.events.ok.0 ∙ ap length c.self.view_is) c.in-Some.ensures c.remove.ensures.variant (rw c.self.view_is at c.remove.ensures.value)
+    found_at c.args.sender c.args.serial c.args.self.now c.in-Some.place _ c.remove-event.result (c.self.inside.events.ok.0 ∙ ap length c.self.view_is) c.in-Some.ensures c.remove-event.ensures.variant (rw c.self.view_is at c.remove-event.ensures.value)
 
 pub returns-in-Some-clause-rest : goal.returns-in-Some-clause-rest
 returns-in-Some-clause-rest c =
-    removed_at c.args.sender c.args.serial c.args.self.now c.remove.new.self.items c.in-Some.place _ c.remove.result (c.self.inside.events.ok.0 ∙ ap length c.self.view_is) c.in-Some.ensures c.remove.ensures.variant (rw c.self.view_is at c.remove.ensures.items)
+    c.shrink.ensures ∙ removed_at c.args.sender c.args.serial c.args.self.now c.remove-event.new.self.items c.in-Some.place _ c.remove-event.result (c.self.inside.events.ok.0 ∙ ap length c.self.view_is) c.in-Some.ensures c.remove-event.ensures.variant (rw c.self.view_is at c.remove-event.ensures.items)
 
 pub returns-in-None-clause-found : goal.returns-in-None-clause-found
 returns-in-None-clause-found c = sym (not_found c.args.sender c.args.serial c.args.self.now c.in-None.ensures).0

@@ -1,31 +1,36 @@
--- The block that was found has the place of the event.
-use Rattle.std.proofs.Common.{◌≡◌, ◌<◌, Some, length, ap, ◌∙◌, arith}
-use Rattle.std.specs.List.{slice_get}
-use Rattle.hla_order_queues.specs.Kept.{first_after}
-use Rattle.hla_order_queues.proofs.JoinedLemmas.{place_within, ordered_at, after_insert}
-use Rattle.hla_order_queues.proofs.RemovalLemmas.{block_at}
+-- The event goes into the block of its place.
+use Rattle.std.proofs.Common.{◌≡◌, List, ap, subst, sym, ◌∙◌}
+use Rattle.std.specs.Result.{OnOk, OnErr}
+use Rattle.hla_base.specs.declared.content.Event.{Event}
+use Rattle.hla_order_queues.specs.Queues.{insert_event}
+use Rattle.hla_order_queues.specs.declared.key.EventKey.{EventKey}
+use Rattle.hla_order_queues.specs.Kept.{events_of, AreBelow, IsPlace}
+use Rattle.hla_order_queues.proofs.PutLemmas.{IsPut, put_in, block_ordered}
 use Rattle.hla_order_queues.proofs.blocks.Blocks.insert.Goals as goal
-use Rattle.hla_order_queues.proofs.blocks.Blocks.insert.Goals.{In-Some, After-index_mut}
-
-within : (c : In-Some) → c.in-Some.place < length c.roomy_place.new.blocks.items
-within c =
-    let unmet = ap (first_after c.of-key.result) (c.in-Some.ensures.same ∙ c.self.view_is) ∙ rw c.of-key.ensures c.requires in
-    rw c.in-Some.ensures.place (place_within c.of-key.result c.roomy_place.new.blocks.items unmet)
-
-at : (c : After-index_mut) → c.in-Some.place < length c.roomy_place.new.blocks.items → Some c.index_mut.result.now ≡ slice_get c.roomy_place.new.blocks.items c.in-Some.place
-at c low = block_at c.roomy_place.new.blocks.items c.in-Some.place c.index_mut.result.now low c.index_mut.ensures.value
-
-pub index_mut-requires : goal.index_mut-requires
-index_mut-requires c = let low = within (goal.at.index_mut-requires c).In-Some in omega (arith, c.roomy_place.new.blocks.ok.0)
+use Rattle.hla_order_queues.proofs.blocks.Blocks.insert.Goals.{After-insert}
 
 pub insert-requires : goal.insert-requires
-insert-requires c =
-    ordered_at c.roomy_place.new.blocks.items c.in-Some.place c.index_mut.result.now c.in-Some.ensures.blocks.ordered (at (goal.at.insert-requires c).After-index_mut (within (goal.at.insert-requires c).In-Some))
+insert-requires c = block_ordered c.in-Some.floor c.roomy_floor.new.blocks.entries c.in-Some-get_mut.block.now c.in-Some.ensures.place.at c.in-Some.ensures.blocks (sym c.in-Some-get_mut.ensures.value)
+
+put : (c : After-insert) → IsPut c.args.event c.roomy_floor.new.blocks.entries (c.get_mut.follows.lender c.insert.new.self).entries c.insert.result
+put c =
+    let place = subst (λ (k : EventKey). IsPlace k c.in-Some.floor c.roomy_floor.new.blocks.entries) c.of.ensures c.in-Some.ensures.place in
+    put_in c.args.event c.roomy_floor.new.blocks.entries (c.get_mut.follows.lender c.insert.new.self).entries c.in-Some.floor c.in-Some-get_mut.block.now c.insert.new.self c.insert.result place c.in-Some.ensures.blocks (sym c.in-Some-get_mut.ensures.value) (c.get_mut.follows.holds c.insert.new.self).0 c.insert.ensures.ok c.insert.ensures.unchanged
+
+same : (c : After-insert) → events_of c.roomy_floor.new.blocks.entries ≡ events_of c.args.self.now
+same c = c.in-Some.ensures.same ∙ ap events_of c.self.view_is
 
 pub invariant_of-self-2 : goal.invariant_of-self-2
-invariant_of-self-2 c =
-    (after_insert c.args.event c.roomy_place.new.blocks.items c.args.self.now c.in-Some.place c.index_mut.result.now c.insert.new.self c.insert.result c.in-Some.ensures.blocks (c.in-Some.ensures.same ∙ c.self.view_is) (rw c.of-key.ensures at c.in-Some.ensures.place) (at (goal.at.invariant_of-self-2 c).After-index_mut (within (goal.at.invariant_of-self-2 c).In-Some)) c.insert.ensures.ok c.insert.ensures.unchanged).0
+invariant_of-self-2 c = (put (goal.at.invariant_of-self-2 c).After-insert).blocks
 
 pub returns-clause-ok : goal.returns-clause-ok
 returns-clause-ok c =
-    (after_insert c.args.event c.roomy_place.new.blocks.items c.args.self.now c.in-Some.place c.index_mut.result.now c.insert.new.self c.insert.result c.in-Some.ensures.blocks (c.in-Some.ensures.same ∙ c.self.view_is) (rw c.of-key.ensures at c.in-Some.ensures.place) (at (goal.at.returns-clause-ok c).After-index_mut (within (goal.at.returns-clause-ok c).In-Some)) c.insert.ensures.ok c.insert.ensures.unchanged).1
+    subst (λ (zs : List Event). OnOk c.insert.result (events_of (c.get_mut.follows.lender c.insert.new.self).entries ≡ insert_event c.args.event zs)) (same (goal.at.returns-clause-ok c).After-insert) (put (goal.at.returns-clause-ok c).After-insert).ok
+
+pub returns-clause-unchanged : goal.returns-clause-unchanged
+returns-clause-unchanged c =
+    subst (λ (zs : List Event). OnErr c.insert.result (events_of (c.get_mut.follows.lender c.insert.new.self).entries ≡ zs)) (same (goal.at.returns-clause-unchanged c).After-insert) (put (goal.at.returns-clause-unchanged c).After-insert).unchanged
+
+pub returns-clause-below : goal.returns-clause-below
+returns-clause-below c =
+    λ xs q. (put (goal.at.returns-clause-below c).After-insert).below xs (c.in-Some.ensures.below xs (subst (AreBelow xs) (sym c.self.view_is) q))

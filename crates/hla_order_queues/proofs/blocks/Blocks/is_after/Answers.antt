@@ -1,15 +1,33 @@
--- The last block has the first event.
-use Rattle.std.proofs.Common.{sym, ap, ◌∙◌}
-use Rattle.hla_order_queues.specs.Kept.{first_after}
-use Rattle.hla_order_queues.proofs.JoinedLemmas.{after_last, no_last, no_blocks}
+-- The first floor tells of all.
+use Rattle.std.proofs.Common.{true, subst, sym, ap, ◌∙◌}
+use Rattle.std.specs.Ordering.{is_lt}
+use Rattle.hla_order_queues.proofs.FloorLemmas.{less_is}
+use Rattle.hla_order_queues.proofs.JoinedLemmas.{IsTold, told_first, told_none, nil_if}
 use Rattle.hla_order_queues.proofs.blocks.Blocks.is_after.Goals as goal
+use Rattle.hla_order_queues.proofs.blocks.Blocks.is_after.Goals.{After-is_lt, In-None}
 
-pub returns-in-Some : goal.returns-in-Some
-returns-in-Some c =
-    let last = rw c.deref.ensures.value at c.in-Some.ensures.value in
-    c.is_after.ensures ∙ after_last c.args.key c.self.inside.blocks.items c.in-Some.block.now c.self.invariant.filled last ∙ ap (first_after c.args.key) c.self.view_is
+told : (c : After-is_lt) → IsTold c.args.key c.args.self.now c.is_lt.result
+told c =
+    subst (λ es. IsTold c.args.key es c.is_lt.result) c.self.view_is (told_first c.args.key (c.in-Some.floor.now, c.in-Some.field-0-1.now) c.self.inside.blocks.entries c.is_lt.result c.self.invariant c.in-Some.ensures.first (c.is_lt.ensures ∙ ap is_lt c.cmp.ensures ∙ less_is c.args.key c.in-Some.floor.now))
 
-pub returns-in-None : goal.returns-in-None
-returns-in-None c =
-    let last = rw c.deref.ensures.value at c.in-None.ensures.value in
-    ap (first_after c.args.key) (sym (no_blocks c.self.inside.blocks.items (no_last c.self.inside.blocks.items last)).1 ∙ c.self.view_is)
+pub returns-in-Some-clause-after : goal.returns-in-Some-clause-after
+returns-in-Some-clause-after c = (told c).after
+
+pub returns-in-Some-clause-events : goal.returns-in-Some-clause-events
+returns-in-Some-clause-events c = (told c).events
+
+pub returns-in-Some-clause-within : goal.returns-in-Some-clause-within
+returns-in-Some-clause-within c = (told c).within
+
+told_empty : (c : In-None) → IsTold c.args.key c.args.self.now true
+told_empty c =
+    told_none c.args.key c.args.self.now (sym c.self.view_is ∙ nil_if c.self.inside.blocks.entries (λ some. let no = c.in-None.ensures.variant.1 some in cc))
+
+pub returns-in-None-clause-after : goal.returns-in-None-clause-after
+returns-in-None-clause-after c = (told_empty c).after
+
+pub returns-in-None-clause-events : goal.returns-in-None-clause-events
+returns-in-None-clause-events c = (told_empty c).events
+
+pub returns-in-Some-clause-some : goal.returns-in-Some-clause-some
+returns-in-Some-clause-some c = (told c).some

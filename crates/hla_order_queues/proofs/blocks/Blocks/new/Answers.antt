@@ -3,7 +3,4 @@ use Rattle.hla_order_queues.proofs.JoinedLemmas.{no_blocks}
 use Rattle.hla_order_queues.proofs.blocks.Blocks.new.Goals as goal
 
 pub invariant_of-result : goal.invariant_of-result
-invariant_of-result c = (no_blocks c.new.result.items c.new.ensures.items).0
-
-pub returns : goal.returns
-returns c = (no_blocks c.new.result.items c.new.ensures.items).1
+invariant_of-result c = no_blocks c.new.result.entries c.new.ensures.empty

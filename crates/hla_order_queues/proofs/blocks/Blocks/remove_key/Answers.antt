@@ -1,19 +1,57 @@
--- The block that was found is the first that has an event of that name.
-use Rattle.std.proofs.Common.{◌≡◌, sym, ap, subst, ◌∙◌}
-use Rattle.std.specs.List.{prefix_len}
-use Rattle.hla_order_queues.specs.Kept.{IsInOrder, IsUnique, joined, first_after}
+-- The event is in the block of its place.
+use Rattle.std.proofs.Common.{List, ap, subst, sym, ◌∙◌}
+use Rattle.hla_base.specs.declared.content.Event.{Event}
+use Rattle.hla_order_queues.specs.declared.key.EventKey.{EventKey}
+use Rattle.hla_order_queues.specs.Queues.{find_event, remove_event}
 use Rattle.hla_order_queues.proofs.RemovalLemmas.{IsInOrder-remove_event}
+use Rattle.hla_order_queues.specs.Kept.{events_of, AreAfter, AreBelow, IsInOrder}
 use Rattle.hla_order_queues.proofs.StampLemmas.{HasKey, has_key}
-use Rattle.hla_order_queues.proofs.KeyLemmas.{first_with}
+use Rattle.hla_order_queues.proofs.PutLemmas.{IsTaken, taken_out, not_before}
 use Rattle.hla_order_queues.proofs.blocks.Blocks.remove_key.Goals as goal
+use Rattle.hla_order_queues.proofs.blocks.Blocks.remove_key.Goals.{After-take_from-event, In_err-floor}
 
-pub take_from-requires-clause-first : goal.take_from-requires-clause-first
-take_from-requires-clause-first c =
-    let place : c.place_of-place.result ≡ prefix_len (first_after c.args.key) c.self.inside.blocks.items = c.place_of-place.ensures ∙ ap (prefix_len (first_after c.args.key)) c.deref.ensures.value in
-    first_with c.args.key c.self.inside.blocks.items c.place_of-place.result place c.self.invariant (subst IsUnique (sym c.self.view_is) c.requires.unique) (subst (HasKey c.args.key) (sym c.self.view_is) (has_key c.args.key c.args.self.now c.requires.there)) (ap (first_after c.args.key) c.self.view_is ∙ c.requires.within)
+key : (c : After-take_from-event) → HasKey c.args.key (events_of c.self.inside.blocks.entries)
+key c = subst (λ (es : List (EventKey × List Event)). HasKey c.args.key (events_of es)) (sym c.self.view_is) (has_key c.args.key (events_of c.args.self.now) c.requires.there)
+
+taken : (c : After-take_from-event) → IsTaken c.args.key c.in_ok-floor.floor c.self.inside.blocks.entries c.take_from-event.new.blocks.entries c.take_from-event.result
+taken c =
+    taken_out c.args.key c.in_ok-floor.floor c.self.inside.blocks.entries c.take_from-event.new.blocks.entries c.take_from-event.result c.in_ok-floor.ensures c.self.invariant (key c) c.take_from-event.ensures
+
+pub drop_empty-requires-clause-at : goal.drop_empty-requires-clause-at
+drop_empty-requires-clause-at c = (taken (goal.at.drop_empty-requires-clause-at c).After-take_from-event).at
+
+pub drop_empty-requires-clause-floored : goal.drop_empty-requires-clause-floored
+drop_empty-requires-clause-floored c = (taken (goal.at.drop_empty-requires-clause-floored c).After-take_from-event).floored
+
+pub drop_empty-requires-clause-filled : goal.drop_empty-requires-clause-filled
+drop_empty-requires-clause-filled c = (taken (goal.at.drop_empty-requires-clause-filled c).After-take_from-event).filled
 
 pub invariant_of-self : goal.invariant_of-self
-invariant_of-self c = record {
-  filled = c.take_from.ensures.filled;
-  ordered = subst IsInOrder (sym c.take_from.ensures.rest) (IsInOrder-remove_event c.args.key.sender c.args.key.serial (joined c.self.inside.blocks.items) c.self.invariant.ordered);
-}
+invariant_of-self c =
+    let t = taken (goal.at.invariant_of-self c).After-take_from-event in
+    record {
+      filled = c.drop_empty.ensures.filled;
+      floored = c.drop_empty.ensures.floored;
+      ordered = subst IsInOrder (sym (c.drop_empty.ensures.events ∙ t.rest)) (IsInOrder-remove_event c.args.key.sender c.args.key.serial (events_of c.self.inside.blocks.entries) c.self.invariant.ordered);
+    }
+
+pub returns-clause-found : goal.returns-clause-found
+returns-clause-found c =
+    (taken (goal.at.returns-clause-found c).After-take_from-event).found ∙ ap (λ (es : List (EventKey × List Event)). find_event c.args.key.sender c.args.key.serial (events_of es)) c.self.view_is
+
+pub returns-clause-rest : goal.returns-clause-rest
+returns-clause-rest c =
+    c.drop_empty.ensures.events ∙ (taken (goal.at.returns-clause-rest c).After-take_from-event).rest ∙ ap (λ (es : List (EventKey × List Event)). remove_event c.args.key.sender c.args.key.serial (events_of es)) c.self.view_is
+
+pub returns-clause-below : goal.returns-clause-below
+returns-clause-below c =
+    λ xs q. c.drop_empty.ensures.below xs ((taken (goal.at.returns-clause-below c).After-take_from-event).below xs (subst (AreBelow xs) (sym c.self.view_is) q))
+
+never : (c : In_err-floor) → ⊥
+never c = not_before c.args.key c.args.self.now (subst (AreAfter c.args.key) c.self.view_is c.in_err-floor.ensures) c.requires.within
+
+pub returns-in_err-floor-clause-found : goal.returns-in_err-floor-clause-found
+returns-in_err-floor-clause-found c = absurd (never (goal.at.returns-in_err-floor-clause-found c).In_err-floor)
+
+pub returns-in_err-floor-clause-rest : goal.returns-in_err-floor-clause-rest
+returns-in_err-floor-clause-rest c = absurd (never (goal.at.returns-in_err-floor-clause-rest c).In_err-floor)

@@ -1,9 +1,10 @@
 -- First those of the first block, then those behind it.
 use Rattle.std.proofs.Common.{◌≡◌, min, length, arith}
+use Rattle.hla_order_queues.specs.Kept.{events_of}
 use Rattle.hla_order_queues.proofs.KeptLemmas.{put_both}
 use Rattle.hla_order_queues.proofs.ordered.Ordered.put_handles.Goals as goal
 
 pub returns-clause-ok : goal.returns-clause-ok
 returns-clause-ok c =
     let size : c.min-here.result ≡ min c.args.count (length c.self.inside.first) = omega arith in
-    put_both c.self.inside.first c.self.inside.later c.args.self.now c.args.handles.now.items c.put_handles.new.handles.items c.put_handles-2.new.handles.items c.args.count c.min-here.result c.put_handles-2.result c.self.view_is size c.in_ok-put_handles.ensures.ok c.put_handles-2.ensures.ok
+    put_both c.self.inside.first (events_of c.self.inside.later) c.args.self.now c.args.handles.now.items c.put_handles.new.handles.items c.put_handles-2.new.handles.items c.args.count c.min-here.result c.put_handles-2.result c.self.view_is size c.in_ok-put_handles.ensures.ok c.put_handles-2.ensures.ok

@@ -6,8 +6,8 @@ use Rattle.hla_order_queues.proofs.StampLemmas.{named_removed, named_missed, no_
 use Rattle.hla_order_queues.proofs.tso.TsoQueue.remove.Goals as goal
 use Rattle.hla_order_queues.proofs.tso.TsoQueue.remove.Goals.{In-None}
 
-pub remove_key-requires-clause-there : goal.remove_key-requires-clause-there
-remove_key-requires-clause-there c =
+pub remove_key-requires : goal.remove_key-requires
+remove_key-requires c =
     sym (c.in-Some.ensures.found ∙ c.self.invariant.named (record { sender = c.args.sender; serial = c.args.serial }))
 
 pub invariant_of-self : goal.invariant_of-self
