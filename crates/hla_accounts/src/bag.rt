@@ -267,11 +267,14 @@ impl Bag {
     }
 
     /// These messages, as far as they were sent in time-stamp order, are to be given in receive order. It finds each as
-    /// `remove`.
+    /// `remove`, and where nothing waits it looks for none.
     pub fn demote(&mut self, events: &[EventHandle])
         ensures table { waiting_at self.new ≡ with_listed_demoted events.now (waiting_at self.old) }
         ensures apart { AreApart self.new }
     {
+        if self.waiting.as_slice().is_empty() {
+            return;
+        }
         self.make_index();
         for event in events {
             self.demote_one(*event);

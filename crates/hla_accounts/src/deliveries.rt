@@ -12,7 +12,6 @@ ghost use Rattle.hla_accounts.specs.Ticks.{has_no_offer, is_discovered, may_deli
 use crate::accounts::Accounts;
 use crate::bag::{Waiting, is_listed};
 use crate::bounds::ordered_stamp;
-use crate::index::names_of;
 use crate::offers::Offer;
 use crate::ticks::may_receive;
 use hla_base::{Content, EventHandle, FederateNo, ObjectNo, Plain, Ticks};
@@ -137,9 +136,9 @@ impl Accounts {
     }
 
     /// Whether each of what waits for a federate in time-stamp order, is not retracted, and has a stamp below a time, in
-    /// ticks, is among these events. The time grows with the logarithm of what waits for the federate, and with the events and
-    /// what waits below the time, each times the logarithm of the events. Where memory for the names of the events was refused,
-    /// it looks for what waits below the time at each of them.
+    /// ticks, is among these events. The time grows with the logarithm of what waits for the federate, and where little waits
+    /// below the time, with that times the events. Where much does, it grows with the events and what waits below the time,
+    /// each times the logarithm of the events; where memory for the names of the events was refused, as where it is little.
     fn are_all_among(&self, federate: FederateNo, time: Ticks, events: &[EventHandle]) -> bool
         ensures { result ≡ list_all (is_among_if_below self.now time events.now) (account_at self.now
             federate).bag }
@@ -155,7 +154,7 @@ impl Accounts {
                     .iter()
                     .all(|waiting| self.is_among_if_below(time, events, waiting));
         };
-        match names_of(*self.accounts.allocator(), events) {
+        match index.names_if_many_below(*self.accounts.allocator(), events, time) {
             Some(names) => index.ordered_below(time).all(|key| {
                 self.is_retracted(key.event()) || names.contains(&key.name())
             }),

@@ -1,6 +1,6 @@
 //! An index of what waits for one federate, where much waits.
 
-ghost use Rattle.std.specs.Prelude.{◌≡◌, ◌≢◌, ℕ, None, Some, Option, List, filter, IfSome, MatchOption, OnOk};
+ghost use Rattle.std.specs.Prelude.{◌≡◌, ◌≢◌, ℕ, ltb, None, Some, Option, List, filter, length, IfSome, MatchOption, OnOk};
 ghost use Rattle.std.specs.Map.Iter.{ShowsInOrder, deref};
 ghost use Rattle.std.specs.BTreeMap.Range.{IsLeBy};
 ghost use Rattle.hla_base.specs.Tables.{upd2};
@@ -135,8 +135,11 @@ impl Name {
 /// Of fewer events each is compared as fast as a set finds one.
 const NAMED_FROM: usize = 16;
 
+/// Of so many messages each is looked for among the events as fast as it pays to make a set of their names.
+const COMPARED: usize = 64;
+
 /// The names of these events; `None` where they are few, or a growth was refused.
-pub fn names_of(alloc: Global, events: &[EventHandle]) -> Option<BTreeSet<Name>>
+fn names_of(alloc: Global, events: &[EventHandle]) -> Option<BTreeSet<Name>>
     ensures { IfSome result (λ s. HasNamesOf s events.now) }
 {
     if events.len() < NAMED_FROM {
@@ -251,6 +254,31 @@ impl Index {
             Key::least(Delivery::TimeStamp { stamp: 0 }),
             Key::least(Delivery::TimeStamp { stamp: time }),
         )
+    }
+
+    /// Whether much is to be given in time-stamp order with a stamp below a time, in ticks.
+    fn has_many_ordered_below(&self, time: Ticks) -> bool
+        ensures { result ≡ ltb COMPARED (length (filter (is_ordered_below time) self.now.keys.keys)) }
+    {
+        self.ordered_below(time).take(COMPARED + 1).count() > COMPARED
+    }
+
+    /// The names of these events, where much is to be given in time-stamp order with a stamp below a time, in ticks; `None`
+    /// where it is little, or the events are few, or a growth was refused. The time grows with the events, times their
+    /// logarithm, only where there is much below the time.
+    pub fn names_if_many_below(
+        &self,
+        alloc: Global,
+        events: &[EventHandle],
+        time: Ticks,
+    ) -> Option<BTreeSet<Name>>
+        ensures { IfSome result (λ s. HasNamesOf s events.now) }
+    {
+        if self.has_many_ordered_below(time) {
+            names_of(alloc, events)
+        } else {
+            None
+        }
     }
 
     /// The keys of what was moved to receive order, with a stamp below a time, in ticks.

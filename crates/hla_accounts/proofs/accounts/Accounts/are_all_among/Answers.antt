@@ -21,14 +21,14 @@ returns-in-None c =
     ∙ sym (among_keys c.args.self.now c.args.time c.args.events.now c.in-Some-index.index.now c.in-Some.account.now.bag known.kept known.apart)
     ∙ ap (λ (a : Account). list_all (is_among_if_below c.args.self.now c.args.time c.args.events.now) a.bag) (sym c.in-Some.ensures)
 
-pub returns-in-Some-names_of : goal.returns-in-Some-names_of
-returns-in-Some-names_of c =
-    let names = c.in-Some-names_of.names in
+pub returns-in-Some-names_if_many_below : goal.returns-in-Some-names_if_many_below
+returns-in-Some-names_if_many_below c =
+    let names = c.in-Some-names_if_many_below.names in
     let test : Key → Bool = λ k. is_key_retracted c.args.self.now k || sorted.contains name_cmp names (record { sender = k.sender; serial = k.serial }) in
-    let counted = all_from_yields_List test _ _ c.all-in-Some-names_of.result c.all-in-Some-names_of.ensures.ran (YieldsList-from_rest {shows = deref} _ c.ordered_below.ensures.keys) (λ x b q k. search (rules, tests)) in
+    let counted = all_from_yields_List test _ _ c.all-in-Some-names_if_many_below.result c.all-in-Some-names_if_many_below.ensures.ran (YieldsList-from_rest {shows = deref} _ c.ordered_below.ensures.keys) (λ x b q k. search (rules, tests)) in
     let known = c.in-Some-index.ensures in
     counted
-    ∙ among_names c.args.self.now c.args.events.now names _ c.in-Some-names_of.ensures
+    ∙ among_names c.args.self.now c.args.events.now names _ c.in-Some-names_if_many_below.ensures
     ∙ sym (among_keys c.args.self.now c.args.time c.args.events.now c.in-Some-index.index.now c.in-Some.account.now.bag known.kept known.apart)
     ∙ ap (λ (a : Account). list_all (is_among_if_below c.args.self.now c.args.time c.args.events.now) a.bag) (sym c.in-Some.ensures)
 
