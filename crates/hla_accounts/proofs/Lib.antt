@@ -14,6 +14,8 @@ pub mod RangeLemmas
 pub mod QueryLemmas
 -- Lower bounds of the stamps of what waits, after a change and in a test
 pub mod StampLemmas
+-- What a bag keeps of its index and its tail after a change
+pub mod IndexingLemmas
 -- Accounts by number
 pub mod AccountLemmas
 -- Tests of accounts decide the bounds of the central machine

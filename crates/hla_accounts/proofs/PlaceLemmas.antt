@@ -131,14 +131,18 @@ pub record IsWithout (g m : ℕ) (old new : List Waiting) : Type 0 where
   pub table : waiting_at new ≡ upd2 (waiting_at old) g m None
   pub apart : AreApart new
 
-pub removed_there : (ws : List Waiting) (g m i : ℕ) (d : Waiting) → AreApart ws → Some i ≡ position (is_of g m) ws → (vs : List Waiting) → vs ≡ remove ws i → IsWithout g m ws vs
-removed_there ws g m i d apart is vs now =
+without : (ws : List Waiting) (g m i : ℕ) (d : Waiting) → AreApart ws → Some i ≡ position (is_of g m) ws → (vs : List Waiting) → vs ≡ remove ws i → IsWithout g m ws vs
+without ws g m i d apart is vs now =
     let p = found_at ws g m i d is in
     let same : vs ≡ filter (stays g m) ws = now ∙ filtered ws g m apart i d p.0 p.1 in
     record {
       table = ap waiting_at same ∙ waiting_at-remove ws g m;
       apart = subst AreApart (sym same) (apart-remove ws g m apart);
     }
+
+pub removed_there : (ws : List Waiting) (g m i : ℕ) → AreApart ws → Some i ≡ position (is_of g m) ws → (vs : List Waiting) → vs ≡ remove ws i → IsWithout g m ws vs
+removed_there [] g m i apart is vs now = absurd (let none : None ≡ position (is_of g m) [] = refl in let e = none ∙ sym is in cc)
+removed_there (x ∷ ws) g m i apart is vs now = without (x ∷ ws) g m i x apart is vs now
 
 pub unwritten : (t : ℕ → ℕ → Option Waiting) (g m : ℕ) → t g m ≡ None → t ≡ upd2 t g m None
 unfolding upd2

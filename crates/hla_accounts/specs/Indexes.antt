@@ -1,5 +1,5 @@
 -- What an index of the messages that wait for one federate keeps
-use Rattle.std.specs.Prelude.{ℕ, ◌≡◌, Bool, false, Option, is_some, option_map, List, IfSome}
+use Rattle.std.specs.Prelude.{ℕ, ◌≡◌, Bool, false, Option, is_some, option_map, List, length, take, drop, ◌≤◌, IfSome, MatchOption}
 use Rattle.std.specs.Option.{option_map_or}
 use Rattle.std.specs.BTreeMap as tree
 use Rattle.std.specs.BTreeSet as sorted
@@ -17,7 +17,8 @@ use Rattle.hla_accounts.specs.declared.index.Rank.TheVariants.{Receive, Demoted,
 use Rattle.hla_accounts.specs.declared.index.Key.{Key}
 use Rattle.hla_accounts.specs.declared.index.Name.{Name}
 use Rattle.hla_accounts.specs.declared.index.Index.{Index}
-use Rattle.hla_accounts.specs.Bags.{waiting_at, is_listed, AreApart}
+use Rattle.hla_accounts.specs.declared.indexing.Indexing.{Indexing}
+use Rattle.hla_accounts.specs.Bags.{waiting_at, is_listed, AreApart, AreNotBelow}
 
 -- ---- keys: by rank, then by stamp, sender and serial
 abbrev pub rank_no : Rank → ℕ
@@ -78,9 +79,20 @@ pub record IsIndexOf (i : Index) (table : ℕ → ℕ → Option Delivery) : Typ
   pub keys : (k : Key) → sorted.contains key_cmp i.keys k ≡ has_key k (table k.sender k.serial)
   pub names : (n : Name) → is_some (tree.get name_cmp i.arrivals n) ≡ is_some (table n.sender n.serial)
 
--- what a bag keeps of the messages that wait, and of their index
-abbrev pub IsKept : List Waiting → Option Index → Type 0
-IsKept ws index = AreApart ws × IfSome index (λ i. IsIndexOf i (delivery_at ws))
+-- an index of the first k messages; where there is none k is 0
+abbrev pub IsHead : Option Index → ℕ → List Waiting → Type 0
+IsHead index k head = MatchOption index (k ≡ 0) (λ i. IsIndexOf i (delivery_at head))
+
+-- what a bag keeps of the messages that wait: an index of the first of them, and lower bounds of the stamps of the others
+pub record IsKept (ws : List Waiting) (x : Indexing) : Type 0 where
+  pub apart : AreApart ws
+  pub within : x.count ≤ length ws
+  pub head : IsHead x.index x.count (take x.count ws)
+  pub tail : AreNotBelow x.least_ordered x.least_demoted (drop x.count ws)
+
+-- the index, where there is one, has all messages
+abbrev pub IsCaughtUp : List Waiting → Indexing → Type 0
+IsCaughtUp ws x = IfSome x.index (λ _. x.count ≡ length ws)
 
 -- the set has the names of these events and no others
 abbrev pub HasNamesOf : BTreeSet Name → List EventHandle → Type 0

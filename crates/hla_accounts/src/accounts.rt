@@ -64,8 +64,7 @@ impl Accounts {
         }
     }
 
-    /// The message that an event handle names, if it waits for a federate. The time grows with the logarithm of what waits for
-    /// the federate.
+    /// The message that an event handle names, if it waits for a federate. It takes the time of `Bag::find`.
     pub fn find(&self, federate: FederateNo, event: EventHandle) -> Option<&Waiting>
         ensures { option_copied result ≡ waiting_at (account_at self.now federate).bag event.sender
             event.serial }

@@ -1,19 +1,18 @@
 //! What waits for one federate.
 
-ghost use Rattle.std.specs.Prelude.{◌≡◌, ◌↔◌, ◌∷◌, ◌≤◌, ℕ, Option, false, true, IsTrue, [], None, Some, slice_get, IfSome, OnOk, OnErr, IfErr};
+ghost use Rattle.std.specs.Prelude.{◌≡◌, ◌↔◌, ◌∷◌, ◌≤◌, false, IsTrue, [], None, Some, length, take, slice_get, OnOk, OnErr, IfErr};
 ghost use Rattle.std.specs.List.{position};
 ghost use Rattle.std.specs.Option.{option_copied, option_map_or};
 ghost use Rattle.hla_base.specs.declared.fault.Fault.TheVariants.{OutOfMemory};
-ghost use Rattle.hla_callbacks.specs.declared.callback.Delivery.{Delivery};
 ghost use Rattle.hla_base.specs.Tables.{upd2};
 ghost use Rattle.hla_accounts.specs.Accounts.{copy_at, copy_given};
-ghost use Rattle.hla_accounts.specs.Bags.{is_of, is_listed, waiting_at, demoted_delivery, with_listed_demoted, AreApart, IsNotBelow, AreNotBelow};
-ghost use Rattle.hla_accounts.specs.Indexes.{delivery_at, IsIndexOf};
+ghost use Rattle.hla_accounts.specs.Bags.{is_of, is_listed, waiting_at, demoted_delivery, with_listed_demoted, AreApart};
+ghost use Rattle.hla_accounts.specs.Indexes.{IsKept};
 
-use crate::index::Index;
+use crate::indexing::{INDEXED_FROM, Indexing};
 use crate::line::Line;
 use crate::places::Places;
-use hla_base::{Content, EventHandle, FOREVER, Fault, Plain, Ticks};
+use hla_base::{Content, EventHandle, Fault, Plain};
 use hla_callbacks::Delivery;
 use std::alloc::Global;
 use std::marker::Model;
@@ -29,38 +28,30 @@ pub struct Waiting {
     pub content: Content,
 }
 
-/// Of fewer messages all are looked at as fast as an index finds one, and it would take memory.
-const INDEXED_FROM: usize = 64;
-
 /// The messages that one federate has not picked up, in the order of their sending. No two of them have one sender and
 /// one serial. Contracts see the list; `waiting_at` reads it as a table by sender and serial. Where much waits, the first
-/// call that takes a message out, or moves one to receive order, makes an index, which stays until the bag is cleared.
-/// Before that it is noted where each message was put. Where memory was refused, a message is looked for among all that waits.
+/// call that takes a message out, or moves one to receive order, makes an index, which stays until the bag is cleared. What is
+/// put later comes into it at the next such call, and is looked through until then. Before there is an index it is noted where
+/// each message was put. Where memory was refused, a message is looked for among all that waits.
 #[derive(Debug, Drop)]
 pub struct Bag {
     waiting: Line,
-    /// Made where much waits as a message is taken out or moved to receive order, unless memory for it is refused.
-    index: Option<Index>,
+    /// Which of them an index has.
+    indexing: Indexing,
     /// Made where much waits and there is no index; gone once a message is taken out.
     places: Option<Places>,
-    /// No message that is to be given in time-stamp order has a lesser stamp, in ticks. Taking one out leaves it as it is, until
-    /// places are noted.
-    least_ordered: Ticks,
-    /// No message that was moved to receive order has a lesser stamp, in ticks. Taking one out leaves it as it is.
-    least_demoted: Ticks,
 }
 
 impl Model for Bag {
     ghost use Rattle.std.specs.Prelude.{List};
     ghost use Rattle.hla_accounts.specs.declared.bag.Waiting.{Waiting};
-    ghost use Rattle.hla_accounts.specs.Bags.{AreNotBelow};
     ghost use Rattle.hla_accounts.specs.Indexes.{IsKept};
 
     ghost Value = { List Waiting };
 
     ghost view = { λ b. b.waiting };
 
-    ghost invariant = { λ b. IsKept b.waiting b.index × AreNotBelow b.least_ordered b.least_demoted b.waiting };
+    ghost invariant = { λ b. IsKept b.waiting b.indexing };
 }
 
 /// A message that was sent in time-stamp order is to be given in receive order.
@@ -95,6 +86,20 @@ fn place_by_note(waiting: &[Waiting], noted: Option<usize>, event: EventHandle) 
     }
 }
 
+/// Where the message stands that an event handle names, if it is none of the first messages. It looks at each message behind
+/// those that stands before it.
+fn scan_from(waiting: &[Waiting], count: usize, event: EventHandle) -> Option<usize>
+    requires apart { AreApart waiting.now }
+    requires within { count ≤ length waiting.now }
+    requires none { waiting_at (take count waiting.now) event.sender event.serial ≡ None }
+    ensures { result ≡ position (is_of event.sender event.serial) waiting.now }
+{
+    match scan(&waiting[count..], event) {
+        Some(place) => Some(count + place),
+        None => None,
+    }
+}
+
 /// Where the message stands that an event handle names. It looks at each message that stands before it.
 fn scan(waiting: &[Waiting], event: EventHandle) -> Option<usize>
     ensures { result ≡ position (is_of event.sender event.serial) waiting.now }
@@ -111,10 +116,8 @@ impl Bag {
     {
         Bag {
             waiting: Line::new(alloc),
-            index: None,
+            indexing: Indexing::new(),
             places: None,
-            least_ordered: FOREVER,
-            least_demoted: FOREVER,
         }
     }
 
@@ -123,61 +126,28 @@ impl Bag {
         ensures all { result.now ≡ self.now }
         ensures apart { AreApart self.now }
     {
-        let _ = &self.index;
+        let _ = &self.indexing;
         self.waiting.as_slice()
     }
 
-    /// The index of what waits, where there is one.
-    pub(crate) fn index(&self) -> Option<&Index>
-        ensures kept { IfSome result (λ i. IsIndexOf i.now (delivery_at self.now)) }
-        ensures apart { AreApart self.now }
+    /// Which of what waits an index has.
+    pub(crate) fn indexing(&self) -> &Indexing
+        ensures { IsKept self.now result.now }
     {
         let _ = &self.waiting;
-        self.index.as_ref()
+        &self.indexing
     }
 
-    /// Whether it is known, with no look at the messages, that none of what is to be given in time-stamp order has a stamp
-    /// below a time, in ticks.
-    pub(crate) fn has_no_ordered_below(&self, time: Ticks) -> bool
-        ensures { result ≡ true → AreNotBelow time 0 self.now }
-    {
-        let _ = &self.waiting;
-        time <= self.least_ordered
-    }
-
-    /// Whether it is known, with no look at the messages, that none of what was moved to receive order has a stamp below a
-    /// time, in ticks.
-    pub(crate) fn has_no_demoted_below(&self, time: Ticks) -> bool
-        ensures { result ≡ true → AreNotBelow 0 time self.now }
-    {
-        let _ = &self.waiting;
-        time <= self.least_demoted
-    }
-
-    /// Makes an index where much waits and there is none, unless memory for it is refused. Then it looks at all that waits.
-    fn make_index(&mut self)
-        ensures same { self.new ≡ self.old }
-        ensures apart { AreApart self.new }
-    {
-        if self.index.is_some() {
-            return;
-        }
-        let waiting = self.waiting.as_slice();
-        if waiting.len() >= INDEXED_FROM {
-            self.index = Index::of(self.waiting.allocator(), waiting);
-        }
-    }
-
-    /// Where the message stands that an event handle names. What the index gives is looked at first.
+    /// Where the message stands that an event handle names. What the index gives is looked at first, and then the tail.
     fn place_of(&self, event: EventHandle) -> Option<usize>
         ensures { result ≡ position (is_of event.sender event.serial) self.now }
     {
         let waiting = self.waiting.as_slice();
-        match &self.index {
+        match &self.indexing.index {
             Some(index) => match index.place_of(event) {
                 Some(place) if stands_at(waiting, place, event) => Some(place),
                 Some(_) => scan(waiting, event),
-                None => None,
+                None => scan_from(waiting, self.indexing.count, event),
             },
             None => {
                 let noted = noted_place(&self.places, event);
@@ -186,8 +156,9 @@ impl Bag {
         }
     }
 
-    /// The message that an event handle names, if it waits. The time grows with the logarithm of what waits; until a message
-    /// is taken out or moved to receive order all is looked at where the message does not wait.
+    /// The message that an event handle names, if it waits. The time grows with the logarithm of what is in the index, and with
+    /// what was put since a message was taken out or moved to receive order. Before that it grows with the logarithm of what
+    /// the sender sent, and all is looked at where the message does not wait.
     pub fn find(&self, event: EventHandle) -> Option<&Waiting>
         ensures { option_copied result ≡ waiting_at self.now event.sender event.serial }
     {
@@ -211,7 +182,7 @@ impl Bag {
     }
 
     /// Puts a message behind the others. `OutOfMemory`, and all as it was, where a growth was refused. Over many calls the
-    /// time of one is constant, and where there is an index it grows with the logarithm of what waits.
+    /// time of one is constant.
     pub fn put(&mut self, waiting: Waiting) -> Result<(), Fault>
         requires { waiting_at self.old waiting.event.sender waiting.event.serial ≡ None }
         ensures ok { OnOk result (waiting_at self.new ≡ upd2 (waiting_at self.old) waiting.event.sender
@@ -223,32 +194,23 @@ impl Bag {
         let event = waiting.event;
         let delivery = waiting.delivery;
         self.waiting.push(waiting)?;
-        lower(&mut self.least_ordered, &mut self.least_demoted, delivery);
-        note_place(
-            &mut self.places,
-            self.index.is_some(),
-            &self.waiting,
-            event,
-            &mut self.least_ordered,
-            &mut self.least_demoted,
-        );
-        add_to_index(&mut self.index, event, delivery);
+        self.indexing.put(delivery);
+        note_place(&mut self.places, &mut self.indexing, &self.waiting, event);
         Ok(())
     }
 
     /// The message that an event handle names waits no longer. The first call where much waits makes an index of all that
-    /// waits. From then on the time to find the message grows with the logarithm of what waits; the messages behind it move,
-    /// or those in front of it where these are fewer.
+    /// waits, and each adds to it what was put since, each message once. Then the time to find the message grows with the
+    /// logarithm of what waits; the messages behind it move, or those in front of it where these are fewer.
     pub fn remove(&mut self, event: EventHandle)
         ensures table { waiting_at self.new ≡ upd2 (waiting_at self.old) event.sender event.serial None }
         ensures apart { AreApart self.new }
     {
-        self.make_index();
+        self.indexing.catch_up(&self.waiting);
         if let Some(place) = self.place_of(event) {
-            let delivery = self.waiting.as_slice()[place].delivery;
             forget_places(&mut self.places);
+            self.indexing.remove(&self.waiting, place);
             self.waiting.remove(place);
-            remove_from_index(&mut self.index, place, event, delivery);
         }
     }
 
@@ -257,12 +219,11 @@ impl Bag {
         ensures table { waiting_at self.new ≡ with_listed_demoted (event ∷ []) (waiting_at self.old) }
         ensures apart { AreApart self.new }
     {
+        self.indexing.catch_up(&self.waiting);
         if let Some(place) = self.place_of(event) {
-            let before = self.waiting.as_slice()[place].delivery;
-            let after = demoted(before);
+            let after = demoted(self.waiting.as_slice()[place].delivery);
+            self.indexing.demote(&self.waiting, place, after);
             self.waiting.set_delivery(place, after);
-            lower(&mut self.least_ordered, &mut self.least_demoted, after);
-            change_in_index(&mut self.index, event, before, after);
         }
     }
 
@@ -275,7 +236,6 @@ impl Bag {
         if self.waiting.as_slice().is_empty() {
             return;
         }
-        self.make_index();
         for event in events {
             self.demote_one(*event);
         }
@@ -286,24 +246,8 @@ impl Bag {
         ensures { self.new ≡ [] }
     {
         self.waiting.clear();
-        self.index = None;
+        self.indexing = Indexing::new();
         self.places = None;
-        self.least_ordered = FOREVER;
-        self.least_demoted = FOREVER;
-    }
-}
-
-/// Lowers two bounds, as far as need be, to the stamp of a message: that of what is to be given in time-stamp order, and that
-/// of what was moved to receive order.
-fn lower(ordered: &mut Ticks, demoted: &mut Ticks, delivery: Delivery)
-    ensures ordered { ordered.new ≤ ordered.old }
-    ensures demoted { demoted.new ≤ demoted.old }
-    ensures kept { IsNotBelow ordered.new demoted.new delivery }
-{
-    match delivery {
-        Delivery::TimeStamp { stamp } => *ordered = stamp.min(*ordered),
-        Delivery::Demoted { stamp } => *demoted = stamp.min(*demoted),
-        Delivery::Receive => {}
     }
 }
 
@@ -320,34 +264,19 @@ fn forget_places(places: &mut Option<Places>) {
     *places = None;
 }
 
-/// The least stamps, in ticks, of these messages: of what is to be given in time-stamp order, and of what was moved to receive
-/// order; `FOREVER` where there is none.
-fn least_stamps(waiting: &[Waiting]) -> (Ticks, Ticks)
-    ensures { AreNotBelow result.0 result.1 waiting.now }
-{
-    let mut ordered = FOREVER;
-    let mut demoted = FOREVER;
-    for message in waiting {
-        lower(&mut ordered, &mut demoted, message.delivery);
-    }
-    (ordered, demoted)
-}
-
-/// A message was put behind the others: its place is noted, where much waits and there is no index. To note all looks at all
-/// that waits, and so is tried only each time that as much again has come. The two bounds are then made those of what waits,
-/// since they may be of messages that are gone.
+/// A message was put behind the others: its place is noted, where much waits and there is no index, nor was memory for one
+/// refused. To note all looks at all that waits, and so is tried only each time that as much again has come; the bounds of the
+/// tail are then made anew, too.
 fn note_place(
     places: &mut Option<Places>,
-    is_indexed: bool,
+    indexing: &mut Indexing,
     waiting: &Line,
     event: EventHandle,
-    ordered: &mut Ticks,
-    demoted: &mut Ticks,
 )
-    ensures { AreNotBelow ordered.old demoted.old waiting.now → AreNotBelow ordered.new demoted.new waiting.now }
+    ensures { IsKept waiting.now indexing.old → IsKept waiting.now indexing.new }
 {
     let messages = waiting.as_slice();
-    if is_indexed {
+    if indexing.index.is_some() || indexing.is_refused {
         return;
     }
     match places {
@@ -355,52 +284,8 @@ fn note_place(
         None => {
             if messages.len() >= INDEXED_FROM && messages.len().is_power_of_two() {
                 *places = Places::of(waiting.allocator(), messages);
-                let (least_ordered, least_demoted) = least_stamps(messages);
-                *ordered = least_ordered;
-                *demoted = least_demoted;
+                indexing.bound(messages);
             }
-        }
-    }
-}
-
-/// A message was put behind the others. Where a growth was refused there is no index any more.
-fn add_to_index(index: &mut Option<Index>, event: EventHandle, delivery: Delivery)
-    ensures { (t : ℕ → ℕ → Option Delivery) → IfSome index.old (λ i. IsIndexOf i t) →
-        t event.sender event.serial ≡ None →
-        IfSome index.new (λ i. IsIndexOf i (upd2 t event.sender event.serial (Some delivery))) }
-{
-    if let Some(known) = index {
-        if known.add(event, delivery).is_err() {
-            *index = None;
-        }
-    }
-}
-
-/// The message at a place waits no longer.
-fn remove_from_index(
-    index: &mut Option<Index>,
-    place: usize,
-    event: EventHandle,
-    delivery: Delivery,
-)
-    ensures { (t : ℕ → ℕ → Option Delivery) → IfSome index.old (λ i. IsIndexOf i t) →
-        t event.sender event.serial ≡ Some delivery →
-        IfSome index.new (λ i. IsIndexOf i (upd2 t event.sender event.serial None)) }
-{
-    if let Some(known) = index {
-        known.remove(place, event, delivery);
-    }
-}
-
-/// A message is to be given in another way. Where a growth was refused there is no index any more.
-fn change_in_index(index: &mut Option<Index>, event: EventHandle, before: Delivery, after: Delivery)
-    ensures { (t : ℕ → ℕ → Option Delivery) → IfSome index.old (λ i. IsIndexOf i t) →
-        t event.sender event.serial ≡ Some before →
-        IfSome index.new (λ i. IsIndexOf i (upd2 t event.sender event.serial (Some after))) }
-{
-    if let Some(known) = index {
-        if known.change(event, before, after).is_err() {
-            *index = None;
         }
     }
 }

@@ -1,13 +1,17 @@
 //! The bounds of the central machine, as tests of accounts (HLA 1.3, time management).
 
-ghost use Rattle.std.specs.Prelude.{◌≡◌, ◌≤◌};
+ghost use Rattle.std.specs.Prelude.{◌≡◌, ◌≤◌, List, take};
+ghost use Rattle.std.specs.List.{list_all};
 ghost use Rattle.hla_base.specs.Limits.{max_time};
 ghost use Rattle.hla_base.specs.Rows.{reach};
 ghost use Rattle.hla_accounts.specs.Accounts.{account_at};
+ghost use Rattle.hla_accounts.specs.declared.bag.Waiting.{Waiting};
+ghost use Rattle.hla_accounts.specs.Indexes.{IsKept};
 ghost use Rattle.hla_accounts.specs.Bounds.{is_at_most_waiting, is_below_all_tso, is_below_wake, is_below_request, is_below_out, ordered_stamp, leaves_below, is_below_bound, has_reached};
 
 use crate::accounts::Accounts;
 use crate::bag::Waiting;
+use crate::indexing::Indexing;
 use hla_base::{AdvanceKind, AdvanceRequest, FOREVER, FederateNo, Ticks};
 use hla_callbacks::Delivery;
 
@@ -40,27 +44,42 @@ impl Accounts {
         }
     }
 
+    /// Whether a time, in ticks, is at most each stamp of what an index has in time-stamp order and was not retracted.
+    fn is_below_indexed_tso(&self, indexing: &Indexing, time: Ticks) -> bool
+        ensures { (ws : List Waiting) → IsKept ws indexing.now → result ≡ list_all (is_at_most_waiting self.now time) (take
+            indexing.now.count ws) }
+    {
+        match &indexing.index {
+            Some(index) => index
+                .ordered_below(time)
+                .all(|key| self.is_retracted(key.event())),
+            None => true,
+        }
+    }
+
+    /// Whether a time, in ticks, is at most each stamp of these messages that go in time-stamp order and were not retracted. It
+    /// looks at each.
+    fn is_below_listed_tso(&self, waiting: &[Waiting], time: Ticks) -> bool
+        ensures { result ≡ list_all (is_at_most_waiting self.now time) waiting.now }
+    {
+        waiting
+            .iter()
+            .all(|waiting| self.is_at_most_waiting(time, waiting))
+    }
+
     /// Whether a time, in ticks, is at most each stamp of what waits for a federate in time-stamp order and was not
-    /// retracted. The time grows with the logarithm of what waits for the federate, and with what of it was retracted.
+    /// retracted. The time grows with the logarithm of what is in the index of what waits for the federate, and with what of it
+    /// was retracted; and where the bounds do not answer, with what was put since a message was taken out.
     pub fn is_below_all_tso(&self, federate: FederateNo, time: Ticks) -> bool
         ensures { result ≡ is_below_all_tso self.now federate time }
     {
         let Some(account) = self.get(federate) else {
             return true;
         };
-        match account.bag.index() {
-            Some(index) => index
-                .ordered_below(time)
-                .all(|key| self.is_retracted(key.event())),
-            None => {
-                account.bag.has_no_ordered_below(time)
-                    || account
-                        .bag
-                        .as_slice()
-                        .iter()
-                        .all(|waiting| self.is_at_most_waiting(time, waiting))
-            }
-        }
+        let indexing = account.bag.indexing();
+        let tail = indexing.tail(account.bag.as_slice());
+        self.is_below_indexed_tso(indexing, time)
+            && (indexing.has_no_ordered_below(time) || self.is_below_listed_tso(tail, time))
     }
 
     /// Whether a time, in ticks, is at most the wake of a federate in a next-event request: its first pick, or else the
@@ -107,8 +126,8 @@ impl Accounts {
     }
 
     /// Whether a time, in ticks, is at most the lower bound on time stamp of a federate: `FOREVER`, and what each other
-    /// joined federate that regulates or has asked to may still send. The time grows with the logarithm of what waits for each
-    /// of these that is in a next-event request, and with what of it was retracted.
+    /// joined federate that regulates or has asked to may still send. It takes the time of `is_below_all_tso` for each of these
+    /// that is in a next-event request.
     pub fn is_below_bound(&self, federate: FederateNo, time: Ticks) -> bool
         ensures { result ≡ is_below_bound self.now federate time }
     {

@@ -1,15 +1,19 @@
 //! What services and wires may answer, as tests of accounts (HLA 1.3, time management).
 
-ghost use Rattle.std.specs.Prelude.{◌≡◌, ◌&&◌, eqb};
+ghost use Rattle.std.specs.Prelude.{◌≡◌, ◌&&◌, eqb, List, take};
+ghost use Rattle.std.specs.List.{list_all};
 ghost use Rattle.hla_machine.specs.Machine.{is_removal};
 ghost use Rattle.hla_accounts.specs.Accounts.{account_at};
+ghost use Rattle.hla_accounts.specs.declared.bag.Waiting.{Waiting};
 ghost use Rattle.hla_accounts.specs.Bags.{waiting_at};
+ghost use Rattle.hla_accounts.specs.Indexes.{IsKept};
 ghost use Rattle.hla_accounts.specs.Bounds.{demoted_stamp};
 ghost use Rattle.hla_accounts.specs.Calls.{may_bound, is_at_most_demoted, is_below_all_demoted, may_be_next, waits_in_order, may_cease, are_distinct, is_carried, is_offered, may_carry, may_announce};
 
 use crate::accounts::Accounts;
 use crate::bag::{Waiting, is_listed};
 use crate::bounds::ordered_stamp;
+use crate::indexing::Indexing;
 use crate::offers::Offer;
 use hla_base::{Content, EventHandle, FederateNo, ObjectNo, Ticks};
 use hla_callbacks::Delivery;
@@ -77,31 +81,46 @@ impl Accounts {
         }
     }
 
+    /// Whether a time, in ticks, is at most each stamp of what an index has that was moved to receive order and is not
+    /// retracted.
+    fn is_below_indexed_demoted(&self, indexing: &Indexing, time: Ticks) -> bool
+        ensures { (ws : List Waiting) → IsKept ws indexing.now → result ≡ list_all (is_at_most_demoted self.now time) (take
+            indexing.now.count ws) }
+    {
+        match &indexing.index {
+            Some(index) => index
+                .demoted_below(time)
+                .all(|key| self.is_retracted(key.event())),
+            None => true,
+        }
+    }
+
+    /// Whether a time, in ticks, is at most each stamp of these messages that were moved to receive order and are not retracted.
+    /// It looks at each.
+    fn is_below_listed_demoted(&self, waiting: &[Waiting], time: Ticks) -> bool
+        ensures { result ≡ list_all (is_at_most_demoted self.now time) waiting.now }
+    {
+        waiting
+            .iter()
+            .all(|waiting| self.is_at_most_demoted(time, waiting))
+    }
+
     /// Whether a time, in ticks, is at most each stamp of what waits for a federate, was moved to receive order and is not
-    /// retracted. The time grows with the logarithm of what waits for the federate, and with what of it was retracted.
+    /// retracted. The time grows as that of `is_below_all_tso`.
     fn is_below_all_demoted(&self, federate: FederateNo, time: Ticks) -> bool
         ensures { result ≡ is_below_all_demoted self.now federate time }
     {
         let Some(account) = self.get(federate) else {
             return true;
         };
-        match account.bag.index() {
-            Some(index) => index
-                .demoted_below(time)
-                .all(|key| self.is_retracted(key.event())),
-            None => {
-                account.bag.has_no_demoted_below(time)
-                    || account
-                        .bag
-                        .as_slice()
-                        .iter()
-                        .all(|waiting| self.is_at_most_demoted(time, waiting))
-            }
-        }
+        let indexing = account.bag.indexing();
+        let tail = indexing.tail(account.bag.as_slice());
+        self.is_below_indexed_demoted(indexing, time)
+            && (indexing.has_no_demoted_below(time) || self.is_below_listed_demoted(tail, time))
     }
 
-    /// Whether Query Minimum Next Event Time may answer a federate this time, in ticks. The time grows with the logarithm of
-    /// what waits for the federate, and for each other one that is in a next-event request, and with what of it was retracted.
+    /// Whether Query Minimum Next Event Time may answer a federate this time, in ticks. It takes the time of
+    /// `is_below_all_tso` for the federate, and for each other one that is in a next-event request.
     pub fn may_be_next(&self, federate: FederateNo, time: Ticks) -> bool
         ensures { result ≡ may_be_next self.now federate time }
     {
@@ -124,7 +143,7 @@ impl Accounts {
     }
 
     /// Whether these events may move to receive order as a federate ceases to be constrained (Disable Time Constrained).
-    /// The time for each of them grows with the logarithm of what waits for the federate.
+    /// It takes the time of `Bag::find` for each of them.
     pub fn may_cease(&self, federate: FederateNo, events: &[EventHandle]) -> bool
         ensures { result ≡ may_cease self.now federate events.now }
     {
@@ -154,8 +173,8 @@ impl Accounts {
         }
     }
 
-    /// Whether a carry from a federate to another may take this from the wire. The time grows with the logarithm of what waits
-    /// for the receiver, and with its discoveries and retractions for those.
+    /// Whether a carry from a federate to another may take this from the wire. It takes the time of `Bag::find`, and grows
+    /// with the receiver's discoveries and retractions for those.
     pub fn may_carry(&self, from: FederateNo, to: FederateNo, carried: Carried) -> bool
         ensures { result ≡ may_carry self.now from to carried }
     {

@@ -37,8 +37,7 @@ impl Accounts {
         self.accounts[federate as usize - 1].bag.remove(event);
     }
 
-    /// Messages that wait for a federate are to be given in receive order. The time for each of the events grows with the
-    /// logarithm of what waits for the federate.
+    /// Messages that wait for a federate are to be given in receive order. It takes the time of `Bag::demote`.
     pub fn demote(&mut self, federate: FederateNo, events: &[EventHandle])
         requires some { 0 < federate }
         requires within { federate ≤ length self.old }
@@ -59,8 +58,8 @@ impl Accounts {
         }
     }
 
-    /// A message arrives for a federate. While the federate is not constrained it is to be given in receive order. The time
-    /// grows with the logarithm of what waits for the federate.
+    /// A message arrives for a federate. While the federate is not constrained it is to be given in receive order. It takes
+    /// the time of `Bag::demote`.
     pub fn arrive(&mut self, federate: FederateNo, event: EventHandle)
         requires some { 0 < federate }
         requires within { federate ≤ length self.old }

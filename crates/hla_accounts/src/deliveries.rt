@@ -1,17 +1,20 @@
 //! Whether a federate may be given a message, as tests of accounts (HLA 1.3, object management and time management).
 
-ghost use Rattle.std.specs.Prelude.{◌≡◌, ◌≢◌, ◌↔◌, IsTrue, Some, true};
+ghost use Rattle.std.specs.Prelude.{◌≡◌, ◌≢◌, ◌↔◌, IsTrue, Some, true, List, take};
 ghost use Rattle.std.specs.List.{list_all};
 ghost use Rattle.hla_base.specs.declared.number.EventHandle.{EventHandle};
 ghost use Rattle.hla_machine.specs.Directory.{Directory};
 ghost use Rattle.hla_machine.specs.Callbacks.{MayDeliver};
 ghost use Rattle.hla_accounts.specs.Accounts.{account_at, no_account, copy_at, copy_given, central_with};
+ghost use Rattle.hla_accounts.specs.declared.bag.Waiting.{Waiting};
 ghost use Rattle.hla_accounts.specs.Bags.{waiting_at};
+ghost use Rattle.hla_accounts.specs.Indexes.{IsKept};
 ghost use Rattle.hla_accounts.specs.Ticks.{has_no_offer, is_discovered, may_deliver, is_moved_below, is_among_if_below, may_constrain};
 
 use crate::accounts::Accounts;
 use crate::bag::{Waiting, is_listed};
 use crate::bounds::ordered_stamp;
+use crate::indexing::Indexing;
 use crate::offers::Offer;
 use crate::ticks::may_receive;
 use hla_base::{Content, EventHandle, FederateNo, ObjectNo, Plain, Ticks};
@@ -41,8 +44,7 @@ impl Accounts {
         }
     }
 
-    /// Whether a message with this content waits for a federate, to be given so. The time grows with the logarithm of what
-    /// waits for the federate.
+    /// Whether a message with this content waits for a federate, to be given so. It takes the time of `Bag::find`.
     fn is_waiting(
         &self,
         federate: FederateNo,
@@ -135,24 +137,16 @@ impl Accounts {
         }
     }
 
-    /// Whether each of what waits for a federate in time-stamp order, is not retracted, and has a stamp below a time, in
-    /// ticks, is among these events. The time grows with the logarithm of what waits for the federate, and where little waits
-    /// below the time, with that times the events. Where much does, it grows with the events and what waits below the time,
-    /// each times the logarithm of the events; where memory for the names of the events was refused, as where it is little.
-    fn are_all_among(&self, federate: FederateNo, time: Ticks, events: &[EventHandle]) -> bool
-        ensures { result ≡ list_all (is_among_if_below self.now time events.now) (account_at self.now
-            federate).bag }
+    /// Whether each of what an index has in time-stamp order, is not retracted, and has a stamp below a time, in ticks, is among
+    /// these events. Where little lies below the time, the time grows with that times the events. Where much does, it grows
+    /// with the events and what lies below the time, each times the logarithm of the events; where memory for the names of the
+    /// events was refused, as where it is little.
+    fn are_indexed_among(&self, indexing: &Indexing, time: Ticks, events: &[EventHandle]) -> bool
+        ensures { (ws : List Waiting) → IsKept ws indexing.now → result ≡ list_all (is_among_if_below self.now time events.now)
+            (take indexing.now.count ws) }
     {
-        let Some(account) = self.get(federate) else {
+        let Some(index) = &indexing.index else {
             return true;
-        };
-        let Some(index) = account.bag.index() else {
-            return account.bag.has_no_ordered_below(time)
-                || account
-                    .bag
-                    .as_slice()
-                    .iter()
-                    .all(|waiting| self.is_among_if_below(time, events, waiting));
         };
         match index.names_if_many_below(*self.accounts.allocator(), events, time) {
             Some(names) => index.ordered_below(time).all(|key| {
@@ -162,6 +156,33 @@ impl Accounts {
                 self.is_retracted(key.event()) || is_listed(events, key.event())
             }),
         }
+    }
+
+    /// Whether each of these messages that goes in time-stamp order, is not retracted, and has a stamp below a time, in ticks, is
+    /// among these events. It looks for each of them at the events.
+    fn are_listed_among(&self, waiting: &[Waiting], time: Ticks, events: &[EventHandle]) -> bool
+        ensures { result ≡ list_all (is_among_if_below self.now time events.now) waiting.now }
+    {
+        waiting
+            .iter()
+            .all(|waiting| self.is_among_if_below(time, events, waiting))
+    }
+
+    /// Whether each of what waits for a federate in time-stamp order, is not retracted, and has a stamp below a time, in
+    /// ticks, is among these events. The time grows with the logarithm of what is in the index of what waits for the federate,
+    /// and with what lies below the time there, as `are_indexed_among` says; and where the bounds do not answer, with what was
+    /// put since a message was taken out, and for what of it lies below the time with the events.
+    fn are_all_among(&self, federate: FederateNo, time: Ticks, events: &[EventHandle]) -> bool
+        ensures { result ≡ list_all (is_among_if_below self.now time events.now) (account_at self.now
+            federate).bag }
+    {
+        let Some(account) = self.get(federate) else {
+            return true;
+        };
+        let indexing = account.bag.indexing();
+        let tail = indexing.tail(account.bag.as_slice());
+        self.are_indexed_among(indexing, time, events)
+            && (indexing.has_no_ordered_below(time) || self.are_listed_among(tail, time, events))
     }
 
     /// Whether each of these events waits for a federate in time-stamp order, with a stamp below a time, in ticks.

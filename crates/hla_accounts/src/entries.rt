@@ -79,8 +79,7 @@ impl Accounts {
         }
     }
 
-    /// Whether it is so of one of them. The time grows with the logarithm of what waits for each that is in such a request, and
-    /// with what of it was retracted.
+    /// Whether it is so of one of them. It takes the time of `is_below_all_tso` for each that is in such a request.
     fn is_below_some_wake(&self, federate: FederateNo, entry: Ticks) -> bool
         ensures value { result ≡ is_below_some_wake self.now federate entry (length self.now + 1) }
         ensures bounded { IsTrue result → entry ≤ max_time }

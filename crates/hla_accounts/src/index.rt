@@ -1,6 +1,6 @@
 //! An index of what waits for one federate, where much waits.
 
-ghost use Rattle.std.specs.Prelude.{◌≡◌, ◌≢◌, ℕ, ltb, None, Some, Option, List, filter, length, IfSome, MatchOption, OnOk};
+ghost use Rattle.std.specs.Prelude.{◌≡◌, ◌≢◌, ◌≤◌, ℕ, ltb, take, None, Some, Option, filter, length, IfSome, MatchOption, OnOk};
 ghost use Rattle.std.specs.Map.Iter.{ShowsInOrder, deref};
 ghost use Rattle.std.specs.BTreeMap.Range.{IsLeBy};
 ghost use Rattle.hla_base.specs.Tables.{upd2};
@@ -156,7 +156,7 @@ fn names_of(alloc: Global, events: &[EventHandle]) -> Option<BTreeSet<Name>>
 
 impl Index {
     /// Of no messages; it takes no memory.
-    fn new(alloc: Global) -> Index
+    pub fn new(alloc: Global) -> Index
         ensures { IsIndexOf result (λ _ _. None) }
     {
         Index {
@@ -165,20 +165,6 @@ impl Index {
             numbers: VecDeque::new(alloc),
             next: 0,
         }
-    }
-
-    /// Of these messages; `None` where a growth was refused.
-    pub fn of(alloc: Global, waiting: &[Waiting]) -> Option<Index>
-        requires { AreApart waiting.now }
-        ensures { IfSome result (λ i. IsIndexOf i (delivery_at waiting.now)) }
-    {
-        let mut index = Index::new(alloc);
-        for message in waiting {
-            let Ok(()) = index.add(message.event, message.delivery) else {
-                return None;
-            };
-        }
-        Some(index)
     }
 
     /// A message waits behind the others. Where a growth was refused the index is of no use any more. The time grows with the
@@ -192,6 +178,21 @@ impl Index {
         self.arrivals.insert(Name::of(event), number)?;
         self.numbers.push_back(number)?;
         self.next = number.wrapping_add(1);
+        Ok(())
+    }
+
+    /// All messages from a place on wait, too; those before it are in the index. Where a growth was refused the index is of no
+    /// use any more.
+    pub fn extend(&mut self, waiting: &[Waiting], from: usize) -> Result<(), AllocError>
+        requires apart { AreApart waiting.now }
+        requires within { from ≤ length waiting.now }
+        requires known { IsIndexOf self.old (delivery_at (take from waiting.now)) }
+        ensures { OnOk result (IsIndexOf self.new (delivery_at waiting.now)) }
+    {
+        let tail = &waiting[from..];
+        for message in tail {
+            self.add(message.event, message.delivery)?;
+        }
         Ok(())
     }
 

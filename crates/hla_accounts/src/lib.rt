@@ -12,6 +12,7 @@ mod discoveries;
 mod entries;
 mod handles;
 mod index;
+mod indexing;
 mod joining;
 mod line;
 mod messages;

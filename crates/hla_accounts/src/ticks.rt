@@ -1,14 +1,18 @@
 //! What a federate may be given at a tick, as tests of accounts (HLA 1.3, time management).
 
-ghost use Rattle.std.specs.Prelude.{◌≡◌, ◌≤◌, Some};
+ghost use Rattle.std.specs.Prelude.{◌≡◌, ◌≤◌, Some, List, take};
+ghost use Rattle.std.specs.List.{list_all};
 ghost use Rattle.hla_base.specs.Limits.{max_time};
 ghost use Rattle.hla_base.specs.Rows.{grant_time, is_constrained, is_flush, RowNumbers};
 ghost use Rattle.hla_accounts.specs.Accounts.{account_at};
+ghost use Rattle.hla_accounts.specs.declared.bag.Waiting.{Waiting};
+ghost use Rattle.hla_accounts.specs.Indexes.{IsKept};
 ghost use Rattle.hla_accounts.specs.Ticks.{is_flush_granted, is_granted_as, may_grant, may_receive, is_sent_in_receive_order, is_not_earlier, is_first_ro, is_at_first_pick, is_key_le, is_not_before, is_first_key, may_pick, may_pick_now};
 
 use crate::accounts::Accounts;
 use crate::bag::Waiting;
 use crate::bounds::{ordered_stamp, reach};
+use crate::indexing::Indexing;
 use hla_base::{AdvanceRequest, EventHandle, FederateNo, Role, Ticks, TimeRow};
 use hla_callbacks::Delivery;
 
@@ -59,6 +63,24 @@ fn is_not_earlier(event: EventHandle, waiting: &Waiting) -> bool
     }
 }
 
+/// Whether none of these messages is an earlier one of the same sender in receive order. It looks at each.
+fn are_not_earlier(event: EventHandle, waiting: &[Waiting]) -> bool
+    ensures { result ≡ list_all (is_not_earlier event.sender event.serial) waiting.now }
+{
+    waiting.iter().all(|waiting| is_not_earlier(event, waiting))
+}
+
+/// Whether an index has no earlier message of the same sender in receive order.
+fn is_first_indexed_ro(indexing: &Indexing, event: EventHandle) -> bool
+    ensures { (ws : List Waiting) → IsKept ws indexing.now → result ≡ list_all (is_not_earlier event.sender event.serial) (take
+        indexing.now.count ws) }
+{
+    match &indexing.index {
+        Some(index) => index.received_before(event).next().is_none(),
+        None => true,
+    }
+}
+
 /// Whether of two events with one stamp the first is not behind the second.
 fn is_key_le(first: EventHandle, second: EventHandle) -> bool
     ensures { result ≡ is_key_le first.sender first.serial second.sender second.serial }
@@ -68,21 +90,16 @@ fn is_key_le(first: EventHandle, second: EventHandle) -> bool
 
 impl Accounts {
     /// Whether no earlier message of the same sender waits for a federate in receive order. The time grows with the logarithm
-    /// of what waits for the federate.
+    /// of what is in the index of what waits for the federate, and with what was put since a message was taken out.
     pub fn is_first_ro(&self, federate: FederateNo, event: EventHandle) -> bool
         ensures { result ≡ is_first_ro self.now federate event.sender event.serial }
     {
         let Some(account) = self.get(federate) else {
             return true;
         };
-        match account.bag.index() {
-            Some(index) => index.received_before(event).next().is_none(),
-            None => account
-                .bag
-                .as_slice()
-                .iter()
-                .all(|waiting| is_not_earlier(event, waiting)),
-        }
+        let indexing = account.bag.indexing();
+        let tail = indexing.tail(account.bag.as_slice());
+        is_first_indexed_ro(indexing, event) && are_not_earlier(event, tail)
     }
 
     /// Whether a flush is granted a time, in ticks, that nothing picked up or waiting is below.
@@ -130,8 +147,8 @@ impl Accounts {
         time == grant_time(row, request) && self.has_reached(federate, request.kind, time)
     }
 
-    /// Whether a federate may be granted a time, in ticks (Time Advance Grant). The time grows with the logarithm of what waits
-    /// for the federate, and for each other one that is in a next-event request, and with what of it was retracted.
+    /// Whether a federate may be granted a time, in ticks (Time Advance Grant). It takes the time of `is_below_all_tso` for the
+    /// federate, and for each other one that is in a next-event request.
     pub fn may_grant(&self, federate: FederateNo, time: Ticks) -> bool
         ensures { result ≡ may_grant self.now federate time }
     {
@@ -160,24 +177,40 @@ impl Accounts {
         }
     }
 
+    /// Whether none of these messages goes before another with this stamp, in ticks. It looks at each.
+    fn are_not_before(&self, event: EventHandle, stamp: Ticks, waiting: &[Waiting]) -> bool
+        ensures { result ≡ list_all (is_not_before self.now event.sender event.serial stamp) waiting.now }
+    {
+        waiting
+            .iter()
+            .all(|waiting| self.is_not_before(event, stamp, waiting))
+    }
+
+    /// Whether none of what an index has with this stamp, in ticks, and was not retracted has a key below that of an event.
+    fn is_first_indexed_key(&self, indexing: &Indexing, event: EventHandle, stamp: Ticks) -> bool
+        ensures { (ws : List Waiting) → IsKept ws indexing.now → result ≡ list_all (is_not_before self.now event.sender event.serial
+            stamp) (take indexing.now.count ws) }
+    {
+        match &indexing.index {
+            Some(index) => index
+                .ordered_before(event, stamp)
+                .all(|key| self.is_retracted(key.event())),
+            None => true,
+        }
+    }
+
     /// Whether none of what waits for a federate with this stamp, in ticks, has a key below that of an event. The time grows
-    /// with the logarithm of what waits for the federate, and with what of it was retracted.
+    /// with the logarithm of what is in the index of what waits for the federate, with what of it was retracted, and with what
+    /// was put since a message was taken out.
     fn is_first_key(&self, federate: FederateNo, event: EventHandle, stamp: Ticks) -> bool
         ensures { result ≡ is_first_key self.now federate event.sender event.serial stamp }
     {
         let Some(account) = self.get(federate) else {
             return true;
         };
-        match account.bag.index() {
-            Some(index) => index
-                .ordered_before(event, stamp)
-                .all(|key| self.is_retracted(key.event())),
-            None => account
-                .bag
-                .as_slice()
-                .iter()
-                .all(|waiting| self.is_not_before(event, stamp, waiting)),
-        }
+        let indexing = account.bag.indexing();
+        let tail = indexing.tail(account.bag.as_slice());
+        self.is_first_indexed_key(indexing, event, stamp) && self.are_not_before(event, stamp, tail)
     }
 
     /// Whether an advance that is no flush picks up an event with this stamp, in ticks: it is not retracted, its stamp is at

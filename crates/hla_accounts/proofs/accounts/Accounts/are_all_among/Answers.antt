@@ -1,38 +1,31 @@
--- The keys below the time are retracted or among the events, or no stamp lies below it.
-use Rattle.std.proofs.Common.{◌∙◌, ◌||◌, Bool, ap, sym, rules, tests}
+-- What the index has below the time is among the events, and so is what the tail has there.
+use Rattle.std.proofs.Common.{◌∙◌, ap, sym, drop}
 use Rattle.std.specs.List.{list_all}
-use Rattle.std.specs.BTreeSet as sorted
-use Rattle.std.specs.Map.Iter.{deref}
-use Rattle.std.proofs.lemmas.Iterator.Consumers.{YieldsList-from_rest}
-use Rattle.std.proofs.lemmas.Iterator.Search.{all_from_yields_List}
 use Rattle.hla_accounts.specs.declared.account.Account.{Account}
-use Rattle.hla_accounts.specs.declared.index.Key.{Key}
-use Rattle.hla_accounts.specs.Indexes.{name_cmp}
 use Rattle.hla_accounts.specs.Ticks.{is_among_if_below}
-use Rattle.hla_accounts.proofs.QueryLemmas.{is_key_retracted, is_key_among, among_keys, among_names}
+use Rattle.hla_accounts.proofs.IndexingLemmas.{rest_decides, head_decides}
 use Rattle.hla_accounts.proofs.StampLemmas.{none_among_below}
 use Rattle.hla_accounts.proofs.accounts.Accounts.are_all_among.Goals as goal
 
-pub returns-in-None : goal.returns-in-None
-returns-in-None c =
-    let counted = all_from_yields_List (is_key_among c.args.self.now c.args.events.now) _ _ c.all-in-None.result c.all-in-None.ensures.ran (YieldsList-from_rest {shows = deref} _ c.ordered_below-in-None.ensures.keys) (λ x b q k. search (rules, tests)) in
-    let known = c.in-Some-index.ensures in
-    counted
-    ∙ sym (among_keys c.args.self.now c.args.time c.args.events.now c.in-Some-index.index.now c.in-Some.account.now.bag known.kept known.apart)
-    ∙ ap (λ (a : Account). list_all (is_among_if_below c.args.self.now c.args.time c.args.events.now) a.bag) (sym c.in-Some.ensures)
-
-pub returns-in-Some-names_if_many_below : goal.returns-in-Some-names_if_many_below
-returns-in-Some-names_if_many_below c =
-    let names = c.in-Some-names_if_many_below.names in
-    let test : Key → Bool = λ k. is_key_retracted c.args.self.now k || sorted.contains name_cmp names (record { sender = k.sender; serial = k.serial }) in
-    let counted = all_from_yields_List test _ _ c.all-in-Some-names_if_many_below.result c.all-in-Some-names_if_many_below.ensures.ran (YieldsList-from_rest {shows = deref} _ c.ordered_below.ensures.keys) (λ x b q k. search (rules, tests)) in
-    let known = c.in-Some-index.ensures in
-    counted
-    ∙ among_names c.args.self.now c.args.events.now names _ c.in-Some-names_if_many_below.ensures
-    ∙ sym (among_keys c.args.self.now c.args.time c.args.events.now c.in-Some-index.index.now c.in-Some.account.now.bag known.kept known.apart)
-    ∙ ap (λ (a : Account). list_all (is_among_if_below c.args.self.now c.args.time c.args.events.now) a.bag) (sym c.in-Some.ensures)
-
 pub returns-then-has_no_ordered_below : goal.returns-then-has_no_ordered_below
 returns-then-has_no_ordered_below c =
-    c.if-has_no_ordered_below.true ∙ sym (none_among_below c.args.self.now c.args.time c.args.events.now c.in-Some.account.now.bag (c.has_no_ordered_below.ensures c.if-has_no_ordered_below.true))
+    let ws = c.in-Some.account.now.bag in
+    let x = c.indexing-indexing.result.now in
+    let rest = c.if-has_no_ordered_below.true ∙ sym (none_among_below c.args.self.now c.args.time c.args.events.now (drop x.count ws) (c.has_no_ordered_below.ensures (drop x.count ws) c.indexing-indexing.ensures.tail c.if-has_no_ordered_below.true)) in
+    rest_decides (is_among_if_below c.args.self.now c.args.time c.args.events.now) ws x.count c.are_indexed_among.result c.has_no_ordered_below.result (c.are_indexed_among.ensures ws c.indexing-indexing.ensures) c.if-are_indexed_among.true rest
+    ∙ ap (λ (a : Account). list_all (is_among_if_below c.args.self.now c.args.time c.args.events.now) a.bag) (sym c.in-Some.ensures)
+
+pub returns-else-has_no_ordered_below : goal.returns-else-has_no_ordered_below
+returns-else-has_no_ordered_below c =
+    let ws = c.in-Some.account.now.bag in
+    let x = c.indexing-indexing.result.now in
+    let rest = c.are_listed_among.ensures ∙ ap (list_all (is_among_if_below c.args.self.now c.args.time c.args.events.now)) (c.tail-tail.ensures ∙ ap (drop x.count) c.as_slice.ensures.all) in
+    rest_decides (is_among_if_below c.args.self.now c.args.time c.args.events.now) ws x.count c.are_indexed_among.result c.are_listed_among.result (c.are_indexed_among.ensures ws c.indexing-indexing.ensures) c.if-are_indexed_among.true rest
+    ∙ ap (λ (a : Account). list_all (is_among_if_below c.args.self.now c.args.time c.args.events.now) a.bag) (sym c.in-Some.ensures)
+
+pub returns-else-are_indexed_among : goal.returns-else-are_indexed_among
+returns-else-are_indexed_among c =
+    let ws = c.in-Some.account.now.bag in
+    let x = c.indexing-indexing.result.now in
+    head_decides (is_among_if_below c.args.self.now c.args.time c.args.events.now) ws x.count c.are_indexed_among.result (c.are_indexed_among.ensures ws c.indexing-indexing.ensures) c.if-are_indexed_among.false
     ∙ ap (λ (a : Account). list_all (is_among_if_below c.args.self.now c.args.time c.args.events.now) a.bag) (sym c.in-Some.ensures)

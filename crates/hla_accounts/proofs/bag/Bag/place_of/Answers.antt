@@ -1,11 +1,12 @@
--- What stands at the place that the index gives has the name, and no other has it.
-use Rattle.std.proofs.Common.{◌≡◌, List, Some, None, true, false, subst, sym, ◌∙◌, IfSome}
+-- What stands at the place that the index gives has the name, and no other has it. What the index does not have stands in the tail.
+use Rattle.std.proofs.Common.{◌≡◌, List, Some, None, true, false, take, subst, sym, ◌∙◌}
 use Rattle.std.specs.List.{position, slice_get}
 use Rattle.std.specs.Option.{option_map_or}
 use Rattle.hla_accounts.specs.declared.bag.Waiting.{Waiting}
-use Rattle.hla_accounts.specs.Bags.{is_of}
-use Rattle.hla_accounts.specs.Indexes.{delivery_at, IsIndexOf}
-use Rattle.hla_accounts.proofs.PlaceLemmas.{stands_there, none_found, undelivered}
+use Rattle.hla_accounts.specs.Bags.{is_of, waiting_at}
+use Rattle.hla_accounts.specs.Indexes.{delivery_at}
+use Rattle.hla_accounts.proofs.PlaceLemmas.{stands_there, undelivered}
+use Rattle.hla_accounts.proofs.IndexingLemmas.{head_of}
 use Rattle.hla_accounts.proofs.bag.Bag.place_of.Goals as goal
 
 pub returns-in-Some-place_of : goal.returns-in-Some-place_of
@@ -14,11 +15,17 @@ returns-in-Some-place_of c =
     let m = c.args.event.serial in
     let place = c.in-Some-place_of.place in
     let there = subst (λ (ws : List Waiting). option_map_or (is_of g m) (slice_get ws place) false ≡ true) c.as_slice-waiting.ensures (sym c.stands_at.ensures ∙ c.if-stands_at.true) in
-    subst (λ (ws : List Waiting). Some place ≡ position (is_of g m) ws) c.self.view_is (sym (stands_there c.self.inside.waiting g m c.self.invariant.0.0 place there))
+    subst (λ (ws : List Waiting). Some place ≡ position (is_of g m) ws) c.self.view_is (sym (stands_there c.self.inside.waiting g m c.self.invariant.apart place there))
 
 pub returns-in-None-place_of : goal.returns-in-None-place_of
-returns-in-None-place_of c =
+returns-in-None-place_of c = subst (λ (ws : List Waiting). c.scan_from.result ≡ position (is_of c.args.event.sender c.args.event.serial) ws) (c.as_slice-waiting.ensures ∙ c.self.view_is) c.scan_from.ensures
+
+pub scan_from-requires-clause-none : goal.scan_from-requires-clause-none
+scan_from-requires-clause-none c =
     let g = c.args.event.sender in
     let m = c.args.event.serial in
-    let kept = subst (λ o. IfSome o (λ i. IsIndexOf i (delivery_at c.self.inside.waiting))) c.in-Some.is c.self.invariant.0.1 in
-    subst (λ (ws : List Waiting). None ≡ position (is_of g m) ws) c.self.view_is (sym (none_found c.self.inside.waiting g m (undelivered c.self.inside.waiting g m (c.in-None-place_of.ensures (delivery_at c.self.inside.waiting) kept))))
+    let k = c.self.inside.indexing.count in
+    let ws = c.self.inside.waiting in
+    let known = head_of ws c.self.inside.indexing c.in-Some.index c.self.invariant c.in-Some.is in
+    let none = undelivered (take k ws) g m (c.in-None-place_of.ensures (delivery_at (take k ws)) known) in
+    subst (λ (vs : List Waiting). waiting_at (take k vs) g m ≡ None) (sym c.as_slice-waiting.ensures) none

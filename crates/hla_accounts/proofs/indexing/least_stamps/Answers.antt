@@ -1,10 +1,10 @@
 -- The bounds are lowered to the stamp of one message more.
-use Rattle.std.proofs.Common.{◌≡◌, ◌++◌, ◌∷◌, ◌+◌, [], List, take, sym, subst, ap, ◌∙◌, arith}
-use Rattle.std.proofs.lemmas.List.{take_more, take_all}
+use Rattle.std.proofs.Common.{◌≡◌, ◌++◌, ◌∷◌, ◌+◌, [], take, sym, subst, ap, ◌∙◌}
+use Rattle.std.proofs.lemmas.List.{take_more}
 use Rattle.hla_accounts.specs.declared.bag.Waiting.{Waiting}
 use Rattle.hla_accounts.specs.Bags.{AreNotBelow}
 use Rattle.hla_accounts.proofs.StampLemmas.{bounds_push, lesser_bounds}
-use Rattle.hla_accounts.proofs.bag.least_stamps.Goals as goal
+use Rattle.hla_accounts.proofs.indexing.least_stamps.Goals as goal
 
 pub loop-message-preserved : goal.loop-message-preserved
 loop-message-preserved c =

@@ -1,0 +1,212 @@
+//! Which of the messages that wait for one federate an index has.
+
+ghost use Rattle.std.specs.Prelude.{◌≡◌, ◌<◌, ◌≤◌, ◌∷◌, ◌++◌, [], true, List, length, drop, take, slice_index_or, slice_set, None, ℕ, IfSome};
+ghost use Rattle.std.specs.List.{remove};
+ghost use Rattle.hla_accounts.specs.declared.bag.Waiting.{Waiting};
+ghost use Rattle.hla_accounts.specs.Bags.{waiting_at, demoted_delivery, demoted_waiting, AreApart, IsNotBelow, AreNotBelow};
+ghost use Rattle.hla_accounts.specs.Indexes.{delivery_at, IsIndexOf, IsHead, IsKept, IsCaughtUp};
+
+use crate::bag::Waiting;
+use crate::index::Index;
+use crate::line::Line;
+use hla_base::{FOREVER, Ticks};
+use hla_callbacks::Delivery;
+use std::alloc::Global;
+
+/// Of fewer messages all are looked at as fast as an index finds one, and it would take memory.
+pub const INDEXED_FROM: usize = 64;
+
+/// An index of the first messages of a bag, where there is one, and what is known of the others, the tail. Each message comes
+/// into the tail, which is added to the index before one is taken out or moved to receive order.
+#[derive(Debug, Drop)]
+pub struct Indexing {
+    /// Made where much waits, unless memory for it is refused.
+    pub index: Option<Index>,
+    /// How many messages the index has; 0 where there is none.
+    pub count: usize,
+    /// Whether memory for an index was refused, so that none is made any more.
+    pub is_refused: bool,
+    /// No message of the tail that is to be given in time-stamp order has a lesser stamp, in ticks. Taking one out leaves it as
+    /// it is.
+    pub least_ordered: Ticks,
+    /// No message of the tail that was moved to receive order has a lesser stamp, in ticks. Taking one out leaves it as it is.
+    pub least_demoted: Ticks,
+}
+
+/// Lowers two bounds, as far as need be, to the stamp of a message: that of what is to be given in time-stamp order, and that
+/// of what was moved to receive order.
+fn lower(ordered: &mut Ticks, demoted: &mut Ticks, delivery: Delivery)
+    ensures ordered { ordered.new ≤ ordered.old }
+    ensures demoted { demoted.new ≤ demoted.old }
+    ensures kept { IsNotBelow ordered.new demoted.new delivery }
+{
+    match delivery {
+        Delivery::TimeStamp { stamp } => *ordered = stamp.min(*ordered),
+        Delivery::Demoted { stamp } => *demoted = stamp.min(*demoted),
+        Delivery::Receive => {}
+    }
+}
+
+/// The least stamps, in ticks, of these messages: of what is to be given in time-stamp order, and of what was moved to receive
+/// order; `FOREVER` where there is none.
+fn least_stamps(waiting: &[Waiting]) -> (Ticks, Ticks)
+    ensures { AreNotBelow result.0 result.1 waiting.now }
+{
+    let mut ordered = FOREVER;
+    let mut demoted = FOREVER;
+    for message in waiting {
+        lower(&mut ordered, &mut demoted, message.delivery);
+    }
+    (ordered, demoted)
+}
+
+/// The index that there is, or else one of no messages.
+fn index_or_new(index: Option<Index>, alloc: Global) -> Index
+    ensures { (k : ℕ) (ws : List Waiting) → IsHead index k (take k ws) → IsIndexOf result (delivery_at (take k ws)) }
+{
+    match index {
+        Some(index) => index,
+        None => Index::new(alloc),
+    }
+}
+
+impl Indexing {
+    /// Of no messages; it takes no memory.
+    pub fn new() -> Indexing
+        ensures { IsKept [] result }
+    {
+        Indexing {
+            index: None,
+            count: 0,
+            is_refused: false,
+            least_ordered: FOREVER,
+            least_demoted: FOREVER,
+        }
+    }
+
+    /// What of all messages the index does not have.
+    pub fn tail<'a>(&self, waiting: &'a [Waiting]) -> &'a [Waiting]
+        requires { self.now.count ≤ length waiting.now }
+        ensures { result.now ≡ drop self.now.count waiting.now }
+    {
+        &waiting[self.count..]
+    }
+
+    /// Whether it is known, with no look at the tail, that none of what it has to be given in time-stamp order has a stamp below
+    /// a time, in ticks.
+    pub fn has_no_ordered_below(&self, time: Ticks) -> bool
+        ensures { (ws : List Waiting) → AreNotBelow self.now.least_ordered self.now.least_demoted ws → result ≡ true →
+            AreNotBelow time 0 ws }
+    {
+        time <= self.least_ordered
+    }
+
+    /// Whether it is known, with no look at the tail, that none of what it has that was moved to receive order has a stamp below
+    /// a time, in ticks.
+    pub fn has_no_demoted_below(&self, time: Ticks) -> bool
+        ensures { (ws : List Waiting) → AreNotBelow self.now.least_ordered self.now.least_demoted ws → result ≡ true →
+            AreNotBelow 0 time ws }
+    {
+        time <= self.least_demoted
+    }
+
+    /// Whether there is no more to do for the index of so many messages.
+    fn is_caught_up(&self, count: usize) -> bool
+        ensures { result ≡ true → IfSome self.now.index (λ _. self.now.count ≡ count) }
+    {
+        match self.index {
+            Some(_) => self.count == count,
+            None => self.is_refused || count < INDEXED_FROM,
+        }
+    }
+
+    /// Memory for the index was refused: there is none any more, and all messages are the tail. It looks at each.
+    fn give_up(&mut self, waiting: &[Waiting])
+        requires { AreApart waiting.now }
+        ensures kept { IsKept waiting.now self.new }
+        ensures none { self.new.index ≡ None }
+    {
+        self.index = None;
+        self.count = 0;
+        self.is_refused = true;
+        let (ordered, demoted) = least_stamps(waiting);
+        self.least_ordered = ordered;
+        self.least_demoted = demoted;
+    }
+
+    /// Adds the tail to the index, and makes one of all messages where much waits and there is none, unless memory was refused.
+    /// The time grows with the tail, times the logarithm of what waits. Where a growth is refused it looks at each message,
+    /// and from then on does nothing.
+    pub fn catch_up(&mut self, waiting: &Line)
+        requires { IsKept waiting.now self.old }
+        ensures kept { IsKept waiting.now self.new }
+        ensures all { IsCaughtUp waiting.now self.new }
+    {
+        let messages = waiting.as_slice();
+        if self.is_caught_up(messages.len()) {
+            return;
+        }
+        let mut index = index_or_new(self.index.take(), waiting.allocator());
+        if index.extend(messages, self.count).is_err() {
+            self.give_up(messages);
+            return;
+        }
+        self.index = Some(index);
+        self.count = messages.len();
+        self.least_ordered = FOREVER;
+        self.least_demoted = FOREVER;
+    }
+
+    /// A message was put behind the others.
+    pub fn put(&mut self, delivery: Delivery)
+        ensures { (ws : List Waiting) (w : Waiting) → IsKept ws self.old → waiting_at ws w.event.sender w.event.serial ≡ None →
+            w.delivery ≡ delivery → IsKept (ws ++ w ∷ []) self.new }
+    {
+        lower(&mut self.least_ordered, &mut self.least_demoted, delivery);
+    }
+
+    /// Makes the bounds of the tail those of what waits, since they may be of messages that are gone. It looks at each message.
+    pub fn bound(&mut self, waiting: &[Waiting])
+        ensures { IsKept waiting.now self.old → IsKept waiting.now self.new }
+    {
+        let (ordered, demoted) = least_stamps(waiting);
+        self.least_ordered = ordered;
+        self.least_demoted = demoted;
+    }
+
+    /// The message at a place is to be taken out; the index, where there is one, has all messages.
+    pub fn remove(&mut self, waiting: &Line, place: usize)
+        requires kept { IsKept waiting.now self.old }
+        requires all { IsCaughtUp waiting.now self.old }
+        requires within { place < length waiting.now }
+        ensures { IsKept (remove waiting.now place) self.new }
+    {
+        let message = &waiting.as_slice()[place];
+        let Some(index) = &mut self.index else {
+            return;
+        };
+        index.remove(place, message.event, message.delivery);
+        self.count -= 1;
+    }
+
+    /// The message at a place is to be moved to receive order, and then given so; the index, where there is one, has all
+    /// messages. Where a growth is refused it looks at each message.
+    pub fn demote(&mut self, waiting: &Line, place: usize, after: Delivery)
+        requires kept { IsKept waiting.now self.old }
+        requires all { IsCaughtUp waiting.now self.old }
+        requires within { place < length waiting.now }
+        requires after { (d : Waiting) → after ≡ demoted_delivery (slice_index_or waiting.now place d).delivery }
+        ensures { (d : Waiting) → IsKept (slice_set waiting.now place (demoted_waiting (slice_index_or waiting.now place d)))
+            self.new }
+    {
+        let messages = waiting.as_slice();
+        let message = &messages[place];
+        if let Some(index) = &mut self.index {
+            if index.change(message.event, message.delivery, after).is_ok() {
+                return;
+            }
+            self.give_up(messages);
+        }
+        lower(&mut self.least_ordered, &mut self.least_demoted, after);
+    }
+}
