@@ -15,24 +15,24 @@ use Rattle.hla_accounts.specs.declared.index.Key.{Key}
 use Rattle.hla_accounts.specs.declared.index.Name.{Name}
 use Rattle.hla_accounts.specs.contracts.index.KeyOrd.TheImpl as keys
 use Rattle.hla_accounts.specs.Bags.{is_listed}
-use Rattle.hla_accounts.specs.Indexes.{key_at, key_cmp, name_cmp, has_key, HasNamesOf}
-use Rattle.hla_accounts.proofs.KeyLemmas.{key_apart, is_eq-name_cmp, same_order}
+use Rattle.hla_accounts.specs.Indexes.{key_at, waiting_key_cmp, waiting_name_cmp, has_key, HasNamesOf}
+use Rattle.hla_accounts.proofs.KeyLemmas.{key_apart, is_eq-waiting_name_cmp, same_order}
 
 abbrev pub Table : Type 0
 Table = ℕ → ℕ → Option Delivery
 
 abbrev pub HasKeys : BTreeSet Key → Table → Type 0
-HasKeys s t = (k : Key) → sorted.contains key_cmp s k ≡ has_key k (t k.sender k.serial)
+HasKeys s t = (k : Key) → sorted.contains waiting_key_cmp s k ≡ has_key k (t k.sender k.serial)
 
 abbrev pub HasNames : BTreeMap Name ℕ → Table → Type 0
-HasNames a t = (n : Name) → is_some (tree.get name_cmp a n) ≡ is_some (t n.sender n.serial)
+HasNames a t = (n : Name) → is_some (tree.get waiting_name_cmp a n) ≡ is_some (t n.sender n.serial)
 
 -- the set has the key exactly if b is true, and each other key as before
 abbrev pub HasKeyIf : BTreeSet Key → BTreeSet Key → Key → Bool → Type 0
-HasKeyIf s n k b = (q : Key) → sorted.contains key_cmp n q ≡ cond (is_eq (key_cmp k q)) b (sorted.contains key_cmp s q)
+HasKeyIf s n k b = (q : Key) → sorted.contains waiting_key_cmp n q ≡ cond (is_eq (waiting_key_cmp k q)) b (sorted.contains waiting_key_cmp s q)
 
 abbrev pub HasNumber : BTreeMap Name ℕ → BTreeMap Name ℕ → Name → Option ℕ → Type 0
-HasNumber a n k o = (q : Name) → tree.get name_cmp n q ≡ cond (is_eq (name_cmp k q)) o (tree.get name_cmp a q)
+HasNumber a n k o = (q : Name) → tree.get waiting_name_cmp n q ≡ cond (is_eq (waiting_name_cmp k q)) o (tree.get waiting_name_cmp a q)
 
 -- what the clause of a change of the set says
 pub key_now : (s n : BTreeSet Key) (k : Key) (b : Bool) (g m : ℕ) (d : Delivery) → k ≡ key_at g m d → sorted.Updates keys.cmp-value.it s n k b → HasKeyIf s n (key_at g m d) b
@@ -47,11 +47,11 @@ both g m h n e = let p = and_parts _ _ e in (eqb-true _ _ p.0, eqb-true _ _ p.1)
 
 -- ---- keys
 -- what the set says of the key of a message, by what the table has there
-has_at : (s : BTreeSet Key) (t : Table) (g m : ℕ) (o : Option Delivery) (k : Key) → HasKeys s t → t g m ≡ o → (g ≡ k.sender) × (m ≡ k.serial) → sorted.contains key_cmp s k ≡ has_key k o
+has_at : (s : BTreeSet Key) (t : Table) (g m : ℕ) (o : Option Delivery) (k : Key) → HasKeys s t → t g m ≡ o → (g ≡ k.sender) × (m ≡ k.serial) → sorted.contains waiting_key_cmp s k ≡ has_key k o
 has_at s t g m o k has is p = has k ∙ ap (has_key k) (ap (λ h. t h k.serial) (sym p.0) ∙ ap (t g) (sym p.1) ∙ is)
 
-key_there : (g m : ℕ) (d : Delivery) (k : Key) → (g ≡ k.sender) × (m ≡ k.serial) → is_eq (key_cmp (key_at g m d) k) ≡ has_key k (Some d)
-key_there g m d k p = ap (λ h. is_eq (key_cmp (key_at h m d) k)) p.0 ∙ ap (λ n. is_eq (key_cmp (key_at k.sender n d) k)) p.1
+key_there : (g m : ℕ) (d : Delivery) (k : Key) → (g ≡ k.sender) × (m ≡ k.serial) → is_eq (waiting_key_cmp (key_at g m d) k) ≡ has_key k (Some d)
+key_there g m d k p = ap (λ h. is_eq (waiting_key_cmp (key_at h m d) k)) p.0 ∙ ap (λ n. is_eq (waiting_key_cmp (key_at k.sender n d) k)) p.1
 
 pub keys_added : (s n : BTreeSet Key) (t : Table) (g m : ℕ) (d : Delivery) → HasKeys s t → t g m ≡ None → HasKeyIf s n (key_at g m d) true → HasKeys n (upd2 t g m (Some d))
 unfolding upd2
@@ -61,9 +61,9 @@ keys_added s n t g m d has free now k = now k ∙ by (eqb g k.sender && eqb m k.
     only true c e = refl
     only false c e = e
 
-    by : (b : Bool) → (eqb g k.sender && eqb m k.serial) ≡ b → cond (is_eq (key_cmp (key_at g m d) k)) true (sorted.contains key_cmp s k) ≡ has_key k (cond b (Some d) (t k.sender k.serial))
-    by true e = let p = both g m k.sender k.serial e in only (is_eq (key_cmp (key_at g m d) k)) (sorted.contains key_cmp s k) (has_at s t g m None k has free p) ∙ key_there g m d k p
-    by false e = ap (λ b. cond b true (sorted.contains key_cmp s k)) (key_apart g m d k e) ∙ has k
+    by : (b : Bool) → (eqb g k.sender && eqb m k.serial) ≡ b → cond (is_eq (waiting_key_cmp (key_at g m d) k)) true (sorted.contains waiting_key_cmp s k) ≡ has_key k (cond b (Some d) (t k.sender k.serial))
+    by true e = let p = both g m k.sender k.serial e in only (is_eq (waiting_key_cmp (key_at g m d) k)) (sorted.contains waiting_key_cmp s k) (has_at s t g m None k has free p) ∙ key_there g m d k p
+    by false e = ap (λ b. cond b true (sorted.contains waiting_key_cmp s k)) (key_apart g m d k e) ∙ has k
 
 pub keys_removed : (s n : BTreeSet Key) (t : Table) (g m : ℕ) (d : Delivery) → HasKeys s t → t g m ≡ Some d → HasKeyIf s n (key_at g m d) false → HasKeys n (upd2 t g m None)
 unfolding upd2
@@ -73,9 +73,9 @@ keys_removed s n t g m d has there now k = now k ∙ by (eqb g k.sender && eqb m
     gone true c e = refl
     gone false c e = e
 
-    by : (b : Bool) → (eqb g k.sender && eqb m k.serial) ≡ b → cond (is_eq (key_cmp (key_at g m d) k)) false (sorted.contains key_cmp s k) ≡ has_key k (cond b None (t k.sender k.serial))
-    by true e = let p = both g m k.sender k.serial e in gone (is_eq (key_cmp (key_at g m d) k)) (sorted.contains key_cmp s k) (has_at s t g m (Some d) k has there p ∙ sym (key_there g m d k p))
-    by false e = ap (λ b. cond b false (sorted.contains key_cmp s k)) (key_apart g m d k e) ∙ has k
+    by : (b : Bool) → (eqb g k.sender && eqb m k.serial) ≡ b → cond (is_eq (waiting_key_cmp (key_at g m d) k)) false (sorted.contains waiting_key_cmp s k) ≡ has_key k (cond b None (t k.sender k.serial))
+    by true e = let p = both g m k.sender k.serial e in gone (is_eq (waiting_key_cmp (key_at g m d) k)) (sorted.contains waiting_key_cmp s k) (has_at s t g m (Some d) k has there p ∙ sym (key_there g m d k p))
+    by false e = ap (λ b. cond b false (sorted.contains waiting_key_cmp s k)) (key_apart g m d k e) ∙ has k
 
 written_twice : (t : Table) (g m : ℕ) (x y : Option Delivery) (h n : ℕ) → upd2 (upd2 t g m x) g m y h n ≡ upd2 t g m y h n
 unfolding upd2
@@ -97,9 +97,9 @@ keys_changed s r n t g m d e has there less more k =
 -- ---- names
 pub names_written : (a b : BTreeMap Name ℕ) (t : Table) (g m : ℕ) (o : Option ℕ) (d : Option Delivery) → HasNames a t → is_some o ≡ is_some d → HasNumber a b (record { sender = g; serial = m }) o → HasNames b (upd2 t g m d)
 unfolding upd2
-names_written a b t g m o d has same now n = ap is_some (now n) ∙ ap (λ b. is_some (cond b o (tree.get name_cmp a n))) (is_eq-name_cmp (record { sender = g; serial = m }) n) ∙ by (eqb g n.sender && eqb m n.serial)
+names_written a b t g m o d has same now n = ap is_some (now n) ∙ ap (λ b. is_some (cond b o (tree.get waiting_name_cmp a n))) (is_eq-waiting_name_cmp (record { sender = g; serial = m }) n) ∙ by (eqb g n.sender && eqb m n.serial)
   where
-    by : (b : Bool) → is_some (cond b o (tree.get name_cmp a n)) ≡ is_some (cond b d (t n.sender n.serial))
+    by : (b : Bool) → is_some (cond b o (tree.get waiting_name_cmp a n)) ≡ is_some (cond b d (t n.sender n.serial))
     by true = same
     by false = has n
 
@@ -113,7 +113,7 @@ names_kept a t g m d e has there n = has n ∙ by (eqb g n.sender && eqb m n.ser
 
 -- ---- sets of names
 pub no_names : (s : BTreeSet Name) → s.keys ≡ [] → HasNamesOf s []
-no_names s none n = ap (list_any (λ k. is_eq (name_cmp n k))) none
+no_names s none n = ap (list_any (λ k. is_eq (waiting_name_cmp n k))) none
 
 listed_last : (events : List EventHandle) (e : EventHandle) (g m : ℕ) → is_listed (events ++ e ∷ []) g m ≡ (is_listed events g m || (eqb g e.sender && eqb m e.serial))
 listed_last [] e g m = by (eqb g e.sender && eqb m e.serial)
@@ -127,10 +127,10 @@ listed_last (x ∷ events) e g m = by (eqb g x.sender && eqb m x.serial) (listed
     by true rest = refl
     by false rest = rest
 
-pub names_added : (s r : BTreeSet Name) (events more : List EventHandle) (e : EventHandle) (k : Name) → HasNamesOf s events → k ≡ record { sender = e.sender; serial = e.serial } → sorted.Updates name_cmp s r k true → more ≡ events ++ e ∷ [] → HasNamesOf r more
+pub names_added : (s r : BTreeSet Name) (events more : List EventHandle) (e : EventHandle) (k : Name) → HasNamesOf s events → k ≡ record { sender = e.sender; serial = e.serial } → sorted.Updates waiting_name_cmp s r k true → more ≡ events ++ e ∷ [] → HasNamesOf r more
 names_added s r events more e k has is now grown n =
-    (subst (λ x. sorted.Updates name_cmp s r x true) is now).0 n
-    ∙ ap (λ b. cond b true (sorted.contains name_cmp s n)) (is_eq-name_cmp (record { sender = e.sender; serial = e.serial }) n)
+    (subst (λ x. sorted.Updates waiting_name_cmp s r x true) is now).0 n
+    ∙ ap (λ b. cond b true (sorted.contains waiting_name_cmp s n)) (is_eq-waiting_name_cmp (record { sender = e.sender; serial = e.serial }) n)
     ∙ ap (cond (eqb e.sender n.sender && eqb e.serial n.serial) true) (has n)
     ∙ by (eqb e.sender n.sender && eqb e.serial n.serial) (eqb n.sender e.sender && eqb n.serial e.serial) (is_listed events n.sender n.serial) turned
     ∙ sym (ap (λ es. is_listed es n.sender n.serial) grown ∙ listed_last events e n.sender n.serial)

@@ -14,7 +14,7 @@ use Rattle.hla_accounts.specs.declared.bag.Waiting.{Waiting}
 use Rattle.hla_accounts.specs.declared.index.Index.{Index}
 use Rattle.hla_accounts.specs.declared.indexing.Indexing.{Indexing}
 use Rattle.hla_accounts.specs.Bags.{is_of, waiting_at, demoted_delivery, demoted_waiting, IsNotBelow, AreNotBelow, AreApart}
-use Rattle.hla_accounts.specs.Indexes.{delivery_at, IsIndexOf, IsHead, IsKept}
+use Rattle.hla_accounts.specs.Indexes.{delivery_at, IsIndexOf, IsHead, IsIndexingOf}
 use Rattle.hla_accounts.proofs.BagLemmas.{waiting_at-find, apart-push}
 use Rattle.hla_accounts.proofs.PlaceLemmas.{stands_there, found_at, removed_there, demoted_at, delivered, delivered_at, delivered_demoted}
 use Rattle.hla_accounts.proofs.StampLemmas.{bounds_push, bounds_remove, bounds_set, lesser_bounds}
@@ -69,17 +69,17 @@ own_place ws i w apart l read =
     sym (stands_there ws g m apart i (ap (λ o. option_map_or (is_of g m) o false) (slice_get-get_or ws i w l ∙ ap Some (sym read)) ∙ own))
 
 -- ---- the index
-pub head_of : (ws : List Waiting) (x : Indexing) (i : Index) → IsKept ws x → x.index ≡ Some i → IsIndexOf i (delivery_at (take x.count ws))
+pub head_of : (ws : List Waiting) (x : Indexing) (i : Index) → IsIndexingOf ws x → x.index ≡ Some i → IsIndexOf i (delivery_at (take x.count ws))
 head_of ws x i kept is = subst (λ o. IsHead o x.count (take x.count ws)) is kept.head
 
-pub no_head : (ws : List Waiting) (x : Indexing) → IsKept ws x → x.index ≡ None → x.count ≡ 0
+pub no_head : (ws : List Waiting) (x : Indexing) → IsIndexingOf ws x → x.index ≡ None → x.count ≡ 0
 no_head ws x kept is = subst (λ o. IsHead o x.count (take x.count ws)) is kept.head
 
-pub none_indexed : (test : Waiting → Bool) (ws : List Waiting) (x : Indexing) → IsKept ws x → x.index ≡ None → true ≡ list_all test (take x.count ws)
+pub none_indexed : (test : Waiting → Bool) (ws : List Waiting) (x : Indexing) → IsIndexingOf ws x → x.index ≡ None → true ≡ list_all test (take x.count ws)
 none_indexed test ws x kept is = ap (λ k. list_all test (take k ws)) (sym (no_head ws x kept is))
 
 -- an index of all messages, and no tail
-pub kept_all : (ws : List Waiting) (i : Index) (k o d : ℕ) (r : Bool) → AreApart ws → IsIndexOf i (delivery_at ws) → k ≡ length ws → IsKept ws (record { index = Some i; count = k; is_refused = r; least_ordered = o; least_demoted = d })
+pub kept_all : (ws : List Waiting) (i : Index) (k o d : ℕ) (r : Bool) → AreApart ws → IsIndexOf i (delivery_at ws) → k ≡ length ws → IsIndexingOf ws (record { index = Some i; count = k; is_refused = r; least_ordered = o; least_demoted = d })
 kept_all ws i k o d r apart known all = record {
   apart = apart;
   within = omega (arith, all);
@@ -91,14 +91,14 @@ pub whole : (ws : List Waiting) (i : Index) (k : ℕ) → IsIndexOf i (delivery_
 whole ws i k known all = subst (λ (vs : List Waiting). IsIndexOf i (delivery_at vs)) (take_all k ws (omega (arith, all))) known
 
 -- no index, so that all messages are the tail
-pub kept_none : (ws : List Waiting) (o d : ℕ) (r : Bool) → AreApart ws → AreNotBelow o d ws → IsKept ws (record { index = None; count = 0; is_refused = r; least_ordered = o; least_demoted = d })
+pub kept_none : (ws : List Waiting) (o d : ℕ) (r : Bool) → AreApart ws → AreNotBelow o d ws → IsIndexingOf ws (record { index = None; count = 0; is_refused = r; least_ordered = o; least_demoted = d })
 kept_none ws o d r apart bounds = record { apart = apart; within = omega arith; head = refl; tail = bounds }
 
-pub kept_bounds : (ws : List Waiting) (x : Indexing) (p e : ℕ) → IsKept ws x → AreNotBelow p e ws → IsKept ws (record x { least_ordered = p; least_demoted = e })
+pub kept_bounds : (ws : List Waiting) (x : Indexing) (p e : ℕ) → IsIndexingOf ws x → AreNotBelow p e ws → IsIndexingOf ws (record x { least_ordered = p; least_demoted = e })
 kept_bounds ws x p e kept bounds = record { apart = kept.apart; within = kept.within; head = kept.head; tail = All-drop (λ (w : Waiting). IsNotBelow p e w.delivery) x.count ws bounds }
 
 -- ---- one more, behind the others
-pub kept_put : (ws : List Waiting) (w : Waiting) (x : Indexing) (p e : ℕ) → IsKept ws x → waiting_at ws w.event.sender w.event.serial ≡ None → p ≤ x.least_ordered → e ≤ x.least_demoted → IsNotBelow p e w.delivery → IsKept (ws ++ w ∷ []) (record x { least_ordered = p; least_demoted = e })
+pub kept_put : (ws : List Waiting) (w : Waiting) (x : Indexing) (p e : ℕ) → IsIndexingOf ws x → waiting_at ws w.event.sender w.event.serial ≡ None → p ≤ x.least_ordered → e ≤ x.least_demoted → IsNotBelow p e w.delivery → IsIndexingOf (ws ++ w ∷ []) (record x { least_ordered = p; least_demoted = e })
 kept_put ws w x p e kept free ordered demoted above =
     let within = kept.within in record {
       apart = apart-push ws w free kept.apart;
@@ -109,14 +109,14 @@ kept_put ws w x p e kept free ordered demoted above =
 
 -- ---- one less
 pub kept_less : (ws : List Waiting) (i : Index) (place k o d : ℕ) (r : Bool) (w : Waiting) → AreApart ws → place < length ws → w ≡ get_or ws place w → IsIndexOf i (upd2 (delivery_at ws) w.event.sender w.event.serial None) → k ≡ length ws →
-    IsKept (remove ws place) (record { index = Some i; count = k - 1; is_refused = r; least_ordered = o; least_demoted = d })
+    IsIndexingOf (remove ws place) (record { index = Some i; count = k - 1; is_refused = r; least_ordered = o; least_demoted = d })
 kept_less ws i place k o d r w apart l read known all =
     let g = w.event.sender in
     let m = w.event.serial in
     let now = removed_there ws g m place apart (own_place ws place w apart l read) (remove ws place) refl in
     kept_all (remove ws place) i (k - 1) o d r now.apart (subst (IsIndexOf i) (sym (delivered ws (remove ws place) g m None now.table)) known) (omega (arith, all, length-remove ws place l))
 
-pub kept_less_none : (ws : List Waiting) (x : Indexing) (place : ℕ) (w : Waiting) → IsKept ws x → x.index ≡ None → place < length ws → w ≡ get_or ws place w → IsKept (remove ws place) x
+pub kept_less_none : (ws : List Waiting) (x : Indexing) (place : ℕ) (w : Waiting) → IsIndexingOf ws x → x.index ≡ None → place < length ws → w ≡ get_or ws place w → IsIndexingOf (remove ws place) x
 kept_less_none ws x place w kept is l read =
     let none = no_head ws x kept is in
     let now = removed_there ws w.event.sender w.event.serial place kept.apart (own_place ws place w kept.apart l read) (remove ws place) refl in
@@ -129,7 +129,7 @@ kept_less_none ws x place w kept is l read =
 
 -- ---- one moved to receive order
 pub kept_demoted : (ws : List Waiting) (i : Index) (place k o d : ℕ) (r : Bool) (w v : Waiting) → AreApart ws → place < length ws → w ≡ get_or ws place w → IsIndexOf i (upd2 (delivery_at ws) w.event.sender w.event.serial (Some (demoted_delivery w.delivery))) → k ≡ length ws →
-    IsKept (set ws place (demoted_waiting (get_or ws place v))) (record { index = Some i; count = k; is_refused = r; least_ordered = o; least_demoted = d })
+    IsIndexingOf (set ws place (demoted_waiting (get_or ws place v))) (record { index = Some i; count = k; is_refused = r; least_ordered = o; least_demoted = d })
 kept_demoted ws i place k o d r w v apart l read known all =
     let vs = set ws place (demoted_waiting (get_or ws place v)) in
     let found = own_place ws place w apart l read in
@@ -137,8 +137,8 @@ kept_demoted ws i place k o d r w v apart l read known all =
     let given = delivered_demoted w.event ws vs w.delivery (delivered_at ws w.event.sender w.event.serial place w found read) now.table in
     kept_all vs i k o d r now.apart (subst (IsIndexOf i) (sym given) known) (all ∙ sym (length-set ws place (demoted_waiting (get_or ws place v))))
 
-pub kept_demoted_none : (ws : List Waiting) (x : Indexing) (place p e : ℕ) (w v : Waiting) → IsKept ws x → x.index ≡ None → place < length ws → w ≡ get_or ws place w → p ≤ x.least_ordered → e ≤ x.least_demoted → IsNotBelow p e (demoted_delivery w.delivery) →
-    IsKept (set ws place (demoted_waiting (get_or ws place v))) (record x { least_ordered = p; least_demoted = e })
+pub kept_demoted_none : (ws : List Waiting) (x : Indexing) (place p e : ℕ) (w v : Waiting) → IsIndexingOf ws x → x.index ≡ None → place < length ws → w ≡ get_or ws place w → p ≤ x.least_ordered → e ≤ x.least_demoted → IsNotBelow p e (demoted_delivery w.delivery) →
+    IsIndexingOf (set ws place (demoted_waiting (get_or ws place v))) (record x { least_ordered = p; least_demoted = e })
 kept_demoted_none ws x place p e w v kept is l read ordered demoted above =
     let vs = set ws place (demoted_waiting (get_or ws place v)) in
     let none = no_head ws x kept is in

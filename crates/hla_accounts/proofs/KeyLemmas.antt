@@ -15,14 +15,14 @@ use Rattle.hla_accounts.specs.declared.index.Key.{Key}
 use Rattle.hla_accounts.specs.declared.index.Name.{Name}
 use Rattle.hla_accounts.specs.contracts.index.RankOrd.TheImpl as ranks
 use Rattle.hla_accounts.specs.contracts.index.KeyOrd.TheImpl as keys
-use Rattle.hla_accounts.specs.Indexes.{rank_no, key_at, key_cmp, name_cmp}
+use Rattle.hla_accounts.specs.Indexes.{rank_no, key_at, waiting_key_cmp, waiting_name_cmp}
 
-pub key_total : IsTotalOrder key_cmp
+pub key_total : IsTotalOrder waiting_key_cmp
 key_total =
     then_total (on_total (λ (k : Key). rank_no k.rank) nat_cmp_total)
     (then_total (on_total (λ (k : Key). k.stamp) nat_cmp_total) (then_total (on_total (λ (k : Key). k.sender) nat_cmp_total) (on_total (λ (k : Key). k.serial) nat_cmp_total)))
 
-pub name_total : IsTotalOrder name_cmp
+pub name_total : IsTotalOrder waiting_name_cmp
 name_total = then_total (on_total (λ (n : Name). n.sender) nat_cmp_total) (on_total (λ (n : Name). n.serial) nat_cmp_total)
 
 is_eq-ordering_then : (o p : Ordering) → is_eq (ordering_then o p) ≡ is_eq o && is_eq p
@@ -33,17 +33,17 @@ is_eq-ordering_then Greater p = refl
 is_eq-nat_cmp : (a b : ℕ) → is_eq (nat_cmp a b) ≡ eqb a b
 is_eq-nat_cmp a b = grind (arith, nat_tests)
 
-pub is_eq-name_cmp : (k q : Name) → is_eq (name_cmp k q) ≡ eqb k.sender q.sender && eqb k.serial q.serial
-is_eq-name_cmp k q = is_eq-ordering_then (nat_cmp k.sender q.sender) (nat_cmp k.serial q.serial) ∙ rw (is_eq-nat_cmp k.sender q.sender, is_eq-nat_cmp k.serial q.serial) refl
+pub is_eq-waiting_name_cmp : (k q : Name) → is_eq (waiting_name_cmp k q) ≡ eqb k.sender q.sender && eqb k.serial q.serial
+is_eq-waiting_name_cmp k q = is_eq-ordering_then (nat_cmp k.sender q.sender) (nat_cmp k.serial q.serial) ∙ rw (is_eq-nat_cmp k.sender q.sender, is_eq-nat_cmp k.serial q.serial) refl
 
-pub is_eq-key_cmp : (k q : Key) → is_eq (key_cmp k q) ≡ eqb (rank_no k.rank) (rank_no q.rank) && (eqb k.stamp q.stamp && (eqb k.sender q.sender && eqb k.serial q.serial))
-is_eq-key_cmp k q =
+pub is_eq-waiting_key_cmp : (k q : Key) → is_eq (waiting_key_cmp k q) ≡ eqb (rank_no k.rank) (rank_no q.rank) && (eqb k.stamp q.stamp && (eqb k.sender q.sender && eqb k.serial q.serial))
+is_eq-waiting_key_cmp k q =
     is_eq-ordering_then (nat_cmp (rank_no k.rank) (rank_no q.rank)) (ordering_then (nat_cmp k.stamp q.stamp) (ordering_then (nat_cmp k.sender q.sender) (nat_cmp k.serial q.serial)))
     ∙ rw (is_eq-nat_cmp (rank_no k.rank) (rank_no q.rank), is_eq-ordering_then (nat_cmp k.stamp q.stamp) (ordering_then (nat_cmp k.sender q.sender) (nat_cmp k.serial q.serial)), is_eq-nat_cmp k.stamp q.stamp, is_eq-ordering_then (nat_cmp k.sender q.sender) (nat_cmp k.serial q.serial), is_eq-nat_cmp k.sender q.sender, is_eq-nat_cmp k.serial q.serial) refl
 
 -- messages with other names have other keys
-pub key_apart : (g m : ℕ) (d : Delivery) (k : Key) → (eqb g k.sender && eqb m k.serial) ≡ false → is_eq (key_cmp (key_at g m d) k) ≡ false
-key_apart g m d k e = is_eq-key_cmp (key_at g m d) k ∙ rw e (by (eqb (rank_no (key_at g m d).rank) (rank_no k.rank)) (eqb (key_at g m d).stamp k.stamp))
+pub key_apart : (g m : ℕ) (d : Delivery) (k : Key) → (eqb g k.sender && eqb m k.serial) ≡ false → is_eq (waiting_key_cmp (key_at g m d) k) ≡ false
+key_apart g m d k e = is_eq-waiting_key_cmp (key_at g m d) k ∙ rw e (by (eqb (rank_no (key_at g m d).rank) (rank_no k.rank)) (eqb (key_at g m d).stamp k.stamp))
   where
     by : (a b : Bool) → (a && (b && false)) ≡ false
     by true true = refl
@@ -62,9 +62,9 @@ same_rank TimeStamp Receive e = absurd (omega (arith, e))
 same_rank TimeStamp Demoted e = absurd (omega (arith, e))
 
 -- keys that compare as equal are the same
-pub same_key : (k q : Key) → is_eq (key_cmp k q) ≡ true → k ≡ q
+pub same_key : (k q : Key) → is_eq (waiting_key_cmp k q) ≡ true → k ≡ q
 same_key k q e =
-    let p = and_parts _ _ (sym (is_eq-key_cmp k q) ∙ e) in
+    let p = and_parts _ _ (sym (is_eq-waiting_key_cmp k q) ∙ e) in
     let r = and_parts _ _ p.1 in
     let s = and_parts _ _ r.1 in
     ap (λ x. record k { rank = x }) (same_rank k.rank q.rank (eqb-true _ _ p.0))
@@ -84,5 +84,5 @@ same_ranks TimeStamp Receive = refl
 same_ranks TimeStamp Demoted = refl
 same_ranks TimeStamp TimeStamp = refl
 
-pub same_order : keys.cmp-value.it ≡ key_cmp
+pub same_order : keys.cmp-value.it ≡ waiting_key_cmp
 same_order = fun_ext (λ a. fun_ext (λ b. ap (λ o. ordering_then o (ordering_then (nat_cmp a.stamp b.stamp) (ordering_then (nat_cmp a.sender b.sender) (nat_cmp a.serial b.serial)))) (same_ranks a.rank b.rank)))

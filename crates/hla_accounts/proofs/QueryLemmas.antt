@@ -22,7 +22,7 @@ use Rattle.hla_accounts.specs.Bags.{is_listed, AreApart}
 use Rattle.hla_accounts.specs.Bounds.{is_retracted, ordered_stamp, demoted_stamp, is_at_most_waiting}
 use Rattle.hla_accounts.specs.Ticks.{is_among_if_below, is_sent_in_receive_order, is_not_earlier, is_key_le, is_not_before}
 use Rattle.hla_accounts.specs.Calls.{is_at_most_demoted}
-use Rattle.hla_accounts.specs.Indexes.{name_cmp, HasNamesOf, key_at, is_ordered_below, is_demoted_below, is_ordered_before, is_received_before, delivery_at, IsIndexOf}
+use Rattle.hla_accounts.specs.Indexes.{waiting_name_cmp, HasNamesOf, key_at, is_ordered_below, is_demoted_below, is_ordered_before, is_received_before, delivery_at, IsIndexOf}
 use Rattle.hla_accounts.proofs.RangeLemmas.{all_in_range}
 
 abbrev pub is_key_retracted : List Account → Key → Bool
@@ -161,7 +161,7 @@ among_keys accounts x events i ws kept apart =
 
 -- a set of the names of the events tells who is among them
 pub among_names : (accounts : List Account) (events : List EventHandle) (s : BTreeSet Name) (ks : List Key) → HasNamesOf s events →
-    list_all (λ (k : Key). is_key_retracted accounts k || sorted.contains name_cmp s (record { sender = k.sender; serial = k.serial })) ks ≡ list_all (is_key_among accounts events) ks
+    list_all (λ (k : Key). is_key_retracted accounts k || sorted.contains waiting_name_cmp s (record { sender = k.sender; serial = k.serial })) ks ≡ list_all (is_key_among accounts events) ks
 among_names accounts events s ks has = ap (λ (test : Key → Bool). list_all test ks) (fun_ext (λ k. ap (λ b. is_key_retracted accounts k || b) (has (record { sender = k.sender; serial = k.serial }))))
 
 pub received_keys : (g m : ℕ) (i : Index) (ws : List Waiting) → IsIndexOf i (delivery_at ws) → AreApart ws → list_all (is_not_earlier g m) ws ≡ list_all (λ _. false) (filter (is_received_before g m) i.keys.keys)

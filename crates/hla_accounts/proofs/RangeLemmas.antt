@@ -14,7 +14,7 @@ use Rattle.hla_accounts.specs.declared.bag.Waiting.{Waiting}
 use Rattle.hla_accounts.specs.declared.index.Key.{Key}
 use Rattle.hla_accounts.specs.declared.index.Index.{Index}
 use Rattle.hla_accounts.specs.Bags.{is_of, waiting_at, AreApart}
-use Rattle.hla_accounts.specs.Indexes.{key_at, key_cmp, delivery_at, has_key, IsIndexOf}
+use Rattle.hla_accounts.specs.Indexes.{key_at, waiting_key_cmp, delivery_at, has_key, IsIndexOf}
 use Rattle.hla_accounts.proofs.BagLemmas.{waiting_at-nil, waiting_at-cons, key_of}
 use Rattle.hla_accounts.proofs.KeyLemmas.{key_total, same_key}
 
@@ -59,20 +59,20 @@ all_pass test (x ∷ ws) apart each =
     behind w false here is = is
 
 -- ---- lists of keys
-keys_pass : (in_range test : Key → Bool) (s : BTreeSet Key) (ks : List Key) → All (λ k. sorted.contains key_cmp s k ≡ true) ks → ((k : Key) → sorted.contains key_cmp s k ≡ true → in_range k ≡ true → test k ≡ true) → list_all test (filter in_range ks) ≡ true
+keys_pass : (in_range test : Key → Bool) (s : BTreeSet Key) (ks : List Key) → All (λ k. sorted.contains waiting_key_cmp s k ≡ true) ks → ((k : Key) → sorted.contains waiting_key_cmp s k ≡ true → in_range k ≡ true → test k ≡ true) → list_all test (filter in_range ks) ≡ true
 keys_pass in_range test s [] all each = refl
-keys_pass in_range test s (k ∷ ks) all each = by (in_range k) refl (keys_pass in_range test s ks (All-tail (λ x. sorted.contains key_cmp s x ≡ true) k ks all) each)
+keys_pass in_range test s (k ∷ ks) all each = by (in_range k) refl (keys_pass in_range test s ks (All-tail (λ x. sorted.contains waiting_key_cmp s x ≡ true) k ks all) each)
   where
     by : (b : Bool) → in_range k ≡ b → list_all test (filter in_range ks) ≡ true → list_all test (cond b (k ∷ filter in_range ks) (filter in_range ks)) ≡ true
-    by true e rest = let first : test k ≡ true = each k (All-head (λ x. sorted.contains key_cmp s x ≡ true) k ks all) e in rw (first, rest) refl
+    by true e rest = let first : test k ≡ true = each k (All-head (λ x. sorted.contains waiting_key_cmp s x ≡ true) k ks all) e in rw (first, rest) refl
     by false e rest = rest
 
-key_passes : (in_range test : Key → Bool) (ks : List Key) (k : Key) → list_all test (filter in_range ks) ≡ true → list_any (λ x. is_eq (key_cmp k x)) ks ≡ true → in_range k ≡ true → test k ≡ true
+key_passes : (in_range test : Key → Bool) (ks : List Key) (k : Key) → list_all test (filter in_range ks) ≡ true → list_any (λ x. is_eq (waiting_key_cmp k x)) ks ≡ true → in_range k ≡ true → test k ≡ true
 key_passes in_range test [] k all among within = absurd (false≢true among)
-key_passes in_range test (x ∷ ks) k all among within = by (is_eq (key_cmp k x)) refl among (in_range x) refl all (λ h any. key_passes in_range test ks k h any within)
+key_passes in_range test (x ∷ ks) k all among within = by (is_eq (waiting_key_cmp k x)) refl among (in_range x) refl all (λ h any. key_passes in_range test ks k h any within)
   where
-    by : (b : Bool) → is_eq (key_cmp k x) ≡ b → (b || list_any (λ y. is_eq (key_cmp k y)) ks) ≡ true → (r : Bool) → in_range x ≡ r → list_all test (cond r (x ∷ filter in_range ks) (filter in_range ks)) ≡ true →
-        (list_all test (filter in_range ks) ≡ true → list_any (λ y. is_eq (key_cmp k y)) ks ≡ true → test k ≡ true) → test k ≡ true
+    by : (b : Bool) → is_eq (waiting_key_cmp k x) ≡ b → (b || list_any (λ y. is_eq (waiting_key_cmp k y)) ks) ≡ true → (r : Bool) → in_range x ≡ r → list_all test (cond r (x ∷ filter in_range ks) (filter in_range ks)) ≡ true →
+        (list_all test (filter in_range ks) ≡ true → list_any (λ y. is_eq (waiting_key_cmp k y)) ks ≡ true → test k ≡ true) → test k ≡ true
     by true here any true inside h rest = subst (λ y. test y ≡ true) (sym (same_key k x here)) (and_parts (test x) (list_all test (filter in_range ks)) h).0
     by true here any false outside h rest = absurd (true≢false (sym within ∙ ap in_range (same_key k x here) ∙ outside))
     by false other any true inside h rest = rest (and_parts (test x) (list_all test (filter in_range ks)) h).1 any
@@ -100,7 +100,7 @@ all_in_range i ws kept apart of_message in_range of_key same = same_tests _ _ to
     back : list_all of_key (filter in_range i.keys.keys) ≡ true → list_all of_message ws ≡ true
     back all = all_pass of_message ws apart (λ w is. same w ∙ by w is (in_range (key_of_waiting w)) refl)
       where
-        among : (w : Waiting) → waiting_at ws w.event.sender w.event.serial ≡ Some w → sorted.contains key_cmp i.keys (key_of_waiting w) ≡ true
+        among : (w : Waiting) → waiting_at ws w.event.sender w.event.serial ≡ Some w → sorted.contains waiting_key_cmp i.keys (key_of_waiting w) ≡ true
         among w is = kept.keys (key_of_waiting w) ∙ ap (λ o. has_key (key_of_waiting w) (option_map (λ (x : Waiting). x.delivery) o)) is ∙ ap is_eq (tied_itself key_total (key_of_waiting w))
 
         by : (w : Waiting) → waiting_at ws w.event.sender w.event.serial ≡ Some w → (b : Bool) → in_range (key_of_waiting w) ≡ b → (not b || of_key (key_of_waiting w)) ≡ true

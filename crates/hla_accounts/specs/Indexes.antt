@@ -32,39 +32,39 @@ rank_of (delivery.Demoted stamp) = Demoted
 rank_of (delivery.TimeStamp stamp) = TimeStamp
 
 -- 0 in receive order
-abbrev pub stamp_of : Delivery → ℕ
-stamp_of delivery.Receive = 0
-stamp_of (delivery.Demoted stamp) = stamp
-stamp_of (delivery.TimeStamp stamp) = stamp
+abbrev pub delivery_stamp : Delivery → ℕ
+delivery_stamp delivery.Receive = 0
+delivery_stamp (delivery.Demoted stamp) = stamp
+delivery_stamp (delivery.TimeStamp stamp) = stamp
 
 abbrev pub key_at : ℕ → ℕ → Delivery → Key
-key_at g m d = record { rank = rank_of d; stamp = stamp_of d; sender = g; serial = m }
+key_at g m d = record { rank = rank_of d; stamp = delivery_stamp d; sender = g; serial = m }
 
-abbrev pub key_cmp : Key → Key → Ordering
-key_cmp a b = ordering_then (nat_cmp (rank_no a.rank) (rank_no b.rank)) (ordering_then (nat_cmp a.stamp b.stamp) (ordering_then (nat_cmp a.sender b.sender) (nat_cmp a.serial b.serial)))
+abbrev pub waiting_key_cmp : Key → Key → Ordering
+waiting_key_cmp a b = ordering_then (nat_cmp (rank_no a.rank) (rank_no b.rank)) (ordering_then (nat_cmp a.stamp b.stamp) (ordering_then (nat_cmp a.sender b.sender) (nat_cmp a.serial b.serial)))
 
-abbrev pub name_cmp : Name → Name → Ordering
-name_cmp a b = ordering_then (nat_cmp a.sender b.sender) (nat_cmp a.serial b.serial)
+abbrev pub waiting_name_cmp : Name → Name → Ordering
+waiting_name_cmp a b = ordering_then (nat_cmp a.sender b.sender) (nat_cmp a.serial b.serial)
 
 -- the key is from one on and below another
-abbrev pub is_between : Key → Key → Key → Bool
-is_between from to k = range_contains key_cmp (Included from) (Excluded to) k
+abbrev pub is_key_between : Key → Key → Key → Bool
+is_key_between from to k = range_contains waiting_key_cmp (Included from) (Excluded to) k
 
 -- what goes in time-stamp order, with a stamp below a time
 abbrev pub is_ordered_below : ℕ → Key → Bool
-is_ordered_below time k = is_between (key_at 0 0 (delivery.TimeStamp 0)) (key_at 0 0 (delivery.TimeStamp time)) k
+is_ordered_below time k = is_key_between (key_at 0 0 (delivery.TimeStamp 0)) (key_at 0 0 (delivery.TimeStamp time)) k
 
 -- what was moved to receive order, with a stamp below a time
 abbrev pub is_demoted_below : ℕ → Key → Bool
-is_demoted_below time k = is_between (key_at 0 0 (delivery.Demoted 0)) (key_at 0 0 (delivery.Demoted time)) k
+is_demoted_below time k = is_key_between (key_at 0 0 (delivery.Demoted 0)) (key_at 0 0 (delivery.Demoted time)) k
 
 -- what goes in time-stamp order with this stamp, before the message of a sender with a serial
 abbrev pub is_ordered_before : ℕ → ℕ → ℕ → Key → Bool
-is_ordered_before g m stamp k = is_between (key_at 0 0 (delivery.TimeStamp stamp)) (key_at g m (delivery.TimeStamp stamp)) k
+is_ordered_before g m stamp k = is_key_between (key_at 0 0 (delivery.TimeStamp stamp)) (key_at g m (delivery.TimeStamp stamp)) k
 
 -- what was sent in receive order by the same sender, before the message with a serial
 abbrev pub is_received_before : ℕ → ℕ → Key → Bool
-is_received_before g m k = is_between (key_at g 0 delivery.Receive) (key_at g m delivery.Receive) k
+is_received_before g m k = is_key_between (key_at g 0 delivery.Receive) (key_at g m delivery.Receive) k
 
 -- ---- how each message is to be given, by sender and serial
 abbrev pub delivery_at : List Waiting → ℕ → ℕ → Option Delivery
@@ -72,19 +72,19 @@ delivery_at ws = λ g m. option_map (λ (w : Waiting). w.delivery) (waiting_at w
 
 -- what was found has this key
 abbrev pub has_key : Key → Option Delivery → Bool
-has_key k o = option_map_or (λ d. is_eq (key_cmp (key_at k.sender k.serial d) k)) o false
+has_key k o = option_map_or (λ d. is_eq (waiting_key_cmp (key_at k.sender k.serial d) k)) o false
 
 -- the index has the keys of these messages and no others, and a number for each of them and no others
 pub record IsIndexOf (i : Index) (table : ℕ → ℕ → Option Delivery) : Type 0 where
-  pub keys : (k : Key) → sorted.contains key_cmp i.keys k ≡ has_key k (table k.sender k.serial)
-  pub names : (n : Name) → is_some (tree.get name_cmp i.arrivals n) ≡ is_some (table n.sender n.serial)
+  pub keys : (k : Key) → sorted.contains waiting_key_cmp i.keys k ≡ has_key k (table k.sender k.serial)
+  pub names : (n : Name) → is_some (tree.get waiting_name_cmp i.arrivals n) ≡ is_some (table n.sender n.serial)
 
 -- an index of the first k messages; where there is none k is 0
 abbrev pub IsHead : Option Index → ℕ → List Waiting → Type 0
 IsHead index k head = MatchOption index (k ≡ 0) (λ i. IsIndexOf i (delivery_at head))
 
 -- what a bag keeps of the messages that wait: an index of the first of them, and lower bounds of the stamps of the others
-pub record IsKept (ws : List Waiting) (x : Indexing) : Type 0 where
+pub record IsIndexingOf (ws : List Waiting) (x : Indexing) : Type 0 where
   pub apart : AreApart ws
   pub within : x.count ≤ length ws
   pub head : IsHead x.index x.count (take x.count ws)
@@ -96,4 +96,4 @@ IsCaughtUp ws x = IfSome x.index (λ _. x.count ≡ length ws)
 
 -- the set has the names of these events and no others
 abbrev pub HasNamesOf : BTreeSet Name → List EventHandle → Type 0
-HasNamesOf s events = (n : Name) → sorted.contains name_cmp s n ≡ is_listed events n.sender n.serial
+HasNamesOf s events = (n : Name) → sorted.contains waiting_name_cmp s n ≡ is_listed events n.sender n.serial

@@ -7,7 +7,7 @@ ghost use Rattle.hla_base.specs.declared.fault.Fault.TheVariants.{OutOfMemory};
 ghost use Rattle.hla_base.specs.Tables.{upd2};
 ghost use Rattle.hla_accounts.specs.Accounts.{copy_at, copy_given};
 ghost use Rattle.hla_accounts.specs.Bags.{is_of, is_listed, waiting_at, demoted_delivery, with_listed_demoted, AreApart};
-ghost use Rattle.hla_accounts.specs.Indexes.{IsKept};
+ghost use Rattle.hla_accounts.specs.Indexes.{IsIndexingOf};
 
 use crate::indexing::{INDEXED_FROM, Indexing};
 use crate::line::Line;
@@ -45,13 +45,13 @@ pub struct Bag {
 impl Model for Bag {
     ghost use Rattle.std.specs.Prelude.{List};
     ghost use Rattle.hla_accounts.specs.declared.bag.Waiting.{Waiting};
-    ghost use Rattle.hla_accounts.specs.Indexes.{IsKept};
+    ghost use Rattle.hla_accounts.specs.Indexes.{IsIndexingOf};
 
     ghost Value = { List Waiting };
 
     ghost view = { λ b. b.waiting };
 
-    ghost invariant = { λ b. IsKept b.waiting b.indexing };
+    ghost invariant = { λ b. IsIndexingOf b.waiting b.indexing };
 }
 
 /// A message that was sent in time-stamp order is to be given in receive order.
@@ -132,7 +132,7 @@ impl Bag {
 
     /// Which of what waits an index has.
     pub(crate) fn indexing(&self) -> &Indexing
-        ensures { IsKept self.now result.now }
+        ensures { IsIndexingOf self.now result.now }
     {
         let _ = &self.waiting;
         &self.indexing
@@ -273,7 +273,7 @@ fn note_place(
     waiting: &Line,
     event: EventHandle,
 )
-    ensures { IsKept waiting.now indexing.old → IsKept waiting.now indexing.new }
+    ensures { IsIndexingOf waiting.now indexing.old → IsIndexingOf waiting.now indexing.new }
 {
     let messages = waiting.as_slice();
     if indexing.index.is_some() || indexing.is_refused {

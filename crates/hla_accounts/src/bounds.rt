@@ -6,7 +6,7 @@ ghost use Rattle.hla_base.specs.Limits.{max_time};
 ghost use Rattle.hla_base.specs.Rows.{reach};
 ghost use Rattle.hla_accounts.specs.Accounts.{account_at};
 ghost use Rattle.hla_accounts.specs.declared.bag.Waiting.{Waiting};
-ghost use Rattle.hla_accounts.specs.Indexes.{IsKept};
+ghost use Rattle.hla_accounts.specs.Indexes.{IsIndexingOf};
 ghost use Rattle.hla_accounts.specs.Bounds.{is_at_most_waiting, is_below_all_tso, is_below_wake, is_below_request, is_below_out, ordered_stamp, leaves_below, is_below_bound, has_reached};
 
 use crate::accounts::Accounts;
@@ -46,7 +46,7 @@ impl Accounts {
 
     /// Whether a time, in ticks, is at most each stamp of what an index has in time-stamp order and was not retracted.
     fn is_below_indexed_tso(&self, indexing: &Indexing, time: Ticks) -> bool
-        ensures { (ws : List Waiting) → IsKept ws indexing.now → result ≡ list_all (is_at_most_waiting self.now time) (take
+        ensures { (ws : List Waiting) → IsIndexingOf ws indexing.now → result ≡ list_all (is_at_most_waiting self.now time) (take
             indexing.now.count ws) }
     {
         match &indexing.index {

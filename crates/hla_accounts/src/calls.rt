@@ -6,7 +6,7 @@ ghost use Rattle.hla_machine.specs.Machine.{is_removal};
 ghost use Rattle.hla_accounts.specs.Accounts.{account_at};
 ghost use Rattle.hla_accounts.specs.declared.bag.Waiting.{Waiting};
 ghost use Rattle.hla_accounts.specs.Bags.{waiting_at};
-ghost use Rattle.hla_accounts.specs.Indexes.{IsKept};
+ghost use Rattle.hla_accounts.specs.Indexes.{IsIndexingOf};
 ghost use Rattle.hla_accounts.specs.Bounds.{demoted_stamp};
 ghost use Rattle.hla_accounts.specs.Calls.{may_bound, is_at_most_demoted, is_below_all_demoted, may_be_next, waits_in_order, may_cease, are_distinct, is_carried, is_offered, may_carry, may_announce};
 
@@ -84,7 +84,7 @@ impl Accounts {
     /// Whether a time, in ticks, is at most each stamp of what an index has that was moved to receive order and is not
     /// retracted.
     fn is_below_indexed_demoted(&self, indexing: &Indexing, time: Ticks) -> bool
-        ensures { (ws : List Waiting) → IsKept ws indexing.now → result ≡ list_all (is_at_most_demoted self.now time) (take
+        ensures { (ws : List Waiting) → IsIndexingOf ws indexing.now → result ≡ list_all (is_at_most_demoted self.now time) (take
             indexing.now.count ws) }
     {
         match &indexing.index {

@@ -8,7 +8,7 @@ ghost use Rattle.hla_machine.specs.Callbacks.{MayDeliver};
 ghost use Rattle.hla_accounts.specs.Accounts.{account_at, no_account, copy_at, copy_given, central_with};
 ghost use Rattle.hla_accounts.specs.declared.bag.Waiting.{Waiting};
 ghost use Rattle.hla_accounts.specs.Bags.{waiting_at};
-ghost use Rattle.hla_accounts.specs.Indexes.{IsKept};
+ghost use Rattle.hla_accounts.specs.Indexes.{IsIndexingOf};
 ghost use Rattle.hla_accounts.specs.Ticks.{has_no_offer, is_discovered, may_deliver, is_moved_below, is_among_if_below, may_constrain};
 
 use crate::accounts::Accounts;
@@ -142,7 +142,7 @@ impl Accounts {
     /// with the events and what lies below the time, each times the logarithm of the events; where memory for the names of the
     /// events was refused, as where it is little.
     fn are_indexed_among(&self, indexing: &Indexing, time: Ticks, events: &[EventHandle]) -> bool
-        ensures { (ws : List Waiting) → IsKept ws indexing.now → result ≡ list_all (is_among_if_below self.now time events.now)
+        ensures { (ws : List Waiting) → IsIndexingOf ws indexing.now → result ≡ list_all (is_among_if_below self.now time events.now)
             (take indexing.now.count ws) }
     {
         let Some(index) = &indexing.index else {

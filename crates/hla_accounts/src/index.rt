@@ -6,7 +6,7 @@ ghost use Rattle.std.specs.BTreeMap.Range.{IsLeBy};
 ghost use Rattle.hla_base.specs.Tables.{upd2};
 ghost use Rattle.hla_callbacks.specs.declared.callback.Delivery.{Delivery};
 ghost use Rattle.hla_accounts.specs.Bags.{AreApart};
-ghost use Rattle.hla_accounts.specs.Indexes.{rank_of, stamp_of, key_at, key_cmp, is_between, is_ordered_below, is_demoted_below, is_ordered_before, is_received_before, delivery_at, HasNamesOf, IsIndexOf};
+ghost use Rattle.hla_accounts.specs.Indexes.{rank_of, delivery_stamp, key_at, waiting_key_cmp, is_key_between, is_ordered_below, is_demoted_below, is_ordered_before, is_received_before, delivery_at, HasNamesOf, IsIndexOf};
 
 use crate::bag::Waiting;
 use hla_base::{EventHandle, FederateNo, Serial, Ticks};
@@ -64,8 +64,8 @@ fn rank_of(delivery: Delivery) -> Rank
     }
 }
 
-fn stamp_of(delivery: Delivery) -> Ticks
-    ensures { result ≡ stamp_of delivery }
+fn delivery_stamp(delivery: Delivery) -> Ticks
+    ensures { result ≡ delivery_stamp delivery }
 {
     match delivery {
         Delivery::Receive => 0,
@@ -80,7 +80,7 @@ impl Key {
     {
         Key {
             rank: rank_of(delivery),
-            stamp: stamp_of(delivery),
+            stamp: delivery_stamp(delivery),
             sender: event.sender,
             serial: event.serial,
         }
@@ -238,8 +238,8 @@ impl Index {
 
     /// The keys from one on and below another, in order.
     fn between(&self, from: Key, to: Key) -> Range<'_, Key>
-        requires { IsLeBy key_cmp from to }
-        ensures keys { result ≡ filter (is_between from to) self.now.keys.keys }
+        requires { IsLeBy waiting_key_cmp from to }
+        ensures keys { result ≡ filter (is_key_between from to) self.now.keys.keys }
         ensures runs { ShowsInOrder (deref {X = Key}) }
     {
         self.keys.range(from..to)

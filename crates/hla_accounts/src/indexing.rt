@@ -4,7 +4,7 @@ ghost use Rattle.std.specs.Prelude.{◌≡◌, ◌<◌, ◌≤◌, ◌∷◌, �
 ghost use Rattle.std.specs.List.{remove};
 ghost use Rattle.hla_accounts.specs.declared.bag.Waiting.{Waiting};
 ghost use Rattle.hla_accounts.specs.Bags.{waiting_at, demoted_delivery, demoted_waiting, AreApart, IsNotBelow, AreNotBelow};
-ghost use Rattle.hla_accounts.specs.Indexes.{delivery_at, IsIndexOf, IsHead, IsKept, IsCaughtUp};
+ghost use Rattle.hla_accounts.specs.Indexes.{delivery_at, IsIndexOf, IsHead, IsIndexingOf, IsCaughtUp};
 
 use crate::bag::Waiting;
 use crate::index::Index;
@@ -73,7 +73,7 @@ fn index_or_new(index: Option<Index>, alloc: Global) -> Index
 impl Indexing {
     /// Of no messages; it takes no memory.
     pub fn new() -> Indexing
-        ensures { IsKept [] result }
+        ensures { IsIndexingOf [] result }
     {
         Indexing {
             index: None,
@@ -123,7 +123,7 @@ impl Indexing {
     /// Memory for the index was refused: there is none any more, and all messages are the tail. It looks at each.
     fn give_up(&mut self, waiting: &[Waiting])
         requires { AreApart waiting.now }
-        ensures kept { IsKept waiting.now self.new }
+        ensures kept { IsIndexingOf waiting.now self.new }
         ensures none { self.new.index ≡ None }
     {
         self.index = None;
@@ -138,8 +138,8 @@ impl Indexing {
     /// The time grows with the tail, times the logarithm of what waits. Where a growth is refused it looks at each message,
     /// and from then on does nothing.
     pub fn catch_up(&mut self, waiting: &Line)
-        requires { IsKept waiting.now self.old }
-        ensures kept { IsKept waiting.now self.new }
+        requires { IsIndexingOf waiting.now self.old }
+        ensures kept { IsIndexingOf waiting.now self.new }
         ensures all { IsCaughtUp waiting.now self.new }
     {
         let messages = waiting.as_slice();
@@ -159,15 +159,15 @@ impl Indexing {
 
     /// A message was put behind the others.
     pub fn put(&mut self, delivery: Delivery)
-        ensures { (ws : List Waiting) (w : Waiting) → IsKept ws self.old → waiting_at ws w.event.sender w.event.serial ≡ None →
-            w.delivery ≡ delivery → IsKept (ws ++ w ∷ []) self.new }
+        ensures { (ws : List Waiting) (w : Waiting) → IsIndexingOf ws self.old → waiting_at ws w.event.sender w.event.serial ≡ None →
+            w.delivery ≡ delivery → IsIndexingOf (ws ++ w ∷ []) self.new }
     {
         lower(&mut self.least_ordered, &mut self.least_demoted, delivery);
     }
 
     /// Makes the bounds of the tail those of what waits, since they may be of messages that are gone. It looks at each message.
     pub fn bound(&mut self, waiting: &[Waiting])
-        ensures { IsKept waiting.now self.old → IsKept waiting.now self.new }
+        ensures { IsIndexingOf waiting.now self.old → IsIndexingOf waiting.now self.new }
     {
         let (ordered, demoted) = least_stamps(waiting);
         self.least_ordered = ordered;
@@ -176,10 +176,10 @@ impl Indexing {
 
     /// The message at a place is to be taken out; the index, where there is one, has all messages.
     pub fn remove(&mut self, waiting: &Line, place: usize)
-        requires kept { IsKept waiting.now self.old }
+        requires kept { IsIndexingOf waiting.now self.old }
         requires all { IsCaughtUp waiting.now self.old }
         requires within { place < length waiting.now }
-        ensures { IsKept (remove waiting.now place) self.new }
+        ensures { IsIndexingOf (remove waiting.now place) self.new }
     {
         let message = &waiting.as_slice()[place];
         let Some(index) = &mut self.index else {
@@ -192,11 +192,11 @@ impl Indexing {
     /// The message at a place is to be moved to receive order, and then given so; the index, where there is one, has all
     /// messages. Where a growth is refused it looks at each message.
     pub fn demote(&mut self, waiting: &Line, place: usize, after: Delivery)
-        requires kept { IsKept waiting.now self.old }
+        requires kept { IsIndexingOf waiting.now self.old }
         requires all { IsCaughtUp waiting.now self.old }
         requires within { place < length waiting.now }
         requires after { (d : Waiting) → after ≡ demoted_delivery (slice_index_or waiting.now place d).delivery }
-        ensures { (d : Waiting) → IsKept (slice_set waiting.now place (demoted_waiting (slice_index_or waiting.now place d)))
+        ensures { (d : Waiting) → IsIndexingOf (slice_set waiting.now place (demoted_waiting (slice_index_or waiting.now place d)))
             self.new }
     {
         let messages = waiting.as_slice();

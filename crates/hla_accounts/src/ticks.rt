@@ -6,7 +6,7 @@ ghost use Rattle.hla_base.specs.Limits.{max_time};
 ghost use Rattle.hla_base.specs.Rows.{grant_time, is_constrained, is_flush, RowNumbers};
 ghost use Rattle.hla_accounts.specs.Accounts.{account_at};
 ghost use Rattle.hla_accounts.specs.declared.bag.Waiting.{Waiting};
-ghost use Rattle.hla_accounts.specs.Indexes.{IsKept};
+ghost use Rattle.hla_accounts.specs.Indexes.{IsIndexingOf};
 ghost use Rattle.hla_accounts.specs.Ticks.{is_flush_granted, is_granted_as, may_grant, may_receive, is_sent_in_receive_order, is_not_earlier, is_first_ro, is_at_first_pick, is_key_le, is_not_before, is_first_key, may_pick, may_pick_now};
 
 use crate::accounts::Accounts;
@@ -72,7 +72,7 @@ fn are_not_earlier(event: EventHandle, waiting: &[Waiting]) -> bool
 
 /// Whether an index has no earlier message of the same sender in receive order.
 fn is_first_indexed_ro(indexing: &Indexing, event: EventHandle) -> bool
-    ensures { (ws : List Waiting) → IsKept ws indexing.now → result ≡ list_all (is_not_earlier event.sender event.serial) (take
+    ensures { (ws : List Waiting) → IsIndexingOf ws indexing.now → result ≡ list_all (is_not_earlier event.sender event.serial) (take
         indexing.now.count ws) }
 {
     match &indexing.index {
@@ -188,7 +188,7 @@ impl Accounts {
 
     /// Whether none of what an index has with this stamp, in ticks, and was not retracted has a key below that of an event.
     fn is_first_indexed_key(&self, indexing: &Indexing, event: EventHandle, stamp: Ticks) -> bool
-        ensures { (ws : List Waiting) → IsKept ws indexing.now → result ≡ list_all (is_not_before self.now event.sender event.serial
+        ensures { (ws : List Waiting) → IsIndexingOf ws indexing.now → result ≡ list_all (is_not_before self.now event.sender event.serial
             stamp) (take indexing.now.count ws) }
     {
         match &indexing.index {

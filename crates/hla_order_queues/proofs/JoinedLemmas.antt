@@ -5,7 +5,7 @@ use Rattle.std.specs.List.{AllByRecursion, slice_get}
 use Rattle.hla_base.specs.declared.content.Event.{Event}
 use Rattle.hla_order_queues.specs.declared.key.EventKey.{EventKey}
 use Rattle.hla_order_queues.specs.Queues.{insert_event}
-use Rattle.hla_order_queues.specs.Kept.{key_of, is_less, first_after, floor_after, IsInOrder, joined, events_of, AreAfter, AreBelow, AreFloored, AreBlocks}
+use Rattle.hla_order_queues.specs.Kept.{key_of, is_less, first_after, floor_after, IsInOrder, joined, events_of, AreAfter, AreBelowBlocks, AreFloored, AreBlocks}
 use Rattle.hla_order_queues.proofs.EventLemmas.{length-insert_event}
 use Rattle.hla_order_queues.proofs.OrderLemmas.{All-implies, All-append, NoneAfter, insert_event-front, insert_event-back, IsInOrder-insert_event, All-insert_event, parts_of}
 use Rattle.hla_order_queues.proofs.FloorLemmas.{less-trans, not_less}
@@ -33,10 +33,10 @@ All_at : (P : EventKey × List Event → Type 0) (es : List (EventKey × List Ev
 All_at P [] e fs h = h.0
 All_at P (g ∷ es) e fs h = All_at P es e fs h.1
 
-below_back : (xs : List Event) (es fs : List (EventKey × List Event)) → AreBelow xs (es ++ fs) → AreBelow xs fs
+below_back : (xs : List Event) (es fs : List (EventKey × List Event)) → AreBelowBlocks xs (es ++ fs) → AreBelowBlocks xs fs
 below_back xs es fs h = All-implies (λ x p. All_back (λ e. is_less (key_of x) e.0 ≡ true) es fs p) xs h
 
-pub below_set : (xs : List Event) (es : List (EventKey × List Event)) (f : EventKey) (b c : List Event) (fs : List (EventKey × List Event)) → AreBelow xs (es ++ (f, b) ∷ fs) → AreBelow xs (es ++ (f, c) ∷ fs)
+pub below_set : (xs : List Event) (es : List (EventKey × List Event)) (f : EventKey) (b c : List Event) (fs : List (EventKey × List Event)) → AreBelowBlocks xs (es ++ (f, b) ∷ fs) → AreBelowBlocks xs (es ++ (f, c) ∷ fs)
 below_set xs es f b c fs h =
     All-implies (λ x p. All_set (λ e. is_less (key_of x) e.0 ≡ true) es (f, b) (f, c) fs p (All_at (λ e. is_less (key_of x) e.0 ≡ true) es (f, b) fs p)) xs h
 
@@ -44,9 +44,9 @@ pub All_behind : (P : EventKey × List Event → Type 0) (es : List (EventKey ×
 All_behind P es e fs h = (All_back P es (e ∷ fs) h).1
 
 pub record AreAt (es : List (EventKey × List Event)) (f : EventKey) (b : List Event) (fs : List (EventKey × List Event)) : Type 0 where
-  pub before : AreBelow (events_of es) ((f, b) ∷ fs)
+  pub before : AreBelowBlocks (events_of es) ((f, b) ∷ fs)
   pub from : AllByRecursion (λ x. is_less (key_of x) f ≡ false) b
-  pub below : AreBelow b fs
+  pub below : AreBelowBlocks b fs
   pub behind : AreFloored fs
 
 pub floored_at : (es : List (EventKey × List Event)) (f : EventKey) (b : List Event) (fs : List (EventKey × List Event)) → AreFloored (es ++ (f, b) ∷ fs) → AreAt es f b fs
@@ -61,7 +61,7 @@ floored_at (e ∷ es) f b fs h =
       behind = rest.behind;
     }
 
-pub floored_set : (es : List (EventKey × List Event)) (f : EventKey) (b c : List Event) (fs : List (EventKey × List Event)) → AreFloored (es ++ (f, b) ∷ fs) → AllByRecursion (λ x. is_less (key_of x) f ≡ false) c → AreBelow c fs → AreFloored (es ++ (f, c) ∷ fs)
+pub floored_set : (es : List (EventKey × List Event)) (f : EventKey) (b c : List Event) (fs : List (EventKey × List Event)) → AreFloored (es ++ (f, b) ∷ fs) → AllByRecursion (λ x. is_less (key_of x) f ≡ false) c → AreBelowBlocks c fs → AreFloored (es ++ (f, c) ∷ fs)
 unfolding AreFloored
 floored_set [] f b c fs h from below = (from, below, h.2)
 floored_set (e ∷ es) f b c fs h from below = (h.0, below_set e.1 es f b c fs h.1, floored_set es f b c fs h.2 from below)
@@ -70,7 +70,7 @@ floored_set (e ∷ es) f b c fs h from below = (h.0, below_set e.1 es f b c fs h
 none_before : (k x f : EventKey) → is_less k f ≡ false → is_less x f ≡ true → is_less k x ≡ false
 none_before k x f p q = grind (arith, nat_tests)
 
-pub none_first : (k f : EventKey) (b : List Event) (xs : List Event) (fs : List (EventKey × List Event)) → is_less k f ≡ false → AreBelow xs ((f, b) ∷ fs) → NoneAfter k xs
+pub none_first : (k f : EventKey) (b : List Event) (xs : List Event) (fs : List (EventKey × List Event)) → is_less k f ≡ false → AreBelowBlocks xs ((f, b) ∷ fs) → NoneAfter k xs
 none_first k f b xs fs low h = All-implies (λ x p. none_before k (key_of x) f low p.0) xs h
 
 after_first : (k f : EventKey) (b zs : List Event) → 0 < length b → is_less k f ≡ true → AllByRecursion (λ x. is_less (key_of x) f ≡ false) b → first_after k (b ++ zs) ≡ true
@@ -83,7 +83,7 @@ after_all k [] filled floored h = refl
 after_all k (e ∷ es) filled floored h = after_first k e.0 e.1 (events_of es) filled.0 h.0 floored.0
 
 -- where the first floor is after a key, all are
-all_if : (k f : EventKey) (b : List Event) (fs : List (EventKey × List Event)) → 0 < length b → is_less k f ≡ true → AllByRecursion (λ x. is_less (key_of x) f ≡ false) b → AreBelow b fs → AreAfter k fs
+all_if : (k f : EventKey) (b : List Event) (fs : List (EventKey × List Event)) → 0 < length b → is_less k f ≡ true → AllByRecursion (λ x. is_less (key_of x) f ≡ false) b → AreBelowBlocks b fs → AreAfter k fs
 all_if k f [] fs l p h below = absurd (omega arith)
 all_if k f (x ∷ xs) fs l p h below = floors_after k (key_of x) fs (less-trans k f (key_of x) p h.0) below.0
   where
@@ -127,7 +127,7 @@ no_events es e = ap events_of e
 pub record IsFirst (b : List Event) (es new : List (EventKey × List Event)) : Type 0 where
   pub events : b ++ events_of new ≡ events_of es
   pub filled : 0 < length b
-  pub below : AreBelow b new
+  pub below : AreBelowBlocks b new
   pub left : AreBlocks new
 
 pub first_taken : (e : EventKey × List Event) (es new : List (EventKey × List Event)) → AreBlocks es → es ≡ e ∷ new → IsFirst e.1 es new

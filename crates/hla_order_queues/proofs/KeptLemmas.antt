@@ -5,7 +5,7 @@ use Rattle.std.specs.Result.{OnOk, OnErr}
 use Rattle.hla_base.specs.declared.content.Event.{Event}
 use Rattle.hla_base.specs.declared.number.EventHandle.{EventHandle}
 use Rattle.hla_order_queues.specs.Queues.{insert_event, find_event, remove_event, handles_of}
-use Rattle.hla_order_queues.specs.Kept.{key_of, first_after, floor_after, IsInOrder, AreInOrder, AreAfter, AreBelow, joined, events_of}
+use Rattle.hla_order_queues.specs.Kept.{key_of, first_after, floor_after, IsInOrder, AreInOrder, AreAfter, AreBelowBlocks, joined, events_of}
 use Rattle.hla_order_queues.proofs.EventLemmas.{length-insert_event, length-remove_event}
 use Rattle.hla_order_queues.specs.declared.key.EventKey.{EventKey}
 use Rattle.hla_order_queues.proofs.JoinedLemmas.{none_first}
@@ -13,7 +13,7 @@ use Rattle.hla_order_queues.proofs.OrderLemmas.{NoneAfter, All-insert_event, IsI
 use Rattle.hla_order_queues.proofs.RemovalLemmas.{IsInOrder-remove_event, IsInOrder-drop_first}
 use Rattle.hla_order_queues.proofs.StepLemmas.{handles_of-append, take-parts}
 
-pub kept_nothing : (f : List Event) (es : List (EventKey × List Event)) → f ≡ [] → es ≡ [] → (AreInOrder f (events_of es) 0 × AreBelow f es) × (f ++ events_of es ≡ [])
+pub kept_nothing : (f : List Event) (es : List (EventKey × List Event)) → f ≡ [] → es ≡ [] → (AreInOrder f (events_of es) 0 × AreBelowBlocks f es) × (f ++ events_of es ≡ [])
 unfolding IsInOrder joined
 kept_nothing f es e g = rw (e, g) ((record { ordered = tt; filled = λ h. refl; counted = refl; small = omega arith }, tt), refl)
 
@@ -78,11 +78,11 @@ pub put_behind : {E : Type 0} (x : Event) (f l later now : List Event) (r : Resu
 put_behind x f l later now (Ok u) whole none put = ap (λ zs. f ++ zs) put ∙ sym (insert_event-back x f l none) ∙ ap (insert_event x) whole
 put_behind x f l later now (Err e) whole none put = tt
 
-pub put_below : {E : Type 0} (x : Event) (f first : List Event) (es : List (EventKey × List Event)) (r : Result (Unit {0}) E) → OnOk r (first ≡ insert_event x f) → OnErr r (first ≡ f) → AreAfter (key_of x) es → AreBelow f es → AreBelow first es
-put_below x f first es (Ok u) put same after below = subst (λ xs. AreBelow xs es) (sym put) (All-insert_event (λ y. AreAfter (key_of y) es) x f after below)
-put_below x f first es (Err e) put same after below = subst (λ xs. AreBelow xs es) (sym same) below
+pub put_below : {E : Type 0} (x : Event) (f first : List Event) (es : List (EventKey × List Event)) (r : Result (Unit {0}) E) → OnOk r (first ≡ insert_event x f) → OnErr r (first ≡ f) → AreAfter (key_of x) es → AreBelowBlocks f es → AreBelowBlocks first es
+put_below x f first es (Ok u) put same after below = subst (λ xs. AreBelowBlocks xs es) (sym put) (All-insert_event (λ y. AreAfter (key_of y) es) x f after below)
+put_below x f first es (Err e) put same after below = subst (λ xs. AreBelowBlocks xs es) (sym same) below
 
-pub none_in_front : (k : EventKey) (xs : List Event) (es : List (EventKey × List Event)) → floor_after k es ≡ false → AreBelow xs es → NoneAfter k xs
+pub none_in_front : (k : EventKey) (xs : List Event) (es : List (EventKey × List Event)) → floor_after k es ≡ false → AreBelowBlocks xs es → NoneAfter k xs
 none_in_front k xs [] e below = absurd (cc)
 none_in_front k xs (x ∷ es) e below = none_first k x.0 x.1 xs es e below
 

@@ -6,7 +6,7 @@ use Rattle.std.specs.Result.{OnOk, OnErr}
 use Rattle.hla_base.specs.declared.content.Event.{Event}
 use Rattle.hla_order_queues.specs.declared.key.EventKey.{EventKey}
 use Rattle.hla_order_queues.specs.Queues.{insert_event, find_event, remove_event}
-use Rattle.hla_order_queues.specs.Kept.{key_of, is_less, floor_after, IsInOrder, joined, events_of, block_at, set_block, without_block, AreAfter, AreBelow, AreFloored, AreBlocks, At, IsPlace}
+use Rattle.hla_order_queues.specs.Kept.{key_of, is_less, floor_after, IsInOrder, joined, events_of, block_at, set_block, without_block, AreAfter, AreBelowBlocks, AreFloored, AreBlocks, At, IsPlace}
 use Rattle.hla_order_queues.proofs.FloorLemmas.{block_is, set_is, without_is}
 use Rattle.hla_order_queues.proofs.JoinedLemmas.{events_at, inserted_events, blocks_inserted, below_set, floored_at, floored_set, after_all, All_behind}
 use Rattle.hla_order_queues.proofs.OrderLemmas.{All-implies, parts_of}
@@ -26,7 +26,7 @@ pub record IsPut (x : Event) (es new : List (EventKey × List Event)) (r : Resul
   pub ok : OnOk r (events_of new ≡ insert_event x (events_of es))
   pub unchanged : OnErr r (events_of new ≡ events_of es)
   pub blocks : AreBlocks new
-  pub below : (xs : List Event) → AreBelow xs es → AreBelow xs new
+  pub below : (xs : List Event) → AreBelowBlocks xs es → AreBelowBlocks xs new
 
 pub put_in : (x : Event) (es new : List (EventKey × List Event)) (f : EventKey) (b c : List Event) (r : Result (Unit {0}) Event) → IsPlace (key_of x) f es → AreBlocks es → block_at f es ≡ Some b → new ≡ set_block f es c → OnOk r (c ≡ insert_event x b) → OnErr r (c ≡ b) → IsPut x es new r
 put_in x es new f b c (Ok u) p h at is ok err =
@@ -38,7 +38,7 @@ put_in x es new f b c (Ok u) p h at is ok err =
       ok = ap events_of whole ∙ inserted_events x a.before f a.block a.behind kept p.low p.high ∙ ap (λ gs. insert_event x (events_of gs)) (sym a.whole);
       unchanged = tt;
       blocks = subst AreBlocks (sym whole) (blocks_inserted x a.before f a.block a.behind kept p.low p.high);
-      below = λ xs q. subst (AreBelow xs) (sym whole) (below_set xs a.before f a.block (insert_event x a.block) a.behind (subst (AreBelow xs) a.whole q));
+      below = λ xs q. subst (AreBelowBlocks xs) (sym whole) (below_set xs a.before f a.block (insert_event x a.block) a.behind (subst (AreBelowBlocks xs) a.whole q));
     }
 put_in x es new f b c (Err e) p h at is ok err =
     let same : new ≡ es = is ∙ ap (set_block f es) (err ∙ sym (same_block f es p.at b at)) ∙ set_same f es p.at in
@@ -46,7 +46,7 @@ put_in x es new f b c (Err e) p h at is ok err =
       ok = tt;
       unchanged = ap events_of same;
       blocks = subst AreBlocks (sym same) h;
-      below = λ xs q. subst (AreBelow xs) (sym same) q;
+      below = λ xs q. subst (AreBelowBlocks xs) (sym same) q;
     }
 
 pub block_ordered : (f : EventKey) (es : List (EventKey × List Event)) (b : List Event) → At f es → AreBlocks es → block_at f es ≡ Some b → IsInOrder b
@@ -66,9 +66,9 @@ pub record IsTaken (k f : EventKey) (es new : List (EventKey × List Event)) (r 
   pub at : At f new
   pub floored : AreFloored new
   pub filled : AllByRecursion (λ e. 0 < length e.1) (without_block f new)
-  pub below : (xs : List Event) → AreBelow xs es → AreBelow xs new
+  pub below : (xs : List Event) → AreBelowBlocks xs es → AreBelowBlocks xs new
 
-missed_if : (k f : EventKey) (b : List Event) (xs : List Event) (fs : List (EventKey × List Event)) (o : Option Event) (zs : List Event) (h : HasKey k (xs ++ zs)) → find_event k.sender k.serial xs ≡ o → is_less k f ≡ false → AreBelow xs ((f, b) ∷ fs) → find_event k.sender k.serial xs ≡ None
+missed_if : (k f : EventKey) (b : List Event) (xs : List Event) (fs : List (EventKey × List Event)) (o : Option Event) (zs : List Event) (h : HasKey k (xs ++ zs)) → find_event k.sender k.serial xs ≡ o → is_less k f ≡ false → AreBelowBlocks xs ((f, b) ∷ fs) → find_event k.sender k.serial xs ≡ None
 missed_if k f b xs fs None zs h is low below = is
 missed_if k f b xs fs (Some y) zs h is low below =
     let there = sym (find_event_before k.sender k.serial xs zs y is) ∙ h.found in
@@ -77,7 +77,7 @@ missed_if k f b xs fs (Some y) zs h is low below =
     let turned : is_less k f ≡ true = ap (λ q. is_less q f) (sym (ap key_of same ∙ h.key)) ∙ less in
     absurd (cc)
 
-pub missed_in_front : (k : EventKey) (xs : List Event) (es : List (EventKey × List Event)) (zs : List Event) → HasKey k (xs ++ zs) → floor_after k es ≡ false → AreBelow xs es → find_event k.sender k.serial xs ≡ None
+pub missed_in_front : (k : EventKey) (xs : List Event) (es : List (EventKey × List Event)) (zs : List Event) → HasKey k (xs ++ zs) → floor_after k es ≡ false → AreBelowBlocks xs es → find_event k.sender k.serial xs ≡ None
 missed_in_front k xs [] zs h e below = absurd (cc)
 missed_in_front k xs (x ∷ es) zs h e below = missed_if k x.0 x.1 xs es (find_event k.sender k.serial xs) zs h refl e below
 
@@ -85,7 +85,7 @@ All_less : (P : EventKey × List Event → Type 0) (es : List (EventKey × List 
 All_less P [] e fs h = h.1
 All_less P (g ∷ es) e fs h = (h.0, All_less P es e fs h.1)
 
-below_less : (xs : List Event) (es : List (EventKey × List Event)) (e : EventKey × List Event) (fs : List (EventKey × List Event)) → AreBelow xs (es ++ e ∷ fs) → AreBelow xs (es ++ fs)
+below_less : (xs : List Event) (es : List (EventKey × List Event)) (e : EventKey × List Event) (fs : List (EventKey × List Event)) → AreBelowBlocks xs (es ++ e ∷ fs) → AreBelowBlocks xs (es ++ fs)
 below_less xs es e fs h = All-implies (λ x p. All_less (λ g. is_less (key_of x) g.0 ≡ true) es e fs p) xs h
 
 floored_less : (es : List (EventKey × List Event)) (e : EventKey × List Event) (fs : List (EventKey × List Event)) → AreFloored (es ++ e ∷ fs) → AreFloored (es ++ fs)
@@ -119,7 +119,7 @@ taken_out k f es new r p blocks h told =
       at = record { before = a.before; block = c; behind = a.behind; whole = now; lesser = a.lesser };
       floored = subst AreFloored (sym now) (floored_set a.before f b c a.behind kept.floored (All-remove_event (λ x. is_less (key_of x) f ≡ false) k.sender k.serial b at.from) (All-remove_event (λ x. AreAfter (key_of x) a.behind) k.sender k.serial b at.below));
       filled = subst (AllByRecursion (λ e. 0 < length e.1)) (sym (without_is f new (record { before = a.before; block = c; behind = a.behind; whole = now; lesser = a.lesser }))) (All_less (λ e. 0 < length e.1) a.before (f, b) a.behind kept.filled);
-      below = λ xs q. subst (AreBelow xs) (sym now) (below_set xs a.before f b c a.behind (subst (AreBelow xs) a.whole q));
+      below = λ xs q. subst (AreBelowBlocks xs) (sym now) (below_set xs a.before f b c a.behind (subst (AreBelowBlocks xs) a.whole q));
     }
 
 pub not_before : (k : EventKey) (es : List (EventKey × List Event)) → AreAfter k es → floor_after k es ≡ false → ⊥
@@ -131,7 +131,7 @@ pub record IsDropped (es new : List (EventKey × List Event)) : Type 0 where
   pub events : events_of new ≡ events_of es
   pub floored : AreFloored new
   pub filled : AllByRecursion (λ e. 0 < length e.1) new
-  pub below : (xs : List Event) → AreBelow xs es → AreBelow xs new
+  pub below : (xs : List Event) → AreBelowBlocks xs es → AreBelowBlocks xs new
 
 no_length : (b : List Event) → length b ≡ 0 → b ≡ []
 no_length [] e = refl
@@ -150,7 +150,7 @@ dropped f es new n a floored filled told none gone =
       events = ap events_of now ∙ events_less a.before f a.block a.behind empty ∙ ap events_of (sym a.whole);
       floored = subst AreFloored (sym now) (floored_less a.before (f, a.block) a.behind (subst AreFloored a.whole floored));
       filled = subst (AllByRecursion (λ e. 0 < length e.1)) (sym gone) filled;
-      below = λ xs q. subst (AreBelow xs) (sym now) (below_less xs a.before (f, a.block) a.behind (subst (AreBelow xs) a.whole q));
+      below = λ xs q. subst (AreBelowBlocks xs) (sym now) (below_less xs a.before (f, a.block) a.behind (subst (AreBelowBlocks xs) a.whole q));
     }
 
 All_with : (P : EventKey × List Event → Type 0) (es : List (EventKey × List Event)) (e : EventKey × List Event) (fs : List (EventKey × List Event)) → AllByRecursion P (es ++ fs) → P e → AllByRecursion P (es ++ e ∷ fs)

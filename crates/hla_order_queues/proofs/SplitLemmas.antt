@@ -8,7 +8,7 @@ use Rattle.std.specs.BTreeMap.{insert_entry}
 use Rattle.hla_base.specs.declared.content.Event.{Event}
 use Rattle.hla_order_queues.specs.declared.key.EventKey.{EventKey}
 use Rattle.hla_order_queues.specs.Queues.{is_before, is_event, find_event}
-use Rattle.hla_order_queues.specs.Kept.{key_of, key_cmp, is_less, IsInOrder, IsUnique, joined, events_of, block_at, without_block, AreAfter, AreBelow, AreFloored, AreBlocks, At, IsHalved}
+use Rattle.hla_order_queues.specs.Kept.{key_of, key_cmp, is_less, IsInOrder, IsUnique, joined, events_of, block_at, without_block, AreAfter, AreBelowBlocks, AreFloored, AreBlocks, At, IsHalved}
 use Rattle.hla_order_queues.proofs.EventLemmas.{missed_head, missed_later}
 use Rattle.hla_order_queues.proofs.OrderLemmas.{All-append_parts, parts_of}
 use Rattle.hla_order_queues.proofs.FloorLemmas.{less-trans, less_then, not_less, not_itself, block_is, set_is, insert_over, insert_new, remove_at}
@@ -75,11 +75,11 @@ after_more : (k f h : EventKey) (es : List (EventKey × List Event)) (b l g : Li
 after_more k f h [] b l g fs lt a = (a.0, (less-trans k f h a.0 (not_less f h lt), a.1))
 after_more k f h (e ∷ es) b l g fs lt a = (a.0, after_more k f h es b l g fs lt a.1)
 
-pub below_more : (xs : List Event) (f h : EventKey) (es : List (EventKey × List Event)) (b l g : List Event) (fs : List (EventKey × List Event)) → is_less f h ≡ true → AreBelow xs (es ++ (f, b) ∷ fs) → AreBelow xs (es ++ (f, l) ∷ (h, g) ∷ fs)
+pub below_more : (xs : List Event) (f h : EventKey) (es : List (EventKey × List Event)) (b l g : List Event) (fs : List (EventKey × List Event)) → is_less f h ≡ true → AreBelowBlocks xs (es ++ (f, b) ∷ fs) → AreBelowBlocks xs (es ++ (f, l) ∷ (h, g) ∷ fs)
 below_more [] f h es b l g fs lt a = tt
 below_more (x ∷ xs) f h es b l g fs lt a = (after_more (key_of x) f h es b l g fs lt a.0, below_more xs f h es b l g fs lt a.1)
 
-pub below_both : (xs : List Event) (h : EventKey) (g : List Event) (fs : List (EventKey × List Event)) → AllByRecursion (λ x. is_less (key_of x) h ≡ true) xs → AreBelow xs fs → AreBelow xs ((h, g) ∷ fs)
+pub below_both : (xs : List Event) (h : EventKey) (g : List Event) (fs : List (EventKey × List Event)) → AllByRecursion (λ x. is_less (key_of x) h ≡ true) xs → AreBelowBlocks xs fs → AreBelowBlocks xs ((h, g) ∷ fs)
 below_both [] h g fs a b = tt
 below_both (x ∷ xs) h g fs a b = ((a.0, b.0), below_both xs h g fs a.1 b.1)
 
@@ -110,7 +110,7 @@ lesser_more f h (e ∷ es) b lt a = (less-trans e.0 f h a.0 (not_less f h lt), l
 pub record IsSplit (es new : List (EventKey × List Event)) : Type 0 where
   pub same : events_of new ≡ events_of es
   pub blocks : AreBlocks new
-  pub below : (xs : List Event) → AreBelow xs es → AreBelow xs new
+  pub below : (xs : List Event) → AreBelowBlocks xs es → AreBelowBlocks xs new
 
 -- names are unique in each part
 missed_front : (g m : ℕ) (xs ys : List Event) → find_event g m (xs ++ ys) ≡ None → find_event g m xs ≡ None
@@ -214,7 +214,7 @@ split_done f h es e1 e2 e3 g (Ok t) a m k is half put refused =
         floored = subst AreFloored (sym now) (floored_more f h a.before a.block half.lesser g a.behind m.less all.2 kept.floored);
         ordered = subst IsInOrder (sym same) k.ordered;
       };
-      below = λ xs q. subst (AreBelow xs) (sym now) (below_more xs f h a.before a.block half.lesser g a.behind m.less (subst (AreBelow xs) a.whole q));
+      below = λ xs q. subst (AreBelowBlocks xs) (sym now) (below_more xs f h a.before a.block half.lesser g a.behind m.less (subst (AreBelowBlocks xs) a.whole q));
     }
 
 -- the block before all is split
@@ -226,7 +226,7 @@ pub record IsBetween (h : EventKey) (b : List Event) (es : List (EventKey × Lis
   pub unique : IsUnique b
   pub high : AreAfter h es
 
-pub between_known : (h : EventKey) (b : List Event) (es : List (EventKey × List Event)) → IsInOrder (b ++ events_of es) → IsUnique (b ++ events_of es) → AreBelow b es → Some h ≡ option_map (λ x. key_of x) (slice_get b (length b / 2)) → IsBetween h b es
+pub between_known : (h : EventKey) (b : List Event) (es : List (EventKey × List Event)) → IsInOrder (b ++ events_of es) → IsUnique (b ++ events_of es) → AreBelowBlocks b es → Some h ≡ option_map (λ x. key_of x) (slice_get b (length b / 2)) → IsBetween h b es
 between_known h b es ordered unique below told =
     let found = event_if h b (length b / 2) (slice_get b (length b / 2)) refl told in
     record {
@@ -247,9 +247,9 @@ closed_first h es e1 e2 b m is gone = gone ∙ ap (without_block h) (before_all 
 pub record IsFrontSplit (b l : List Event) (es new : List (EventKey × List Event)) : Type 0 where
   pub same : l ++ events_of new ≡ b ++ events_of es
   pub blocks : AreBlocks new
-  pub below : AreBelow l new
+  pub below : AreBelowBlocks l new
 
-front_kept : (h : EventKey) (b l g : List Event) (es : List (EventKey × List Event)) → AreHalves b l g h → AreBlocks es → AreBelow b es → IsInOrder (b ++ events_of es) → IsFrontSplit b l es ((h, g) ∷ es)
+front_kept : (h : EventKey) (b l g : List Event) (es : List (EventKey × List Event)) → AreHalves b l g h → AreBlocks es → AreBelowBlocks b es → IsInOrder (b ++ events_of es) → IsFrontSplit b l es ((h, g) ∷ es)
 unfolding joined AreFloored
 front_kept h b l g es a k below ordered =
     let both = within_halves (λ x. AreAfter (key_of x) es) b l g a.parts below in
@@ -264,7 +264,7 @@ front_kept h b l g es a k below ordered =
       below = below_both l h g es a.lesser both.0;
     }
 
-pub front_done : {T E : Type 0} (h : EventKey) (b l g : List Event) (es e1 e3 : List (EventKey × List Event)) (r : Result T E) → IsBetween h b es → AreBlocks es → AreBelow b es → IsInOrder (b ++ events_of es) → e1 ≡ insert_entry key_cmp es h [] → l ++ g ≡ b → slice_get g 0 ≡ slice_get b (length b / 2) → OnOk r (e3 ≡ insert_entry key_cmp e1 h g) → OnErr r (block_at h e1 ≡ None) → IsFrontSplit b l es e3
+pub front_done : {T E : Type 0} (h : EventKey) (b l g : List Event) (es e1 e3 : List (EventKey × List Event)) (r : Result T E) → IsBetween h b es → AreBlocks es → AreBelowBlocks b es → IsInOrder (b ++ events_of es) → e1 ≡ insert_entry key_cmp es h [] → l ++ g ≡ b → slice_get g 0 ≡ slice_get b (length b / 2) → OnOk r (e3 ≡ insert_entry key_cmp e1 h g) → OnErr r (block_at h e1 ≡ None) → IsFrontSplit b l es e3
 front_done h b l g es e1 e3 (Err x) m k below ordered is parts middle put refused =
     let there = block_is h e1 (record { before = []; block = []; behind = es; whole = before_all h es e1 b m is; lesser = tt }) in
     absurd (cc)

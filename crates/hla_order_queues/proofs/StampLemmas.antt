@@ -8,7 +8,7 @@ use Rattle.hla_base.specs.declared.content.Event.{Event}
 use Rattle.hla_order_queues.specs.declared.key.EventKey.{EventKey}
 use Rattle.hla_order_queues.specs.declared.key.EventName.{EventName}
 use Rattle.hla_order_queues.specs.Queues.{insert_event, is_event, find_event, remove_event}
-use Rattle.hla_order_queues.specs.Kept.{key_of, name_of, IsUnique, name_eq, stamp_at, stamp_of, AreNamed}
+use Rattle.hla_order_queues.specs.Kept.{key_of, name_of_key, IsUnique, name_eq, stamp_at, stamp_of, AreNamed}
 use Rattle.hla_order_queues.proofs.EventLemmas.{names_equal, find_event_name, IsUnique-insert_event, IsUnique-remove_event, find_event-insert_event, find_event-remove_event_same, find_event-remove_event_other, remove_event_missed}
 
 -- the tests
@@ -26,16 +26,16 @@ stamp_if false x o = refl
 abbrev pub SetsStamp : List (EventName × ℕ) → List (EventName × ℕ) → EventName → Option ℕ → Type 0
 SetsStamp old new k w = (n : EventName) → stamp_at new n ≡ cond (name_eq k n) w (stamp_at old n)
 
-inserted : (old new : List (EventName × ℕ)) (x : Event) (xs : List Event) → SetsStamp old new (name_of (key_of x)) (Some x.stamp) → find_event x.sender x.serial xs ≡ None → AreNamed old xs → AreNamed new (insert_event x xs)
+inserted : (old new : List (EventName × ℕ)) (x : Event) (xs : List Event) → SetsStamp old new (name_of_key (key_of x)) (Some x.stamp) → find_event x.sender x.serial xs ≡ None → AreNamed old xs → AreNamed new (insert_event x xs)
 inserted old new x xs sets fresh h = record {
   unique = IsUnique-insert_event x xs fresh h.unique;
-  named = λ n. sets n ∙ rw (name_eq-turned (name_of (key_of x)) n, h.named n, find_event-insert_event n.sender n.serial x xs fresh) (sym (stamp_if (is_event n.sender n.serial x) x (find_event n.sender n.serial xs)));
+  named = λ n. sets n ∙ rw (name_eq-turned (name_of_key (key_of x)) n, h.named n, find_event-insert_event n.sender n.serial x xs fresh) (sym (stamp_if (is_event n.sender n.serial x) x (find_event n.sender n.serial xs)));
 }
 
-pub named_inserted : (old new : List (EventName × ℕ)) (x : Event) (k : EventKey) (xs ys now : List Event) → AreNamed old xs → xs ≡ now → find_event x.sender x.serial now ≡ None → k ≡ key_of x → SetsStamp old new (name_of k) (Some k.stamp) → ys ≡ insert_event x xs → AreNamed new ys
+pub named_inserted : (old new : List (EventName × ℕ)) (x : Event) (k : EventKey) (xs ys now : List Event) → AreNamed old xs → xs ≡ now → find_event x.sender x.serial now ≡ None → k ≡ key_of x → SetsStamp old new (name_of_key k) (Some k.stamp) → ys ≡ insert_event x xs → AreNamed new ys
 named_inserted old new x k xs ys now h view missed key sets e =
     let fresh : find_event x.sender x.serial xs ≡ None = ap (find_event x.sender x.serial) view ∙ missed in
-    let sets_it = subst (λ (j : EventKey). SetsStamp old new (name_of j) (Some j.stamp)) key sets in
+    let sets_it = subst (λ (j : EventKey). SetsStamp old new (name_of_key j) (Some j.stamp)) key sets in
     subst (AreNamed new) (sym e) (inserted old new x xs sets_it fresh h)
 
 numbers_equal : (a b g m : ℕ) → eqb a g && eqb b m ≡ true → (a ≡ g) × (b ≡ m)
@@ -71,12 +71,12 @@ put_back old new last k w xs h missed put taken n =
     λ is. let e = numbers_equal k.sender k.serial n.sender n.serial is in h.named n ∙ rw (sym e.0, sym e.1) (ap (option_map (λ x. x.stamp)) missed) in
     taken n ∙ ap (cond (name_eq k n) None) (put n) ∙ put_back_if (name_eq k n) w (stamp_at old n) none
 
-pub named_back : (old new last : List (EventName × ℕ)) (x : Event) (k : EventKey) (n : EventName) (xs ys now : List Event) → AreNamed old xs → xs ≡ now → find_event x.sender x.serial now ≡ None → k ≡ key_of x → n ≡ name_of k → SetsStamp old new (name_of k) (Some k.stamp) → SetsStamp new last n None → ys ≡ xs → AreNamed last ys
+pub named_back : (old new last : List (EventName × ℕ)) (x : Event) (k : EventKey) (n : EventName) (xs ys now : List Event) → AreNamed old xs → xs ≡ now → find_event x.sender x.serial now ≡ None → k ≡ key_of x → n ≡ name_of_key k → SetsStamp old new (name_of_key k) (Some k.stamp) → SetsStamp new last n None → ys ≡ xs → AreNamed last ys
 named_back old new last x k n xs ys now h view missed key name put taken same =
     let fresh : find_event x.sender x.serial xs ≡ None = ap (find_event x.sender x.serial) view ∙ missed in
     let absent = subst (λ (j : EventKey). find_event j.sender j.serial xs ≡ None) (sym key) fresh in
     let took = subst (λ (q : EventName). SetsStamp new last q None) name taken in
-    subst (AreNamed last) (sym same) (named_same old last xs h (put_back old new last (name_of k) (Some k.stamp) xs h absent put took))
+    subst (AreNamed last) (sym same) (named_same old last xs h (put_back old new last (name_of_key k) (Some k.stamp) xs h absent put took))
 
 pub not_named : (entries : List (EventName × ℕ)) (k : EventName) (xs : List Event) → AreNamed entries xs → find_event k.sender k.serial xs ≡ None → stamp_at entries k ≡ None
 not_named entries k xs h missed = h.named k ∙ ap (option_map (λ x. x.stamp)) missed
@@ -125,10 +125,10 @@ has_key_if k xs (Some x) is e =
     let s : x.stamp ≡ k.stamp = cc in
     record { event = x; found = is; key = key_from k x s (names_equal k.sender k.serial x (find_event_name k.sender k.serial xs x is)) }
 
-pub has_key : (k : EventKey) (xs : List Event) → stamp_of (name_of k) xs ≡ Some k.stamp → HasKey k xs
+pub has_key : (k : EventKey) (xs : List Event) → stamp_of (name_of_key k) xs ≡ Some k.stamp → HasKey k xs
 has_key k xs e = has_key_if k xs (find_event k.sender k.serial xs) refl e
 
 -- the first event goes, with its stamp
-pub first_gone : (x : Event) (k : EventKey) (n : EventName) (xs ys : List Event) → Some x ≡ slice_get xs 0 → k ≡ key_of x → n ≡ name_of k → ys ≡ drop 1 xs → ys ≡ remove_event n.sender n.serial xs
+pub first_gone : (x : Event) (k : EventKey) (n : EventName) (xs ys : List Event) → Some x ≡ slice_get xs 0 → k ≡ key_of x → n ≡ name_of_key k → ys ≡ drop 1 xs → ys ≡ remove_event n.sender n.serial xs
 first_gone x k n xs ys first key name rest =
-    rest ∙ first_removed x xs first ∙ ap (λ (q : EventName). remove_event q.sender q.serial xs) (sym (name ∙ ap name_of key))
+    rest ∙ first_removed x xs first ∙ ap (λ (q : EventName). remove_event q.sender q.serial xs) (sym (name ∙ ap name_of_key key))

@@ -53,13 +53,13 @@ abbrev pub AreAfter : EventKey → List (EventKey × List Event) → Type 0
 AreAfter k es = AllByRecursion (λ e. is_less k e.0 ≡ true) es
 
 -- all floors come after these events
-abbrev pub AreBelow : List Event → List (EventKey × List Event) → Type 0
-AreBelow xs es = AllByRecursion (λ x. AreAfter (key_of x) es) xs
+abbrev pub AreBelowBlocks : List Event → List (EventKey × List Event) → Type 0
+AreBelowBlocks xs es = AllByRecursion (λ x. AreAfter (key_of x) es) xs
 
 -- no event comes before its block's floor, and the floors behind come after it
 unfoldable pub AreFloored : List (EventKey × List Event) → Type 0
 AreFloored [] = Unit {0}
-AreFloored (e ∷ es) = AllByRecursion (λ x. is_less (key_of x) e.0 ≡ false) e.1 × AreBelow e.1 es × AreFloored es
+AreFloored (e ∷ es) = AllByRecursion (λ x. is_less (key_of x) e.0 ≡ false) e.1 × AreBelowBlocks e.1 es × AreFloored es
 
 -- no two events have one sender and one serial
 unfoldable pub IsUnique : List Event → Type 0
@@ -118,8 +118,8 @@ abbrev pub name_eq : EventName → EventName → Bool
 name_eq a b = nat_eq a.sender b.sender && nat_eq a.serial b.serial
 
 -- the name of the event that has this key
-abbrev pub name_of : EventKey → EventName
-name_of k = record { sender = k.sender; serial = k.serial }
+abbrev pub name_of_key : EventKey → EventName
+name_of_key k = record { sender = k.sender; serial = k.serial }
 
 -- the stamp that names with these stamps have at a name
 abbrev pub stamp_at : List (EventName × ℕ) → EventName → Option ℕ

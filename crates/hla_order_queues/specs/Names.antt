@@ -14,9 +14,9 @@ noted m [] = None
 noted m (q ∷ qs) = cond (eqb q.serial m) (option_or q.stamp (noted m qs)) (noted m qs)
 
 -- each serial is less than all behind it
-unfoldable pub AreRising : List Note → Type 0
-AreRising [] = Unit {0}
-AreRising (q ∷ qs) = AllByRecursion (λ r. q.serial < r.serial) qs × AreRising qs
+unfoldable pub AreRisingNotes : List Note → Type 0
+AreRisingNotes [] = Unit {0}
+AreRisingNotes (q ∷ qs) = AllByRecursion (λ r. q.serial < r.serial) qs × AreRisingNotes qs
 
 -- all serials are less than this one
 abbrev pub AreLess : ℕ → List Note → Type 0
@@ -38,13 +38,13 @@ is_first_none (q ∷ qs) = is_none q.stamp
 -- the later notes, which rise, have the same stamps
 pub record Keeps (old new : List Note) : Type 0 where
   pub same : (m : ℕ) → noted m new ≡ noted m old
-  pub rising : AreRising new
+  pub rising : AreRisingNotes new
 
 -- the later notes, which rise, have the same stamps but for one that was taken
-pub record Takes (m : ℕ) (old new : List Note) (stamp : Option ℕ) : Type 0 where
+pub record TakesNote (m : ℕ) (old new : List Note) (stamp : Option ℕ) : Type 0 where
   pub found : stamp ≡ noted m old
   pub rest : (k : ℕ) → noted k new ≡ cond (eqb m k) None (noted k old)
-  pub rising : AreRising new
+  pub rising : AreRisingNotes new
 
 -- the stamp at a name, among the notes of all senders
 abbrev pub noted_at : List (List Note) → EventName → Option ℕ

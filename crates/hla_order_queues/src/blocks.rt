@@ -6,7 +6,7 @@ ghost use Rattle.hla_base.specs.declared.content.Event.{Event as EventValue};
 ghost use Rattle.hla_base.specs.declared.fault.Fault.TheVariants.{OutOfMemory};
 ghost use Rattle.hla_order_queues.specs.Queues.{insert_event, find_event, remove_event, handles_of};
 ghost use Rattle.hla_order_queues.specs.Moving.{is_moved};
-ghost use Rattle.hla_order_queues.specs.Kept.{key_of, first_after, floor_after, block_at, set_block, without_block, events_of, name_of, stamp_of, IsInOrder, IsUnique, AreAfter, AreBelow, AreFloored, AreBlocks, At, IsPlace, IsHalved};
+ghost use Rattle.hla_order_queues.specs.Kept.{key_of, first_after, floor_after, block_at, set_block, without_block, events_of, name_of_key, stamp_of, IsInOrder, IsUnique, AreAfter, AreBelowBlocks, AreFloored, AreBlocks, At, IsPlace, IsHalved};
 
 use crate::block::Block;
 use crate::key::EventKey;
@@ -68,7 +68,7 @@ impl Blocks {
     pub fn take_first(&mut self) -> Option<Block>
         ensures events { MatchOption result ((events_of self.old ≡ []) × (events_of self.new ≡ [])) (λ b. b ++ events_of self.new ≡ events_of self.old) }
         ensures filled { IfSome result (λ b. 0 < length b) }
-        ensures below { IfSome result (λ b. AreBelow b self.new) }
+        ensures below { IfSome result (λ b. AreBelowBlocks b self.new) }
     {
         let (_, block) = self.blocks.pop_first()?;
         Some(block)
@@ -79,11 +79,11 @@ impl Blocks {
     pub fn split_first(&mut self, first: &mut Block) -> bool
         requires many { 2 ≤ length first.old }
         requires ordered { IsInOrder (first.old ++ events_of self.old) }
-        requires below { AreBelow first.old self.old }
+        requires below { AreBelowBlocks first.old self.old }
         requires unique { IsUnique (first.old ++ events_of self.old) }
         ensures same { first.new ++ events_of self.new ≡ first.old ++ events_of self.old }
         ensures filled { 0 < length first.new }
-        ensures below { AreBelow first.new self.new }
+        ensures below { AreBelowBlocks first.new self.new }
     {
         split_before(first, &mut self.blocks, self.alloc)
     }
@@ -95,7 +95,7 @@ impl Blocks {
         ensures ok { OnOk result (events_of self.new ≡ insert_event event (events_of self.old)) }
         ensures err { IfErr result (λ e. e ≡ event) }
         ensures unchanged { OnErr result (events_of self.new ≡ events_of self.old) }
-        ensures below { (xs : List EventValue) → AreBelow xs self.old → AreBelow xs self.new }
+        ensures below { (xs : List EventValue) → AreBelowBlocks xs self.old → AreBelowBlocks xs self.new }
     {
         let Some(floor) = roomy_floor(&mut self.blocks, EventKey::of(&event), self.alloc) else {
             return Err(event);
@@ -109,11 +109,11 @@ impl Blocks {
     /// Takes the event with this key, which is there and not before all floors. It looks at a logarithm of the blocks, and
     /// goes through one.
     pub fn remove_key(&mut self, key: EventKey) -> Option<Event>
-        requires there { stamp_of (name_of key) (events_of self.old) ≡ Some key.stamp }
+        requires there { stamp_of (name_of_key key) (events_of self.old) ≡ Some key.stamp }
         requires within { floor_after key self.old ≡ false }
         ensures found { result ≡ find_event key.sender key.serial (events_of self.old) }
         ensures rest { events_of self.new ≡ remove_event key.sender key.serial (events_of self.old) }
-        ensures below { (xs : List EventValue) → AreBelow xs self.old → AreBelow xs self.new }
+        ensures below { (xs : List EventValue) → AreBelowBlocks xs self.old → AreBelowBlocks xs self.new }
     {
         let floor = floor_of(&self.blocks, key)?;
         let event = take_from(&mut self.blocks, floor, key);
@@ -196,7 +196,7 @@ fn roomy_floor(
     requires unique { IsUnique (events_of blocks.old.entries) }
     ensures same { events_of blocks.new.entries ≡ events_of blocks.old.entries }
     ensures blocks { AreBlocks blocks.new.entries }
-    ensures below { (xs : List EventValue) → AreBelow xs blocks.old.entries → AreBelow xs blocks.new.entries }
+    ensures below { (xs : List EventValue) → AreBelowBlocks xs blocks.old.entries → AreBelowBlocks xs blocks.new.entries }
     ensures place { IfSome result (λ f. IsPlace key f blocks.new.entries) }
 {
     let floor = floor_of(blocks, key)?;
@@ -228,7 +228,7 @@ fn split_at(blocks: &mut BTreeMap<EventKey, Block>, floor: EventKey, alloc: Glob
     requires many { MatchOption (block_at floor blocks.old.entries) ⊥ (λ b. 2 ≤ length b) }
     ensures same { events_of blocks.new.entries ≡ events_of blocks.old.entries }
     ensures blocks { AreBlocks blocks.new.entries }
-    ensures below { (xs : List EventValue) → AreBelow xs blocks.old.entries → AreBelow xs blocks.new.entries }
+    ensures below { (xs : List EventValue) → AreBelowBlocks xs blocks.old.entries → AreBelowBlocks xs blocks.new.entries }
 {
     let Some(middle) = middle_of(blocks, floor) else {
         return false;
@@ -251,12 +251,12 @@ fn split_before(first: &mut Block, blocks: &mut BTreeMap<EventKey, Block>, alloc
     requires many { 2 ≤ length first.old }
     requires blocks { AreBlocks blocks.old.entries }
     requires ordered { IsInOrder (first.old ++ events_of blocks.old.entries) }
-    requires below { AreBelow first.old blocks.old.entries }
+    requires below { AreBelowBlocks first.old blocks.old.entries }
     requires unique { IsUnique (first.old ++ events_of blocks.old.entries) }
     ensures same { first.new ++ events_of blocks.new.entries ≡ first.old ++ events_of blocks.old.entries }
     ensures filled { 0 < length first.new }
     ensures blocks { AreBlocks blocks.new.entries }
-    ensures below { AreBelow first.new blocks.new.entries }
+    ensures below { AreBelowBlocks first.new blocks.new.entries }
 {
     let Some(middle) = first.middle() else {
         return false;
@@ -312,7 +312,7 @@ fn drop_empty(blocks: &mut BTreeMap<EventKey, Block>, floor: EventKey)
     ensures events { events_of blocks.new.entries ≡ events_of blocks.old.entries }
     ensures floored { AreFloored blocks.new.entries }
     ensures filled { AllByRecursion (λ e. 0 < length e.1) blocks.new.entries }
-    ensures below { (xs : List EventValue) → AreBelow xs blocks.old.entries → AreBelow xs blocks.new.entries }
+    ensures below { (xs : List EventValue) → AreBelowBlocks xs blocks.old.entries → AreBelowBlocks xs blocks.new.entries }
 {
     if len_at(blocks, floor) == 0 {
         let _ = blocks.remove(&floor);

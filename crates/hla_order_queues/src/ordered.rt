@@ -5,7 +5,7 @@ ghost use Rattle.std.specs.List.{prefix_len};
 ghost use Rattle.hla_base.specs.declared.fault.Fault.TheVariants.{OutOfMemory};
 ghost use Rattle.hla_order_queues.specs.Queues.{insert_event, find_event, remove_event, handles_of};
 ghost use Rattle.hla_order_queues.specs.Moving.{is_moved, IsRising};
-ghost use Rattle.hla_order_queues.specs.Kept.{events_of, name_of, stamp_of, IsInOrder, IsUnique, AreBelow};
+ghost use Rattle.hla_order_queues.specs.Kept.{events_of, name_of_key, stamp_of, IsInOrder, IsUnique, AreBelowBlocks};
 
 use crate::block::Block;
 use crate::blocks::{Blocks, FULL};
@@ -26,13 +26,13 @@ pub(crate) struct Ordered {
 impl Model for Ordered {
     ghost use Rattle.std.specs.Prelude.{List, ◌++◌};
     ghost use Rattle.hla_base.specs.declared.content.Event.{Event};
-    ghost use Rattle.hla_order_queues.specs.Kept.{AreInOrder, AreBelow, events_of};
+    ghost use Rattle.hla_order_queues.specs.Kept.{AreInOrder, AreBelowBlocks, events_of};
 
     ghost Value = { List Event };
 
     ghost view = { λ q. q.first ++ events_of q.later };
 
-    ghost invariant = { λ q. AreInOrder q.first (events_of q.later) q.count × AreBelow q.first q.later };
+    ghost invariant = { λ q. AreInOrder q.first (events_of q.later) q.count × AreBelowBlocks q.first q.later };
 }
 
 impl Ordered {
@@ -110,7 +110,7 @@ impl Ordered {
 
     /// Takes the event with this key, which is there. It looks at a logarithm of the blocks, and goes through one.
     pub fn remove_key(&mut self, key: EventKey) -> Option<Event>
-        requires { stamp_of (name_of key) self.old ≡ Some key.stamp }
+        requires { stamp_of (name_of_key key) self.old ≡ Some key.stamp }
         ensures found { result ≡ find_event key.sender key.serial self.old }
         ensures rest { self.new ≡ remove_event key.sender key.serial self.old }
     {
@@ -162,11 +162,11 @@ impl Ordered {
 fn put(first: &mut Block, later: &mut Blocks, event: Event) -> Result<(), Event>
     requires ordered { IsInOrder (first.old ++ events_of later.old) }
     requires unique { IsUnique (first.old ++ events_of later.old) }
-    requires below { AreBelow first.old later.old }
+    requires below { AreBelowBlocks first.old later.old }
     ensures ok { OnOk result (first.new ++ events_of later.new ≡ insert_event event (first.old ++ events_of later.old)) }
     ensures err { IfErr result (λ e. e ≡ event) }
     ensures unchanged { OnErr result (first.new ++ events_of later.new ≡ first.old ++ events_of later.old) }
-    ensures below { AreBelow first.new later.new }
+    ensures below { AreBelowBlocks first.new later.new }
     ensures filled { (first.old ≡ [] → events_of later.old ≡ []) → first.new ≡ [] → events_of later.new ≡ [] }
 {
     let key = EventKey::of(&event);
@@ -185,9 +185,9 @@ fn put(first: &mut Block, later: &mut Blocks, event: Event) -> Result<(), Event>
 fn has_room(first: &mut Block, later: &mut Blocks, key: EventKey) -> bool
     requires ordered { IsInOrder (first.old ++ events_of later.old) }
     requires unique { IsUnique (first.old ++ events_of later.old) }
-    requires below { AreBelow first.old later.old }
+    requires below { AreBelowBlocks first.old later.old }
     ensures same { first.new ++ events_of later.new ≡ first.old ++ events_of later.old }
-    ensures below { AreBelow first.new later.new }
+    ensures below { AreBelowBlocks first.new later.new }
     ensures filled { (first.old ≡ [] → events_of later.old ≡ []) → first.new ≡ [] → events_of later.new ≡ [] }
 {
     if first.len() < FULL || !later.is_after(key) {
@@ -199,11 +199,11 @@ fn has_room(first: &mut Block, later: &mut Blocks, key: EventKey) -> bool
 /// Takes the event with this key, which is there.
 fn take_key(first: &mut Block, later: &mut Blocks, key: EventKey) -> Option<Event>
     requires ordered { IsInOrder (first.old ++ events_of later.old) }
-    requires below { AreBelow first.old later.old }
-    requires there { stamp_of (name_of key) (first.old ++ events_of later.old) ≡ Some key.stamp }
+    requires below { AreBelowBlocks first.old later.old }
+    requires there { stamp_of (name_of_key key) (first.old ++ events_of later.old) ≡ Some key.stamp }
     ensures found { result ≡ find_event key.sender key.serial (first.old ++ events_of later.old) }
     ensures rest { first.new ++ events_of later.new ≡ remove_event key.sender key.serial (first.old ++ events_of later.old) }
-    ensures below { AreBelow first.new later.new }
+    ensures below { AreBelowBlocks first.new later.new }
 {
     if later.is_after(key) {
         first.remove(key.sender, key.serial)
@@ -214,9 +214,9 @@ fn take_key(first: &mut Block, later: &mut Blocks, key: EventKey) -> Option<Even
 
 /// Puts the next block in place of the first, if that is empty; the events stay the same.
 fn fill(first: &mut Block, later: &mut Blocks)
-    requires { AreBelow first.old later.old }
+    requires { AreBelowBlocks first.old later.old }
     ensures same { first.new ++ events_of later.new ≡ first.old ++ events_of later.old }
-    ensures below { AreBelow first.new later.new }
+    ensures below { AreBelowBlocks first.new later.new }
     ensures filled { first.new ≡ [] → events_of later.new ≡ [] }
 {
     if first.len() == 0 {

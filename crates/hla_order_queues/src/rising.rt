@@ -3,7 +3,7 @@
 ghost use Rattle.std.specs.Prelude.{◌≡◌, ℕ, true, cond, eqb, None, Some, [], MatchBool};
 ghost use Rattle.std.specs.Bool.{OnTrue, OnFalse};
 ghost use Rattle.std.specs.List.{prefix_len};
-ghost use Rattle.hla_order_queues.specs.Names.{noted, AreRising, AreLess, Keeps, Takes, is_first_none, is_first_note, is_note_before};
+ghost use Rattle.hla_order_queues.specs.Names.{noted, AreRisingNotes, AreLess, Keeps, TakesNote, is_first_none, is_first_note, is_note_before};
 
 use hla_base::{Serial, Ticks};
 use std::alloc::Global;
@@ -34,13 +34,13 @@ pub(crate) struct Rising {
 impl Model for Rising {
     ghost use Rattle.std.specs.Prelude.{List};
     ghost use Rattle.hla_order_queues.specs.declared.rising.Note.{Note};
-    ghost use Rattle.hla_order_queues.specs.Names.{AreRising};
+    ghost use Rattle.hla_order_queues.specs.Names.{AreRisingNotes};
 
     ghost Value = { List Note };
 
     ghost view = { λ r. r.notes.items };
 
-    ghost invariant = { λ r. AreRising r.notes.items };
+    ghost invariant = { λ r. AreRisingNotes r.notes.items };
 }
 
 impl Rising {
@@ -105,7 +105,7 @@ impl Rising {
 
 /// The place of the first note with no lesser serial.
 fn place_of(notes: &VecDeque<Note>, serial: Serial) -> usize
-    requires { AreRising notes.now.items }
+    requires { AreRisingNotes notes.now.items }
     ensures { result ≡ prefix_len (is_note_before serial) notes.now.items }
 {
     notes.partition_point(|note| note.serial < serial)
@@ -113,7 +113,7 @@ fn place_of(notes: &VecDeque<Note>, serial: Serial) -> usize
 
 /// The stamp in the note at a place, if the note has this serial.
 fn stamp_at(notes: &VecDeque<Note>, place: usize, serial: Serial) -> Option<Ticks>
-    requires rising { AreRising notes.now.items }
+    requires rising { AreRisingNotes notes.now.items }
     requires place { place ≡ prefix_len (is_note_before serial) notes.now.items }
     ensures { result ≡ noted serial notes.now.items }
 {
@@ -129,8 +129,8 @@ fn stamp_at(notes: &VecDeque<Note>, place: usize, serial: Serial) -> Option<Tick
 
 /// Takes the stamp at a serial, if the event is there.
 fn take_from(notes: &mut VecDeque<Note>, gone: &mut usize, serial: Serial) -> Option<Ticks>
-    requires { AreRising notes.old.items }
-    ensures { Takes serial notes.old.items notes.new.items result }
+    requires { AreRisingNotes notes.old.items }
+    ensures { TakesNote serial notes.old.items notes.new.items result }
 {
     if is_first(notes, serial) {
         take_first(notes, serial)
@@ -155,9 +155,9 @@ fn is_first(notes: &VecDeque<Note>, serial: Serial) -> bool
 
 /// Takes the first note, which has this serial, and gives its stamp.
 fn take_first(notes: &mut VecDeque<Note>, serial: Serial) -> Option<Ticks>
-    requires rising { AreRising notes.old.items }
+    requires rising { AreRisingNotes notes.old.items }
     requires first { is_first_note serial notes.old.items ≡ true }
-    ensures { Takes serial notes.old.items notes.new.items result }
+    ensures { TakesNote serial notes.old.items notes.new.items result }
 {
     match notes.pop_front() {
         Some(note) => note.stamp,
@@ -167,8 +167,8 @@ fn take_first(notes: &mut VecDeque<Note>, serial: Serial) -> Option<Ticks>
 
 /// Takes the stamp out of the note with this serial, if there is one. The note stays, so that no other moves.
 fn mark(notes: &mut VecDeque<Note>, serial: Serial) -> Option<Ticks>
-    requires { AreRising notes.old.items }
-    ensures { Takes serial notes.old.items notes.new.items result }
+    requires { AreRisingNotes notes.old.items }
+    ensures { TakesNote serial notes.old.items notes.new.items result }
 {
     let place = place_of(notes, serial);
     let stamp = stamp_at(notes, place, serial);
@@ -183,7 +183,7 @@ fn mark(notes: &mut VecDeque<Note>, serial: Serial) -> Option<Ticks>
 
 /// Takes notes of events that are gone out, if there are any, and gives room back.
 fn tidy(notes: &mut VecDeque<Note>, gone: &mut usize)
-    requires { AreRising notes.old.items }
+    requires { AreRisingNotes notes.old.items }
     ensures { Keeps notes.old.items notes.new.items }
 {
     if *gone > 0 {
@@ -195,7 +195,7 @@ fn tidy(notes: &mut VecDeque<Note>, gone: &mut usize)
 
 /// Takes the notes before the first event out.
 fn drop_first(notes: &mut VecDeque<Note>, gone: &mut usize)
-    requires { AreRising notes.old.items }
+    requires { AreRisingNotes notes.old.items }
     ensures { Keeps notes.old.items notes.new.items }
 {
     while is_first_gone(notes) {
@@ -207,7 +207,7 @@ fn drop_first(notes: &mut VecDeque<Note>, gone: &mut usize)
 /// Takes all notes of events that are gone out, where they are many. It goes through all notes, which the marking of each
 /// that is gone has paid for.
 fn drop_many(notes: &mut VecDeque<Note>, gone: &mut usize)
-    requires { AreRising notes.old.items }
+    requires { AreRisingNotes notes.old.items }
     ensures { Keeps notes.old.items notes.new.items }
 {
     if gone.saturating_sub(SPARE_NOTES) > notes.len().saturating_sub(*gone) {

@@ -1,7 +1,7 @@
 -- An empty block comes behind the one that is split, and then has its greater half.
 use Rattle.std.proofs.Common.{◌≡◌, [], ap, subst, sym, ◌∙◌}
 use Rattle.std.specs.BTreeMap.{insert_entry}
-use Rattle.hla_order_queues.specs.Kept.{key_cmp, events_of, without_block, AreBelow, AreBlocks}
+use Rattle.hla_order_queues.specs.Kept.{key_cmp, events_of, without_block, AreBelowBlocks, AreBlocks}
 use Rattle.hla_order_queues.proofs.SplitLemmas.{IsMiddle, IsSplit, middle_known, still_many, closed, split_done}
 use Rattle.hla_order_queues.proofs.blocks.split_at.Goals as goal
 use Rattle.hla_order_queues.proofs.blocks.split_at.Goals.{In-Some, In-Ok, After-remove, After-insert-in-Some-halve}
@@ -40,4 +40,4 @@ pub returns-in-None-clause-blocks : goal.returns-in-None-clause-blocks
 returns-in-None-clause-blocks c = let at = goal.at.returns-in-None-clause-blocks c in subst AreBlocks (sym (left at.After-remove (middle at.In-Some) (opened at.In-Ok))) c.requires.blocks
 
 pub returns-in-None-clause-below : goal.returns-in-None-clause-below
-returns-in-None-clause-below c = let at = goal.at.returns-in-None-clause-below c in λ xs q. subst (AreBelow xs) (sym (left at.After-remove (middle at.In-Some) (opened at.In-Ok))) q
+returns-in-None-clause-below c = let at = goal.at.returns-in-None-clause-below c in λ xs q. subst (AreBelowBlocks xs) (sym (left at.After-remove (middle at.In-Some) (opened at.In-Ok))) q

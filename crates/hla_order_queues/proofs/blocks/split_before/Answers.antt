@@ -1,7 +1,7 @@
 -- An empty block comes before the others, and then has the greater half.
 use Rattle.std.proofs.Common.{◌≡◌, ◌++◌, [], ap, subst, sym, ◌∙◌}
 use Rattle.std.specs.BTreeMap.{insert_entry}
-use Rattle.hla_order_queues.specs.Kept.{key_cmp, events_of, AreBelow, AreBlocks}
+use Rattle.hla_order_queues.specs.Kept.{key_cmp, events_of, AreBelowBlocks, AreBlocks}
 use Rattle.hla_order_queues.proofs.SplitLemmas.{IsBetween, between_known, closed_first, IsFrontSplit, front_done}
 use Rattle.hla_order_queues.proofs.blocks.split_before.Goals as goal
 use Rattle.hla_order_queues.proofs.blocks.split_before.Goals.{In-Some, In-Ok, After-remove, After-insert-in-Ok-split}
@@ -39,4 +39,4 @@ returns-in-Err-clause-blocks c = let at = goal.at.returns-in-Err-clause-blocks c
 pub returns-in-Err-clause-below : goal.returns-in-Err-clause-below
 returns-in-Err-clause-below c =
     let at = goal.at.returns-in-Err-clause-below c in
-    subst (AreBelow c.split.new.self) (sym (left at.After-remove (between at.In-Some) (opened at.In-Ok))) (subst (λ xs. AreBelow xs c.args.blocks.now.entries) (sym c.in-Err.ensures.err) c.requires.below)
+    subst (AreBelowBlocks c.split.new.self) (sym (left at.After-remove (between at.In-Some) (opened at.In-Ok))) (subst (λ xs. AreBelowBlocks xs c.args.blocks.now.entries) (sym c.in-Err.ensures.err) c.requires.below)

@@ -1,7 +1,7 @@
 -- The event is in the first block where all later floors come after the key, and else among the later ones.
 use Rattle.std.proofs.Common.{◌≡◌, ◌++◌, None, Some, sym, ap, subst, ◌∙◌}
 use Rattle.hla_order_queues.specs.Queues.{find_event}
-use Rattle.hla_order_queues.specs.Kept.{key_of, events_of, AreAfter, AreBelow}
+use Rattle.hla_order_queues.specs.Kept.{key_of, events_of, AreAfter, AreBelowBlocks}
 use Rattle.hla_order_queues.proofs.OrderLemmas.{parts_of}
 use Rattle.hla_order_queues.proofs.RemovalLemmas.{find_event_behind, remove_event_before, remove_event_behind, All-remove_event}
 use Rattle.hla_order_queues.proofs.StampLemmas.{HasKey, has_key}
@@ -36,7 +36,7 @@ returns-then-is_after-clause-rest c =
 
 pub returns-then-is_after-clause-below : goal.returns-then-is_after-clause-below
 returns-then-is_after-clause-below c =
-    subst (λ xs. AreBelow xs c.args.later.now) (sym c.remove.ensures.rest) (All-remove_event (λ x. AreAfter (key_of x) c.args.later.now) c.args.key.sender c.args.key.serial c.args.first.now c.requires.below)
+    subst (λ xs. AreBelowBlocks xs c.args.later.now) (sym c.remove.ensures.rest) (All-remove_event (λ x. AreAfter (key_of x) c.args.later.now) c.args.key.sender c.args.key.serial c.args.first.now c.requires.below)
 
 pub returns-else-is_after-clause-found : goal.returns-else-is_after-clause-found
 returns-else-is_after-clause-found c =

@@ -5,7 +5,7 @@ use Rattle.std.specs.Map.Iter.{deref}
 use Rattle.std.proofs.lemmas.Iterator.Consumers.{YieldsList-from_rest}
 use Rattle.std.proofs.lemmas.Iterator.Search.{all_from_yields_List}
 use Rattle.hla_accounts.specs.declared.index.Key.{Key}
-use Rattle.hla_accounts.specs.Indexes.{name_cmp}
+use Rattle.hla_accounts.specs.Indexes.{waiting_name_cmp}
 use Rattle.hla_accounts.proofs.QueryLemmas.{is_key_retracted, is_key_among, among_keys, among_names}
 use Rattle.hla_accounts.proofs.IndexingLemmas.{apart_take, head_of}
 use Rattle.hla_accounts.proofs.accounts.Accounts.are_indexed_among.Goals as goal
@@ -20,7 +20,7 @@ pub returns-in-Some-names_if_many_below : goal.returns-in-Some-names_if_many_bel
 returns-in-Some-names_if_many_below c ws kept =
     let x = c.args.indexing.now in
     let names = c.in-Some-names_if_many_below.names in
-    let test : Key → Bool = λ k. is_key_retracted c.args.self.now k || sorted.contains name_cmp names (record { sender = k.sender; serial = k.serial }) in
+    let test : Key → Bool = λ k. is_key_retracted c.args.self.now k || sorted.contains waiting_name_cmp names (record { sender = k.sender; serial = k.serial }) in
     let counted = all_from_yields_List test _ _ c.all.result c.all.ensures.ran (YieldsList-from_rest {shows = deref} _ c.ordered_below.ensures.keys) (λ x b q k. search (rules, tests)) in
     counted
     ∙ among_names c.args.self.now c.args.events.now names _ c.in-Some-names_if_many_below.ensures

@@ -3,7 +3,7 @@ use Rattle.std.proofs.Common.{◌≡◌, ◌++◌, ◌∷◌, [], List, Some, No
 use Rattle.hla_base.specs.Tables.{upd2}
 use Rattle.hla_accounts.specs.declared.bag.Waiting.{Waiting}
 use Rattle.hla_accounts.specs.Bags.{waiting_at, AreApart}
-use Rattle.hla_accounts.specs.Indexes.{IsKept}
+use Rattle.hla_accounts.specs.Indexes.{IsIndexingOf}
 use Rattle.hla_accounts.proofs.BagLemmas.{waiting_at-push, apart-push}
 use Rattle.hla_accounts.proofs.bag.Bag.put.Goals as goal
 
@@ -19,7 +19,7 @@ invariant_of-self-2 c =
     let w = c.args.waiting in
     let grown = c.in_ok-push.ensures in
     let kept = c.put.ensures ws w c.self.invariant (free ws c.args.self.now w c.self.view_is c.requires) refl in
-    c.note_place.ensures (subst (λ (vs : List Waiting). IsKept vs c.put.new.self) (sym grown.ok) kept)
+    c.note_place.ensures (subst (λ (vs : List Waiting). IsIndexingOf vs c.put.new.self) (sym grown.ok) kept)
 
 pub returns-clause-ok : goal.returns-clause-ok
 returns-clause-ok c =

@@ -5,7 +5,7 @@ use Rattle.hla_base.specs.Tables.{upd2}
 use Rattle.hla_accounts.specs.declared.bag.Waiting.{Waiting}
 use Rattle.hla_accounts.specs.declared.indexing.Indexing.{Indexing}
 use Rattle.hla_accounts.specs.Bags.{demoted_delivery, IsNotBelow}
-use Rattle.hla_accounts.specs.Indexes.{delivery_at, IsIndexOf, IsKept, IsCaughtUp}
+use Rattle.hla_accounts.specs.Indexes.{delivery_at, IsIndexOf, IsIndexingOf, IsCaughtUp}
 use Rattle.hla_accounts.proofs.PlaceLemmas.{delivered_at}
 use Rattle.hla_accounts.proofs.IndexingLemmas.{head_of, whole, own_place, kept_demoted, kept_demoted_none}
 use Rattle.hla_accounts.proofs.indexing.Indexing.demote.Goals as goal
@@ -39,12 +39,12 @@ returns c d =
     let w = c.index-messages-place.result in
     let read = subst (λ (vs : List Waiting). w ≡ get_or vs place w) c.as_slice-messages.ensures c.index-messages-place.is in
     let after : c.args.after ≡ demoted_delivery w.delivery = c.requires.after w ∙ ap (λ (y : Waiting). demoted_delivery y.delivery) (sym read) in
-    let state : IsKept ws x × (x.index ≡ None) = elim c.match-self.branch [
+    let state : IsIndexingOf ws x × (x.index ≡ None) = elim c.match-self.branch [
       | in-Some+else-is_ok w ↦
           let gone = w.give_up.ensures in
-          let kept = subst (λ (vs : List Waiting). IsKept vs w.give_up.new.self) c.as_slice-messages.ensures gone.kept in
-          subst (λ (y : Indexing). IsKept ws y × (y.index ≡ None)) (sym w.self-is) (kept, gone.none)
-      | in_default w ↦ subst (λ (y : Indexing). IsKept ws y × (y.index ≡ None)) (sym w.self-is) (c.requires.kept, w.in_default.is)
+          let kept = subst (λ (vs : List Waiting). IsIndexingOf vs w.give_up.new.self) c.as_slice-messages.ensures gone.kept in
+          subst (λ (y : Indexing). IsIndexingOf ws y × (y.index ≡ None)) (sym w.self-is) (kept, gone.none)
+      | in_default w ↦ subst (λ (y : Indexing). IsIndexingOf ws y × (y.index ≡ None)) (sym w.self-is) (c.requires.kept, w.in_default.is)
     ] in
     let lowered = c.lower.ensures in
     kept_demoted_none ws x place c.lower.new.ordered c.lower.new.demoted w d state.0 state.1 c.requires.within read lowered.ordered lowered.demoted (subst (IsNotBelow c.lower.new.ordered c.lower.new.demoted) after lowered.kept)

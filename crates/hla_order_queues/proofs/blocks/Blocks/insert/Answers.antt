@@ -4,7 +4,7 @@ use Rattle.std.specs.Result.{OnOk, OnErr}
 use Rattle.hla_base.specs.declared.content.Event.{Event}
 use Rattle.hla_order_queues.specs.Queues.{insert_event}
 use Rattle.hla_order_queues.specs.declared.key.EventKey.{EventKey}
-use Rattle.hla_order_queues.specs.Kept.{events_of, AreBelow, IsPlace}
+use Rattle.hla_order_queues.specs.Kept.{events_of, AreBelowBlocks, IsPlace}
 use Rattle.hla_order_queues.proofs.PutLemmas.{IsPut, put_in, block_ordered}
 use Rattle.hla_order_queues.proofs.blocks.Blocks.insert.Goals as goal
 use Rattle.hla_order_queues.proofs.blocks.Blocks.insert.Goals.{After-insert}
@@ -33,4 +33,4 @@ returns-clause-unchanged c =
 
 pub returns-clause-below : goal.returns-clause-below
 returns-clause-below c =
-    λ xs q. (put (goal.at.returns-clause-below c).After-insert).below xs (c.in-Some.ensures.below xs (subst (AreBelow xs) (sym c.self.view_is) q))
+    λ xs q. (put (goal.at.returns-clause-below c).After-insert).below xs (c.in-Some.ensures.below xs (subst (AreBelowBlocks xs) (sym c.self.view_is) q))

@@ -4,7 +4,7 @@ use Rattle.hla_base.specs.declared.content.Event.{Event}
 use Rattle.hla_order_queues.specs.declared.key.EventKey.{EventKey}
 use Rattle.hla_order_queues.specs.Queues.{find_event, remove_event}
 use Rattle.hla_order_queues.proofs.RemovalLemmas.{IsInOrder-remove_event}
-use Rattle.hla_order_queues.specs.Kept.{events_of, AreAfter, AreBelow, IsInOrder}
+use Rattle.hla_order_queues.specs.Kept.{events_of, AreAfter, AreBelowBlocks, IsInOrder}
 use Rattle.hla_order_queues.proofs.StampLemmas.{HasKey, has_key}
 use Rattle.hla_order_queues.proofs.PutLemmas.{IsTaken, taken_out, not_before}
 use Rattle.hla_order_queues.proofs.blocks.Blocks.remove_key.Goals as goal
@@ -45,7 +45,7 @@ returns-clause-rest c =
 
 pub returns-clause-below : goal.returns-clause-below
 returns-clause-below c =
-    λ xs q. c.drop_empty.ensures.below xs ((taken (goal.at.returns-clause-below c).After-take_from-event).below xs (subst (AreBelow xs) (sym c.self.view_is) q))
+    λ xs q. c.drop_empty.ensures.below xs ((taken (goal.at.returns-clause-below c).After-take_from-event).below xs (subst (AreBelowBlocks xs) (sym c.self.view_is) q))
 
 never : (c : In_err-floor) → ⊥
 never c = not_before c.args.key c.args.self.now (subst (AreAfter c.args.key) c.self.view_is c.in_err-floor.ensures) c.requires.within

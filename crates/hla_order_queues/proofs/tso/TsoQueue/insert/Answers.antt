@@ -1,7 +1,7 @@
 -- The name is put first, and taken back where the event is refused.
 use Rattle.std.proofs.Common.{◌≡◌, None, ap, sym, subst, ◌∙◌}
 use Rattle.hla_order_queues.specs.declared.key.EventKey.{EventKey}
-use Rattle.hla_order_queues.specs.Kept.{key_of, name_of, stamp_at}
+use Rattle.hla_order_queues.specs.Kept.{key_of, name_of_key, stamp_at}
 use Rattle.hla_order_queues.specs.Queues.{find_event}
 use Rattle.hla_order_queues.proofs.NamesLemmas.{put_told, refused_told}
 use Rattle.hla_order_queues.proofs.StampLemmas.{named_inserted, named_same, named_back, not_named}
@@ -10,7 +10,7 @@ use Rattle.hla_order_queues.proofs.tso.TsoQueue.insert.Goals as goal
 pub put-requires : goal.put-requires
 put-requires c =
     let fresh : find_event c.args.event.sender c.args.event.serial c.self.inside.events ≡ None = ap (find_event c.args.event.sender c.args.event.serial) c.self.view_is ∙ c.requires in
-    subst (λ (k : EventKey). stamp_at c.self.inside.names (name_of k) ≡ None) (sym c.of-key.ensures) (not_named c.self.inside.names (name_of (key_of c.args.event)) c.self.inside.events c.self.invariant fresh)
+    subst (λ (k : EventKey). stamp_at c.self.inside.names (name_of_key k) ≡ None) (sym c.of-key.ensures) (not_named c.self.inside.names (name_of_key (key_of c.args.event)) c.self.inside.events c.self.invariant fresh)
 
 pub invariant_of-self : goal.invariant_of-self
 invariant_of-self c = named_same c.self.inside.names c.put.new.self c.self.inside.events c.self.invariant (refused_told c.put.result _ c.put.ensures.refused c.if-not-put.true)
