@@ -108,9 +108,9 @@ fn turns_after(ticks: u32) -> u32 {
 }
 
 /// Gives the thread's turn away, so often at most, until all threads have begun.
-fn stand_back(rt: &impl Wait, room: &RestingRoom, turns: u32) {
+fn stand_back(room: &RestingRoom, turns: u32) {
     for _ in 0..turns {
-        if room.have_all_begun(rt) {
+        if room.have_all_begun() {
             return;
         }
         thread::yield_now();
@@ -134,7 +134,7 @@ fn after_nothing<L: Ledger + Naming, P: Publisher<L>, G: Gate>(
         }
         Rested::TooEarly => {
             let _ = exchange(rt, courier, stage.execution, stage.joined);
-            stand_back(rt, &stage.room, turns_after(ticks));
+            stand_back(&stage.room, turns_after(ticks));
         }
     }
 }

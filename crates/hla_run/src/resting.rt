@@ -2,7 +2,7 @@
 
 ghost use Rattle.std.specs.Prelude.{◌≡◌, ◌-◌};
 
-use std::sync::atomic::{AtomicU64, Ordering};
+use std::sync::atomic::{AtomicU64, AtomicUsize, Ordering};
 use std::sync::{Mutex, Wait};
 use std::time::Duration;
 
@@ -16,8 +16,7 @@ const MOST_MOMENTS: u32 = 1_000;
 /// How far the threads of a run are.
 #[derive(Drop)]
 struct Crowd {
-    /// How many have begun, and how many have ended.
-    begun: usize,
+    /// How many have ended.
     ended: usize,
     /// How many wait for news.
     resting: usize,
@@ -58,6 +57,8 @@ fn low_bits(count: u64) -> u32 {
 pub struct RestingRoom {
     threads: usize,
     crowd: Mutex<Crowd>,
+    /// How many have begun. It can be read without the lock, so that a look at it waits for nobody.
+    begun: AtomicUsize,
     /// How often there were news, since when those who rest sleep on it.
     news: AtomicU64,
 }
@@ -68,11 +69,11 @@ impl RestingRoom {
         RestingRoom {
             threads,
             crowd: Mutex::new(Crowd {
-                begun: 0,
                 ended: 0,
                 resting: 0,
                 held: 0,
             }),
+            begun: AtomicUsize::new(0),
             news: AtomicU64::new(0),
         }
     }
@@ -80,14 +81,13 @@ impl RestingRoom {
     /// A thread begins, before its first line.
     pub fn enter(&self, rt: &impl Wait) {
         let mut crowd = self.crowd.lock(rt);
-        crowd.begun = crowd.begun.saturating_add(1);
         crowd.held = crowd.held.saturating_add(1);
+        self.begun.fetch_add(1, Ordering::SeqCst);
     }
 
     /// Whether all threads have begun.
-    pub fn have_all_begun(&self, rt: &impl Wait) -> bool {
-        let crowd = self.crowd.lock(rt);
-        crowd.begun >= self.threads
+    pub fn have_all_begun(&self) -> bool {
+        self.begun.load(Ordering::SeqCst) >= self.threads
     }
 
     /// A thread ends, behind its last line. One of those who rest may be alone then.
@@ -113,7 +113,7 @@ impl RestingRoom {
     /// The number of news so far, once the thread counts as resting; none where there are threads that have not begun.
     fn lie_down(&self, rt: &impl Wait) -> Option<u64> {
         let mut crowd = self.crowd.lock(rt);
-        if crowd.begun < self.threads {
+        if !self.have_all_begun() {
             return None;
         }
         crowd.resting = crowd.resting.saturating_add(1);
