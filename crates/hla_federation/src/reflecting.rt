@@ -88,17 +88,72 @@ impl Parts {
         Ok(shown)
     }
 
-    /// The update for those who subscribe these attributes: a share of `whole` where these are all that it says; nothing
-    /// where it says nothing of them.
-    fn reflection_for(
+    /// The part of an update that those are shown who subscribe these attributes: nothing, where it says nothing of them.
+    fn part_for(
         &self,
-        whole: &SharedEvent,
         heading: Heading,
         object: ObjectNo,
         values: &SharedList<HandleValuePair>,
         subscribed: &[AttributeNo],
     ) -> Result<Option<SharedEvent>, Fault>
-        requires { whole.now ≡ said_under heading (content.Reflection object values.now) }
+        ensures ok { IfOk result (λ e. event_messages e ≡ said_messages heading (reflection_of object (filter
+            (λ (v : HandleValuePair). contains_number v.handle subscribed.now) values.now))) }
+        ensures err { IfErr result (λ e. e ≡ Fault.OutOfMemory) }
+    {
+        let shown = self.shown_attributes(subscribed, values.as_slice())?;
+        if shown.is_empty() {
+            return Ok(None);
+        }
+        let values = SharedList::from_list(shown)?;
+        let event = heading.event(self.alloc, Content::Reflection { object, values })?;
+        Ok(Some(event))
+    }
+
+    /// The same part: a share of what was made for others that subscribe the same, where that was kept. The first part is
+    /// kept and no other, so that a receiver compares its attributes with one list at most.
+    fn shared_part<'a>(
+        &self,
+        made: &mut Vec<Made<'a>>,
+        heading: Heading,
+        object: ObjectNo,
+        values: &SharedList<HandleValuePair>,
+        subscribed: &'a [AttributeNo],
+    ) -> Result<Option<SharedEvent>, Fault>
+        requires { All (IsMade heading object values.now) made.old.items }
+        ensures made { OnOk result (All (IsMade heading object values.now) made.new.items) }
+        ensures ok { IfOk result (λ e. event_messages e ≡ said_messages heading (reflection_of object (filter
+            (λ (v : HandleValuePair). contains_number v.handle subscribed.now) values.now))) }
+        ensures err { IfErr result (λ e. e ≡ Fault.OutOfMemory) }
+    {
+        if let Some(same) = made_for(made, subscribed) {
+            let share = share_of(&same.event)?;
+            return Ok(share);
+        }
+        let event = self.part_for(heading, object, values, subscribed)?;
+        if !made.is_empty() {
+            return Ok(event);
+        }
+        let share = share_of(&event)?;
+        let Ok(()) = made.push(Made { subscribed, event }) else {
+            return Err(Fault::OutOfMemory);
+        };
+        Ok(share)
+    }
+
+    /// The update for those who subscribe these attributes: a share of `whole` where these are all that it says; nothing
+    /// where it says nothing of them.
+    fn reflection_for<'a>(
+        &self,
+        made: &mut Vec<Made<'a>>,
+        whole: &SharedEvent,
+        heading: Heading,
+        object: ObjectNo,
+        values: &SharedList<HandleValuePair>,
+        subscribed: &'a [AttributeNo],
+    ) -> Result<Option<SharedEvent>, Fault>
+        requires whole { whole.now ≡ said_under heading (content.Reflection object values.now) }
+        requires made { All (IsMade heading object values.now) made.old.items }
+        ensures made { OnOk result (All (IsMade heading object values.now) made.new.items) }
         ensures ok { IfOk result (λ e. event_messages e ≡ said_messages heading (reflection_of object (filter
             (λ (v : HandleValuePair). contains_number v.handle subscribed.now) values.now))) }
         ensures err { IfErr result (λ e. e ≡ Fault.OutOfMemory) }
@@ -110,18 +165,12 @@ impl Parts {
             let share = whole.share()?;
             return Ok(Some(share));
         }
-        let shown = self.shown_attributes(subscribed, values.as_slice())?;
-        if shown.is_empty() {
-            return Ok(None);
-        }
-        let values = SharedList::from_list(shown)?;
-        let event = heading.event(self.alloc, Content::Reflection { object, values })?;
-        Ok(Some(event))
+        self.shared_part(made, heading, object, values, subscribed)
     }
 
-    /// The update as a federate receives it at a class, with the attributes that it subscribes there: a share of what was
-    /// made for one that subscribes the same, where there is one, and else made and kept for others. So those that
-    /// subscribe the same cost one event.
+    /// The update as a federate receives it at a class, with the attributes that it subscribes there: a share of `whole`, or
+    /// of the part that was kept for those who subscribe the same, where there is one. So receivers of two kinds, those who
+    /// subscribe all and those who subscribe one part, cost two events.
     pub(crate) fn shared_reflection<'a>(
         &'a self,
         made: &mut Vec<Made<'a>>,
@@ -141,15 +190,6 @@ impl Parts {
         let subscribed = self
             .declarations
             .subscribed_attributes(receiver.federate, receiver.class);
-        if let Some(same) = made_for(made, subscribed) {
-            let share = share_of(&same.event)?;
-            return Ok(share);
-        }
-        let event = self.reflection_for(whole, heading, object, values, subscribed)?;
-        let share = share_of(&event)?;
-        let Ok(()) = made.push(Made { subscribed, event }) else {
-            return Err(Fault::OutOfMemory);
-        };
-        Ok(share)
+        self.reflection_for(made, whole, heading, object, values, subscribed)
     }
 }

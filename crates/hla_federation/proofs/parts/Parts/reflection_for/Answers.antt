@@ -18,6 +18,6 @@ returns-then-shows_attributes-clause-ok c =
     let says = λ (o : Option Content). said_messages c.args.heading o in
     let all : list_all shows values ≡ true = ap (list_all shows) (sym c.as_slice.ensures) ∙ sym c.shows_attributes.ensures ∙ c.if-shows_attributes.true in
     let some : length values ≢ 0 = λ e. let no = (c.if-is_empty.ensures).1 e in absurd (cc no) in
-    ap (λ (e : Event). message.Event e ∷ []) (c.in_ok-share.ensures.ok ∙ c.requires)
+    ap (λ (e : Event). message.Event e ∷ []) (c.in_ok-share.ensures.ok ∙ c.requires.whole)
     ∙ ap says (sym (reflection_some c.args.object values some))
     ∙ ap (λ (vs : List HandleValuePair). says (reflection_of c.args.object vs)) (sym (all_kept shows values all))
