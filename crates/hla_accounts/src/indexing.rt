@@ -14,7 +14,7 @@ use hla_callbacks::Delivery;
 use std::alloc::Global;
 
 /// Of fewer messages all are looked at as fast as an index finds one, and it would take memory.
-pub const INDEXED_FROM: usize = 64;
+pub const INDEXED_FROM: usize = 256;
 
 /// An index of the first messages of a bag, where there is one, and what is known of the others, the tail. Each message comes
 /// into the tail, which is added to the index before one is taken out or moved to receive order.

@@ -12,6 +12,9 @@ use hla_callbacks::Delivery;
 use std::alloc::Global;
 use std::marker::Model;
 
+/// A gap that is shorter is closed only where nothing waits behind it: to move a few messages costs some thousand instructions.
+const CLOSED_FROM: usize = 64;
+
 /// Messages in the order of their sending. Contracts see the list. Messages are mostly taken out near the front, so a gap may
 /// stand there, of messages that say nothing: what stands in front of a message that is taken out moves up in its place.
 #[derive(Debug, Drop)]
@@ -150,7 +153,8 @@ impl Line {
         ensures { self.new ≡ remove self.old place }
     {
         self.start = take_out(&mut self.waiting, self.start, self.start + place);
-        if self.start > self.waiting.len() - self.start {
+        let len = self.waiting.len();
+        if self.start == len || (self.start >= CLOSED_FROM && self.start > len - self.start) {
             close_gap(&mut self.waiting, self.start);
             self.start = 0;
         }
