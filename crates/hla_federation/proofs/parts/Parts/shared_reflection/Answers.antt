@@ -20,5 +20,5 @@ returns-clause-ok c =
     let values = c.args.values.now in
     let says = λ (vs : List HandleValuePair). said_messages c.args.heading (reflection_of c.args.object vs) in
     let shown = ap (λ (subscribed : List ℕ). filter (λ (v : HandleValuePair). contains_number v.handle subscribed) values) c.subscribed_attributes-subscribed.ensures
-        ∙ shown_as ((declared.declarations_of c.self.inside.declarations).subscribed c.args.receiver.federate c.args.receiver.class) values in
+    ∙ shown_as ((declared.declarations_of c.self.inside.declarations).subscribed c.args.receiver.federate c.args.receiver.class) values in
     rw (← c.self.view_is) (subst (λ (vs : List HandleValuePair). IfOk c.reflection_for.result (λ (e : Option Event). event_messages e ≡ says vs)) shown c.reflection_for.ensures.ok)
