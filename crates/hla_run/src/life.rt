@@ -3,7 +3,7 @@
 use crate::gate::Gate;
 use crate::outcomes::{Told, outcome_of_tick};
 use crate::player::{Acted, Deed, Player, do_deed};
-use crate::resting::{Rested, RestingRoom};
+use crate::resting::{LineWait, Rested, RestingRoom};
 use hla_base::{ExecutionName, Fault, FederateNo, List};
 use hla_callbacks::Recorder;
 use hla_catalogue::Catalogue;
@@ -14,24 +14,9 @@ use hla_rti::{Courier, Federate};
 use std::alloc::Global;
 use std::sync::Wait;
 use std::sync::ledger::Ledger;
-use std::thread;
 
 /// How often a line that ticks does so at most until a callback comes.
 const MAX_TICKS: u32 = 1_000;
-
-/// How often a thread gives its turn away after the first, the second and each further tick of a line that brought nothing, while
-/// there are threads that have not begun. Ten thousand turns are some milliseconds: time for the others to begin, also beside busy
-/// processes. After `PATIENT_TICKS` there is little to wait for.
-const FIRST_TURNS: u32 = 10_000;
-
-const SECOND_TURNS: u32 = 40_000;
-
-const FURTHER_TURNS: u32 = 100_000;
-
-const LAST_TURNS: u32 = 1_000;
-
-/// How many ticks with nothing the thread is patient after.
-const PATIENT_TICKS: u32 = 10;
 
 /// What all threads of a run share.
 #[derive(Drop)]
@@ -97,58 +82,54 @@ fn exchange<L: Ledger + Naming, P: Publisher<L>>(
     has_moved
 }
 
-/// How often a thread gives its turn away, by how many ticks of the line brought nothing before this one.
-fn turns_after(ticks: u32) -> u32 {
-    match ticks {
-        0 => FIRST_TURNS,
-        1 => SECOND_TURNS,
-        _ if ticks < PATIENT_TICKS => FURTHER_TURNS,
-        _ => LAST_TURNS,
-    }
-}
-
-/// Gives the thread's turn away, so often at most, until all threads have begun.
-fn stand_back(room: &RestingRoom, turns: u32) {
-    for _ in 0..turns {
-        if room.have_all_begun() {
+/// Has the federates exchange what they have for each other, so often, or until there is nothing more: then one exchange is
+/// as good as many.
+fn exchange_often<L: Ledger + Naming, P: Publisher<L>>(
+    rt: &impl Wait,
+    courier: &mut Courier<L, Recorder, P>,
+    execution: ExecutionName,
+    joined: FederateNo,
+    exchanges: u64,
+) {
+    for _ in 0..exchanges {
+        if !exchange(rt, courier, execution, joined) {
             return;
         }
-        thread::yield_now();
     }
 }
 
-/// What a thread does after a tick with nothing: it rests until there is something new. Where all others do so, too, it has the
-/// federates exchange what they have for each other.
+/// What a thread does after a tick with nothing: it rests until a round has ended. Where all others do so, too, are held or have
+/// ended, it leads the round, and has the federates exchange what they have for each other.
 fn after_nothing<L: Ledger + Naming, P: Publisher<L>, G: Gate>(
     rt: &impl Wait,
     stage: &Stage<G>,
     courier: &mut Courier<L, Recorder, P>,
-    ticks: u32,
+    seen: u64,
+    wait: &mut LineWait,
 ) {
-    match stage.room.rest(rt) {
+    match stage.room.rest(rt, seen, wait) {
         Rested::News => {}
-        Rested::Alone => {
-            if exchange(rt, courier, stage.execution, stage.joined) {
-                stage.room.bring_news(rt);
-            }
-        }
-        Rested::TooEarly => {
-            let _ = exchange(rt, courier, stage.execution, stage.joined);
-            stand_back(&stage.room, turns_after(ticks));
+        Rested::Leads { exchanges } => {
+            exchange_often(rt, courier, stage.execution, stage.joined, exchanges);
+            stage.room.end_round(rt, exchanges);
         }
     }
 }
 
-/// Ticks until a callback comes or a tick is refused, at most `MAX_TICKS` times.
+/// Ticks until a callback comes or a tick is refused, at most `MAX_TICKS` times, once a round.
 fn called_back<L: Ledger + Naming, P: Publisher<L>, G: Gate>(
     rt: &impl Wait,
     stage: &Stage<G>,
     federate: &mut Federate<L, Recorder, P>,
     courier: &mut Courier<L, Recorder, P>,
 ) -> Outcome {
-    for ticks in 0..MAX_TICKS {
+    let mut wait = LineWait::new();
+    for _ in 0..MAX_TICKS {
+        let seen = stage.room.rounds();
         match outcome_of_tick(federate.tick(rt)) {
-            Outcome::Done(Answer::Ticked(None)) => after_nothing(rt, stage, courier, ticks),
+            Outcome::Done(Answer::Ticked(None)) => {
+                after_nothing(rt, stage, courier, seen, &mut wait);
+            }
             ended => return ended,
         }
     }
@@ -226,7 +207,6 @@ pub fn live<L: Ledger + Naming, P: Publisher<L>, G: Gate>(
     stage: &Stage<G>,
     mut life: Life<L, P>,
 ) -> Life<L, P> {
-    stage.room.enter(rt);
     for (place, line) in stage.lines.iter().enumerate() {
         if let Command::Federate { name, call } = &line.command {
             if name.as_slice() == life.name.as_slice() {

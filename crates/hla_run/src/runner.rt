@@ -169,9 +169,10 @@ fn told_on_threads<
 /// Runs a script over a FED file in an execution named `play`, behind the lock of a run-time infrastructure: first the lines
 /// that create it and join federates, in the order of the script, then the lines of each federate, on a thread of its own and
 /// in their order, and then the lines that destroy it. Lines that carry and announce are not run: a line that ticks does so
-/// until a callback comes, at most 1,000 times. After a tick with nothing its thread rests; where all do, the last of them has
-/// each federate announce its promise and carries each wire once, and if there was anything all go on. `gate` is called round
-/// each line of a thread. Then it writes how the lines came out that were done, in the order of the script, and closes. Where
+/// until a callback comes, at most 1,000 times. After a tick with nothing its thread rests; where all do, are held by the gate or
+/// have ended, the last of them has each federate announce its promise and carries each wire once, and then all who rest tick
+/// again. Lines that have waited for long get as many such exchanges as all ticks with nothing while they waited. Those whom
+/// the gate holds are waited for, for nearly a second in all of a line's ticks. `gate` is called round each line of a thread. Then it writes how the lines came out that were done, in the order of the script, and closes. Where
 /// `is_watched`, a monitor is there from before the first step on, and reads the counts once all is done. `blank` is a ledger of
 /// 2,049 parts and `opened` an empty history, as `open_rti` takes them.
 ///

@@ -7,6 +7,10 @@ mod gates;
 #[cfg(test)]
 mod rests;
 #[cfg(test)]
+mod rounds;
+#[cfg(test)]
 mod scripts;
 #[cfg(test)]
 mod texts;
+#[cfg(test)]
+mod turns;

@@ -13,14 +13,18 @@ use std::sync::ledger::{Blank, Ledger};
 use std::test::Fail;
 use std::thread::Threads;
 
-/// An interaction class in time-stamp order.
+/// An interaction class in time-stamp order and one in receive order, and an object class.
 pub const FED: &[u8] = b"(FED
  (Federation Demo)
  (FEDversion v1.3)
  (spaces)
- (objects)
+ (objects
+  (class ObjectRoot
+   (attribute privilegeToDelete reliable receive)
+   (class Car (attribute Paint reliable receive))))
  (interactions
   (class InteractionRoot reliable receive
+   (class Note reliable receive)
    (class Hit reliable timestamp))))
 ";
 
