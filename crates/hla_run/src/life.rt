@@ -98,8 +98,8 @@ fn exchange_often<L: Ledger + Naming, P: Publisher<L>>(
     }
 }
 
-/// What a thread does after a tick with nothing: it rests until a round has ended. Where all others do so, too, are held or have
-/// ended, it leads the round, and has the federates exchange what they have for each other.
+/// What a thread does after a tick with nothing: it rests until a bout has ended. Where all others do so, too, are held or have
+/// ended, it leads the bout, and has the federates exchange what they have for each other.
 fn after_nothing<L: Ledger + Naming, P: Publisher<L>, G: Gate>(
     rt: &impl Wait,
     stage: &Stage<G>,
@@ -111,12 +111,12 @@ fn after_nothing<L: Ledger + Naming, P: Publisher<L>, G: Gate>(
         Rested::News => {}
         Rested::Leads { exchanges } => {
             exchange_often(rt, courier, stage.execution, stage.joined, exchanges);
-            stage.room.end_round(rt, exchanges);
+            stage.room.end_bout(rt, exchanges);
         }
     }
 }
 
-/// Ticks until a callback comes or a tick is refused, at most `MAX_TICKS` times, once a round.
+/// Ticks until a callback comes or a tick is refused, at most `MAX_TICKS` times, once a bout.
 fn called_back<L: Ledger + Naming, P: Publisher<L>, G: Gate>(
     rt: &impl Wait,
     stage: &Stage<G>,
@@ -125,7 +125,7 @@ fn called_back<L: Ledger + Naming, P: Publisher<L>, G: Gate>(
 ) -> Outcome {
     let mut wait = LineWait::new();
     for _ in 0..MAX_TICKS {
-        let seen = stage.room.rounds();
+        let seen = stage.room.bouts();
         match outcome_of_tick(federate.tick(rt)) {
             Outcome::Done(Answer::Ticked(None)) => {
                 after_nothing(rt, stage, courier, seen, &mut wait);

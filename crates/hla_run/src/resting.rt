@@ -10,7 +10,7 @@ use std::time::Duration;
 /// a gate holds may be let go, or stay, and neither is told.
 const MOMENT: u64 = 500;
 
-/// The same where some do their lines, of whom the last that comes to rest or ends sees to it that the round begins.
+/// The same where some do their lines, of whom the last that comes to rest or ends sees to it that the bout begins.
 const LONG_MOMENT: u64 = 5_000;
 
 /// How often a thread sleeps so in one rest at most. Others who do what takes longer than seconds do not keep it for ever.
@@ -27,7 +27,7 @@ const FURTHER_MOMENTS: u32 = 100;
 
 const LAST_MOMENTS: u32 = 1;
 
-/// How many ticks with nothing a line is patient after. So often, too, it is content with one exchange a round: in lock-step a
+/// How many ticks with nothing a line is patient after. So often, too, it is content with one exchange a bout: in lock-step a
 /// few are enough, and each takes its records.
 const PATIENT_TICKS: u32 = 10;
 
@@ -107,13 +107,13 @@ impl LineWait {
 struct Crowd {
     /// How many have ended.
     ended: usize,
-    /// How many wait for the next round to end.
+    /// How many wait for the next bout to end.
     resting: usize,
     /// How many are between two of their lines, where a gate may hold them, or have not begun.
     held: usize,
     /// For how many moments those who are held are waited for: as many as the most patient one who rests wants.
     patience: u32,
-    /// How many exchanges the next round is to make: as many as are lacked by the one who rests and lacks most.
+    /// How many exchanges the next bout is to make: as many as are lacked by the one who rests and lacks most.
     due: u64,
     effort: Effort,
 }
@@ -141,7 +141,7 @@ impl Crowd {
         self.resting = self.resting.saturating_add(1);
     }
 
-    /// One who rests gets up to lead the next round.
+    /// One who rests gets up to lead the next bout.
     fn led(&mut self) -> Rested
         ensures { result ≡ Rested.Leads self.old.due }
     {
@@ -165,9 +165,9 @@ impl Crowd {
 /// How a rest ended.
 #[derive(Clone, Copy, Debug, PartialEq, Eq)]
 pub enum Rested {
-    /// A round has ended.
+    /// A bout has ended.
     News,
-    /// All others rest, are held or have ended, so that nothing comes but by this thread: a round of so many exchanges.
+    /// All others rest, are held or have ended, so that nothing comes but by this thread: a bout of so many exchanges.
     Leads { exchanges: u64 },
 }
 
@@ -187,14 +187,14 @@ fn low_bits(count: u64) -> u32 {
     (count % (1 << 32)) as u32
 }
 
-/// Where a thread whose federate was given nothing waits, at next to no cost, until a round has ended: the last of all that comes to
+/// Where a thread whose federate was given nothing waits, at next to no cost, until a bout has ended: the last of all that comes to
 /// rest brings what federates have for each other, and then all that rest tick once more, side by side.
 #[derive(Drop)]
 pub struct RestingRoom {
     threads: usize,
     crowd: Mutex<Crowd>,
-    /// How many rounds have ended; those who rest sleep on it.
-    rounds: AtomicU64,
+    /// How many bouts have ended; those who rest sleep on it.
+    bouts: AtomicU64,
 }
 
 impl RestingRoom {
@@ -213,7 +213,7 @@ impl RestingRoom {
                     exchanges: 0,
                 },
             }),
-            rounds: AtomicU64::new(0),
+            bouts: AtomicU64::new(0),
         }
     }
 
@@ -222,7 +222,7 @@ impl RestingRoom {
         let mut crowd = self.crowd.lock(rt);
         crowd.ended = crowd.ended.saturating_add(1);
         crowd.held = crowd.held.saturating_sub(1);
-        self.rounds.wake_all();
+        self.bouts.wake_all();
     }
 
     /// A thread has done a line, and may be held by a gate from now on.
@@ -237,28 +237,28 @@ impl RestingRoom {
         crowd.held = crowd.held.saturating_sub(1);
     }
 
-    /// How many rounds have ended. A thread asks before it ticks: where one ends meanwhile, it does not rest.
-    pub fn rounds(&self) -> u64 {
-        self.rounds.load(Ordering::SeqCst)
+    /// How many bouts have ended. A thread asks before it ticks: where one ends meanwhile, it does not rest.
+    pub fn bouts(&self) -> u64 {
+        self.bouts.load(Ordering::SeqCst)
     }
 
-    /// A tick gave nothing: the thread counts as resting from now on, unless a round has ended since it had seen so many end.
+    /// A tick gave nothing: the thread counts as resting from now on, unless a bout has ended since it had seen so many end.
     fn lie_down(&self, rt: &impl Wait, seen: u64, wait: &mut LineWait) -> bool {
         let mut crowd = self.crowd.lock(rt);
         let lacking = wait.lacks(crowd.effort);
         crowd.effort.ticks = crowd.effort.ticks.saturating_add(1);
-        if self.rounds() != seen {
+        if self.bouts() != seen {
             return false;
         }
         crowd.take_in(lacking, wait.patience());
         true
     }
 
-    /// How far the others are, for a thread that rests, had seen so many rounds end, and has waited so many moments for those who are
+    /// How far the others are, for a thread that rests, had seen so many bouts end, and has waited so many moments for those who are
     /// held.
     fn look(&self, rt: &impl Wait, seen: u64, moments: u32) -> Look {
         let mut crowd = self.crowd.lock(rt);
-        if self.rounds() != seen {
+        if self.bouts() != seen {
             return Look::Ended(Rested::News);
         }
         if crowd.awake(self.threads) > 0 {
@@ -270,23 +270,23 @@ impl RestingRoom {
         Look::Ended(crowd.led())
     }
 
-    /// The thread has rested for long enough: it leads the next round, unless one has ended just now.
+    /// The thread has rested for long enough: it leads the next bout, unless one has ended just now.
     fn get_up(&self, rt: &impl Wait, seen: u64) -> Rested {
         let mut crowd = self.crowd.lock(rt);
-        if self.rounds() == seen {
+        if self.bouts() == seen {
             crowd.led()
         } else {
             Rested::News
         }
     }
 
-    /// Sleeps for so many microseconds, or until a round ends or a thread does.
+    /// Sleeps for so many microseconds, or until a bout ends or a thread does.
     fn sleep(&self, rt: &impl Wait, seen: u64, moment: u64) {
-        self.rounds
+        self.bouts
             .park_timeout(rt, low_bits(seen), Duration::from_micros(moment));
     }
 
-    /// After a tick that gave nothing: waits until a round has ended, or until this thread is to lead one, as all others rest, are
+    /// After a tick that gave nothing: waits until a bout has ended, or until this thread is to lead one, as all others rest, are
     /// held or have ended. It ends by itself, whatever others do: it sleeps at most `MOST_MOMENTS` times, each time a moment at
     /// most.
     pub fn rest(&self, rt: &impl Wait, seen: u64, wait: &mut LineWait) -> Rested {
@@ -307,11 +307,11 @@ impl RestingRoom {
         self.get_up(rt, seen)
     }
 
-    /// A round ends, of so many exchanges. Those who rest go on, each, to see what there is.
-    pub fn end_round(&self, rt: &impl Wait, exchanges: u64) {
+    /// A bout ends, of so many exchanges. Those who rest go on, each, to see what there is.
+    pub fn end_bout(&self, rt: &impl Wait, exchanges: u64) {
         let mut crowd = self.crowd.lock(rt);
-        self.rounds.fetch_add(1, Ordering::SeqCst);
+        self.bouts.fetch_add(1, Ordering::SeqCst);
         crowd.let_out(exchanges);
-        self.rounds.wake_all();
+        self.bouts.wake_all();
     }
 }

@@ -3,11 +3,11 @@
 #![tactic(auto)]
 
 #[cfg(test)]
+mod bouts;
+#[cfg(test)]
 mod gates;
 #[cfg(test)]
 mod rests;
-#[cfg(test)]
-mod rounds;
 #[cfg(test)]
 mod scripts;
 #[cfg(test)]

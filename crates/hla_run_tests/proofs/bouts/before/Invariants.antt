@@ -1,4 +1,4 @@
-use Rattle.hla_run_tests.proofs.rounds.before.Given as goal
+use Rattle.hla_run_tests.proofs.bouts.before.Given as goal
 
 -- the ledger that was just made
 abbrev pub ghosts-run_by_turns-L-Ledger : goal.ghosts-run_by_turns-L-Ledger

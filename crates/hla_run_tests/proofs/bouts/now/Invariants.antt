@@ -1,4 +1,4 @@
-use Rattle.hla_run_tests.proofs.rounds.now.Given as goal
+use Rattle.hla_run_tests.proofs.bouts.now.Given as goal
 
 -- the ledger that was just made
 abbrev pub ghosts-rested-L-Ledger : goal.ghosts-rested-L-Ledger
