@@ -1,5 +1,5 @@
 -- The order of keys, and blocks under their floors
-use Rattle.std.proofs.Common.{◌≡◌, Bool, true, false, cond, eqb, ltb, not, ◌&&◌, ◌||◌, filter, List, [], ◌∷◌, ◌++◌, Some, refl, sym, ap, subst, ◌∙◌, arith}
+use Rattle.std.proofs.Common.{◌≡◌, Bool, true, false, cond, eqb, ltb, not, ◌&&◌, ◌||◌, filter, List, [], ◌∷◌, ◌++◌, Some, None, refl, sym, ap, subst, ◌∙◌, arith}
 use Rattle.std.proofs.lemmas.Bool.Decides.{nat_tests}
 use Rattle.std.proofs.lemmas.Cmp.{nat_cmp_total, on_total, then_total, tied_itself}
 use Rattle.std.specs.Cmp.{IsTotalOrder}
@@ -69,9 +69,10 @@ pub remove_at : (f : EventKey) (before : List (EventKey × List Event)) (b : Lis
 remove_at f [] b behind h = rw (tied_itself key_total f) refl
 remove_at f (e ∷ es) b behind h = rw (cmp_greater e.0 f h.0) (ap (λ zs. e ∷ zs) (remove_at f es b behind h.1))
 
-pub insert_over : (f : EventKey) (before : List (EventKey × List Event)) (b w : List Event) (behind : List (EventKey × List Event)) → AllByRecursion (λ e. is_less e.0 f ≡ true) before → insert_entry key_cmp (before ++ (f, b) ∷ behind) f w ≡ before ++ (f, w) ∷ behind
-insert_over f [] b w behind h = rw (tied_itself key_total f) refl
-insert_over f (e ∷ es) b w behind h = rw (cmp_greater e.0 f h.0) (ap (λ zs. e ∷ zs) (insert_over f es b w behind h.1))
+pub lookup_none : (h : EventKey) (before behind : List (EventKey × List Event)) → AllByRecursion (λ e. is_less e.0 h ≡ true) before → AreAfter h behind → block_at h (before ++ behind) ≡ None
+lookup_none h [] [] low high = refl
+lookup_none h [] (e ∷ es) low high = rw (cmp_less h e.0 high.0) (lookup_none h [] es tt high.1)
+lookup_none h (e ∷ es) behind low high = rw (cmp_greater e.0 h low.0) (lookup_none h es behind low.1 high)
 
 pub insert_new : (h : EventKey) (before : List (EventKey × List Event)) (w : List Event) (behind : List (EventKey × List Event)) → AllByRecursion (λ e. is_less e.0 h ≡ true) before → AreAfter h behind → insert_entry key_cmp (before ++ behind) h w ≡ before ++ (h, w) ∷ behind
 insert_new h [] w [] low high = refl

@@ -1,7 +1,8 @@
 -- Blocks of events under their floors, and the list that they make
-use Rattle.std.proofs.Common.{◌≡◌, ◌<◌, Bool, true, false, List, [], ◌∷◌, ◌++◌, length, Some, refl, sym, ap, subst, ◌∙◌, append_assoc, arith}
+use Rattle.std.proofs.Common.{◌≡◌, ◌<◌, Bool, true, false, List, [], ◌∷◌, ◌++◌, length, Option, Some, None, refl, sym, ap, subst, ◌∙◌, append_assoc, arith}
 use Rattle.std.proofs.lemmas.Bool.Decides.{nat_tests}
 use Rattle.std.specs.List.{AllByRecursion, slice_get}
+use Rattle.std.specs.Option.{option_map, MatchOption, IfSome}
 use Rattle.hla_base.specs.declared.content.Event.{Event}
 use Rattle.hla_order_queues.specs.declared.key.EventKey.{EventKey}
 use Rattle.hla_order_queues.specs.Queues.{insert_event}
@@ -141,10 +142,28 @@ first_taken e es new h is =
       left = record { filled = all.filled.1; floored = all.floored.2; ordered = (parts_of e.1 (events_of new) all.ordered).back };
     }
 
+-- the first block, if there is one
+pub record IsTakenOut (r : Option (List Event)) (es new : List (EventKey × List Event)) : Type 0 where
+  pub events : MatchOption r ((events_of es ≡ []) × (events_of new ≡ [])) (λ b. b ++ events_of new ≡ events_of es)
+  pub filled : IfSome r (λ b. 0 < length b)
+  pub below : IfSome r (λ b. AreBelowBlocks b new)
+  pub left : AreBlocks new
+
+pub taken_front : (r : Option (List Event)) (es new : List (EventKey × List Event)) → AreBlocks es → MatchOption r ((es ≡ []) × (new ≡ [])) (λ b. (f : EventKey) × (es ≡ (f, b) ∷ new)) → IsTakenOut r es new
+taken_front None es new h told = record {
+  events = (no_events es told.0, no_events new told.1);
+  filled = tt;
+  below = tt;
+  left = no_blocks new told.1;
+}
+taken_front (Some b) es new h told =
+    let first = first_taken (told.0, b) es new h told.1 in
+    record { events = first.events; filled = first.filled; below = first.below; left = first.left }
+
 -- what the first floor says
-floor_if : (e : EventKey × List Event) (es : List (EventKey × List Event)) (k : EventKey) (b : Bool) → Some e ≡ slice_get es 0 → b ≡ is_less k e.0 → b ≡ floor_after k es
-floor_if e [] k b at is = absurd (cc)
-floor_if e (f ∷ es) k b at is = let same : e ≡ f = cc in is ∙ ap (λ (g : EventKey × List Event). is_less k g.0) same
+floor_if : (f : EventKey) (es : List (EventKey × List Event)) (k : EventKey) (b : Bool) → Some f ≡ option_map (λ e. e.0) (slice_get es 0) → b ≡ is_less k f → b ≡ floor_after k es
+floor_if f [] k b at is = absurd (cc)
+floor_if f (e ∷ es) k b at is = let same : f ≡ e.0 = cc in is ∙ ap (is_less k) same
 
 pub record IsTold (k : EventKey) (es : List (EventKey × List Event)) (b : Bool) : Type 0 where
   pub after : b ≡ true → AreAfter k es
@@ -161,9 +180,9 @@ unfolding joined
 some_events k [] h e = absurd (cc)
 some_events k (x ∷ es) h e = some_first x.1 (events_of es) h.0
 
-pub told_first : (k : EventKey) (e : EventKey × List Event) (es : List (EventKey × List Event)) (b : Bool) → AreBlocks es → slice_get es 0 ≡ Some e → b ≡ is_less k e.0 → IsTold k es b
-told_first k e es b h at is =
-    let whole = floor_if e es k b (sym at) is in
+pub told_first : (k f : EventKey) (es : List (EventKey × List Event)) (b : Bool) → AreBlocks es → Some f ≡ option_map (λ e. e.0) (slice_get es 0) → b ≡ is_less k f → IsTold k es b
+told_first k f es b h at is =
+    let whole = floor_if f es k b at is in
     record {
       after = λ p. floors_after k es h.filled h.floored (sym whole ∙ p);
       events = λ p. after_all k es h.filled h.floored (floors_after k es h.filled h.floored (sym whole ∙ p));
@@ -175,6 +194,6 @@ pub told_none : (k : EventKey) (es : List (EventKey × List Event)) → es ≡ [
 unfolding joined
 told_none k es e = rw e (record { after = λ p. tt; events = λ p. refl; within = λ p. absurd (cc); some = λ p. absurd (cc) })
 
-pub nil_if : (es : List (EventKey × List Event)) → (0 < length es → ⊥) → es ≡ []
-nil_if [] h = refl
-nil_if (e ∷ es) h = absurd (h (omega arith))
+pub no_first : (es : List (EventKey × List Event)) → None ≡ option_map (λ e. e.0) (slice_get es 0) → es ≡ []
+no_first [] h = refl
+no_first (e ∷ es) h = absurd (cc)

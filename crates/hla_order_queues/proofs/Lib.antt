@@ -18,6 +18,8 @@ mod PutLemmas
 mod SplitLemmas
 -- Finding and removing an event in parts of a list
 mod RemovalLemmas
+-- Blocks in a slab, at the places that floors have: what is there after a block comes, changes or goes
+mod PlacesLemmas
 -- Going through blocks from the least on: the event at a place, how many are below a bound, and their handles
 mod StepLemmas
 -- How the first block, the later ones and the count of a queue follow the list of its events

@@ -2,11 +2,13 @@
 use Rattle.std.proofs.Common.{◌≡◌, ◌<◌, ◌≤◌, ℕ, true, false, List, [], ◌∷◌, ◌++◌, length, Option, Some, None, Result, Ok, Err, refl, sym, ap, subst, ◌∙◌, arith}
 use Rattle.std.specs.List.{AllByRecursion}
 use Rattle.std.specs.Option.{MatchOption}
+use Rattle.std.specs.Bool.{⊤}
 use Rattle.std.specs.Result.{OnOk, OnErr}
 use Rattle.hla_base.specs.declared.content.Event.{Event}
 use Rattle.hla_order_queues.specs.declared.key.EventKey.{EventKey}
 use Rattle.hla_order_queues.specs.Queues.{insert_event, find_event, remove_event}
 use Rattle.hla_order_queues.specs.Kept.{key_of, is_less, floor_after, IsInOrder, joined, events_of, block_at, set_block, without_block, AreAfter, AreBelowBlocks, AreFloored, AreBlocks, At, IsPlace}
+use Rattle.hla_order_queues.specs.Places.{IsPutIn}
 use Rattle.hla_order_queues.proofs.FloorLemmas.{block_is, set_is, without_is}
 use Rattle.hla_order_queues.proofs.JoinedLemmas.{events_at, inserted_events, blocks_inserted, below_set, floored_at, floored_set, after_all, All_behind}
 use Rattle.hla_order_queues.proofs.OrderLemmas.{All-implies, parts_of}
@@ -49,10 +51,19 @@ put_in x es new f b c (Err e) p h at is ok err =
       below = λ xs q. subst (AreBelowBlocks xs) (sym same) q;
     }
 
+pub put_under : (x : Event) (es new : List (EventKey × List Event)) (f : EventKey) (r : Result (Unit {0}) Event) → IsPlace (key_of x) f es → AreBlocks es → MatchOption (block_at f es) ⊤ (λ b. IsPutIn x f b es new r) → IsPut x es new r
+put_under x es new f r p h told =
+    let there = block_is f es p.at in
+    let k = rw there at told in
+    put_in x es new f p.at.block k.block r p h there k.now k.ok k.refused
+
 pub block_ordered : (f : EventKey) (es : List (EventKey × List Event)) (b : List Event) → At f es → AreBlocks es → block_at f es ≡ Some b → IsInOrder b
 block_ordered f es b a h at =
     let whole = subst IsInOrder (ap events_of a.whole ∙ events_at a.before f a.block a.behind) h.ordered in
     subst IsInOrder (same_block f es a b at) (parts_of a.block (events_of a.behind) (parts_of (events_of a.before) (a.block ++ events_of a.behind) whole).back).front
+
+pub ordered_under : (f : EventKey) (es : List (EventKey × List Event)) → At f es → AreBlocks es → MatchOption (block_at f es) ⊤ (λ b. IsInOrder b)
+ordered_under f es a h = let there = block_is f es a in rw there (block_ordered f es a.block a h there)
 
 -- a block that is long is there
 pub many_there : (o : Option (List Event)) (n : ℕ) → MatchOption o (n ≡ 0) (λ b. n ≡ length b) → 64 ≤ n → MatchOption o ⊥ (λ b. 2 ≤ length b)

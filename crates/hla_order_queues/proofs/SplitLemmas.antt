@@ -1,17 +1,16 @@
 -- A block that is split: the order of its halves, and the blocks then
-use Rattle.std.proofs.Common.{◌≡◌, ◌<◌, ◌≤◌, ◌/◌, ℕ, zero, suc, true, false, List, [], ◌∷◌, ◌++◌, length, Option, Some, None, Result, Ok, Err, refl, sym, ap, subst, ◌∙◌, append_assoc, arith}
+use Rattle.std.proofs.Common.{◌≡◌, ◌<◌, ◌≤◌, ◌/◌, ℕ, zero, suc, true, false, List, [], ◌∷◌, ◌++◌, length, Option, Some, None, refl, sym, ap, subst, ◌∙◌, append_assoc, arith}
 use Rattle.std.proofs.lemmas.Bool.Decides.{nat_tests}
 use Rattle.std.specs.List.{AllByRecursion, slice_get}
 use Rattle.std.specs.Option.{option_map, MatchOption}
-use Rattle.std.specs.Result.{OnOk, OnErr}
 use Rattle.std.specs.BTreeMap.{insert_entry}
 use Rattle.hla_base.specs.declared.content.Event.{Event}
 use Rattle.hla_order_queues.specs.declared.key.EventKey.{EventKey}
 use Rattle.hla_order_queues.specs.Queues.{is_before, is_event, find_event}
-use Rattle.hla_order_queues.specs.Kept.{key_of, key_cmp, is_less, IsInOrder, IsUnique, joined, events_of, block_at, without_block, AreAfter, AreBelowBlocks, AreFloored, AreBlocks, At, IsHalved}
+use Rattle.hla_order_queues.specs.Kept.{key_of, key_cmp, is_less, IsInOrder, IsUnique, joined, events_of, block_at, set_block, without_block, AreAfter, AreBelowBlocks, AreFloored, AreBlocks, At, IsHalved}
 use Rattle.hla_order_queues.proofs.EventLemmas.{missed_head, missed_later}
 use Rattle.hla_order_queues.proofs.OrderLemmas.{All-append_parts, parts_of}
-use Rattle.hla_order_queues.proofs.FloorLemmas.{less-trans, less_then, not_less, not_itself, block_is, set_is, insert_over, insert_new, remove_at}
+use Rattle.hla_order_queues.proofs.FloorLemmas.{less-trans, less_then, not_less, not_itself, block_is, set_is, lookup_none, insert_new, remove_at}
 use Rattle.hla_order_queues.proofs.PutLemmas.{same_block, block_ordered}
 use Rattle.hla_order_queues.proofs.JoinedLemmas.{events_at, floored_at}
 
@@ -160,7 +159,12 @@ middle_known f h es a k u many told =
       high = subst (λ (q : EventKey). AreAfter q a.behind) (sym found.2) (held_at (λ x. AreAfter (key_of x) a.behind) b (length b / 2) found.0 at.below found.1);
     }
 
--- the map through the split: an empty block comes
+-- the map through the split: no block is there
+pub new_middle : (f h : EventKey) (es : List (EventKey × List Event)) (a : At f es) → IsMiddle f h es a → block_at h es ≡ None
+new_middle f h es a m =
+    ap (block_at h) (a.whole ∙ sym (append_assoc a.before ((f, a.block) ∷ []) a.behind)) ∙ lookup_none h (a.before ++ (f, a.block) ∷ []) a.behind (lesser_more f h a.before a.block m.less a.lesser) m.high
+
+-- an empty block comes
 pub opened : (f h : EventKey) (es e1 : List (EventKey × List Event)) (a : At f es) → IsMiddle f h es a → e1 ≡ insert_entry key_cmp es h [] → e1 ≡ a.before ++ (f, a.block) ∷ (h, []) ∷ a.behind
 opened f h es e1 a m is =
     is
@@ -186,32 +190,28 @@ closed f h es e1 e2 a m is gone =
     ∙ sym a.whole
 
 -- the greater half comes in its place
-half_in : (f h : EventKey) (es e1 e2 : List (EventKey × List Event)) (g : List Event) (a : At f es) → IsMiddle f h es a → e1 ≡ insert_entry key_cmp es h [] → (k : IsHalved f e1 e2 g) → At h e2 × (insert_entry key_cmp e2 h g ≡ a.before ++ (f, k.lesser) ∷ (h, g) ∷ a.behind) × AreHalves a.block k.lesser g h
+half_in : (f h : EventKey) (es e1 e2 : List (EventKey × List Event)) (g : List Event) (a : At f es) → IsMiddle f h es a → e1 ≡ insert_entry key_cmp es h [] → (k : IsHalved f e1 e2 g) → (set_block h e2 g ≡ a.before ++ (f, k.lesser) ∷ (h, g) ∷ a.behind) × AreHalves a.block k.lesser g h
 half_in f h es e1 e2 g a m is k =
     let at = still_at f h es e1 a m is in
     let block = same_block f e1 at k.block k.was in
     let now = k.now ∙ set_is f e1 at k.lesser ∙ sym (append_assoc a.before ((f, k.lesser) ∷ []) ((h, []) ∷ a.behind)) in
     let low = lesser_more f h a.before k.lesser m.less a.lesser in
     let first = k.given ∙ ap (λ b. slice_get b (length b / 2)) (sym block) ∙ sym m.at in (
-      record { before = a.before ++ (f, k.lesser) ∷ []; block = []; behind = a.behind; whole = now; lesser = low },
-      ap (λ gs. insert_entry key_cmp gs h g) now ∙ insert_over h (a.before ++ (f, k.lesser) ∷ []) [] g a.behind low ∙ append_assoc a.before ((f, k.lesser) ∷ []) ((h, g) ∷ a.behind),
+      set_is h e2 (record { before = a.before ++ (f, k.lesser) ∷ []; block = []; behind = a.behind; whole = now; lesser = low }) g ∙ append_assoc a.before ((f, k.lesser) ∷ []) ((h, g) ∷ a.behind),
       subst (AreHalves a.block k.lesser g) (sym m.key) (halves a.block k.lesser g m.event (k.parts ∙ sym block) first m.ordered m.unique),
     )
 
-pub split_done : {T E : Type 0} (f h : EventKey) (es e1 e2 e3 : List (EventKey × List Event)) (g : List Event) (r : Result T E) (a : At f es) → IsMiddle f h es a → AreBlocks es → e1 ≡ insert_entry key_cmp es h [] → IsHalved f e1 e2 g → OnOk r (e3 ≡ insert_entry key_cmp e2 h g) → OnErr r (block_at h e2 ≡ None) → IsSplit es e3
-split_done f h es e1 e2 e3 g (Err x) a m k is half put refused =
-    let there = block_is h e2 (half_in f h es e1 e2 g a m is half).0 in
-    absurd (cc)
-split_done f h es e1 e2 e3 g (Ok t) a m k is half put refused =
+pub split_done : (f h : EventKey) (es e1 e2 e3 : List (EventKey × List Event)) (g : List Event) (a : At f es) → IsMiddle f h es a → AreBlocks es → e1 ≡ insert_entry key_cmp es h [] → IsHalved f e1 e2 g → e3 ≡ set_block h e2 g → IsSplit es e3
+split_done f h es e1 e2 e3 g a m k is half put =
     let all = half_in f h es e1 e2 g a m is half in
-    let now = put ∙ all.1 in
+    let now = put ∙ all.0 in
     let kept = subst AreBlocks a.whole k in
-    let same = ap events_of now ∙ events_more f h a.before a.block half.lesser g a.behind all.2.parts ∙ ap events_of (sym a.whole) in
+    let same = ap events_of now ∙ events_more f h a.before a.block half.lesser g a.behind all.1.parts ∙ ap events_of (sym a.whole) in
     record {
       same = same;
       blocks = record {
-        filled = subst (AllByRecursion (λ e. 0 < length e.1)) (sym now) (filled_more f h a.before a.block half.lesser g a.behind half.kept all.2.some kept.filled);
-        floored = subst AreFloored (sym now) (floored_more f h a.before a.block half.lesser g a.behind m.less all.2 kept.floored);
+        filled = subst (AllByRecursion (λ e. 0 < length e.1)) (sym now) (filled_more f h a.before a.block half.lesser g a.behind half.kept all.1.some kept.filled);
+        floored = subst AreFloored (sym now) (floored_more f h a.before a.block half.lesser g a.behind m.less all.1 kept.floored);
         ordered = subst IsInOrder (sym same) k.ordered;
       };
       below = λ xs q. subst (AreBelowBlocks xs) (sym now) (below_more xs f h a.before a.block half.lesser g a.behind m.less (subst (AreBelowBlocks xs) a.whole q));
@@ -237,6 +237,9 @@ between_known h b es ordered unique below told =
       unique = (unique_parts b (events_of es) unique).0;
       high = subst (λ (q : EventKey). AreAfter q es) (sym found.2) (held_at (λ x. AreAfter (key_of x) es) b (length b / 2) found.0 below found.1);
     }
+
+pub new_first : (h : EventKey) (b : List Event) (es : List (EventKey × List Event)) → IsBetween h b es → block_at h es ≡ None
+new_first h b es m = lookup_none h [] es tt m.high
 
 before_all : (h : EventKey) (es e1 : List (EventKey × List Event)) (b : List Event) → IsBetween h b es → e1 ≡ insert_entry key_cmp es h [] → e1 ≡ (h, []) ∷ es
 before_all h es e1 b m is = is ∙ insert_new h [] [] es tt m.high
@@ -264,11 +267,8 @@ front_kept h b l g es a k below ordered =
       below = below_both l h g es a.lesser both.0;
     }
 
-pub front_done : {T E : Type 0} (h : EventKey) (b l g : List Event) (es e1 e3 : List (EventKey × List Event)) (r : Result T E) → IsBetween h b es → AreBlocks es → AreBelowBlocks b es → IsInOrder (b ++ events_of es) → e1 ≡ insert_entry key_cmp es h [] → l ++ g ≡ b → slice_get g 0 ≡ slice_get b (length b / 2) → OnOk r (e3 ≡ insert_entry key_cmp e1 h g) → OnErr r (block_at h e1 ≡ None) → IsFrontSplit b l es e3
-front_done h b l g es e1 e3 (Err x) m k below ordered is parts middle put refused =
-    let there = block_is h e1 (record { before = []; block = []; behind = es; whole = before_all h es e1 b m is; lesser = tt }) in
-    absurd (cc)
-front_done h b l g es e1 e3 (Ok t) m k below ordered is parts middle put refused =
-    let now = put ∙ ap (λ gs. insert_entry key_cmp gs h g) (before_all h es e1 b m is) ∙ insert_over h [] [] g es tt in
+pub front_done : (h : EventKey) (b l g : List Event) (es e1 e3 : List (EventKey × List Event)) → IsBetween h b es → AreBlocks es → AreBelowBlocks b es → IsInOrder (b ++ events_of es) → e1 ≡ insert_entry key_cmp es h [] → l ++ g ≡ b → slice_get g 0 ≡ slice_get b (length b / 2) → e3 ≡ set_block h e1 g → IsFrontSplit b l es e3
+front_done h b l g es e1 e3 m k below ordered is parts middle put =
+    let now = put ∙ set_is h e1 (record { before = []; block = []; behind = es; whole = before_all h es e1 b m is; lesser = tt }) g in
     let a = subst (AreHalves b l g) (sym m.key) (halves b l g m.event parts (middle ∙ sym m.at) m.ordered m.unique) in
     subst (IsFrontSplit b l es) (sym now) (front_kept h b l g es a k below ordered)

@@ -1,12 +1,15 @@
 -- Going through blocks from the least on: the event at a place, how many are below a bound, and their handles
-use Rattle.std.proofs.Common.{◌≡◌, ℕ, zero, suc, ◌+◌, ◌-◌, ◌≤◌, ◌<◌, min, Bool, true, false, cond, ltb, List, [], ◌∷◌, ◌++◌, length, take, Option, Some, None, refl, sym, ap, ◌∙◌, append_assoc, arith}
+use Rattle.std.proofs.Common.{◌≡◌, ℕ, zero, suc, ◌+◌, ◌-◌, ◌≤◌, ◌<◌, min, map, Bool, true, false, cond, ltb, List, [], ◌∷◌, ◌++◌, length, take, Option, Some, None, refl, sym, ap, ◌∙◌, append_assoc, arith}
 use Rattle.std.proofs.lemmas.Bool.{ltb-true, ltb-false}
 use Rattle.std.proofs.lemmas.List.{append-nil}
 use Rattle.std.specs.List.{prefix_len, slice_get}
+use Rattle.std.specs.Option.{unwrap_or}
+use Rattle.slab.specs.Slab.{Slab, get}
 use Rattle.hla_base.specs.declared.content.Event.{Event}
 use Rattle.hla_base.specs.declared.number.EventHandle.{EventHandle}
 use Rattle.hla_order_queues.specs.Queues.{handle_of, handles_of}
 use Rattle.hla_order_queues.specs.Kept.{joined}
+use Rattle.hla_order_queues.specs.Places.{block_in}
 
 -- the next block
 pub next_block : (old rest : List (List Event)) (b : List Event) → old ≡ b ∷ rest → joined old ≡ b ++ joined rest
@@ -16,6 +19,17 @@ next_block old rest b e = ap joined e
 pub none_left : (old : List (List Event)) → old ≡ [] → joined old ≡ []
 unfolding joined
 none_left old e = ap joined e
+
+-- the block at the next place
+pub next_in : (s : Slab (List Event)) (old rest : List ℕ) (p : ℕ) (b : List Event) → old ≡ p ∷ rest → Some b ≡ get s p → map (block_in s) old ≡ b ∷ map (block_in s) rest
+next_in s old rest p b e at = ap (map (block_in s)) e ∙ ap (λ o. unwrap_or o [] ∷ map (block_in s) rest) (sym at)
+
+pub next_none : (s : Slab (List Event)) (old rest : List ℕ) (p : ℕ) → old ≡ p ∷ rest → None ≡ get s p → joined (map (block_in s) old) ≡ joined (map (block_in s) rest)
+unfolding joined
+next_none s old rest p e at = ap (λ ps. joined (map (block_in s) ps)) e ∙ ap (λ o. unwrap_or o [] ++ joined (map (block_in s) rest)) (sym at)
+
+pub nothing_in : (s : Slab (List Event)) (old : List ℕ) → old ≡ [] → map (block_in s) old ≡ []
+nothing_in s old e = ap (map (block_in s)) e
 
 -- the event at a place
 pub slice_get_front : (xs ys : List Event) (i : ℕ) → i < length xs → slice_get (xs ++ ys) i ≡ slice_get xs i

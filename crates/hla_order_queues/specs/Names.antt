@@ -1,5 +1,5 @@
 -- How the stamps of events are kept by their names: each sender's by serials that rise
-use Rattle.std.specs.Prelude.{◌≡◌, ℕ, suc, ◌<◌, eqb, ltb, cond, Bool, false, Option, Some, None, is_none, get_or, List, [], ◌∷◌, ◌++◌, length}
+use Rattle.std.specs.Prelude.{◌≡◌, ℕ, suc, ◌-◌, ◌/◌, ◌^◌, ◌<◌, eqb, ltb, leb, ◌&&◌, cond, Bool, false, Option, Some, None, is_none, get_or, List, [], ◌∷◌, ◌++◌, length}
 use Rattle.std.specs.List.{AllByRecursion}
 use Rattle.std.specs.Option.{option_or}
 use Rattle.std.specs.declared.cmp.Ordering.{Ordering}
@@ -34,6 +34,14 @@ is_first_note m (q ∷ qs) = eqb q.serial m
 abbrev pub is_first_none : List Note → Bool
 is_first_none [] = false
 is_first_none (q ∷ qs) = is_none q.stamp
+
+-- there is much more room than the notes need, and half of those that were there at the last try are gone
+abbrev pub is_try_due : ℕ → ℕ → ℕ → Bool
+is_try_due room len tried = ltb 64 room && (ltb len (room / 4) && leb len (tried / 2))
+
+-- how many notes there were at the last try to give room back; more than any where half of the room is used
+abbrev pub tried_after : ℕ → ℕ → ℕ → ℕ
+tried_after room len tried = cond (leb (room / 2) len) (2 ^ 64 - 1) (cond (is_try_due room len tried) len tried)
 
 -- the later notes, which rise, have the same stamps
 pub record Keeps (old new : List Note) : Type 0 where

@@ -113,7 +113,7 @@ impl Block {
     }
 
     /// Gives memory back where there is room for more than four times the events, and keeps twice what they take: half of
-    /// them go before it does so again.
+    /// them go before it does so again. Where that is refused each removal tries again, at the cost of a block's events.
     fn shrink(&mut self)
         ensures { self.new ≡ self.old }
     {

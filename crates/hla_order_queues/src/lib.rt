@@ -4,6 +4,7 @@
 mod block;
 mod blocks;
 mod control;
+mod floors;
 mod key;
 mod names;
 mod ordered;

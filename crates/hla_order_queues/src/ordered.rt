@@ -213,6 +213,7 @@ fn take_key(first: &mut Block, later: &mut Blocks, key: EventKey) -> Option<Even
 }
 
 /// Puts the next block in place of the first, if that is empty; the events stay the same.
+#[inline(always)]
 fn fill(first: &mut Block, later: &mut Blocks)
     requires { AreBelowBlocks first.old later.old }
     ensures same { first.new ++ events_of later.new ≡ first.old ++ events_of later.old }

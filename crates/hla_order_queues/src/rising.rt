@@ -3,7 +3,8 @@
 ghost use Rattle.std.specs.Prelude.{◌≡◌, ℕ, true, cond, eqb, None, Some, [], MatchBool};
 ghost use Rattle.std.specs.Bool.{OnTrue, OnFalse};
 ghost use Rattle.std.specs.List.{prefix_len};
-ghost use Rattle.hla_order_queues.specs.Names.{noted, AreRisingNotes, AreLess, Keeps, TakesNote, is_first_none, is_first_note, is_note_before};
+ghost use Rattle.std.specs.VecDeque.{deque_capacity, deque_len};
+ghost use Rattle.hla_order_queues.specs.Names.{noted, AreRisingNotes, AreLess, Keeps, TakesNote, is_first_none, is_first_note, is_note_before, is_try_due, tried_after};
 
 use hla_base::{Serial, Ticks};
 use std::alloc::Global;
@@ -29,6 +30,9 @@ pub(crate) struct Rising {
     notes: VecDeque<Note>,
     /// About how many notes are of events that are gone: it tells when to sweep them out, and nothing else.
     gone: usize,
+    /// How many notes there were when room was last given back, or refused to be; more than any where much of the room has
+    /// been used since. It tells when to try again, and nothing else.
+    tried: usize,
 }
 
 impl Model for Rising {
@@ -51,6 +55,7 @@ impl Rising {
         Rising {
             notes: VecDeque::new(alloc),
             gone: 0,
+            tried: usize::MAX,
         }
     }
 
@@ -98,7 +103,7 @@ impl Rising {
         ensures rest { (m : ℕ) → noted m self.new ≡ cond (eqb serial m) None (noted m self.old) }
     {
         let stamp = take_from(&mut self.notes, &mut self.gone, serial);
-        tidy(&mut self.notes, &mut self.gone);
+        tidy(&mut self.notes, &mut self.gone, &mut self.tried);
         stamp
     }
 }
@@ -182,7 +187,7 @@ fn mark(notes: &mut VecDeque<Note>, serial: Serial) -> Option<Ticks>
 }
 
 /// Takes notes of events that are gone out, if there are any, and gives room back.
-fn tidy(notes: &mut VecDeque<Note>, gone: &mut usize)
+fn tidy(notes: &mut VecDeque<Note>, gone: &mut usize, tried: &mut usize)
     requires { AreRisingNotes notes.old.items }
     ensures { Keeps notes.old.items notes.new.items }
 {
@@ -190,7 +195,7 @@ fn tidy(notes: &mut VecDeque<Note>, gone: &mut usize)
         drop_first(notes, gone);
         drop_many(notes, gone);
     }
-    give_back(notes);
+    give_back(notes, tried);
 }
 
 /// Takes the notes before the first event out.
@@ -226,13 +231,26 @@ fn is_first_gone(notes: &VecDeque<Note>) -> bool
     }
 }
 
-/// Gives room back where there is much more than the notes need; if that is refused all stays as it is.
-fn give_back(notes: &mut VecDeque<Note>)
-    ensures { notes.new.items ≡ notes.old.items }
+/// Gives room back where that is due; if it is refused, or more room than was asked for stays, all stays as it is until it
+/// is due again.
+fn give_back(notes: &mut VecDeque<Note>, tried: &mut usize)
+    ensures same { notes.new.items ≡ notes.old.items }
+    ensures tried { tried.new ≡ tried_after (deque_capacity notes.old) (deque_len notes.old) tried.old }
 {
     let room = notes.capacity();
     let len = notes.len();
-    if room > SPARE_ROOM && room / 4 > len {
+    if len >= room / 2 {
+        *tried = usize::MAX;
+    } else if is_due(room, len, *tried) {
+        *tried = len;
         notes.shrink_to(len * 2);
     }
+}
+
+/// Whether to give room back, which moves all notes: there is much more than they need, and as many as they are have been taken
+/// since the last try, and have paid for this one.
+fn is_due(room: usize, len: usize, tried: usize) -> bool
+    ensures { result ≡ is_try_due room len tried }
+{
+    room > SPARE_ROOM && room / 4 > len && len <= tried / 2
 }

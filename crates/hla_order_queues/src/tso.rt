@@ -170,7 +170,7 @@ impl TsoQueue {
     }
 
     /// The handles of the events with a stamp below `bound`, in their order; of all for `FOREVER`. `OutOfMemory` where
-    /// room for them was refused. It goes through these events alone.
+    /// room for them was refused. It goes through these events alone, and asks for memory once.
     pub fn handles_below(&self, alloc: Global, bound: Ticks) -> Result<Vec<EventHandle>, Fault>
         ensures below { bound < FOREVER → IfOk result (λ v. v.items ≡ handles_of (filter
             (λ e. nat_lt e.stamp bound) self.now)) }
@@ -178,7 +178,9 @@ impl TsoQueue {
         ensures err { IfErr result (λ e. e ≡ Fault.OutOfMemory) }
     {
         let count = self.count_below(bound);
-        let mut handles = Vec::new(alloc);
+        let Ok(mut handles) = Vec::with_capacity(alloc, count) else {
+            return Err(Fault::OutOfMemory);
+        };
         self.events.put_handles(count, &mut handles)?;
         Ok(handles)
     }

@@ -4,8 +4,8 @@ use Rattle.hla_order_queues.proofs.PutLemmas.{IsDropped, dropped, still_filled}
 use Rattle.hla_order_queues.proofs.blocks.drop_empty.Goals as goal
 use Rattle.hla_order_queues.proofs.blocks.drop_empty.Goals.{After-remove}
 
-gone : (c : After-remove) → IsDropped c.args.blocks.now.entries c.remove.new.self.entries
-gone c = dropped c.args.floor c.args.blocks.now.entries c.remove.new.self.entries c.len_at.result c.requires.at c.requires.floored c.requires.filled c.len_at.ensures c.if-len_at-eq0.true c.remove.ensures.entries
+gone : (c : After-remove) → IsDropped c.args.floors.now c.remove.new.self
+gone c = dropped c.args.floor c.args.floors.now c.remove.new.self c.len_at.result c.requires.at c.requires.floored c.requires.filled c.len_at.ensures c.if-len_at-eq0.true c.remove.ensures.rest
 
 pub returns-then-len_at-eq0-clause-events : goal.returns-then-len_at-eq0-clause-events
 returns-then-len_at-eq0-clause-events c = (gone (goal.at.returns-then-len_at-eq0-clause-events c).After-remove).events
@@ -20,4 +20,4 @@ pub returns-then-len_at-eq0-clause-below : goal.returns-then-len_at-eq0-clause-b
 returns-then-len_at-eq0-clause-below c = (gone (goal.at.returns-then-len_at-eq0-clause-below c).After-remove).below
 
 pub returns-else-len_at-eq0-clause-filled : goal.returns-else-len_at-eq0-clause-filled
-returns-else-len_at-eq0-clause-filled c = still_filled c.args.floor c.args.blocks.now.entries c.len_at.result c.requires.at c.requires.filled c.len_at.ensures (omega arith)
+returns-else-len_at-eq0-clause-filled c = still_filled c.args.floor c.args.floors.now c.len_at.result c.requires.at c.requires.filled c.len_at.ensures (omega arith)

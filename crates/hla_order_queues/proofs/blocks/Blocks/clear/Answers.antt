@@ -3,4 +3,4 @@ use Rattle.hla_order_queues.proofs.JoinedLemmas.{no_blocks}
 use Rattle.hla_order_queues.proofs.blocks.Blocks.clear.Goals as goal
 
 pub invariant_of-self : goal.invariant_of-self
-invariant_of-self c = no_blocks c.clear.new.self.entries c.clear.ensures.empty
+invariant_of-self c = no_blocks c.clear.new.self c.clear.ensures

@@ -3,4 +3,4 @@ use Rattle.hla_order_queues.proofs.JoinedLemmas.{no_blocks}
 use Rattle.hla_order_queues.proofs.blocks.Blocks.new.Goals as goal
 
 pub invariant_of-result : goal.invariant_of-result
-invariant_of-result c = no_blocks c.new.result.entries c.new.ensures.empty
+invariant_of-result c = no_blocks c.new.result c.new.ensures

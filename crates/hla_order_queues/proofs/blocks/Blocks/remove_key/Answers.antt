@@ -8,44 +8,44 @@ use Rattle.hla_order_queues.specs.Kept.{events_of, AreAfter, AreBelowBlocks, IsI
 use Rattle.hla_order_queues.proofs.StampLemmas.{HasKey, has_key}
 use Rattle.hla_order_queues.proofs.PutLemmas.{IsTaken, taken_out, not_before}
 use Rattle.hla_order_queues.proofs.blocks.Blocks.remove_key.Goals as goal
-use Rattle.hla_order_queues.proofs.blocks.Blocks.remove_key.Goals.{After-take_from-event, In_err-floor}
+use Rattle.hla_order_queues.proofs.blocks.Blocks.remove_key.Goals.{After-take_event-event, In_err-floor}
 
-key : (c : After-take_from-event) → HasKey c.args.key (events_of c.self.inside.blocks.entries)
+key : (c : After-take_event-event) → HasKey c.args.key (events_of c.self.inside.floors)
 key c = subst (λ (es : List (EventKey × List Event)). HasKey c.args.key (events_of es)) (sym c.self.view_is) (has_key c.args.key (events_of c.args.self.now) c.requires.there)
 
-taken : (c : After-take_from-event) → IsTaken c.args.key c.in_ok-floor.floor c.self.inside.blocks.entries c.take_from-event.new.blocks.entries c.take_from-event.result
+taken : (c : After-take_event-event) → IsTaken c.args.key c.in_ok-floor.floor c.self.inside.floors c.take_event-event.new.self c.take_event-event.result
 taken c =
-    taken_out c.args.key c.in_ok-floor.floor c.self.inside.blocks.entries c.take_from-event.new.blocks.entries c.take_from-event.result c.in_ok-floor.ensures c.self.invariant (key c) c.take_from-event.ensures
+    taken_out c.args.key c.in_ok-floor.floor c.self.inside.floors c.take_event-event.new.self c.take_event-event.result c.in_ok-floor.ensures c.self.invariant (key c) c.take_event-event.ensures
 
 pub drop_empty-requires-clause-at : goal.drop_empty-requires-clause-at
-drop_empty-requires-clause-at c = (taken (goal.at.drop_empty-requires-clause-at c).After-take_from-event).at
+drop_empty-requires-clause-at c = (taken (goal.at.drop_empty-requires-clause-at c).After-take_event-event).at
 
 pub drop_empty-requires-clause-floored : goal.drop_empty-requires-clause-floored
-drop_empty-requires-clause-floored c = (taken (goal.at.drop_empty-requires-clause-floored c).After-take_from-event).floored
+drop_empty-requires-clause-floored c = (taken (goal.at.drop_empty-requires-clause-floored c).After-take_event-event).floored
 
 pub drop_empty-requires-clause-filled : goal.drop_empty-requires-clause-filled
-drop_empty-requires-clause-filled c = (taken (goal.at.drop_empty-requires-clause-filled c).After-take_from-event).filled
+drop_empty-requires-clause-filled c = (taken (goal.at.drop_empty-requires-clause-filled c).After-take_event-event).filled
 
 pub invariant_of-self : goal.invariant_of-self
 invariant_of-self c =
-    let t = taken (goal.at.invariant_of-self c).After-take_from-event in
+    let t = taken (goal.at.invariant_of-self c).After-take_event-event in
     record {
       filled = c.drop_empty.ensures.filled;
       floored = c.drop_empty.ensures.floored;
-      ordered = subst IsInOrder (sym (c.drop_empty.ensures.events ∙ t.rest)) (IsInOrder-remove_event c.args.key.sender c.args.key.serial (events_of c.self.inside.blocks.entries) c.self.invariant.ordered);
+      ordered = subst IsInOrder (sym (c.drop_empty.ensures.events ∙ t.rest)) (IsInOrder-remove_event c.args.key.sender c.args.key.serial (events_of c.self.inside.floors) c.self.invariant.ordered);
     }
 
 pub returns-clause-found : goal.returns-clause-found
 returns-clause-found c =
-    (taken (goal.at.returns-clause-found c).After-take_from-event).found ∙ ap (λ (es : List (EventKey × List Event)). find_event c.args.key.sender c.args.key.serial (events_of es)) c.self.view_is
+    (taken (goal.at.returns-clause-found c).After-take_event-event).found ∙ ap (λ (es : List (EventKey × List Event)). find_event c.args.key.sender c.args.key.serial (events_of es)) c.self.view_is
 
 pub returns-clause-rest : goal.returns-clause-rest
 returns-clause-rest c =
-    c.drop_empty.ensures.events ∙ (taken (goal.at.returns-clause-rest c).After-take_from-event).rest ∙ ap (λ (es : List (EventKey × List Event)). remove_event c.args.key.sender c.args.key.serial (events_of es)) c.self.view_is
+    c.drop_empty.ensures.events ∙ (taken (goal.at.returns-clause-rest c).After-take_event-event).rest ∙ ap (λ (es : List (EventKey × List Event)). remove_event c.args.key.sender c.args.key.serial (events_of es)) c.self.view_is
 
 pub returns-clause-below : goal.returns-clause-below
 returns-clause-below c =
-    λ xs q. c.drop_empty.ensures.below xs ((taken (goal.at.returns-clause-below c).After-take_from-event).below xs (subst (AreBelowBlocks xs) (sym c.self.view_is) q))
+    λ xs q. c.drop_empty.ensures.below xs ((taken (goal.at.returns-clause-below c).After-take_event-event).below xs (subst (AreBelowBlocks xs) (sym c.self.view_is) q))
 
 never : (c : In_err-floor) → ⊥
 never c = not_before c.args.key c.args.self.now (subst (AreAfter c.args.key) c.self.view_is c.in_err-floor.ensures) c.requires.within

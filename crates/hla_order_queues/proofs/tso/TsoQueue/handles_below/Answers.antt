@@ -8,8 +8,8 @@ use Rattle.hla_order_queues.proofs.tso.TsoQueue.handles_below.Goals.{In_ok-put_h
 listed : (c : In_ok-put_handles) → c.put_handles.new.handles.items ≡ handles_of (take c.count_below-count.result c.args.self.now)
 listed c =
     c.in_ok-put_handles.ensures.ok
-    ∙ ap (λ xs. c.new-handles.result.items ++ handles_of (take c.count_below-count.result xs)) c.self.view_is
-    ∙ ap (λ hs. hs ++ handles_of (take c.count_below-count.result c.args.self.now)) c.new-handles.ensures.items
+    ∙ ap (λ xs. c.in-Ok.handles.items ++ handles_of (take c.count_below-count.result xs)) c.self.view_is
+    ∙ ap (λ hs. hs ++ handles_of (take c.count_below-count.result c.args.self.now)) c.in-Ok.ensures.items
 
 pub returns-clause-below : goal.returns-clause-below
 returns-clause-below c =

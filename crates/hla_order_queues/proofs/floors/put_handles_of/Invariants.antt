@@ -1,0 +1,10 @@
+-- What was put and what is ahead make all.
+use Rattle.std.proofs.Common.{◌≡◌, ◌++◌, map, take}
+use Rattle.hla_order_queues.specs.Queues.{handles_of}
+use Rattle.hla_order_queues.specs.Kept.{joined, events_of}
+use Rattle.hla_order_queues.specs.Places.{block_in, blocks_at}
+use Rattle.hla_order_queues.proofs.floors.put_handles_of.Given as goal
+
+abbrev pub invariant-loop-place : goal.invariant-loop-place
+invariant-loop-place l =
+    l.handles.items ++ handles_of (take l.left (joined (map (block_in l.blocks) l.place-iterator))) ≡ l.initial.handles.items ++ handles_of (take l.count (events_of (blocks_at l.blocks l.places.entries)))

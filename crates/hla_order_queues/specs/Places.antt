@@ -1,0 +1,40 @@
+-- How blocks lie under their floors: in a slab, at the places that an ordered map has for the floors
+use Rattle.std.specs.Prelude.{◌≡◌, ℕ, eqb, ◌||◌, Bool, false, List, [], ◌∷◌, is_some, Result}
+use Rattle.std.specs.Option.{unwrap_or}
+use Rattle.std.specs.Result.{OnOk, OnErr}
+use Rattle.slab.specs.Slab.{Slab, get}
+use Rattle.hla_base.specs.declared.content.Event.{Event}
+use Rattle.hla_order_queues.specs.declared.key.EventKey.{EventKey}
+use Rattle.hla_order_queues.specs.Queues.{insert_event}
+use Rattle.hla_order_queues.specs.Kept.{set_block}
+
+-- the events of the block at a place
+abbrev pub block_in : Slab (List Event) → ℕ → List Event
+block_in s place = unwrap_or (get s place) []
+
+-- the blocks at these places, under their floors
+abbrev pub blocks_at : Slab (List Event) → List (EventKey × ℕ) → List (EventKey × List Event)
+blocks_at s [] = []
+blocks_at s (e ∷ es) = (e.0, block_in s e.1) ∷ blocks_at s es
+
+-- a floor has this place
+abbrev pub is_named : ℕ → List (EventKey × ℕ) → Bool
+is_named place [] = false
+is_named place (e ∷ es) = eqb e.1 place || is_named place es
+
+-- no two floors have one place
+abbrev pub AreDistinct : List (EventKey × ℕ) → Type 0
+AreDistinct [] = Unit {0}
+AreDistinct (e ∷ es) = (is_named e.1 es ≡ false) × AreDistinct es
+
+-- the slab has a block just at the places that floors have, and each floor has a place of its own
+pub record AreHeld (s : Slab (List Event)) (es : List (EventKey × ℕ)) : Type 0 where
+  pub held : (place : ℕ) → is_some (get s place) ≡ is_named place es
+  pub distinct : AreDistinct es
+
+-- an event was put into the block under a floor, or refused
+pub record IsPutIn (x : Event) (f : EventKey) (was : List Event) (old new : List (EventKey × List Event)) (r : Result (Unit {0}) Event) : Type 0 where
+  pub block : List Event
+  pub now : new ≡ set_block f old block
+  pub ok : OnOk r (block ≡ insert_event x was)
+  pub refused : OnErr r (block ≡ was)
