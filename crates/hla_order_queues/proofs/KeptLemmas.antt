@@ -92,10 +92,9 @@ put_filled x f first l (Ok u) put same filled none =
 put_filled x f first l (Err e) put same filled none = filled (sym same ∙ none)
 
 -- the handles of the first events
-pub put_both : {E : Type 0} (f l now : List Event) (h h1 h2 : List EventHandle) (count here : ℕ) (r : Result (Unit {0}) E) → f ++ l ≡ now → here ≡ min count (length f) → h1 ≡ h ++ handles_of (take here f) → OnOk r (h2 ≡ h1 ++ handles_of (take (count - here) l)) → OnOk r (h2 ≡ h ++ handles_of (take count now))
-put_both f l now h h1 h2 count here (Ok u) whole size put rest =
+pub put_both : (f l now : List Event) (h h1 h2 : List EventHandle) (count here : ℕ) → f ++ l ≡ now → here ≡ min count (length f) → h1 ≡ h ++ handles_of (take here f) → h2 ≡ h1 ++ handles_of (take (count - here) l) → h2 ≡ h ++ handles_of (take count now)
+put_both f l now h h1 h2 count here whole size put rest =
     rest
     ∙ ap (λ gs. gs ++ handles_of (take (count - here) l)) put
     ∙ append_assoc h (handles_of (take here f)) (handles_of (take (count - here) l))
     ∙ ap (λ gs. h ++ gs) (sym (handles_of-append (take here f) (take (count - here) l)) ∙ ap handles_of (rw size (sym (take-parts count f l)) ∙ ap (take count) whole))
-put_both f l now h h1 h2 count here (Err e) whole size put rest = tt

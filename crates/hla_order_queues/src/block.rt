@@ -1,15 +1,14 @@
 //! A stretch of a queue in time-stamp order.
 
-ghost use Rattle.std.specs.Prelude.{◌/◌, option_map, ◌≡◌, ◌++◌, ◌<◌, ◌≤◌, [], length, take, drop, slice_get, position, None, IfErr, IfOk, OnOk, OnErr, List, option_copied};
+ghost use Rattle.std.specs.Prelude.{◌/◌, option_map, ◌≡◌, ◌++◌, ◌<◌, ◌≤◌, [], length, take, drop, slice_get, position, None, IfErr, IfOk, OnOk, OnErr, List, option_copied, vec_len, vec_capacity, ◌+◌};
 ghost use Rattle.std.specs.List.{prefix_len};
 ghost use Rattle.hla_base.specs.declared.content.Event.{Event};
-ghost use Rattle.hla_base.specs.declared.fault.Fault.TheVariants.{OutOfMemory};
 ghost use Rattle.hla_order_queues.specs.Queues.{insert_event, find_event, remove_event, is_event, handles_of};
 ghost use Rattle.hla_order_queues.specs.Moving.{is_moved};
 ghost use Rattle.hla_order_queues.specs.Kept.{key_of, IsInOrder};
 
 use crate::key::EventKey;
-use hla_base::{Event, EventHandle, FOREVER, Fault, FederateNo, Serial, Ticks};
+use hla_base::{Event, EventHandle, FOREVER, FederateNo, Serial, Ticks};
 use std::alloc::{AllocError, Global};
 use std::collections::VecDeque;
 use std::marker::Model;
@@ -155,10 +154,12 @@ impl Block {
             .count()
     }
 
-    /// Puts the handles of the first `count` events at the end of others; `OutOfMemory` where room for them was refused.
-    pub fn put_handles(&self, count: usize, handles: &mut Vec<EventHandle>) -> Result<(), Fault>
-        ensures ok { OnOk result (handles.new.items ≡ handles.old.items ++ handles_of (take count self.now)) }
-        ensures err { IfErr result (λ e. e ≡ Fault.OutOfMemory) }
+    /// Puts the handles of the first `count` events at the end of others, which have room for so many; it takes no memory.
+    pub fn put_handles(&self, count: usize, handles: &mut Vec<EventHandle>)
+        requires { vec_len handles.old + count ≤ vec_capacity handles.old }
+        ensures put { handles.new.items ≡ handles.old.items ++ handles_of (take count self.now) }
+        ensures len { vec_len handles.new ≤ vec_len handles.old + count }
+        ensures capacity { vec_capacity handles.new ≡ vec_capacity handles.old }
     {
         for i in 0..count {
             if let Some(event) = self.nth(i) {
@@ -166,12 +167,9 @@ impl Block {
                     sender: event.sender,
                     serial: event.serial,
                 };
-                let Ok(()) = handles.push(handle) else {
-                    return Err(Fault::OutOfMemory);
-                };
+                handles.push_reserved(handle);
             }
         }
-        Ok(())
     }
 
     /// Takes all events out.

@@ -1,9 +1,8 @@
 //! The later stretches of a queue in time-stamp order.
 
-ghost use Rattle.std.specs.Prelude.{◌/◌, ◌≡◌, ◌++◌, ◌<◌, ◌≤◌, ◌^◌, [], None, Some, true, false, List, length, take, IfErr, OnOk, OnErr, IfSome, MatchOption, option_copied, option_map, slice_get};
+ghost use Rattle.std.specs.Prelude.{◌/◌, ◌≡◌, ◌++◌, ◌<◌, ◌≤◌, ◌^◌, [], None, Some, true, false, List, length, take, IfErr, OnOk, OnErr, IfSome, MatchOption, option_copied, option_map, slice_get, vec_len, vec_capacity, ◌+◌};
 ghost use Rattle.std.specs.List.{prefix_len, AllByRecursion};
 ghost use Rattle.hla_base.specs.declared.content.Event.{Event as EventValue};
-ghost use Rattle.hla_base.specs.declared.fault.Fault.TheVariants.{OutOfMemory};
 ghost use Rattle.hla_order_queues.specs.Queues.{insert_event, find_event, remove_event, handles_of};
 ghost use Rattle.hla_order_queues.specs.Moving.{is_moved};
 ghost use Rattle.hla_order_queues.specs.Kept.{key_of, first_after, floor_after, block_at, without_block, events_of, name_of_key, stamp_of, IsInOrder, IsUnique, AreAfter, AreBelowBlocks, AreFloored, AreBlocks, At, IsPlace};
@@ -11,7 +10,7 @@ ghost use Rattle.hla_order_queues.specs.Kept.{key_of, first_after, floor_after, 
 use crate::block::Block;
 use crate::floors::Floors;
 use crate::key::EventKey;
-use hla_base::{Event, EventHandle, Fault, Ticks};
+use hla_base::{Event, EventHandle, Ticks};
 use std::alloc::Global;
 use std::marker::Model;
 
@@ -132,12 +131,15 @@ impl Blocks {
         self.floors.count_below(bound)
     }
 
-    /// Puts the handles of the first `count` events at the end of others; `OutOfMemory` where room for them was refused.
-    pub fn put_handles(&self, count: usize, handles: &mut Vec<EventHandle>) -> Result<(), Fault>
-        ensures ok { OnOk result (handles.new.items ≡ handles.old.items ++ handles_of (take count (events_of self.now))) }
-        ensures err { IfErr result (λ e. e ≡ Fault.OutOfMemory) }
+    /// Puts the handles of the first `count` events at the end of others, which have room for so many; it takes no memory.
+    pub fn put_handles(&self, count: usize, handles: &mut Vec<EventHandle>)
+        requires { vec_len handles.old + count ≤ vec_capacity handles.old }
+        ensures put { handles.new.items ≡ handles.old.items
+            ++ handles_of (take count (events_of self.now)) }
+        ensures len { vec_len handles.new ≤ vec_len handles.old + count }
+        ensures capacity { vec_capacity handles.new ≡ vec_capacity handles.old }
     {
-        self.floors.put_handles(count, handles)
+        self.floors.put_handles(count, handles);
     }
 
     /// Takes all events out.

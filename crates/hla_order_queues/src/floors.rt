@@ -1,10 +1,9 @@
 //! Blocks under their floors.
 
-ghost use Rattle.std.specs.Prelude.{◌≡◌, ◌++◌, ◌∷◌, ◌^◌, ◌<◌, ◌≤◌, ⊤, [], None, Some, List, length, take, IfErr, OnOk, OnErr, MatchOption, option_copied, option_map, slice_get};
+ghost use Rattle.std.specs.Prelude.{◌≡◌, ◌++◌, ◌∷◌, ◌^◌, ◌<◌, ◌≤◌, ⊤, [], None, Some, List, length, take, IfErr, OnErr, MatchOption, option_copied, option_map, slice_get, vec_len, vec_capacity, ◌+◌};
 ghost use Rattle.std.specs.Bool.{OnTrue, OnFalse};
 ghost use Rattle.std.specs.List.{prefix_len};
 ghost use Rattle.std.specs.BTreeMap.{insert_entry};
-ghost use Rattle.hla_base.specs.declared.fault.Fault.TheVariants.{OutOfMemory};
 ghost use Rattle.hla_order_queues.specs.Queues.{insert_event, find_event, remove_event, handles_of};
 ghost use Rattle.hla_order_queues.specs.Moving.{is_moved};
 ghost use Rattle.hla_order_queues.specs.Kept.{key_cmp, block_at, set_block, without_block, events_of, AreAfter, IsInOrder, IsPlace, IsHalved};
@@ -12,7 +11,7 @@ ghost use Rattle.hla_order_queues.specs.Places.{blocks_at, IsPutIn};
 
 use crate::block::Block;
 use crate::key::EventKey;
-use hla_base::{Event, EventHandle, Fault, Ticks};
+use hla_base::{Event, EventHandle, Ticks};
 use slab::Slab;
 use std::alloc::Global;
 use std::collections::BTreeMap;
@@ -190,13 +189,15 @@ impl Floors {
         count_of(&self.places, &self.blocks, bound)
     }
 
-    /// Puts the handles of the first `count` events at the end of others; `OutOfMemory` where room for them was refused.
-    pub fn put_handles(&self, count: usize, handles: &mut Vec<EventHandle>) -> Result<(), Fault>
-        ensures ok { OnOk result (handles.new.items ≡ handles.old.items
-            ++ handles_of (take count (events_of self.now))) }
-        ensures err { IfErr result (λ e. e ≡ Fault.OutOfMemory) }
+    /// Puts the handles of the first `count` events at the end of others, which have room for so many; it takes no memory.
+    pub fn put_handles(&self, count: usize, handles: &mut Vec<EventHandle>)
+        requires { vec_len handles.old + count ≤ vec_capacity handles.old }
+        ensures put { handles.new.items ≡ handles.old.items
+            ++ handles_of (take count (events_of self.now)) }
+        ensures len { vec_len handles.new ≤ vec_len handles.old + count }
+        ensures capacity { vec_capacity handles.new ≡ vec_capacity handles.old }
     {
-        put_handles_of(&self.places, &self.blocks, count, handles)
+        put_handles_of(&self.places, &self.blocks, count, handles);
     }
 
     /// Takes all blocks out, and gives their memory back.
@@ -256,10 +257,12 @@ fn put_handles_of(
     blocks: &Slab<Block>,
     count: usize,
     handles: &mut Vec<EventHandle>,
-) -> Result<(), Fault>
-    ensures ok { OnOk result (handles.new.items ≡ handles.old.items
-        ++ handles_of (take count (events_of (blocks_at blocks.now places.now.entries)))) }
-    ensures err { IfErr result (λ e. e ≡ Fault.OutOfMemory) }
+)
+    requires { vec_len handles.old + count ≤ vec_capacity handles.old }
+    ensures put { handles.new.items ≡ handles.old.items
+        ++ handles_of (take count (events_of (blocks_at blocks.now places.now.entries))) }
+    ensures len { vec_len handles.new ≤ vec_len handles.old + count }
+    ensures capacity { vec_capacity handles.new ≡ vec_capacity handles.old }
 {
     let mut left = count;
     for place in places.values() {
@@ -267,11 +270,10 @@ fn put_handles_of(
             continue;
         };
         let here = left.min(block.len());
-        block.put_handles(here, handles)?;
+        block.put_handles(here, handles);
         left -= here;
         if left == 0 {
-            return Ok(());
+            return;
         }
     }
-    Ok(())
 }

@@ -1,8 +1,7 @@
 //! The events of a queue in time-stamp order.
 
-ghost use Rattle.std.specs.Prelude.{◌≡◌, ◌++◌, [], None, Some, length, take as list_take, drop, slice_get, IfErr, OnOk, OnErr, option_copied};
+ghost use Rattle.std.specs.Prelude.{◌≡◌, ◌++◌, [], None, Some, length, take as list_take, drop, slice_get, IfErr, OnOk, OnErr, option_copied, vec_len, vec_capacity, ◌+◌, ◌≤◌};
 ghost use Rattle.std.specs.List.{prefix_len};
-ghost use Rattle.hla_base.specs.declared.fault.Fault.TheVariants.{OutOfMemory};
 ghost use Rattle.hla_order_queues.specs.Queues.{insert_event, find_event, remove_event, handles_of};
 ghost use Rattle.hla_order_queues.specs.Moving.{is_moved, IsRising};
 ghost use Rattle.hla_order_queues.specs.Kept.{events_of, name_of_key, stamp_of, IsInOrder, IsUnique, AreBelowBlocks};
@@ -10,7 +9,7 @@ ghost use Rattle.hla_order_queues.specs.Kept.{events_of, name_of_key, stamp_of, 
 use crate::block::Block;
 use crate::blocks::{Blocks, FULL};
 use crate::key::EventKey;
-use hla_base::{Event, EventHandle, Fault, FederateNo, Serial, Ticks};
+use hla_base::{Event, EventHandle, Ticks};
 use std::alloc::Global;
 use std::marker::Model;
 
@@ -137,14 +136,17 @@ impl Ordered {
         }
     }
 
-    /// Puts the handles of the first `count` events at the end of others; `OutOfMemory` where room for them was refused.
-    pub fn put_handles(&self, count: usize, handles: &mut Vec<EventHandle>) -> Result<(), Fault>
-        ensures ok { OnOk result (handles.new.items ≡ handles.old.items ++ handles_of (list_take count self.now)) }
-        ensures err { IfErr result (λ e. e ≡ Fault.OutOfMemory) }
+    /// Puts the handles of the first `count` events at the end of others, which have room for so many; it takes no memory.
+    pub fn put_handles(&self, count: usize, handles: &mut Vec<EventHandle>)
+        requires { vec_len handles.old + count ≤ vec_capacity handles.old }
+        ensures put { handles.new.items ≡ handles.old.items
+            ++ handles_of (list_take count self.now) }
+        ensures len { vec_len handles.new ≤ vec_len handles.old + count }
+        ensures capacity { vec_capacity handles.new ≡ vec_capacity handles.old }
     {
         let here = count.min(self.first.len());
-        self.first.put_handles(here, handles)?;
-        self.later.put_handles(count - here, handles)
+        self.first.put_handles(here, handles);
+        self.later.put_handles(count - here, handles);
     }
 
     /// Takes all events out.

@@ -181,7 +181,7 @@ impl TsoQueue {
         let Ok(mut handles) = Vec::with_capacity(alloc, count) else {
             return Err(Fault::OutOfMemory);
         };
-        self.events.put_handles(count, &mut handles)?;
+        self.events.put_handles(count, &mut handles);
         Ok(handles)
     }
 

@@ -3,11 +3,11 @@ use Rattle.std.proofs.Common.{◌≡◌, ◌++◌, take, ap, ◌∙◌}
 use Rattle.hla_order_queues.specs.Queues.{handles_of}
 use Rattle.hla_order_queues.proofs.MovingLemmas.{below_moved, all_moved}
 use Rattle.hla_order_queues.proofs.tso.TsoQueue.handles_below.Goals as goal
-use Rattle.hla_order_queues.proofs.tso.TsoQueue.handles_below.Goals.{In_ok-put_handles}
+use Rattle.hla_order_queues.proofs.tso.TsoQueue.handles_below.Goals.{After-put_handles}
 
-listed : (c : In_ok-put_handles) → c.put_handles.new.handles.items ≡ handles_of (take c.count_below-count.result c.args.self.now)
+listed : (c : After-put_handles) → c.put_handles.new.handles.items ≡ handles_of (take c.count_below-count.result c.args.self.now)
 listed c =
-    c.in_ok-put_handles.ensures.ok
+    c.put_handles.ensures.put
     ∙ ap (λ xs. c.in-Ok.handles.items ++ handles_of (take c.count_below-count.result xs)) c.self.view_is
     ∙ ap (λ hs. hs ++ handles_of (take c.count_below-count.result c.args.self.now)) c.in-Ok.ensures.items
 
