@@ -116,16 +116,19 @@ kept_less ws i place k o d r w apart l read known all =
     let now = removed_there ws g m place apart (own_place ws place w apart l read) (remove ws place) refl in
     kept_all (remove ws place) i (k - 1) o d r now.apart (subst (IsIndexOf i) (sym (delivered ws (remove ws place) g m None now.table)) known) (omega (arith, all, length-remove ws place l))
 
-pub kept_less_none : (ws : List Waiting) (x : Indexing) (place : ℕ) (w : Waiting) → IsIndexingOf ws x → x.index ≡ None → place < length ws → w ≡ get_or ws place w → IsIndexingOf (remove ws place) x
-kept_less_none ws x place w kept is l read =
+pub kept_less_found : (ws : List Waiting) (x : Indexing) (place g m : ℕ) → IsIndexingOf ws x → x.index ≡ None → Some place ≡ position (is_of g m) ws → IsIndexingOf (remove ws place) x
+kept_less_found ws x place g m kept is found =
     let none = no_head ws x kept is in
-    let now = removed_there ws w.event.sender w.event.serial place kept.apart (own_place ws place w kept.apart l read) (remove ws place) refl in
+    let now = removed_there ws g m place kept.apart found (remove ws place) refl in
     record {
       apart = now.apart;
       within = omega (arith, none);
       head = subst (λ o. IsHead o x.count (take x.count (remove ws place))) (sym is) none;
       tail = subst (λ n. AreNotBelow x.least_ordered x.least_demoted (drop n (remove ws place))) (sym none) (bounds_remove x.least_ordered x.least_demoted ws place (subst (λ n. AreNotBelow x.least_ordered x.least_demoted (drop n ws)) none kept.tail));
     }
+
+pub kept_less_none : (ws : List Waiting) (x : Indexing) (place : ℕ) (w : Waiting) → IsIndexingOf ws x → x.index ≡ None → place < length ws → w ≡ get_or ws place w → IsIndexingOf (remove ws place) x
+kept_less_none ws x place w kept is l read = kept_less_found ws x place w.event.sender w.event.serial kept is (own_place ws place w kept.apart l read)
 
 -- ---- one moved to receive order
 pub kept_demoted : (ws : List Waiting) (i : Index) (place k o d : ℕ) (r : Bool) (w v : Waiting) → AreApart ws → place < length ws → w ≡ get_or ws place w → IsIndexOf i (upd2 (delivery_at ws) w.event.sender w.event.serial (Some (demoted_delivery w.delivery))) → k ≡ length ws →

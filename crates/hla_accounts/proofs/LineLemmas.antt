@@ -1,7 +1,7 @@
 -- What stands behind the gap of a line after a change
 use Rattle.std.proofs.Common.{◌≡◌, ℕ, suc, ◌+◌, ◌-◌, ◌<◌, ◌≤◌, List, ◌++◌, length, get_or, set, take, drop, refl, sym, ap, ◌∙◌, arith, append_assoc, length-append, length-drop}
 use Rattle.std.specs.List.{remove}
-use Rattle.std.proofs.lemmas.List.{drop_at, drop-drop, drop-take, drop-append-le, drop-set-add, get_or-drop, get_or_default, length-take-le, take-take}
+use Rattle.std.proofs.lemmas.List.{append-nil, drop_all, drop_at, drop-drop, drop-take, drop-append-le, drop-set-add, get_or-drop, get_or_default, length-take-le, take-take}
 use borrow.Rule.Slice.PartMut.{put_mid, mid_of}
 use Rattle.hla_callbacks.specs.declared.callback.Delivery.{Delivery}
 use Rattle.hla_accounts.specs.declared.bag.Waiting.{Waiting}
@@ -41,3 +41,11 @@ pub set_behind : (s p : ℕ) (ws : List Waiting) (x d : Waiting) (y : Delivery) 
 set_behind s p ws x d y l read =
     drop-set-add s ws p (record x { delivery = y })
     ∙ ap (λ (w : Waiting). set (drop s ws) p (record w { delivery = y })) (read ∙ get_or_default ws (s + p) x d l ∙ sym (get_or-drop s ws p d))
+
+-- the front message is taken out
+pub front_alone : (s p : ℕ) (ws : List Waiting) → p ≡ 0 → drop (s + 1) ws ≡ remove (drop s ws) p
+front_alone s p ws none = sym (drop-drop 1 s ws) ∙ ap (remove (drop s ws)) (sym none)
+
+-- the last message is taken out
+pub last_alone : (p : ℕ) (ws : List Waiting) → length ws ≤ p + 1 → take p ws ≡ remove ws p
+last_alone p ws all = sym (append-nil (take p ws)) ∙ ap (λ vs. take p ws ++ vs) (sym (drop_all (suc p) ws (omega (arith, all))))

@@ -9,11 +9,14 @@ use Rattle.std.proofs.lemmas.List.Quantifiers.{position-Some}
 use Rattle.std.proofs.lemmas.List.Sums.{position_or_len_is}
 use Rattle.std.proofs.lemmas.Option.{slice_get-get_or}
 use Rattle.std.proofs.Math.Path.{fun_ext}
+use Rattle.std.proofs.lemmas.List.{set-get_or}
 use Rattle.hla_base.specs.Tables.{upd2}
 use Rattle.hla_base.specs.declared.number.EventHandle.{EventHandle}
 use Rattle.hla_callbacks.specs.declared.callback.Delivery.{Delivery}
+use Rattle.hla_callbacks.specs.declared.callback.Delivery.TheVariants as delivery
 use Rattle.hla_accounts.specs.declared.bag.Waiting.{Waiting}
 use Rattle.hla_accounts.specs.Bags.{is_of, is_listed, waiting_at, demoted_delivery, demoted_waiting, with_listed_demoted, AreApart}
+use Rattle.hla_accounts.specs.Bounds.{ordered_stamp}
 use Rattle.hla_accounts.specs.Indexes.{delivery_at}
 use Rattle.hla_accounts.proofs.BagLemmas.{waiting_at-nil, waiting_at-cons, waiting_at-find, waiting_at-push, waiting_at-remove, waiting_at-demote, apart-remove, apart-demote, key_of, stays, demoted_if}
 
@@ -192,6 +195,20 @@ demoted_at e ws i d apart is vs now =
 
 pub none_demoted_one : (e : EventHandle) (ws : List Waiting) → waiting_at ws e.sender e.serial ≡ None → waiting_at ws ≡ with_listed_demoted (e ∷ []) (waiting_at ws)
 none_demoted_one e ws none = sym (sym (waiting_at-demote (e ∷ []) ws) ∙ ap waiting_at (undemoted e ws none))
+
+-- what does not go in time-stamp order stays as it is
+unmoved_delivery : (d : Delivery) → ordered_stamp d ≡ None → demoted_delivery d ≡ d
+unmoved_delivery delivery.Receive none = refl
+unmoved_delivery (delivery.Demoted stamp) none = refl
+unmoved_delivery (delivery.TimeStamp stamp) none = absurd (cc)
+
+pub unmoved : (e : EventHandle) (ws : List Waiting) (i : ℕ) (w : Waiting) → AreApart ws → Some i ≡ position (is_of e.sender e.serial) ws → w ≡ get_or ws i w → ordered_stamp w.delivery ≡ None →
+    waiting_at ws ≡ with_listed_demoted (e ∷ []) (waiting_at ws)
+unmoved e ws i w apart is read none =
+    let same : demoted_waiting w ≡ w = ap (λ (d : Delivery). record w { delivery = d }) (unmoved_delivery w.delivery none) in
+    let here : ws ≡ set ws i (demoted_waiting (get_or ws i w)) = sym (ap (λ (x : Waiting). set ws i (demoted_waiting x)) (sym read) ∙ ap (set ws i) (same ∙ read) ∙ set-get_or ws i w) in
+    let now = demoted_at e ws i w apart is ws here in
+    now.table
 
 -- ---- how each is to be given
 pub delivered : (old new : List Waiting) (g m : ℕ) (o : Option Waiting) → waiting_at new ≡ upd2 (waiting_at old) g m o → delivery_at new ≡ upd2 (delivery_at old) g m (option_map (λ (w : Waiting). w.delivery) o)

@@ -1,14 +1,15 @@
 //! What waits for one federate.
 
-ghost use Rattle.std.specs.Prelude.{◌≡◌, ◌↔◌, ◌∷◌, ◌≤◌, false, IsTrue, [], None, Some, length, take, slice_get, OnOk, OnErr, IfErr};
+ghost use Rattle.std.specs.Prelude.{◌≡◌, ◌↔◌, ◌∷◌, ◌≤◌, ◌<◌, false, IsTrue, [], None, Some, length, take, slice_get, slice_set, slice_index_or, OnOk, OnErr, IfErr};
 ghost use Rattle.std.specs.List.{position};
 ghost use Rattle.std.specs.Option.{option_copied, option_map_or};
 ghost use Rattle.hla_base.specs.declared.fault.Fault.TheVariants.{OutOfMemory};
 ghost use Rattle.hla_base.specs.Tables.{upd2};
 ghost use Rattle.hla_accounts.specs.Accounts.{copy_at, copy_given};
-ghost use Rattle.hla_accounts.specs.Bags.{is_of, is_listed, waiting_at, demoted_delivery, with_listed_demoted, AreApart};
+ghost use Rattle.hla_accounts.specs.Bags.{is_of, is_listed, waiting_at, demoted_delivery, demoted_waiting, with_listed_demoted, AreApart};
 ghost use Rattle.hla_accounts.specs.Indexes.{IsIndexingOf};
 
+use crate::bounds::ordered_stamp;
 use crate::indexing::{INDEXED_FROM, Indexing};
 use crate::line::Line;
 use crate::places::Places;
@@ -28,11 +29,15 @@ pub struct Waiting {
     pub content: Content,
 }
 
+/// Looking so often at a message takes about as long as adding it to an index.
+const LOOKS: usize = 256;
+
 /// The messages that one federate has not picked up, in the order of their sending. No two of them have one sender and
-/// one serial. Contracts see the list; `waiting_at` reads it as a table by sender and serial. Where much waits, the first
-/// call that takes a message out, or moves one to receive order, makes an index, which stays until the bag is cleared. What is
-/// put later comes into it at the next such call, and is looked through until then. Before there is an index it is noted where
-/// each message was put. Where memory was refused, a message is looked for among all that waits.
+/// one serial. Contracts see the list; `waiting_at` reads it as a table by sender and serial. Few messages are looked through.
+/// Where much waits, it is noted where each message was put, until one is taken out; from then on messages are looked
+/// through, until that has taken as long as making an index of all does. That is made then, and goes when few messages are left.
+/// What is put later comes into it when a message is taken out or moved to receive order, and is looked through until then.
+/// Where memory was refused, a message is looked for among all that waits.
 #[derive(Debug, Drop)]
 pub struct Bag {
     waiting: Line,
@@ -40,6 +45,10 @@ pub struct Bag {
     indexing: Indexing,
     /// Made where much waits and there is no index; gone once a message is taken out.
     places: Option<Places>,
+    /// How many messages are put where much waits before places are noted anew: to note them looks at all.
+    unnoted: usize,
+    /// About how often one that the index does not have was looked at since an index was made or let go.
+    looks: usize,
 }
 
 impl Model for Bag {
@@ -109,6 +118,15 @@ fn scan(waiting: &[Waiting], event: EventHandle) -> Option<usize>
     })
 }
 
+/// The message that an event handle names, if it is among these. It looks at each message that stands before it.
+#[inline(always)]
+#[tactic(auto, unfolding(crate::specs::Bags::waiting_at))]
+fn find_listed(messages: &[Waiting], event: EventHandle) -> Option<&Waiting>
+    ensures { option_copied result ≡ waiting_at messages.now event.sender event.serial }
+{
+    messages.iter().find(|w| w.event.sender == event.sender && w.event.serial == event.serial)
+}
+
 impl Bag {
     /// Nothing waits; it takes no memory.
     pub fn new(alloc: Global) -> Bag
@@ -118,6 +136,8 @@ impl Bag {
             waiting: Line::new(alloc),
             indexing: Indexing::new(),
             places: None,
+            unnoted: 0,
+            looks: 0,
         }
     }
 
@@ -138,8 +158,10 @@ impl Bag {
         &self.indexing
     }
 
-    /// Where the message stands that an event handle names. What the index gives is looked at first, and then the tail.
-    fn place_of(&self, event: EventHandle) -> Option<usize>
+    /// Where the message stands that an event handle names, where much waits. What the index gives is looked at first, and then
+    /// the tail.
+    #[cold]
+    fn place_among_many(&self, event: EventHandle) -> Option<usize>
         ensures { result ≡ position (is_of event.sender event.serial) self.now }
     {
         let waiting = self.waiting.as_slice();
@@ -149,22 +171,37 @@ impl Bag {
                 Some(_) => scan(waiting, event),
                 None => scan_from(waiting, self.indexing.count, event),
             },
-            None => {
-                let noted = noted_place(&self.places, event);
-                place_by_note(waiting, noted, event)
-            }
+            None => match &self.places {
+                Some(places) => place_by_note(waiting, places.place_of(event), event),
+                None => scan(waiting, event),
+            },
         }
     }
 
-    /// The message that an event handle names, if it waits. The time grows with the logarithm of what is in the index, and with
-    /// what was put since a message was taken out or moved to receive order. Before that it grows with the logarithm of what
-    /// the sender sent, and all is looked at where the message does not wait.
+    /// The message that an event handle names, where much waits.
+    #[cold]
+    fn find_among_many(&self, event: EventHandle) -> Option<&Waiting>
+        ensures { option_copied result ≡ waiting_at self.now event.sender event.serial }
+    {
+        match self.place_among_many(event) {
+            Some(place) => Some(&self.waiting.as_slice()[place]),
+            None => None,
+        }
+    }
+
+    /// The message that an event handle names, if it waits. Where there is an index, the time grows with the logarithm of what it
+    /// has, and with what was put since a message was taken out or moved to receive order. Where places are noted it grows with
+    /// the logarithm of what the sender sent, and all is looked at where the message does not wait. Else it looks at each
+    /// message that stands before it.
+    #[inline(always)]
     pub fn find(&self, event: EventHandle) -> Option<&Waiting>
         ensures { option_copied result ≡ waiting_at self.now event.sender event.serial }
     {
-        match self.place_of(event) {
-            Some(place) => Some(&self.waiting.as_slice()[place]),
-            None => None,
+        let waiting = self.waiting.as_slice();
+        if self.indexing.is_idle(waiting.len()) {
+            find_listed(waiting, event)
+        } else {
+            self.find_among_many(event)
         }
     }
 
@@ -195,23 +232,114 @@ impl Bag {
         let delivery = waiting.delivery;
         self.waiting.push(waiting)?;
         self.indexing.put(delivery);
-        note_place(&mut self.places, &mut self.indexing, &self.waiting, event);
+        self.note_place(event);
         Ok(())
     }
 
-    /// The message that an event handle names waits no longer. The first call where much waits makes an index of all that
-    /// waits, and each adds to it what was put since, each message once. Then the time to find the message grows with the
-    /// logarithm of what waits; the messages behind it move, or those in front of it where these are fewer.
+    /// A message was put behind the others: its place is noted where much waits.
+    #[inline(always)]
+    fn note_place(&mut self, event: EventHandle)
+        ensures { self.new ≡ self.old }
+    {
+        if self.waiting.len() >= INDEXED_FROM {
+            self.note_among_many(event);
+        }
+    }
+
+    /// Notes the place of a message that was put behind the others, if there is no index, nor was memory for one refused. To note
+    /// all looks at all that waits, and so is tried only each time that as much again has come; the bounds of the tail
+    /// are then made anew, too.
+    #[cold]
+    fn note_among_many(&mut self, event: EventHandle)
+        ensures { self.new ≡ self.old }
+    {
+        if self.indexing.index.is_some() || self.indexing.is_refused {
+            return;
+        }
+        let messages = self.waiting.as_slice();
+        match &mut self.places {
+            Some(known) => known.note(event, messages.len().saturating_sub(1)),
+            None if self.unnoted > 0 => self.unnoted -= 1,
+            None => {
+                self.unnoted = messages.len();
+                self.places = Places::of(self.waiting.allocator(), messages);
+                self.indexing.bound(messages);
+            }
+        }
+    }
+
+    /// Messages were looked at that the index does not have, about so often. Once that has taken as long as it takes to add
+    /// all of these to the index, or to make one, that is done.
+    fn look(&mut self, looks: usize)
+        ensures { self.new ≡ self.old }
+    {
+        self.looks = self.looks.saturating_add(looks);
+        let unindexed = self.indexing.unindexed(self.waiting.len());
+        if unindexed > 0 && self.looks / LOOKS >= unindexed {
+            self.indexing.extend(&self.waiting);
+            self.looks = 0;
+        }
+    }
+
+    /// One of many is looked for by its name, among those that the index does not have.
+    #[cold]
+    fn look_at_tail(&mut self)
+        ensures { self.new ≡ self.old }
+    {
+        if self.places.is_none() {
+            let looks = self.indexing.unindexed(self.waiting.len());
+            self.look(looks);
+        }
+    }
+
+    /// A message was taken out of many, at a place: others have moved. `is_bound` says whether it had the least stamp of the
+    /// tail.
+    fn settle(&mut self, place: usize, is_bound: bool)
+        ensures { self.new ≡ self.old }
+    {
+        self.places = None;
+        if self.indexing.index.is_some() {
+            self.indexing.let_go_of_few(self.waiting.as_slice());
+            return;
+        }
+        if is_bound {
+            self.indexing.bound(self.waiting.as_slice());
+        }
+        let looks = self.waiting.len().saturating_add(place);
+        self.look(looks);
+    }
+
+    /// The message that an event handle names waits no longer. Where there is an index, what was put since is added to it, each
+    /// message once, and the time to find the message grows with the logarithm of what waits; else it looks at each message. The
+    /// messages behind it move, or those in front of it where these are fewer.
     pub fn remove(&mut self, event: EventHandle)
         ensures table { waiting_at self.new ≡ upd2 (waiting_at self.old) event.sender event.serial None }
         ensures apart { AreApart self.new }
     {
-        self.indexing.catch_up(&self.waiting);
-        if let Some(place) = self.place_of(event) {
-            forget_places(&mut self.places);
-            self.indexing.remove(&self.waiting, place);
-            self.waiting.remove(place);
+        if !self.indexing.is_idle(self.waiting.len()) {
+            self.remove_from_many(event);
+            return;
         }
+        if let Some(at) = scan(self.waiting.as_slice(), event) {
+            self.waiting.remove(at);
+        }
+    }
+
+    /// `remove` where much waits.
+    #[cold]
+    fn remove_from_many(&mut self, event: EventHandle)
+        ensures table { waiting_at self.new ≡ upd2 (waiting_at self.old) event.sender event.serial None }
+        ensures apart { AreApart self.new }
+    {
+        self.indexing.catch_up(&self.waiting);
+        let Some(place) = self.place_among_many(event) else {
+            return;
+        };
+        let delivery = self.waiting.as_slice()[place].delivery;
+        let is_bound = self.indexing.is_bound_by(delivery);
+        self.indexing.remove(&self.waiting, place);
+        self.waiting.remove(place);
+        self.settle(place, is_bound);
     }
 
     /// The message that an event handle names, if it was sent in time-stamp order, is to be given in receive order.
@@ -219,12 +347,47 @@ impl Bag {
         ensures table { waiting_at self.new ≡ with_listed_demoted (event ∷ []) (waiting_at self.old) }
         ensures apart { AreApart self.new }
     {
-        self.indexing.catch_up(&self.waiting);
-        if let Some(place) = self.place_of(event) {
-            let after = demoted(self.waiting.as_slice()[place].delivery);
-            self.indexing.demote(&self.waiting, place, after);
-            self.waiting.set_delivery(place, after);
+        let waiting = self.waiting.as_slice();
+        if !self.indexing.is_idle(waiting.len()) {
+            self.demote_among_many(event);
+            return;
         }
+        let Some(place) = scan(waiting, event) else {
+            return;
+        };
+        let delivery = waiting[place].delivery;
+        if ordered_stamp(delivery).is_some() {
+            self.demote_at(place);
+        }
+    }
+
+    /// `demote_one` where much waits.
+    #[cold]
+    fn demote_among_many(&mut self, event: EventHandle)
+        ensures table { waiting_at self.new ≡ with_listed_demoted (event ∷ []) (waiting_at self.old) }
+        ensures apart { AreApart self.new }
+    {
+        self.look_at_tail();
+        let Some(place) = self.place_among_many(event) else {
+            return;
+        };
+        let delivery = self.waiting.as_slice()[place].delivery;
+        if ordered_stamp(delivery).is_some() {
+            self.demote_at(place);
+        }
+    }
+
+    /// The message at a place is to be given in receive order.
+    #[inline(never)]
+    fn demote_at(&mut self, place: usize)
+        requires { place < length self.old }
+        ensures written { (d : Waiting) → self.new ≡ slice_set self.old place (demoted_waiting (slice_index_or self.old place d)) }
+        ensures apart { AreApart self.new }
+    {
+        self.indexing.catch_up(&self.waiting);
+        let after = demoted(self.waiting.as_slice()[place].delivery);
+        self.indexing.demote(&self.waiting, place, after);
+        self.waiting.set_delivery(place, after);
     }
 
     /// These messages, as far as they were sent in time-stamp order, are to be given in receive order. It finds each as
@@ -248,45 +411,8 @@ impl Bag {
         self.waiting.clear();
         self.indexing = Indexing::new();
         self.places = None;
-    }
-}
-
-/// Where a message was put, if that was noted.
-fn noted_place(places: &Option<Places>, event: EventHandle) -> Option<usize> {
-    match places {
-        Some(places) => places.place_of(event),
-        None => None,
-    }
-}
-
-/// A message is taken out, so that others move.
-fn forget_places(places: &mut Option<Places>) {
-    *places = None;
-}
-
-/// A message was put behind the others: its place is noted, where much waits and there is no index, nor was memory for one
-/// refused. To note all looks at all that waits, and so is tried only each time that as much again has come; the bounds of the
-/// tail are then made anew, too.
-fn note_place(
-    places: &mut Option<Places>,
-    indexing: &mut Indexing,
-    waiting: &Line,
-    event: EventHandle,
-)
-    ensures { IsIndexingOf waiting.now indexing.old → IsIndexingOf waiting.now indexing.new }
-{
-    let messages = waiting.as_slice();
-    if indexing.index.is_some() || indexing.is_refused {
-        return;
-    }
-    match places {
-        Some(known) => known.note(event, messages.len().saturating_sub(1)),
-        None => {
-            if messages.len() >= INDEXED_FROM && messages.len().is_power_of_two() {
-                *places = Places::of(waiting.allocator(), messages);
-                indexing.bound(messages);
-            }
-        }
+        self.unnoted = 0;
+        self.looks = 0;
     }
 }
 

@@ -1,6 +1,6 @@
 //! Which of the messages that wait for one federate an index has.
 
-ghost use Rattle.std.specs.Prelude.{◌≡◌, ◌<◌, ◌≤◌, ◌∷◌, ◌++◌, [], true, List, length, drop, take, slice_index_or, slice_set, None, ℕ, IfSome};
+ghost use Rattle.std.specs.Prelude.{◌≡◌, ◌<◌, ◌≤◌, ◌∷◌, ◌++◌, [], true, false, List, length, drop, take, slice_index_or, slice_set, None, ℕ, IfSome};
 ghost use Rattle.std.specs.List.{remove};
 ghost use Rattle.hla_accounts.specs.declared.bag.Waiting.{Waiting};
 ghost use Rattle.hla_accounts.specs.Bags.{waiting_at, demoted_delivery, demoted_waiting, AreApart, IsNotBelow, AreNotBelow};
@@ -16,11 +16,14 @@ use std::alloc::Global;
 /// Of fewer messages all are looked at as fast as an index finds one, and it would take memory.
 pub const INDEXED_FROM: usize = 256;
 
+/// Where fewer messages are left the index goes. As many again come before there is another.
+const KEPT_FROM: usize = 128;
+
 /// An index of the first messages of a bag, where there is one, and what is known of the others, the tail. Each message comes
-/// into the tail, which is added to the index before one is taken out or moved to receive order.
+/// into the tail. Where there is an index, the tail is added to it before a message is taken out or moved to receive order.
 #[derive(Debug, Drop)]
 pub struct Indexing {
-    /// Made where much waits, unless memory for it is refused.
+    /// Made where much waits and has been looked at often, unless memory for it is refused.
     pub index: Option<Index>,
     /// How many messages the index has; 0 where there is none.
     pub count: usize,
@@ -110,42 +113,48 @@ impl Indexing {
         time <= self.least_demoted
     }
 
-    /// Whether there is no more to do for the index of so many messages.
-    fn is_caught_up(&self, count: usize) -> bool
-        ensures { result ≡ true → IfSome self.now.index (λ _. self.now.count ≡ count) }
-    {
-        match self.index {
-            Some(_) => self.count == count,
-            None => self.is_refused || count < INDEXED_FROM,
-        }
-    }
-
-    /// Memory for the index was refused: there is none any more, and all messages are the tail. It looks at each.
-    fn give_up(&mut self, waiting: &[Waiting])
+    /// There is no index any more, and all messages are the tail. It looks at each.
+    fn let_go(&mut self, waiting: &[Waiting])
         requires { AreApart waiting.now }
         ensures kept { IsIndexingOf waiting.now self.new }
         ensures none { self.new.index ≡ None }
     {
         self.index = None;
         self.count = 0;
-        self.is_refused = true;
-        let (ordered, demoted) = least_stamps(waiting);
-        self.least_ordered = ordered;
-        self.least_demoted = demoted;
+        let (least_ordered, least_demoted) = least_stamps(waiting);
+        self.least_ordered = least_ordered;
+        self.least_demoted = least_demoted;
     }
 
-    /// Adds the tail to the index, and makes one of all messages where much waits and there is none, unless memory was refused.
-    /// The time grows with the tail, times the logarithm of what waits. Where a growth is refused it looks at each message,
-    /// and from then on does nothing.
-    pub fn catch_up(&mut self, waiting: &Line)
+    /// Lets the index go where few messages are left. It looks at each then.
+    pub fn let_go_of_few(&mut self, waiting: &[Waiting])
+        requires { IsIndexingOf waiting.now self.old }
+        ensures { IsIndexingOf waiting.now self.new }
+    {
+        if waiting.len() < KEPT_FROM {
+            self.let_go(waiting);
+        }
+    }
+
+    /// Memory for the index was refused: there is none any more, and none is made. It looks at each message.
+    fn give_up(&mut self, waiting: &[Waiting])
+        requires { AreApart waiting.now }
+        ensures kept { IsIndexingOf waiting.now self.new }
+        ensures none { self.new.index ≡ None }
+    {
+        self.let_go(waiting);
+        self.is_refused = true;
+    }
+
+    /// Adds the tail to the index, or makes one of all messages. The time grows with the tail, times the logarithm of what
+    /// waits. Where a growth is refused it looks at each message, and there is no index any more.
+    #[cold]
+    pub fn extend(&mut self, waiting: &Line)
         requires { IsIndexingOf waiting.now self.old }
         ensures kept { IsIndexingOf waiting.now self.new }
         ensures all { IsCaughtUp waiting.now self.new }
     {
         let messages = waiting.as_slice();
-        if self.is_caught_up(messages.len()) {
-            return;
-        }
         let mut index = index_or_new(self.index.take(), waiting.allocator());
         if index.extend(messages, self.count).is_err() {
             self.give_up(messages);
@@ -155,6 +164,51 @@ impl Indexing {
         self.count = messages.len();
         self.least_ordered = FOREVER;
         self.least_demoted = FOREVER;
+    }
+
+    /// Whether there is no index, nor any use of one for so many messages.
+    pub fn is_idle(&self, count: usize) -> bool
+        ensures { result ≡ true → self.now.index ≡ None }
+    {
+        count < INDEXED_FROM && self.index.is_none()
+    }
+
+    /// Whether there is an index that does not have all of so many messages.
+    fn is_behind(&self, count: usize) -> bool
+        ensures { result ≡ false → IfSome self.now.index (λ _. self.now.count ≡ count) }
+    {
+        match self.index {
+            Some(_) => self.count != count,
+            None => false,
+        }
+    }
+
+    /// Adds the tail to the index, if there is one, as `extend`.
+    pub fn catch_up(&mut self, waiting: &Line)
+        requires { IsIndexingOf waiting.now self.old }
+        ensures kept { IsIndexingOf waiting.now self.new }
+        ensures all { IsCaughtUp waiting.now self.new }
+    {
+        if self.is_behind(waiting.len()) {
+            self.extend(waiting);
+        }
+    }
+
+    /// How many of so many messages are the tail, if an index of all may be made.
+    pub fn unindexed(&self, count: usize) -> usize {
+        if self.is_refused {
+            0
+        } else {
+            count.saturating_sub(self.count)
+        }
+    }
+
+    /// Whether the bound of what goes in time-stamp order may be of a message that is to be given so.
+    pub fn is_bound_by(&self, delivery: Delivery) -> bool {
+        match delivery {
+            Delivery::TimeStamp { stamp } => stamp <= self.least_ordered,
+            Delivery::Receive | Delivery::Demoted { .. } => false,
+        }
     }
 
     /// A message was put behind the others.

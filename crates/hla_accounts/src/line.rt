@@ -12,8 +12,12 @@ use hla_callbacks::Delivery;
 use std::alloc::Global;
 use std::marker::Model;
 
-/// A gap that is shorter is closed only where nothing waits behind it: to move a few messages costs some thousand instructions.
+/// A gap that is shorter is closed only where nothing waits behind it, and of fewer messages one is taken out with no gap: to turn
+/// a few messages costs some thousand instructions, and to move up those behind one next to nothing.
 const CLOSED_FROM: usize = 64;
+
+/// A gap that is at least this part of what a line has room for is closed before the line grows.
+const CLOSED_PART: usize = 8;
 
 /// Messages in the order of their sending. Contracts see the list. Messages are mostly taken out near the front, so a gap may
 /// stand there, of messages that say nothing: what stands in front of a message that is taken out moves up in its place.
@@ -53,6 +57,11 @@ fn nothing() -> Waiting
     }
 }
 
+/// Whether those in front of a message that is taken out move, and not those behind it.
+fn moves_front(start: usize, place: usize, len: usize) -> bool {
+    len >= CLOSED_FROM && place.saturating_sub(start) < len.saturating_sub(place)
+}
+
 /// Moves the message at a place to the front of those from `start` on.
 fn move_to_front(waiting: &mut [Waiting], start: usize, place: usize)
     requires some { start ≤ place }
@@ -60,7 +69,9 @@ fn move_to_front(waiting: &mut [Waiting], start: usize, place: usize)
     ensures rest { drop (start + 1) waiting.new ≡ remove (drop start waiting.old) (place - start) }
     ensures len { length waiting.new ≡ length waiting.old }
 {
-    waiting[start..place + 1].rotate_right(1);
+    if start < place {
+        waiting[start..place + 1].rotate_right(1);
+    }
 }
 
 /// Puts a message that says nothing in the place of another.
@@ -82,10 +93,13 @@ fn take_out(waiting: &mut Vec<Waiting>, start: usize, place: usize) -> usize
     ensures rest { drop result waiting.new.items ≡ remove (drop start waiting.old.items) (place - start) }
     ensures within { result ≤ length waiting.new.items }
 {
-    if place - start < waiting.len() - place {
+    if moves_front(start, place, waiting.len()) {
         move_to_front(waiting.as_mut_slice(), start, place);
         vacate(waiting, start);
         start + 1
+    } else if place + 1 == waiting.as_slice().len() {
+        waiting.truncate(place);
+        start
     } else {
         let _ = waiting.remove(place);
         start
@@ -125,6 +139,29 @@ impl Line {
         &self.waiting.as_slice()[self.start..]
     }
 
+    /// Closes the gap.
+    fn close(&mut self)
+        ensures { self.new ≡ self.old }
+    {
+        close_gap(&mut self.waiting, self.start);
+        self.start = 0;
+    }
+
+    /// Where one more message would make the line grow, closes the gap instead, unless that is short: those behind it move, at
+    /// most seven for each message for which there is room then. A short gap is closed, too, where the growth is refused.
+    #[cold]
+    fn make_room(&mut self)
+        ensures { self.new ≡ self.old }
+    {
+        let room = self.waiting.capacity();
+        if self.waiting.len() < room {
+            return;
+        }
+        if self.start >= room / CLOSED_PART || self.waiting.reserve(1).is_err() {
+            self.close();
+        }
+    }
+
     /// Puts a message behind the others. `OutOfMemory`, and all as it was, where a growth was refused. Over many calls the
     /// time of one is constant.
     pub fn push(&mut self, waiting: Waiting) -> Result<(), Fault>
@@ -132,18 +169,27 @@ impl Line {
         ensures err { IfErr result (λ e. e ≡ Fault.OutOfMemory) }
         ensures unchanged { OnErr result (self.new ≡ self.old) }
     {
-        let Err(refused) = self.waiting.push(waiting) else {
-            return Ok(());
-        };
-        if self.start == 0 {
-            return Err(Fault::OutOfMemory);
+        if self.start > 0 {
+            self.make_room();
         }
-        close_gap(&mut self.waiting, self.start);
-        self.start = 0;
-        match self.waiting.push(refused.value) {
+        match self.waiting.push(waiting) {
             Ok(()) => Ok(()),
             Err(_) => Err(Fault::OutOfMemory),
         }
+    }
+
+    /// Whether more is in the gap than behind it, and is worth moving what waits, or nothing waits.
+    fn is_gap_long(&self) -> bool {
+        let len = self.waiting.len();
+        self.start == len
+            || (self.start >= CLOSED_FROM && self.start > len.saturating_sub(self.start))
+    }
+
+    /// How many messages there are.
+    pub fn len(&self) -> usize
+        ensures { result ≡ length self.now }
+    {
+        self.waiting.len() - self.start
     }
 
     /// Takes the message at a place out. It moves those behind it, or those in front of it where these are fewer, and over
@@ -153,10 +199,8 @@ impl Line {
         ensures { self.new ≡ remove self.old place }
     {
         self.start = take_out(&mut self.waiting, self.start, self.start + place);
-        let len = self.waiting.len();
-        if self.start == len || (self.start >= CLOSED_FROM && self.start > len - self.start) {
-            close_gap(&mut self.waiting, self.start);
-            self.start = 0;
+        if self.start > 0 && self.is_gap_long() {
+            self.close();
         }
     }
 

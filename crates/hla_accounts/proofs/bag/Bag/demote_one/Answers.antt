@@ -1,22 +1,36 @@
 -- The message is demoted at its place.
-use Rattle.std.proofs.Common.{◌≡◌, List, [], ◌∷◌, get_or, set, subst, ap, sym, ◌∙◌}
+use Rattle.std.proofs.Common.{◌≡◌, List, Some, None, [], ◌∷◌, get_or, subst, ap, sym, ◌∙◌, rules}
+use Rattle.std.specs.List.{position}
 use Rattle.hla_accounts.specs.declared.bag.Waiting.{Waiting}
-use Rattle.hla_accounts.specs.Bags.{waiting_at, demoted_delivery, with_listed_demoted}
-use Rattle.hla_accounts.proofs.PlaceLemmas.{demoted_at, none_demoted_one, found_none}
+use Rattle.hla_accounts.specs.Bags.{is_of, waiting_at, with_listed_demoted, AreApart}
+use Rattle.hla_accounts.specs.Bounds.{ordered_stamp}
+use Rattle.hla_accounts.proofs.PlaceLemmas.{demoted_at, none_demoted_one, found_none, unmoved}
 use Rattle.hla_accounts.proofs.bag.Bag.demote_one.Goals as goal
 
-pub returns-in-Some-clause-table : goal.returns-in-Some-clause-table
-returns-in-Some-clause-table c =
-    let ws = c.self.inside.waiting in
-    let w = c.index-as_slice-place.result in
+pub returns-then-is_some-clause-table : goal.returns-then-is_some-clause-table
+returns-then-is_some-clause-table c =
+    let g = c.args.event.sender in
+    let m = c.args.event.serial in
+    let here = subst (λ (vs : List Waiting). Some c.in-Some.place ≡ position (is_of g m) vs) (c.as_slice-waiting.ensures ∙ c.self.view_is) c.in-Some.ensures in
+    let w = c.index-waiting-place.result in
+    let now = demoted_at c.args.event c.args.self.now c.in-Some.place w (subst AreApart c.self.view_is c.self.invariant.apart) here c.demote_at.new.self (c.demote_at.ensures.written w) in
+    now.table
+
+pub returns-else-is_some-clause-table : goal.returns-else-is_some-clause-table
+returns-else-is_some-clause-table c =
+    let g = c.args.event.sender in
+    let m = c.args.event.serial in
+    let w = c.index-waiting-place.result in
     let place = c.in-Some.place in
-    let read = subst (λ (vs : List Waiting). w ≡ get_or vs place w) c.as_slice.ensures c.index-as_slice-place.is in
-    let given : c.demoted-after.result ≡ demoted_delivery (get_or ws place w).delivery =
-    c.demoted-after.ensures ∙ ap (λ (x : Waiting). demoted_delivery x.delivery) (sym c.index-as_slice-place.is ∙ read) in
-    let now = demoted_at c.args.event ws place w c.self.invariant.apart c.in-Some.ensures c.set_delivery.new.self (c.set_delivery.ensures w ∙ ap (λ d. set ws place (record (get_or ws place w) { delivery = d })) given) in
-    now.table ∙ ap (λ (vs : List Waiting). with_listed_demoted (c.args.event ∷ []) (waiting_at vs)) c.self.view_is
+    let same = c.as_slice-waiting.ensures ∙ c.self.view_is in
+    let here = subst (λ (vs : List Waiting). Some place ≡ position (is_of g m) vs) same c.in-Some.ensures in
+    let read = subst (λ (vs : List Waiting). w ≡ get_or vs place w) same c.index-waiting-place.is in
+    let none : ordered_stamp w.delivery ≡ None = search rules in
+    unmoved c.args.event c.args.self.now place w (subst AreApart c.self.view_is c.self.invariant.apart) here read none
 
 pub returns-in_default-clause-table : goal.returns-in_default-clause-table
 returns-in_default-clause-table c =
-    let ws = c.self.inside.waiting in
-    none_demoted_one c.args.event ws (found_none ws c.args.event.sender c.args.event.serial c.in_default.ensures) ∙ ap (λ (vs : List Waiting). with_listed_demoted (c.args.event ∷ []) (waiting_at vs)) c.self.view_is
+    let g = c.args.event.sender in
+    let m = c.args.event.serial in
+    let none = subst (λ (vs : List Waiting). None ≡ position (is_of g m) vs) (c.as_slice-waiting.ensures ∙ c.self.view_is) c.in_default.ensures in
+    none_demoted_one c.args.event c.args.self.now (found_none c.args.self.now g m none)

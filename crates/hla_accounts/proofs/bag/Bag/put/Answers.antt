@@ -19,14 +19,16 @@ invariant_of-self-2 c =
     let w = c.args.waiting in
     let grown = c.in_ok-push.ensures in
     let kept = c.put.ensures ws w c.self.invariant (free ws c.args.self.now w c.self.view_is c.requires) refl in
-    c.note_place.ensures (subst (λ (vs : List Waiting). IsIndexingOf vs c.put.new.self) (sym grown.ok) kept)
+    subst (λ (vs : List Waiting). IsIndexingOf vs c.put.new.self) (sym grown.ok) kept
 
 pub returns-clause-ok : goal.returns-clause-ok
 returns-clause-ok c =
     let ws = c.self.inside.waiting in
     let w = c.args.waiting in
     let grown = c.in_ok-push.ensures in
-    ap waiting_at grown.ok ∙ waiting_at-push ws w (free ws c.args.self.now w c.self.view_is c.requires) ∙ ap (λ (vs : List Waiting). upd2 (waiting_at vs) w.event.sender w.event.serial (Some w)) c.self.view_is
+    ap waiting_at (c.note_place.ensures ∙ grown.ok) ∙ waiting_at-push ws w (free ws c.args.self.now w c.self.view_is c.requires) ∙ ap (λ (vs : List Waiting). upd2 (waiting_at vs) w.event.sender w.event.serial (Some w)) c.self.view_is
 
 pub returns-clause-apart : goal.returns-clause-apart
-returns-clause-apart c = let grown = c.in_ok-push.ensures in apart c.self.inside.waiting c.args.self.now c.push.new.self c.args.waiting c.self.view_is c.requires c.self.invariant.apart grown.ok
+returns-clause-apart c =
+    let grown = c.in_ok-push.ensures in
+    apart c.self.inside.waiting c.args.self.now c.note_place.new.self c.args.waiting c.self.view_is c.requires c.self.invariant.apart (c.note_place.ensures ∙ grown.ok)

@@ -1,8 +1,11 @@
--- The message is taken out at its place.
-use Rattle.std.proofs.Common.{List, None, ap, ◌∙◌}
+-- Of few messages one is taken out at its place.
+use Rattle.std.proofs.Common.{◌≡◌, List, Some, None, ap, subst, sym, ◌∙◌, rules}
+use Rattle.std.specs.List.{position}
 use Rattle.hla_base.specs.Tables.{upd2}
 use Rattle.hla_accounts.specs.declared.bag.Waiting.{Waiting}
-use Rattle.hla_accounts.specs.Bags.{waiting_at}
+use Rattle.hla_accounts.specs.Bags.{is_of, waiting_at}
+use Rattle.hla_accounts.specs.Indexes.{IsIndexingOf}
+use Rattle.hla_accounts.proofs.IndexingLemmas.{kept_less_found}
 use Rattle.hla_accounts.proofs.PlaceLemmas.{removed_there, found_none, unwritten}
 use Rattle.hla_accounts.proofs.bag.Bag.remove.Goals as goal
 
@@ -11,7 +14,8 @@ returns-in-Some-clause-table c =
     let ws = c.self.inside.waiting in
     let g = c.args.event.sender in
     let m = c.args.event.serial in
-    let now = removed_there ws g m c.in-Some.place c.self.invariant.apart c.in-Some.ensures c.remove-in-Some.new.self c.remove-in-Some.ensures in
+    let there = subst (λ (vs : List Waiting). Some c.in-Some.at ≡ position (is_of g m) vs) c.as_slice.ensures c.in-Some.ensures in
+    let now = removed_there ws g m c.in-Some.at c.self.invariant.apart there c.remove.new.self c.remove.ensures in
     now.table ∙ ap (λ (vs : List Waiting). upd2 (waiting_at vs) g m None) c.self.view_is
 
 pub returns-in_default-clause-table : goal.returns-in_default-clause-table
@@ -19,4 +23,17 @@ returns-in_default-clause-table c =
     let ws = c.self.inside.waiting in
     let g = c.args.event.sender in
     let m = c.args.event.serial in
-    unwritten (waiting_at ws) g m (found_none ws g m c.in_default.ensures) ∙ ap (λ (vs : List Waiting). upd2 (waiting_at vs) g m None) c.self.view_is
+    let none = subst (λ (vs : List Waiting). None ≡ position (is_of g m) vs) c.as_slice.ensures c.in_default.ensures in
+    subst (λ (vs : List Waiting). waiting_at vs ≡ upd2 (waiting_at vs) g m None) c.self.view_is (unwritten (waiting_at ws) g m (found_none ws g m none))
+
+pub invariant_of-self : goal.invariant_of-self
+invariant_of-self c =
+    let ws = c.self.inside.waiting in
+    let g = c.args.event.sender in
+    let m = c.args.event.serial in
+    let there = subst (λ (vs : List Waiting). Some c.in-Some.at ≡ position (is_of g m) vs) c.as_slice.ensures c.in-Some.ensures in
+    let none : c.self.inside.indexing.index ≡ None = c.is_idle.ensures (search rules) in
+    subst (λ (vs : List Waiting). IsIndexingOf vs c.self.inside.indexing) (sym c.remove.ensures) (kept_less_found ws c.self.inside.indexing c.in-Some.at g m c.self.invariant none there)
+
+pub returns-in-Some-clause-apart : goal.returns-in-Some-clause-apart
+returns-in-Some-clause-apart c = let kept = invariant_of-self c in kept.apart

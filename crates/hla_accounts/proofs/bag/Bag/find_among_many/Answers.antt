@@ -2,7 +2,7 @@
 use Rattle.std.proofs.Common.{◌≡◌, ◌<◌, List, length, get_or, subst, sym, ◌∙◌}
 use Rattle.hla_accounts.specs.declared.bag.Waiting.{Waiting}
 use Rattle.hla_accounts.proofs.PlaceLemmas.{there_at, found_inside, found_none}
-use Rattle.hla_accounts.proofs.bag.Bag.find.Goals as goal
+use Rattle.hla_accounts.proofs.bag.Bag.find_among_many.Goals as goal
 
 pub bounds-as_slice-place : goal.bounds-as_slice-place
 bounds-as_slice-place c = subst (λ (ws : List Waiting). c.in-Some.place < length ws) (sym (c.as_slice.ensures ∙ c.self.view_is)) (found_inside c.args.self.now c.args.event.sender c.args.event.serial c.in-Some.place c.in-Some.ensures)

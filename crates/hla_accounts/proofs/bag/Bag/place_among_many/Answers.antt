@@ -7,7 +7,7 @@ use Rattle.hla_accounts.specs.Bags.{is_of, waiting_at}
 use Rattle.hla_accounts.specs.Indexes.{delivery_at}
 use Rattle.hla_accounts.proofs.PlaceLemmas.{stands_there, undelivered}
 use Rattle.hla_accounts.proofs.IndexingLemmas.{head_of}
-use Rattle.hla_accounts.proofs.bag.Bag.place_of.Goals as goal
+use Rattle.hla_accounts.proofs.bag.Bag.place_among_many.Goals as goal
 
 pub returns-in-Some-place_of : goal.returns-in-Some-place_of
 returns-in-Some-place_of c =
