@@ -1,5 +1,7 @@
 -- Values by rising handle
 pub mod Pairs
+-- Which values of an update are shown
+pub mod Showing
 -- The parts stay of one execution
 pub mod Wholes
 -- What is not refused is done

@@ -1,7 +1,7 @@
 //! Updates as their receivers are shown them.
 
-ghost use Rattle.std.specs.Prelude.{◌≡◌, ◌∷◌, [], filter, IfOk, IfErr, IfSome, OnOk};
-ghost use Rattle.std.specs.List.{All, Contains, list_all};
+ghost use Rattle.std.specs.Prelude.{◌≡◌, ◌<◌, ◌∷◌, [], true, false, filter, not, Some, IfOk, IfErr, IfSome, OnOk};
+ghost use Rattle.std.specs.List.{position};
 ghost use Rattle.std.specs.Option.{option_map_or};
 ghost use Rattle.hla_base.specs.declared.content.Content.TheVariants as content;
 ghost use Rattle.hla_base.specs.declared.content.Event.{Event};
@@ -24,20 +24,25 @@ use hla_declaration::Receiver;
 #[derive(Debug, Drop)]
 pub(crate) struct Made<'a> {
     subscribed: &'a [AttributeNo],
+    /// The place of the first value that they are not shown.
+    hidden: usize,
     event: Option<SharedEvent>,
 }
 
-/// What was made for those who subscribe just these attributes, if anything was.
-fn made_for<'a, 'b>(made: &'a [Made<'b>], subscribed: &[AttributeNo]) -> Option<&'a Made<'b>>
+/// What was made for others, if they subscribe just these attributes. Most lists differ in the first value that is hidden, too,
+/// which costs less to see.
+fn made_for<'a, 'b>(
+    made: &'a Option<Made<'b>>,
+    subscribed: &[AttributeNo],
+    hidden: usize,
+) -> Option<&'a Made<'b>>
     ensures same { IfSome result (λ m. m.now.subscribed.now ≡ subscribed.now) }
-    ensures made { IfSome result (λ m. Contains made.now m.now) }
+    ensures made { IfSome result (λ m. made.now ≡ Some m.now) }
 {
-    for one in made {
-        if one.subscribed == subscribed {
-            return Some(one);
-        }
+    match made {
+        Some(one) if one.hidden == hidden && one.subscribed == subscribed => Some(one),
+        _ => None,
     }
-    None
 }
 
 /// One more share of an event, if there is one.
@@ -61,46 +66,64 @@ fn is_subscribed(subscribed: &[AttributeNo], attribute: AttributeNo) -> bool
     subscribed.contains(&attribute)
 }
 
-/// Whether all the attributes of these values are among those that are subscribed.
-fn shows_attributes(subscribed: &[AttributeNo], values: &[HandleValuePair]) -> bool
-    ensures { result ≡ list_all (λ (v : HandleValuePair). contains_number v.handle subscribed.now) values.now }
+/// The place of the first of these values whose attribute is not subscribed, if there is one.
+fn first_hidden(subscribed: &[AttributeNo], values: &[HandleValuePair]) -> Option<usize>
+    ensures { result ≡ position (λ (v : HandleValuePair). not (contains_number v.handle subscribed.now)) values.now }
 {
-    values.iter().all(|v| subscribed.contains(&v.handle))
+    values
+        .iter()
+        .position(|v| !is_subscribed(subscribed, v.handle))
+}
+
+/// Whether a value is shown that stands at this place: those before the first that is hidden are, and that one is not.
+fn is_shown(subscribed: &[AttributeNo], attribute: AttributeNo, place: usize, hidden: usize) -> bool
+    requires before { place < hidden → contains_number attribute subscribed.now ≡ true }
+    requires there { place ≡ hidden → contains_number attribute subscribed.now ≡ false }
+    ensures { result ≡ contains_number attribute subscribed.now }
+{
+    place < hidden || place > hidden && is_subscribed(subscribed, attribute)
 }
 
 impl Parts {
-    /// The values of the attributes that are subscribed.
+    /// The values of the attributes that are subscribed, where the first that is not is at this place.
     fn shown_attributes(
         &self,
         subscribed: &[AttributeNo],
         values: &[HandleValuePair],
+        hidden: usize,
     ) -> Result<List<HandleValuePair>, Fault>
+        requires { position (λ (v : HandleValuePair). not (contains_number v.handle subscribed.now)) values.now
+            ≡ Some hidden }
         ensures ok { IfOk result (λ shown. shown ≡ filter
             (λ (v : HandleValuePair). contains_number v.handle subscribed.now) values.now) }
         ensures err { IfErr result (λ e. e ≡ Fault.OutOfMemory) }
     {
         let mut shown = List::with_room(self.alloc, values.len())?;
-        for value in values {
-            if is_subscribed(subscribed, value.handle) {
+        for (place, value) in values.iter().enumerate() {
+            if is_shown(subscribed, value.handle, place, hidden) {
                 shown.push(value.copy()?)?;
             }
         }
         Ok(shown)
     }
 
-    /// The part of an update that those are shown who subscribe these attributes: nothing, where it says nothing of them.
+    /// The part of an update that those are shown who subscribe these attributes, where the first value that they are not shown is
+    /// at this place: nothing, where it says nothing of them.
     fn part_for(
         &self,
         heading: Heading,
         object: ObjectNo,
         values: &SharedList<HandleValuePair>,
         subscribed: &[AttributeNo],
+        hidden: usize,
     ) -> Result<Option<SharedEvent>, Fault>
+        requires { position (λ (v : HandleValuePair). not (contains_number v.handle subscribed.now)) values.now
+            ≡ Some hidden }
         ensures ok { IfOk result (λ e. event_messages e ≡ said_messages heading (reflection_of object (filter
             (λ (v : HandleValuePair). contains_number v.handle subscribed.now) values.now))) }
         ensures err { IfErr result (λ e. e ≡ Fault.OutOfMemory) }
     {
-        let shown = self.shown_attributes(subscribed, values.as_slice())?;
+        let shown = self.shown_attributes(subscribed, values.as_slice(), hidden)?;
         if shown.is_empty() {
             return Ok(None);
         }
@@ -110,33 +133,39 @@ impl Parts {
     }
 
     /// The same part: a share of what was made for others that subscribe the same, where that was kept. The first part is
-    /// kept and no other, so that a receiver compares its attributes with one list at most.
+    /// kept and no other, so that a receiver compares its attributes with one list at most, and costs no more than a value
+    /// that is looked for in it.
     fn shared_part<'a>(
         &self,
-        made: &mut Vec<Made<'a>>,
+        made: &mut Option<Made<'a>>,
         heading: Heading,
         object: ObjectNo,
         values: &SharedList<HandleValuePair>,
         subscribed: &'a [AttributeNo],
+        hidden: usize,
     ) -> Result<Option<SharedEvent>, Fault>
-        requires { All (IsMade heading object values.now) made.old.items }
-        ensures made { OnOk result (All (IsMade heading object values.now) made.new.items) }
+        requires made { IfSome made.old (IsMade heading object values.now) }
+        requires hidden { position (λ (v : HandleValuePair). not (contains_number v.handle subscribed.now)) values.now
+            ≡ Some hidden }
+        ensures made { OnOk result (IfSome made.new (IsMade heading object values.now)) }
         ensures ok { IfOk result (λ e. event_messages e ≡ said_messages heading (reflection_of object (filter
             (λ (v : HandleValuePair). contains_number v.handle subscribed.now) values.now))) }
         ensures err { IfErr result (λ e. e ≡ Fault.OutOfMemory) }
     {
-        if let Some(same) = made_for(made, subscribed) {
+        if let Some(same) = made_for(made, subscribed, hidden) {
             let share = share_of(&same.event)?;
             return Ok(share);
         }
-        let event = self.part_for(heading, object, values, subscribed)?;
-        if !made.is_empty() {
+        let event = self.part_for(heading, object, values, subscribed, hidden)?;
+        if made.is_some() {
             return Ok(event);
         }
         let share = share_of(&event)?;
-        let Ok(()) = made.push(Made { subscribed, event }) else {
-            return Err(Fault::OutOfMemory);
-        };
+        *made = Some(Made {
+            subscribed,
+            hidden,
+            event,
+        });
         Ok(share)
     }
 
@@ -144,7 +173,7 @@ impl Parts {
     /// where it says nothing of them.
     fn reflection_for<'a>(
         &self,
-        made: &mut Vec<Made<'a>>,
+        made: &mut Option<Made<'a>>,
         whole: &SharedEvent,
         heading: Heading,
         object: ObjectNo,
@@ -152,8 +181,8 @@ impl Parts {
         subscribed: &'a [AttributeNo],
     ) -> Result<Option<SharedEvent>, Fault>
         requires whole { whole.now ≡ said_under heading (content.Reflection object values.now) }
-        requires made { All (IsMade heading object values.now) made.old.items }
-        ensures made { OnOk result (All (IsMade heading object values.now) made.new.items) }
+        requires made { IfSome made.old (IsMade heading object values.now) }
+        ensures made { OnOk result (IfSome made.new (IsMade heading object values.now)) }
         ensures ok { IfOk result (λ e. event_messages e ≡ said_messages heading (reflection_of object (filter
             (λ (v : HandleValuePair). contains_number v.handle subscribed.now) values.now))) }
         ensures err { IfErr result (λ e. e ≡ Fault.OutOfMemory) }
@@ -161,11 +190,15 @@ impl Parts {
         if values.is_empty() {
             return Ok(None);
         }
-        if shows_attributes(subscribed, values.as_slice()) {
-            let share = whole.share()?;
-            return Ok(Some(share));
+        match first_hidden(subscribed, values.as_slice()) {
+            None => {
+                let share = whole.share()?;
+                Ok(Some(share))
+            }
+            // The only value is hidden.
+            Some(_) if values.len() == 1 => Ok(None),
+            Some(hidden) => { self.shared_part(made, heading, object, values, subscribed, hidden) }
         }
-        self.shared_part(made, heading, object, values, subscribed)
     }
 
     /// The update as a federate receives it at a class, with the attributes that it subscribes there: a share of `whole`, or
@@ -173,7 +206,7 @@ impl Parts {
     /// subscribe all and those who subscribe one part, cost two events.
     pub(crate) fn shared_reflection<'a>(
         &'a self,
-        made: &mut Vec<Made<'a>>,
+        made: &mut Option<Made<'a>>,
         whole: &SharedEvent,
         heading: Heading,
         object: ObjectNo,
@@ -181,8 +214,8 @@ impl Parts {
         receiver: Receiver,
     ) -> Result<Option<SharedEvent>, Fault>
         requires whole { whole.now ≡ said_under heading (content.Reflection object values.now) }
-        requires made { All (IsMade heading object values.now) made.old.items }
-        ensures made { OnOk result (All (IsMade heading object values.now) made.new.items) }
+        requires made { IfSome made.old (IsMade heading object values.now) }
+        ensures made { OnOk result (IfSome made.new (IsMade heading object values.now)) }
         ensures ok { IfOk result (λ e. event_messages e ≡ said_messages heading (reflection_of object
             (subscribed_values (state_of self.now).directory receiver.federate receiver.class values.now))) }
         ensures err { IfErr result (λ e. e ≡ Fault.OutOfMemory) }

@@ -21,14 +21,17 @@ use crate::heading::{Heading, is_timestamp};
 use crate::pairs::shared_by_handle;
 use crate::parts::Parts;
 use hla_base::{
-    ClassNo, Content, EventHandle, Fault, FederateNo, HandleValuePair, List, ObjectNo, Plain,
-    Serial, SharedEvent, SharedList, Ticks,
+    ClassNo, Content, EventHandle, Fault, FederateNo, HandleValuePair, List, MAX_JOINS, ObjectNo,
+    Plain, Serial, SharedEvent, SharedList, Ticks,
 };
 use hla_catalogue::Order;
 use hla_machine::Answer;
 use hla_members::{Note, Outbox};
 use hla_null_message::Message;
 use hla_retraction::Receivers;
+
+/// How many messages an update makes at most: two to each federate that may join, one of either order.
+const UPDATE_ROOM: usize = 2 * MAX_JOINS;
 
 /// The handle by which its sender may retract a message, if there is one to retract.
 fn handle_noted(sender: FederateNo, note: &Option<Note>) -> Option<EventHandle>
@@ -256,7 +259,7 @@ impl Parts {
             values: values.copy()?,
         };
         let whole = heading.event(self.alloc, content)?;
-        let mut made = Vec::new(self.alloc);
+        let mut made = None;
         for receiver in receivers.as_slice() {
             let reflection = self.shared_reflection(
                 &mut made, &whole, heading, object, values, *receiver,
@@ -401,7 +404,7 @@ impl Parts {
         }
         let serial = self.members.next_serial(federate);
         let values = shared_by_handle(self.alloc, values)?;
-        let mut outbox = Outbox::new(self.alloc)?;
+        let mut outbox = Outbox::with_room(self.alloc, UPDATE_ROOM)?;
         let first = self.heading(federate, serial, Order::Receive, stamp);
         let received_by = self.address_order(&mut outbox, first, object, Order::Receive, &values)?;
         let first_count = u64::from(received_by.is_some());

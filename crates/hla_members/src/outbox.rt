@@ -17,9 +17,6 @@ use std::marker::Model;
 /// How many counts there are: one for each number of a federate, which are counted from 1, and one for 0.
 const COUNTS: usize = MAX_JOINS + 1;
 
-/// For how many messages there is room at first: an update makes up to two for each federate, one of either order.
-const FIRST_ROOM: usize = 2 * MAX_JOINS;
-
 /// The messages that a step sends, in the order in which they were made. They are made before anything changes, so that a
 /// step for which memory runs out leaves all as it was. Contracts see them by the federate at the other end of their wire.
 #[derive(Debug, Drop)]
@@ -42,13 +39,22 @@ impl Model for Outbox {
 }
 
 impl Outbox {
-    /// No messages, and room for two to each federate that may join; `OutOfMemory` where that was refused.
-    #[tactic(auto, using(crate::proofs::Outboxes::by_peer_none))]
+    /// No messages, and room for one to each federate that may join; `OutOfMemory` where that was refused.
     pub fn new(alloc: Global) -> Result<Outbox, Fault>
         ensures ok { IfOk result (λ o. AreQuiet o) }
         ensures err { IfErr result (λ e. e ≡ Fault.OutOfMemory) }
     {
-        match Vec::with_capacity(alloc, FIRST_ROOM) {
+        Outbox::with_room(alloc, MAX_JOINS)
+    }
+
+    /// No messages, and room for this many; `OutOfMemory` where that was refused. Each time that the room is full, `put` moves
+    /// the messages to twice as much.
+    #[tactic(auto, using(crate::proofs::Outboxes::by_peer_none))]
+    pub fn with_room(alloc: Global, messages: usize) -> Result<Outbox, Fault>
+        ensures ok { IfOk result (λ o. AreQuiet o) }
+        ensures err { IfErr result (λ e. e ≡ Fault.OutOfMemory) }
+    {
+        match Vec::with_capacity(alloc, messages) {
             Ok(messages) => Ok(Outbox {
                 messages,
                 counts: [0; COUNTS],

@@ -93,6 +93,7 @@ pub struct Board<J: Naming, W: Publisher<J>> {
 }
 
 impl<J: Naming, W: Publisher<J>> Model for Board<J, W> {
+    ghost use Rattle.std.specs.Prelude.{◌≡◌, ◌<◌, true, length};
     ghost use mathlib.Core.List.{IsPrefix};
     ghost use Rattle.hla_monitor.specs.Posted.{Posted};
 
@@ -105,7 +106,8 @@ impl<J: Naming, W: Publisher<J>> Model for Board<J, W> {
       monitors = b.monitors;
     } };
 
-    ghost invariant = { λ b. IsPrefix (W.posted b.publisher) b.shown };
+    ghost invariant = { λ b. (IsPrefix (W.posted b.publisher) b.shown)
+        × (b.has_posted ≡ true → 0 < length (W.posted b.publisher)) };
 }
 
 /// The publisher to monitors that are read without a lock. It waits for those that still read what was there before, by the
@@ -170,6 +172,7 @@ impl<J: Naming, W: Publisher<J>> Board<J, W> {
     pub fn keep(&mut self, entry: &Record) -> Result<(), Fault>
         ensures ok { OnOk result (self.new.shown ≡ self.old.shown ++ entry.now ∷ []) }
         ensures published { 0 < self.old.monitors → OnOk result (self.new.published ≡ self.new.shown) }
+        ensures first { self.old.published ≡ [] → OnOk result (self.new.published ≡ self.new.shown) }
         ensures waits { OnErr result (self.new.published ≡ self.old.published) }
         ensures either { OnOk result ((self.new.published ≡ self.new.shown) ⊎ (self.new.published ≡ self.old.published)) }
         ensures err { IfErr result (λ e. e ≡ (if self.new.whole then Fault.OutOfMemory else Fault.LimitReached)) }
@@ -181,7 +184,8 @@ impl<J: Naming, W: Publisher<J>> Board<J, W> {
         if !self.adds(entry) {
             return Err(Fault::LimitReached);
         }
-        if self.monitors > 0 || !self.has_posted {
+        let is_first = !self.has_posted;
+        if self.monitors > 0 || is_first {
             self.catch_up()
         } else {
             Ok(())

@@ -86,7 +86,7 @@ fn note_all(alloc: Global, all: &mut Vec<Record>) -> Result<(), Fail> {
 }
 
 /// The seven records.
-fn records(alloc: Global) -> Result<Vec<Record>, Fail> {
+pub fn records(alloc: Global) -> Result<Vec<Record>, Fail> {
     let mut all = Vec::new(alloc);
     note_all(alloc, &mut all)?;
     Ok(all)

@@ -3,3 +3,5 @@
 
 #[cfg(test)]
 mod board;
+#[cfg(test)]
+mod keeping;

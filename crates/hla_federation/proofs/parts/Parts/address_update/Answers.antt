@@ -1,9 +1,8 @@
-use Rattle.std.proofs.Common.{ℕ, Bool, List, [], ◌∷◌, ◌++◌, length, get_or, take, cond, eqb, Option, ap, sym, subst, ◌∙◌, arith}
+use Rattle.std.proofs.Common.{ℕ, Bool, List, [], ◌++◌, length, get_or, take, cond, eqb, ap, sym, subst, ◌∙◌, arith}
 use Rattle.std.specs.List.{All}
-use Rattle.std.specs.Option.{option_map_or}
 use Rattle.std.proofs.Math.Path.{fun_ext}
 use Rattle.std.proofs.lemmas.List.{take_all, append-nil}
-use Rattle.std.proofs.lemmas.List.Elements.{All-get_or, All-nil}
+use Rattle.std.proofs.lemmas.List.Elements.{All-get_or}
 use Rattle.hla_declaration.specs.Declarations as declared
 use Rattle.hla_declaration.specs.Receivers.{receivers_of, object_class_served, IsReceiver}
 use Rattle.hla_declaration.specs.declared.receiver.Receiver.{Receiver}
@@ -16,7 +15,7 @@ use Rattle.hla_machine.specs.Directory.{AnUpdate}
 use Rattle.hla_federation.specs.FederationValue.{FederationValue}
 use Rattle.hla_members.specs.MemberValue.{item}
 use Rattle.hla_federation.specs.Steps.Sending.{said_messages, messages_among}
-use Rattle.hla_federation.specs.Steps.Reflecting.{IsMade, event_messages}
+use Rattle.hla_federation.specs.Steps.Reflecting.{event_messages}
 use Rattle.hla_federation.specs.Steps.State.{state_of}
 use Rattle.hla_federation.proofs.Steps.Addressing.{reflection_at, among-more, among-none, added_more, update_added}
 use Rattle.hla_federation.proofs.Steps.Receiving.{has_message, told_more, told_are}
@@ -27,7 +26,7 @@ pub loop-receiver-init : goal.loop-receiver-init
 loop-receiver-init c = record {
   added = λ h. sym (append-nil (item [] c.args.outbox.now h));
   told = λ g. ap (λ (t : ℕ → Bool). t g) c.new-told.ensures;
-  made = subst (All (IsMade c.args.heading c.args.object c.args.values.now)) (sym c.new-made.ensures.items) (All-nil _);
+  made = tt;
 }
 
 pub put-requires-clause-some : goal.put-requires-clause-some

@@ -4,5 +4,5 @@ use Rattle.hla_catalogue.specs.Lookup.{contains_number}
 use Rattle.hla_federation.proofs.parts.Parts.shown_attributes.Given as goal
 
 -- what is shown of the values so far
-abbrev pub invariant-loop-value : goal.invariant-loop-value
-invariant-loop-value l = l.shown ≡ filter (λ (v : HandleValuePair). contains_number v.handle l.subscribed) (take l.value-index l.values)
+abbrev pub invariant-loop-place : goal.invariant-loop-place
+invariant-loop-place l = l.shown ≡ filter (λ (v : HandleValuePair). contains_number v.handle l.subscribed) (take l.place l.values)
