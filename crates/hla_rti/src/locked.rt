@@ -61,12 +61,14 @@ fn last_noted<L: Naming, W: Publisher<L>>(board: &mut Board<L, W>, transcript: &
     }
 }
 
-/// Publishes the records that wait, which no monitor could read before. Where memory is refused they wait on.
-fn caught_up<L: Naming, W: Publisher<L>>(board: &mut Board<L, W>)
+/// Publishes the records that wait, which no monitor could read before. `OutOfMemory` where a growth was refused; then they
+/// wait on.
+fn caught_up<L: Naming, W: Publisher<L>>(board: &mut Board<L, W>) -> Result<(), Fault>
+    ensures published { OnOk result (board.new.published ≡ board.new.shown) }
     ensures posted { (h : List Entry) → IsPosted h board.old → IsPosted h board.new }
     ensures monitors { board.new.monitors ≡ board.old.monitors }
 {
-    let _ = board.catch_up();
+    board.catch_up()
 }
 
 impl<L: Ledger + Naming, B: FederateAmbassador, W: Publisher<L>> Locked<L, B, W> {
@@ -266,7 +268,7 @@ impl<L: Ledger + Naming, B: FederateAmbassador, W: Publisher<L>> Locked<L, B, W>
         ensures begins { self.old.ended ≡ false → IsPrefix result self.new.held.history }
         ensures held { self.new.held ≡ self.old.held }
     {
-        caught_up(&mut self.board);
+        let _ = caught_up(&mut self.board);
         self.board.tell()
     }
 
@@ -280,7 +282,7 @@ impl<L: Ledger + Naming, B: FederateAmbassador, W: Publisher<L>> Locked<L, B, W>
             (λ _. self.new.posted.monitors ≡ self.old.posted.monitors) }
         ensures held { self.new.held ≡ self.old.held }
     {
-        caught_up(&mut self.board);
+        let _ = caught_up(&mut self.board);
         self.board.monitor()
     }
 
