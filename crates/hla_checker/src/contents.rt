@@ -1,8 +1,7 @@
 //! What a message says to each federate.
 
-ghost use Rattle.std.specs.Prelude.{◌≡◌, ◌≤◌, false, filter, length, IfOk, IfErr};
-ghost use Rattle.std.specs.List.{list_all};
-ghost use Rattle.std.specs.Option.{option_map_or};
+ghost use Rattle.std.specs.Prelude.{◌≡◌, ◌≤◌, ◌<◌, filter, length, slice_index_or, IfOk, IfErr};
+ghost use Rattle.std.specs.List.{prefix_len};
 ghost use Rattle.hla_base.specs.Limits.{max_joins};
 ghost use Rattle.hla_base.specs.declared.content.HandleValuePair.{HandleValuePair};
 ghost use Rattle.hla_base.specs.declared.fault.Fault.TheVariants.{OutOfMemory};
@@ -13,9 +12,11 @@ ghost use Rattle.hla_checker.specs.Sending.{body_said, AreContents};
 
 use crate::kept::KeptExecution;
 use hla_base::{
-    ClassNo, Content, Fault, FederateNo, HandleValuePair, List, ObjectNo, Plain, SharedList,
+    AttributeNo, ClassNo, Content, Fault, FederateNo, HandleValuePair, List, ObjectNo, Plain,
+    SharedList,
 };
 use hla_catalogue::Order;
+use std::alloc::Global;
 
 /// What a service sends, before it is cut to what each receiver is shown. The values are by rising handle; who is shown all of
 /// them shares them.
@@ -41,31 +42,114 @@ pub(crate) struct Message {
     pub(crate) body: Body,
 }
 
+/// How many of these values come before the first whose attribute is not among those that a federate subscribes.
+fn count_subscribed(subscribed: &[AttributeNo], values: &[HandleValuePair]) -> usize
+    ensures { result ≡ prefix_len (λ (v : HandleValuePair). contains_number v.handle subscribed.now) values.now }
+{
+    values
+        .iter()
+        .take_while(|shown| subscribed.contains(&shown.handle))
+        .count()
+}
+
+/// Whether the attribute of the value at a place is among those that a federate subscribes; `first` of the values come before the
+/// first whose attribute is not.
+fn is_subscribed_at(
+    subscribed: &[AttributeNo],
+    values: &[HandleValuePair],
+    first: usize,
+    place: usize,
+) -> bool
+    requires count { first ≡ prefix_len (λ (v : HandleValuePair). contains_number v.handle subscribed.now) values.now }
+    requires within { place < length values.now }
+    ensures { (d : HandleValuePair) → result ≡ contains_number (slice_index_or values.now place d).handle subscribed.now }
+{
+    if place < first {
+        return true;
+    }
+    if place == first {
+        return false;
+    }
+    subscribed.contains(&values[place].handle)
+}
+
+/// Copies of the values of the attributes that a federate subscribes; `first` of them come before the first that it does not
+/// subscribe. `OutOfMemory` where a growth was refused.
+fn cut_to_subscribed(
+    alloc: Global,
+    subscribed: &[AttributeNo],
+    values: &[HandleValuePair],
+    first: usize,
+) -> Result<SharedList<HandleValuePair>, Fault>
+    requires { first ≡ prefix_len (λ (v : HandleValuePair). contains_number v.handle subscribed.now) values.now }
+    ensures ok { IfOk result (λ shown. shown ≡ filter (λ (v : HandleValuePair). contains_number v.handle
+        subscribed.now) values.now) }
+    ensures err { IfErr result (λ e. e ≡ Fault.OutOfMemory) }
+{
+    let mut shown = List::with_room(alloc, values.len())?;
+    for place in 0..values.len() {
+        if is_subscribed_at(subscribed, values, first, place) {
+            shown.push(values[place].copy()?)?;
+        }
+    }
+    let shared = SharedList::from_list(shown)?;
+    Ok(shared)
+}
+
 impl KeptExecution {
-    /// Whether a class has all of these parameters.
-    fn shows_parameters(&self, class: ClassNo, values: &[HandleValuePair]) -> bool
-        ensures { result ≡ list_all (λ (v : HandleValuePair). has_parameter self.now.catalogue class v.handle)
+    /// How many of these values come before the first whose parameter a class does not have.
+    fn count_parameters(&self, class: ClassNo, values: &[HandleValuePair]) -> usize
+        ensures { result ≡ prefix_len (λ (v : HandleValuePair). has_parameter self.now.catalogue class v.handle)
             values.now }
     {
         values
             .iter()
-            .all(|shown| self.catalogue.has_parameter(class, shown.handle))
+            .take_while(|shown| self.catalogue.has_parameter(class, shown.handle))
+            .count()
     }
 
-    /// Copies of the values of the parameters that a class has. `OutOfMemory` where a growth was refused.
+    /// Whether a class has the parameter of the value at a place; `count` of the values come before the first whose parameter it
+    /// does not have.
+    fn has_parameter_at(
+        &self,
+        class: ClassNo,
+        values: &[HandleValuePair],
+        count: usize,
+        place: usize,
+    ) -> bool
+        requires count { count ≡ prefix_len (λ (v : HandleValuePair). has_parameter self.now.catalogue class v.handle)
+            values.now }
+        requires within { place < length values.now }
+        ensures { (d : HandleValuePair) → result ≡ has_parameter self.now.catalogue class (slice_index_or values.now place
+            d).handle }
+    {
+        if place < count {
+            return true;
+        }
+        if place == count {
+            return false;
+        }
+        self.catalogue.has_parameter(class, values[place].handle)
+    }
+
+    /// Copies of the values of the parameters that a class has; `count` of them come before the first that it does not have.
+    /// `OutOfMemory` where a growth was refused.
     fn cut_parameters(
         &self,
         class: ClassNo,
         values: &[HandleValuePair],
+        count: usize,
     ) -> Result<SharedList<HandleValuePair>, Fault>
+        requires { count ≡ prefix_len (λ (v : HandleValuePair). has_parameter self.now.catalogue class v.handle)
+            values.now }
         ensures ok { IfOk result (λ shown. shown ≡ filter
             (λ (v : HandleValuePair). has_parameter self.now.catalogue class v.handle) values.now) }
         ensures err { IfErr result (λ e. e ≡ Fault.OutOfMemory) }
     {
         let mut shown = List::with_room(self.alloc, values.len())?;
-        for value in values {
-            if self.catalogue.has_parameter(class, value.handle) {
-                shown.push(value.copy()?)?;
+        for place in 0..values.len() {
+            if self.has_parameter_at(class, values, count, place) {
+                shown.push(values[place].copy()?)?;
             }
         }
         let shared = SharedList::from_list(shown)?;
@@ -83,50 +167,11 @@ impl KeptExecution {
             (λ (v : HandleValuePair). has_parameter self.now.catalogue class v.handle) values.now) }
         ensures err { IfErr result (λ e. e ≡ Fault.OutOfMemory) }
     {
-        if self.shows_parameters(class, values.as_slice()) {
+        let count = self.count_parameters(class, values.as_slice());
+        if count == values.len() {
             return values.copy();
         }
-        self.cut_parameters(class, values.as_slice())
-    }
-
-    /// Whether a federate subscribes all of these attributes at a class.
-    fn shows_attributes(
-        &self,
-        federate: FederateNo,
-        class: ClassNo,
-        values: &[HandleValuePair],
-    ) -> bool
-        ensures { result ≡ list_all (λ (v : HandleValuePair). option_map_or (contains_number v.handle)
-            ((directory_of self.now).subscribed federate class) false) values.now }
-    {
-        values.iter().all(|shown| {
-            self.declarations
-                .subscribes_attribute(federate, class, shown.handle)
-        })
-    }
-
-    /// Copies of the values of the attributes that a federate subscribes at a class. `OutOfMemory` where a growth was refused.
-    fn cut_attributes(
-        &self,
-        federate: FederateNo,
-        class: ClassNo,
-        values: &[HandleValuePair],
-    ) -> Result<SharedList<HandleValuePair>, Fault>
-        ensures ok { IfOk result (λ shown. shown ≡ subscribed_values (directory_of self.now) federate class
-            values.now) }
-        ensures err { IfErr result (λ e. e ≡ Fault.OutOfMemory) }
-    {
-        let mut shown = List::with_room(self.alloc, values.len())?;
-        for value in values {
-            if self
-                .declarations
-                .subscribes_attribute(federate, class, value.handle)
-            {
-                shown.push(value.copy()?)?;
-            }
-        }
-        let shared = SharedList::from_list(shown)?;
-        Ok(shared)
+        self.cut_parameters(class, values.as_slice(), count)
     }
 
     /// The values of the attributes that a federate subscribes at a class: those that are given, where it subscribes all of them.
@@ -141,10 +186,12 @@ impl KeptExecution {
             values.now) }
         ensures err { IfErr result (λ e. e ≡ Fault.OutOfMemory) }
     {
-        if self.shows_attributes(federate, class, values.as_slice()) {
+        let subscribed = self.declarations.subscribed_attributes(federate, class);
+        let first = count_subscribed(subscribed, values.as_slice());
+        if first == values.len() {
             return values.copy();
         }
-        self.cut_attributes(federate, class, values.as_slice())
+        cut_to_subscribed(self.alloc, subscribed, values.as_slice(), first)
     }
 
     /// What an interaction says to a federate, if anything. `OutOfMemory` where a growth was refused.

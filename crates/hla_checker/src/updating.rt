@@ -23,7 +23,22 @@ use hla_catalogue::Order;
 use hla_machine::{Choice, Outcome};
 use hla_verdicts::{Verdict, answer_to_test, is_sent};
 
+/// The values of an update that go in receive order, and those that go in time-stamp order.
+#[derive(Debug, Drop)]
+struct Parts {
+    received: List<HandleValuePair>,
+    stamped: List<HandleValuePair>,
+}
+
 impl KeptExecution {
+    /// How many of these values are of attributes whose updates go in receive order: as many as a list of them has room for.
+    fn count_received(&self, values: &[HandleValuePair]) -> usize {
+        values
+            .iter()
+            .filter(|value| self.catalogue.attribute_order(value.handle) == Order::Receive)
+            .count()
+    }
+
     /// Whether all of these values are of attributes whose updates have this order.
     fn has_only(&self, order: Order, values: &[HandleValuePair]) -> bool
         ensures { result ≡ list_all (λ (v : HandleValuePair). is_of_order order
@@ -32,39 +47,44 @@ impl KeptExecution {
         values.iter().all(|value| self.catalogue.attribute_order(value.handle) == order)
     }
 
-    /// Copies of the values of the attributes whose updates have this order. `OutOfMemory` where a growth was refused.
-    fn cut_to_order(
-        &self,
-        order: Order,
-        values: &[HandleValuePair],
-    ) -> Result<SharedList<HandleValuePair>, Fault>
-        ensures ok { IfOk result (λ part. part ≡ values_of_order (directory_of self.now) order values.now) }
+    /// The values of the attributes whose updates go in receive order, and the others, each moved into its part. `OutOfMemory`
+    /// where a growth was refused.
+    fn split(&self, values: List<HandleValuePair>) -> Result<Parts, Fault>
+        ensures received { IfOk result (λ p. p.received ≡ values_of_order (directory_of self.now) Order.Receive values) }
+        ensures stamped { IfOk result (λ p. p.stamped ≡ values_of_order (directory_of self.now) Order.Timestamp values) }
         ensures err { IfErr result (λ e. e ≡ Fault.OutOfMemory) }
     {
-        let mut part = List::new(self.alloc);
-        for value in values {
-            if self.catalogue.attribute_order(value.handle) == order {
-                part.push(value.copy()?)?;
+        let count = self.count_received(values.as_slice());
+        let mut received = List::with_room(self.alloc, count)?;
+        let mut stamped = List::with_room(self.alloc, values.len().saturating_sub(count))?;
+        for value in values.into_vec() {
+            match self.catalogue.attribute_order(value.handle) {
+                Order::Receive => received.push(value)?,
+                Order::Timestamp => stamped.push(value)?,
             }
         }
-        let shared = SharedList::from_list(part)?;
-        Ok(shared)
+        Ok(Parts { received, stamped })
     }
 
-    /// The values of the attributes whose updates have this order: those that are given, where all have. `OutOfMemory` where a
-    /// growth was refused.
-    fn values_of_order(
-        &self,
-        order: Order,
-        values: &SharedList<HandleValuePair>,
-    ) -> Result<SharedList<HandleValuePair>, Fault>
-        ensures ok { IfOk result (λ part. part ≡ values_of_order (directory_of self.now) order values.now) }
+    /// The parts of an update: those that are given, where all have one order. `OutOfMemory` where a growth was refused.
+    fn parts_of(&self, values: List<HandleValuePair>) -> Result<Parts, Fault>
+        ensures received { IfOk result (λ p. p.received ≡ values_of_order (directory_of self.now) Order.Receive values) }
+        ensures stamped { IfOk result (λ p. p.stamped ≡ values_of_order (directory_of self.now) Order.Timestamp values) }
         ensures err { IfErr result (λ e. e ≡ Fault.OutOfMemory) }
     {
-        if self.has_only(order, values.as_slice()) {
-            return values.copy();
+        if self.has_only(Order::Receive, values.as_slice()) {
+            return Ok(Parts {
+                received: values,
+                stamped: List::new(self.alloc),
+            });
         }
-        self.cut_to_order(order, values.as_slice())
+        if self.has_only(Order::Timestamp, values.as_slice()) {
+            return Ok(Parts {
+                received: List::new(self.alloc),
+                stamped: values,
+            });
+        }
+        self.split(values)
     }
 
     /// The handle of the part of an update that goes in time-stamp order, if there is one: the part in receive order goes
@@ -102,7 +122,7 @@ impl KeptExecution {
         federate: FederateNo,
         object: ObjectNo,
         order: Order,
-        values: SharedList<HandleValuePair>,
+        values: List<HandleValuePair>,
         stamp: Option<Ticks>,
     ) -> Result<(), Fault>
         requires consistent { IsConsistent self.old }
@@ -117,6 +137,7 @@ impl KeptExecution {
         if values.is_empty() {
             return Ok(());
         }
+        let values = SharedList::from_list(values)?;
         let body = Body::Update { object, values };
         self.send(federate, stamp, &Message { order, body })
     }
@@ -139,11 +160,10 @@ impl KeptExecution {
         ensures consistent { OnOk result (IsConsistent self.new) }
         ensures err { IfErr result (λ e. e ≡ Fault.OutOfMemory) }
     {
-        let values = SharedList::from_list(by_handle(self.alloc, values)?)?;
-        let received = self.values_of_order(Order::Receive, &values)?;
-        let stamped = self.values_of_order(Order::Timestamp, &values)?;
-        self.send_part(federate, object, Order::Receive, received, stamp)?;
-        self.send_part(federate, object, Order::Timestamp, stamped, stamp)
+        let values = by_handle(self.alloc, values)?;
+        let parts = self.parts_of(values)?;
+        self.send_part(federate, object, Order::Receive, parts.received, stamp)?;
+        self.send_part(federate, object, Order::Timestamp, parts.stamped, stamp)
     }
 
     /// Whether the machine allows that a joined federate updates attributes of an object, which ended so and chose this;

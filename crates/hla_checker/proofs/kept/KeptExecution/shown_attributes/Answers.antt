@@ -1,16 +1,24 @@
 -- Where the federate subscribes all attributes, none is cut.
-use Rattle.std.proofs.Common.{◌≡◌, IfOk, Bool, true, false, List, sym, ap, subst, ◌∙◌}
-use Rattle.std.specs.List.{list_all}
+use Rattle.std.proofs.Common.{◌≡◌, ℕ, IfOk, Bool, false, List, [], length, filter, sym, ap, subst, ◌∙◌, arith}
+use Rattle.std.specs.List.{prefix_len}
 use Rattle.std.specs.Option.{option_map_or}
 use Rattle.hla_base.specs.declared.content.HandleValuePair.{HandleValuePair}
 use Rattle.hla_catalogue.specs.Lookup.{contains_number}
-use Rattle.hla_verdicts.specs.Kept.{directory_of}
-use Rattle.hla_checker.proofs.ShownValues.{all_kept}
+use Rattle.hla_machine.specs.Directory.{subscribed_values}
+use Rattle.hla_declaration.specs.Declarations.{declarations_of}
+use Rattle.hla_verdicts.specs.Kept.{KeptValue, directory_of}
+use Rattle.hla_checker.proofs.ShownValues.{whole_prefix, handed_values}
 use Rattle.hla_checker.proofs.kept.KeptExecution.shown_attributes.Goals as goal
 
-pub returns-then-shows_attributes-clause-ok : goal.returns-then-shows_attributes-clause-ok
-returns-then-shows_attributes-clause-ok c =
+pub returns-then-first-len-clause-ok : goal.returns-then-first-len-clause-ok
+returns-then-first-len-clause-ok c =
     let values = c.args.values.now in
-    let shows : HandleValuePair → Bool = λ (v : HandleValuePair). option_map_or (contains_number v.handle) ((directory_of c.args.self.now).subscribed c.args.federate c.args.class) false in
-    let all : list_all shows values ≡ true = ap (list_all shows) (sym c.as_slice.ensures) ∙ sym c.shows_attributes.ensures ∙ c.if-shows_attributes.true in
-    subst (λ (ys : List HandleValuePair). IfOk c.copy.result (λ shown. shown ≡ ys)) (sym (all_kept shows values all)) c.copy.ensures.ok
+    let shows : HandleValuePair → Bool = λ (v : HandleValuePair). contains_number v.handle c.subscribed_attributes-subscribed.result.now in
+    let counted = c.count_subscribed-first.ensures ∙ ap (prefix_len shows) c.as_slice.ensures in
+    let all : prefix_len shows values ≡ length values = omega (arith, counted, c.len.ensures, c.if-first-len.true) in
+    subst (λ (ys : List HandleValuePair). IfOk c.copy.result (λ shown. shown ≡ ys)) (sym (whole_prefix shows values all) ∙ handed_values c.subscribed_attributes-subscribed.result.now ((directory_of c.args.self.now).subscribed c.args.federate c.args.class) (subst (λ (y : KeptValue). c.subscribed_attributes-subscribed.result.now ≡ option_map_or (λ (ns : List ℕ). ns) ((declarations_of y.declarations).subscribed c.args.federate c.args.class) []) c.self.view_is c.subscribed_attributes-subscribed.ensures) values) c.copy.ensures.ok
+
+pub returns-clause-ok : goal.returns-clause-ok
+returns-clause-ok c =
+    let values = c.args.values.now in
+    subst (λ (ys : List HandleValuePair). IfOk c.cut_to_subscribed.result (λ shown. shown ≡ ys)) (ap (filter (λ (v : HandleValuePair). contains_number v.handle c.subscribed_attributes-subscribed.result.now)) c.as_slice-2.ensures ∙ handed_values c.subscribed_attributes-subscribed.result.now ((directory_of c.args.self.now).subscribed c.args.federate c.args.class) (subst (λ (y : KeptValue). c.subscribed_attributes-subscribed.result.now ≡ option_map_or (λ (ns : List ℕ). ns) ((declarations_of y.declarations).subscribed c.args.federate c.args.class) []) c.self.view_is c.subscribed_attributes-subscribed.ensures) values) c.cut_to_subscribed.ensures.ok

@@ -1,14 +1,15 @@
 -- Where the class has all parameters, none is cut.
-use Rattle.std.proofs.Common.{◌≡◌, IfOk, Bool, true, List, sym, ap, subst, ◌∙◌}
-use Rattle.std.specs.List.{list_all}
+use Rattle.std.proofs.Common.{◌≡◌, IfOk, Bool, List, length, sym, ap, subst, ◌∙◌, arith}
+use Rattle.std.specs.List.{prefix_len}
 use Rattle.hla_base.specs.declared.content.HandleValuePair.{HandleValuePair}
 use Rattle.hla_catalogue.specs.Lookup.{has_parameter}
-use Rattle.hla_checker.proofs.ShownValues.{all_kept}
+use Rattle.hla_checker.proofs.ShownValues.{whole_prefix}
 use Rattle.hla_checker.proofs.kept.KeptExecution.shown_parameters.Goals as goal
 
-pub returns-then-shows_parameters-clause-ok : goal.returns-then-shows_parameters-clause-ok
-returns-then-shows_parameters-clause-ok c =
+pub returns-then-count-len-clause-ok : goal.returns-then-count-len-clause-ok
+returns-then-count-len-clause-ok c =
     let values = c.args.values.now in
     let shows : HandleValuePair → Bool = λ (v : HandleValuePair). has_parameter c.args.self.now.catalogue c.args.class v.handle in
-    let all : list_all shows values ≡ true = ap (list_all shows) (sym c.as_slice.ensures) ∙ sym c.shows_parameters.ensures ∙ c.if-shows_parameters.true in
-    subst (λ (ys : List HandleValuePair). IfOk c.copy.result (λ shown. shown ≡ ys)) (sym (all_kept shows values all)) c.copy.ensures.ok
+    let counted = c.count_parameters-count.ensures ∙ ap (prefix_len shows) c.as_slice.ensures in
+    let all : prefix_len shows values ≡ length values = omega (arith, counted, c.len.ensures, c.if-count-len.true) in
+    subst (λ (ys : List HandleValuePair). IfOk c.copy.result (λ shown. shown ≡ ys)) (sym (whole_prefix shows values all)) c.copy.ensures.ok
