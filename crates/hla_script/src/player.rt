@@ -12,7 +12,7 @@ ghost use Rattle.hla_script.specs.Playing.{IsPlayed, IsPlayedFrom, StopsBy, is_u
 
 use crate::execution::Execution;
 use crate::history::play_line;
-use hla_base::{Fault, List, SharedList};
+use hla_base::{Fault, List, MAX_HISTORY, SharedList};
 use hla_catalogue::Catalogue;
 use hla_commands::{Script, ScriptFault, parse};
 use hla_fed_file::{FedFault, read};
@@ -41,15 +41,27 @@ pub enum PlayFault {
     Memory,
 }
 
-/// No records, and room for one of each line, so that none is moved while they grow; where that room was refused, it is
-/// taken as they come.
+/// No records, and room for one of each line, of which the history holds `MAX_HISTORY` at most, so that none is moved while
+/// they grow; where that room was refused, it is taken as they come.
 fn no_records(alloc: Global, script: &Script<'_>) -> Vec<Record>
     ensures { result.items ≡ [] }
 {
-    match Vec::with_capacity(alloc, script.as_slice().len()) {
+    match Vec::with_capacity(alloc, script.as_slice().len().min(MAX_HISTORY)) {
         Ok(records) => records,
         Err(_) => Vec::new(alloc),
     }
+}
+
+/// The records, with room for no more than twice as many: many lines may have made none. Where memory refuses to give room
+/// back, it stays.
+fn without_spare_room(mut records: Vec<Record>) -> List<Record>
+    ensures { result ≡ records.items }
+{
+    let len = records.len();
+    if records.capacity() > len.saturating_mul(2) {
+        records.shrink_to(len);
+    }
+    List::from_vec(records)
 }
 
 /// Plays the lines of a script one after another, and writes how each ended.
@@ -82,7 +94,7 @@ fn play_lines<W: Write>(
         };
     }
     drop(execution);
-    Ok(List::from_vec(records))
+    Ok(without_spare_room(records))
 }
 
 /// Plays a script over a FED file: does what its lines ask for, one after another, in an execution named `play`, writes
