@@ -41,7 +41,7 @@ returns-clause-played g c =
     let items = c.as_slice-line-items.result.now in
     let all : take c.loop-line.line-index items ≡ c.args.script.now = take_all c.loop-line.line-index items c.loop-line-test.false ∙ c.as_slice-line-items.ensures in
     let played = subst (λ (ls : List Line). IsPlayed c.args.catalogue ls (g.W.Write.contents c.args.out.now.inner) (g.W.Write.contents c.loop-line.out.inner) c.loop-line.records.items) all c.loop-line.invariant.played in
-    rw c.from_vec.ensures played
+    rw c.without_spare_room.ensures played
 
 pub returns-in_default-play_line-clause-failure : goal.returns-in_default-play_line-clause-failure
 returns-in_default-play_line-clause-failure g c = c.loop-line.invariant.sound ∙ sym (or_none _)
