@@ -30,7 +30,10 @@ pub struct Waiting {
 }
 
 /// Looking so often at a message takes about as long as adding it to an index.
-const LOOKS: usize = 256;
+const LOOKS: usize = 128;
+
+/// How often all are looked at where the one of the least stamp is found, picked up and taken out.
+const LEAST_PASSES: usize = 3;
 
 /// The messages that one federate has not picked up, in the order of their sending. No two of them have one sender and
 /// one serial. Contracts see the list; `waiting_at` reads it as a table by sender and serial. Few messages are looked through.
@@ -302,11 +305,13 @@ impl Bag {
             self.indexing.let_go_of_few(self.waiting.as_slice());
             return;
         }
+        let mut passes = 1;
         if is_bound {
             self.indexing.bound(self.waiting.as_slice());
+            passes = LEAST_PASSES;
         }
-        let looks = self.waiting.len().saturating_add(place);
-        self.look(looks);
+        let looks = self.waiting.len().saturating_mul(passes);
+        self.look(looks.saturating_add(place));
     }
 
     /// The message that an event handle names waits no longer. Where there is an index, what was put since is added to it, each

@@ -20,7 +20,7 @@ use Rattle.hla_machine.specs.Directory.{Directory, Outgoing, Body, AnInteraction
 use Rattle.hla_machine.specs.Central.{Central}
 use Rattle.hla_machine.specs.Refusals.{refusal}
 use Rattle.hla_machine.specs.Sends.{after_message, after_messages, is_deletion}
-use Rattle.hla_machine.specs.Machine.{IsChoice, IsServiceChoice, MayAnswer, after_call, central_seen, send_answer}
+use Rattle.hla_machine.specs.Machine.{IsServiceChoice, MayAnswer, after_call, central_seen, send_answer}
 use Rattle.hla_accounts.specs.declared.account.Account.{Account}
 use Rattle.hla_accounts.specs.Accounts.{account_at, central_with}
 use Rattle.hla_accounts.specs.Sendings.{item_for, IsCutTo}

@@ -1,5 +1,5 @@
 -- One more value is shown, or is not.
-use Rattle.std.proofs.Common.{◌≡◌, ◌∷◌, ◌++◌, [], sym, ap, ◌∙◌}
+use Rattle.std.proofs.Common.{◌∷◌, ◌++◌, [], sym, ap, ◌∙◌}
 use Rattle.hla_base.specs.declared.content.HandleValuePair.{HandleValuePair}
 use Rattle.hla_catalogue.specs.Lookup.{has_parameter}
 use Rattle.hla_checker.proofs.ShownValues.{shown_more, hidden_at}

@@ -1,10 +1,9 @@
 -- Where the federate subscribes all attributes, none is cut.
-use Rattle.std.proofs.Common.{◌≡◌, ℕ, IfOk, Bool, false, List, [], length, filter, sym, ap, subst, ◌∙◌, arith}
+use Rattle.std.proofs.Common.{◌≡◌, ℕ, IfOk, Bool, List, [], length, filter, sym, ap, subst, ◌∙◌, arith}
 use Rattle.std.specs.List.{prefix_len}
 use Rattle.std.specs.Option.{option_map_or}
 use Rattle.hla_base.specs.declared.content.HandleValuePair.{HandleValuePair}
 use Rattle.hla_catalogue.specs.Lookup.{contains_number}
-use Rattle.hla_machine.specs.Directory.{subscribed_values}
 use Rattle.hla_declaration.specs.Declarations.{declarations_of}
 use Rattle.hla_verdicts.specs.Kept.{KeptValue, directory_of}
 use Rattle.hla_checker.proofs.ShownValues.{whole_prefix, handed_values}
