@@ -5,6 +5,12 @@
 #[cfg(test)]
 mod monitor;
 #[cfg(test)]
+mod random;
+#[cfg(test)]
 mod runs;
+#[cfg(test)]
+mod stepping;
+#[cfg(test)]
+mod steps;
 #[cfg(test)]
 mod threads;

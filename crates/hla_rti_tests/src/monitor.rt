@@ -156,6 +156,108 @@ fn each_count_of_a_run(rt: HostRuntime) -> Result<(), Fail> {
     Ok(())
 }
 
+/// The steps that are told, which are all that were recorded.
+fn told_steps<L: Ledger + Naming, W: Publisher<L>>(
+    rt: &impl Wait,
+    rti: &mut Rti<L, Recorder, W>,
+) -> u64 {
+    let told = rti.tell(rt);
+    let steps = told.status().steps;
+    drop(told);
+    steps
+}
+
+/// The steps that a new monitor reads, which is let go then.
+fn steps_read<L: Ledger + Naming, W: Publisher<L>>(
+    rt: &(impl Wait + Abort),
+    rti: &mut Rti<L, Recorder, W>,
+) -> u64 {
+    let mut monitor = monitor_of(rt, rti);
+    let steps = monitor.read().steps;
+    drop(monitor);
+    steps
+}
+
+/// What a monitor reads that is handed out after so many records, where it is this many.
+fn read_after<L: Ledger + Naming, W: Publisher<L>>(
+    rt: &(impl Wait + Abort),
+    rti: &mut Rti<L, Recorder, W>,
+    handed: u64,
+    records: u64,
+) {
+    if handed == records {
+        assert_eq!(rt; steps_read(rt, rti), records);
+    }
+}
+
+/// What is told of a creation and two joinings, and what a new monitor reads then, where another was handed out after so many
+/// records. What is told is asked for first, or last.
+fn three_steps_seen<L: Ledger + Naming, W: Publisher<L>>(
+    rt: &(impl Wait + Abort),
+    alloc: Global,
+    mut rti: Rti<L, Recorder, W>,
+    handed: u64,
+    is_told_first: bool,
+) -> (u64, u64) {
+    read_after(rt, &mut rti, handed, 0);
+    let play = created_from(rt, &mut rti, FED);
+    read_after(rt, &mut rti, handed, 1);
+    let a = joined_as(rt, alloc, &mut rti, play, b'A');
+    read_after(rt, &mut rti, handed, 2);
+    let b = joined_as(rt, alloc, &mut rti, play, b'B');
+    read_after(rt, &mut rti, handed, 3);
+    let seen = if is_told_first {
+        let told = told_steps(rt, &mut rti);
+        (told, steps_read(rt, &mut rti))
+    } else {
+        let read = steps_read(rt, &mut rti);
+        (told_steps(rt, &mut rti), read)
+    };
+    drop(a);
+    drop(b);
+    drop(rti);
+    seen
+}
+
+/// The same of an infrastructure of its own.
+fn three_steps<L: Ledger + Naming, R: Wait + Abort>(
+    rt: &R,
+    alloc: Global,
+    blank: Blank,
+    opened: Opened,
+    handed: u64,
+    is_told_first: bool,
+) -> Result<(u64, u64), Fail>
+    requires name { blank.name ≡ L.name }
+    requires parts { blank.parts ≡ L.parts }
+    requires all { blank.parts ≡ 2049 }
+    requires book { opened.seen.book ≡ L.book }
+{
+    let rti = open_rti::<L, Recorder, &R>(alloc, rt, blank, opened, 100)?;
+    Ok(three_steps_seen(rt, alloc, rti, handed, is_told_first))
+}
+
+fn three_steps_at_a_brand<R: Wait + Abort>(
+    rt: &R,
+    alloc: Global,
+    handed: u64,
+    is_told_first: bool,
+) -> Result<(u64, u64), Fail> {
+    let (blank, opened) = (Blank::new(2049), Opened::new());
+    three_steps::<Brand, R>(rt, alloc, blank, opened, handed, is_told_first)
+}
+
+#[test]
+fn all_steps_are_told(rt: HostRuntime) -> Result<(), Fail> {
+    for handed in 0..=4 {
+        for is_told_first in [false, true] {
+            let seen = three_steps_at_a_brand(&rt, rt.alloc(), handed, is_told_first)?;
+            assert_eq!(rt; seen, (3, 3), "a monitor handed out after {handed} records");
+        }
+    }
+    Ok(())
+}
+
 /// What a thread has: a caller, or a monitor.
 #[derive(Drop)]
 enum Party<L: Ledger + Naming, W: Publisher<L>> {
