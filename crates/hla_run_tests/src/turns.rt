@@ -135,12 +135,16 @@ struct Stage<'a> {
     joined: FederateNo,
 }
 
-/// Calls a service.
+/// Calls a service; no script that is run so resigns.
 fn served<L: Ledger + Naming, P: Publisher<L>>(
     rt: &impl Wait,
     federate: &mut Federate<L, Recorder, P>,
     service: Service,
 ) -> Outcome {
+    if let Service::Resign { .. } = &service {
+        drop(service);
+        return Outcome::Refused(Fault::FederateNotExecutionMember);
+    }
     match federate.serve(rt, service) {
         Ok(answer) => Outcome::Done(answer),
         Err(fault) => Outcome::Refused(fault),
@@ -267,6 +271,14 @@ fn told_text<L: Ledger + Naming, P: Publisher<L>>(
     text
 }
 
+/// The number of federates that have joined; each has the number of its joining.
+fn number_of<L: Ledger + Naming, P: Publisher<L>>(lives: &[Life<L, P>]) -> FederateNo {
+    match lives.last() {
+        Some(life) => life.federate.number(),
+        None => 0,
+    }
+}
+
 /// The lives of all who join, done on threads.
 fn lived<L: Ledger + Naming + Send + Sync, P: Publisher<L> + Send, R: Threads + Wait + Sync>(
     rt: &R,
@@ -283,7 +295,7 @@ fn lived<L: Ledger + Naming + Send + Sync, P: Publisher<L> + Send, R: Threads + 
         execution,
         catalogue,
         lines,
-        joined: lives.len() as FederateNo,
+        joined: number_of(lives.as_slice()),
     };
     let lives = thread::map_vec(rt, lives, &|life| live(rt, &stage, life)).ok()?;
     Some(told_text(alloc, catalogue, lines, lives.as_slice()))
