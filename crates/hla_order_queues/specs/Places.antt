@@ -18,19 +18,19 @@ blocks_at s [] = []
 blocks_at s (e ∷ es) = (e.0, block_in s e.1) ∷ blocks_at s es
 
 -- a floor has this place
-abbrev pub is_named : ℕ → List (EventKey × ℕ) → Bool
-is_named place [] = false
-is_named place (e ∷ es) = eqb e.1 place || is_named place es
+abbrev pub is_place_named : ℕ → List (EventKey × ℕ) → Bool
+is_place_named place [] = false
+is_place_named place (e ∷ es) = eqb e.1 place || is_place_named place es
 
 -- no two floors have one place
-abbrev pub AreDistinct : List (EventKey × ℕ) → Type 0
-AreDistinct [] = Unit {0}
-AreDistinct (e ∷ es) = (is_named e.1 es ≡ false) × AreDistinct es
+abbrev pub AreOwnPlaces : List (EventKey × ℕ) → Type 0
+AreOwnPlaces [] = Unit {0}
+AreOwnPlaces (e ∷ es) = (is_place_named e.1 es ≡ false) × AreOwnPlaces es
 
 -- the slab has a block just at the places that floors have, and each floor has a place of its own
 pub record AreHeld (s : Slab (List Event)) (es : List (EventKey × ℕ)) : Type 0 where
-  pub held : (place : ℕ) → is_some (get s place) ≡ is_named place es
-  pub distinct : AreDistinct es
+  pub held : (place : ℕ) → is_some (get s place) ≡ is_place_named place es
+  pub distinct : AreOwnPlaces es
 
 -- an event was put into the block under a floor, or refused
 pub record IsPutIn (x : Event) (f : EventKey) (was : List Event) (old new : List (EventKey × List Event)) (r : Result (Unit {0}) Event) : Type 0 where
