@@ -326,7 +326,7 @@ impl Bag {
             return;
         }
         if let Some(at) = scan(self.waiting.as_slice(), event) {
-            self.waiting.remove(at);
+            self.waiting.remove_or_cut(at);
         }
     }
 
@@ -347,8 +347,9 @@ impl Bag {
         self.settle(place, is_bound);
     }
 
-    /// The message that an event handle names, if it was sent in time-stamp order, is to be given in receive order.
-    fn demote_one(&mut self, event: EventHandle)
+    /// The message that an event handle names, if it was sent in time-stamp order, is to be given in receive order. It finds it
+    /// as `remove`.
+    pub fn demote_one(&mut self, event: EventHandle)
         ensures table { waiting_at self.new ≡ with_listed_demoted (event ∷ []) (waiting_at self.old) }
         ensures apart { AreApart self.new }
     {

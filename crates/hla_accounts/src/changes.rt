@@ -59,7 +59,7 @@ impl Accounts {
     }
 
     /// A message arrives for a federate. While the federate is not constrained it is to be given in receive order. It takes
-    /// the time of `Bag::demote`.
+    /// the time of `Bag::demote_one`.
     pub fn arrive(&mut self, federate: FederateNo, event: EventHandle)
         requires some { 0 < federate }
         requires within { federate ≤ length self.old }
@@ -67,7 +67,7 @@ impl Accounts {
             event.sender federate event.serial }
     {
         if !self.is_order_kept(federate) {
-            self.demote(federate, &[event]);
+            self.accounts[federate as usize - 1].bag.demote_one(event);
         }
     }
 

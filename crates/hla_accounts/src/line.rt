@@ -204,6 +204,18 @@ impl Line {
         }
     }
 
+    /// `remove`, with the shortest way where the last message of a line with no gap is taken out: mostly that is the only one.
+    pub fn remove_or_cut(&mut self, place: usize)
+        requires { place < length self.old }
+        ensures { self.new ≡ remove self.old place }
+    {
+        if self.start == 0 && place + 1 == self.waiting.len() {
+            self.waiting.truncate(place);
+            return;
+        }
+        self.remove(place);
+    }
+
     /// The message at a place is to be given so.
     pub fn set_delivery(&mut self, place: usize, delivery: Delivery)
         requires { place < length self.old }

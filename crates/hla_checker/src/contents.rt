@@ -1,6 +1,6 @@
 //! What a message says to each federate.
 
-ghost use Rattle.std.specs.Prelude.{◌≡◌, ◌≤◌, ◌<◌, filter, length, slice_index_or, IfOk, IfErr};
+ghost use Rattle.std.specs.Prelude.{◌≡◌, ◌≤◌, ◌<◌, ◌++◌, filter, length, OnOk, IfOk, IfErr};
 ghost use Rattle.std.specs.List.{prefix_len};
 ghost use Rattle.hla_base.specs.Limits.{max_joins};
 ghost use Rattle.hla_base.specs.declared.content.HandleValuePair.{HandleValuePair};
@@ -11,6 +11,7 @@ ghost use Rattle.hla_verdicts.specs.Kept.{directory_of};
 ghost use Rattle.hla_checker.specs.Sending.{body_said, AreContents};
 
 use crate::kept::KeptExecution;
+use crate::values::Values;
 use hla_base::{
     AttributeNo, ClassNo, Content, Fault, FederateNo, HandleValuePair, List, ObjectNo, Plain,
     SharedList,
@@ -18,21 +19,12 @@ use hla_base::{
 use hla_catalogue::Order;
 use std::alloc::Global;
 
-/// What a service sends, before it is cut to what each receiver is shown. The values are by rising handle; who is shown all of
-/// them shares them.
+/// What a service sends, before it is cut to what each receiver is shown. The values are by rising handle.
 #[derive(Debug, Drop)]
 pub(crate) enum Body {
-    Interaction {
-        class: ClassNo,
-        values: SharedList<HandleValuePair>,
-    },
-    Update {
-        object: ObjectNo,
-        values: SharedList<HandleValuePair>,
-    },
-    Deletion {
-        object: ObjectNo,
-    },
+    Interaction { class: ClassNo, values: Values },
+    Update { object: ObjectNo, values: Values },
+    Deletion { object: ObjectNo },
 }
 
 /// One message of a service.
@@ -52,25 +44,38 @@ fn count_subscribed(subscribed: &[AttributeNo], values: &[HandleValuePair]) -> u
         .count()
 }
 
-/// Whether the attribute of the value at a place is among those that a federate subscribes; `first` of the values come before the
-/// first whose attribute is not.
-fn is_subscribed_at(
+/// Copies of values, in a list with room for so many. `OutOfMemory` where a growth was refused.
+fn copied(
+    alloc: Global,
+    values: &[HandleValuePair],
+    room: usize,
+) -> Result<List<HandleValuePair>, Fault>
+    ensures ok { IfOk result (λ copies. copies ≡ values.now) }
+    ensures err { IfErr result (λ e. e ≡ Fault.OutOfMemory) }
+{
+    let mut copies = List::with_room(alloc, room)?;
+    for value in values {
+        copies.push(value.copy()?)?;
+    }
+    Ok(copies)
+}
+
+/// Adds copies of the values of the attributes that a federate subscribes. `OutOfMemory` where a growth was refused.
+fn add_subscribed(
+    shown: &mut List<HandleValuePair>,
     subscribed: &[AttributeNo],
     values: &[HandleValuePair],
-    first: usize,
-    place: usize,
-) -> bool
-    requires count { first ≡ prefix_len (λ (v : HandleValuePair). contains_number v.handle subscribed.now) values.now }
-    requires within { place < length values.now }
-    ensures { (d : HandleValuePair) → result ≡ contains_number (slice_index_or values.now place d).handle subscribed.now }
+) -> Result<(), Fault>
+    ensures ok { OnOk result (shown.new ≡ shown.old ++ filter (λ (v : HandleValuePair). contains_number v.handle
+        subscribed.now) values.now) }
+    ensures err { IfErr result (λ e. e ≡ Fault.OutOfMemory) }
 {
-    if place < first {
-        return true;
+    for value in values {
+        if subscribed.contains(&value.handle) {
+            shown.push(value.copy()?)?;
+        }
     }
-    if place == first {
-        return false;
-    }
-    subscribed.contains(&values[place].handle)
+    Ok(())
 }
 
 /// Copies of the values of the attributes that a federate subscribes; `first` of them come before the first that it does not
@@ -81,17 +86,14 @@ fn cut_to_subscribed(
     values: &[HandleValuePair],
     first: usize,
 ) -> Result<SharedList<HandleValuePair>, Fault>
-    requires { first ≡ prefix_len (λ (v : HandleValuePair). contains_number v.handle subscribed.now) values.now }
+    requires count { first ≡ prefix_len (λ (v : HandleValuePair). contains_number v.handle subscribed.now) values.now }
+    requires within { first < length values.now }
     ensures ok { IfOk result (λ shown. shown ≡ filter (λ (v : HandleValuePair). contains_number v.handle
         subscribed.now) values.now) }
     ensures err { IfErr result (λ e. e ≡ Fault.OutOfMemory) }
 {
-    let mut shown = List::with_room(alloc, values.len())?;
-    for place in 0..values.len() {
-        if is_subscribed_at(subscribed, values, first, place) {
-            shown.push(values[place].copy()?)?;
-        }
-    }
+    let mut shown = copied(alloc, &values[..first], values.len() - 1)?;
+    add_subscribed(&mut shown, subscribed, &values[first + 1..])?;
     let shared = SharedList::from_list(shown)?;
     Ok(shared)
 }
@@ -108,28 +110,23 @@ impl KeptExecution {
             .count()
     }
 
-    /// Whether a class has the parameter of the value at a place; `count` of the values come before the first whose parameter it
-    /// does not have.
-    fn has_parameter_at(
+    /// Adds copies of the values of the parameters that a class has. `OutOfMemory` where a growth was refused.
+    fn add_parameters(
         &self,
+        shown: &mut List<HandleValuePair>,
         class: ClassNo,
         values: &[HandleValuePair],
-        count: usize,
-        place: usize,
-    ) -> bool
-        requires count { count ≡ prefix_len (λ (v : HandleValuePair). has_parameter self.now.catalogue class v.handle)
-            values.now }
-        requires within { place < length values.now }
-        ensures { (d : HandleValuePair) → result ≡ has_parameter self.now.catalogue class (slice_index_or values.now place
-            d).handle }
+    ) -> Result<(), Fault>
+        ensures ok { OnOk result (shown.new ≡ shown.old ++ filter
+            (λ (v : HandleValuePair). has_parameter self.now.catalogue class v.handle) values.now) }
+        ensures err { IfErr result (λ e. e ≡ Fault.OutOfMemory) }
     {
-        if place < count {
-            return true;
+        for value in values {
+            if self.catalogue.has_parameter(class, value.handle) {
+                shown.push(value.copy()?)?;
+            }
         }
-        if place == count {
-            return false;
-        }
-        self.catalogue.has_parameter(class, values[place].handle)
+        Ok(())
     }
 
     /// Copies of the values of the parameters that a class has; `count` of them come before the first that it does not have.
@@ -140,18 +137,15 @@ impl KeptExecution {
         values: &[HandleValuePair],
         count: usize,
     ) -> Result<SharedList<HandleValuePair>, Fault>
-        requires { count ≡ prefix_len (λ (v : HandleValuePair). has_parameter self.now.catalogue class v.handle)
+        requires count { count ≡ prefix_len (λ (v : HandleValuePair). has_parameter self.now.catalogue class v.handle)
             values.now }
+        requires within { count < length values.now }
         ensures ok { IfOk result (λ shown. shown ≡ filter
             (λ (v : HandleValuePair). has_parameter self.now.catalogue class v.handle) values.now) }
         ensures err { IfErr result (λ e. e ≡ Fault.OutOfMemory) }
     {
-        let mut shown = List::with_room(self.alloc, values.len())?;
-        for place in 0..values.len() {
-            if self.has_parameter_at(class, values, count, place) {
-                shown.push(values[place].copy()?)?;
-            }
-        }
+        let mut shown = copied(self.alloc, &values[..count], values.len() - 1)?;
+        self.add_parameters(&mut shown, class, &values[count + 1..])?;
         let shared = SharedList::from_list(shown)?;
         Ok(shared)
     }
@@ -161,15 +155,16 @@ impl KeptExecution {
     fn shown_parameters(
         &self,
         class: ClassNo,
-        values: &SharedList<HandleValuePair>,
+        values: &mut Values,
     ) -> Result<SharedList<HandleValuePair>, Fault>
         ensures ok { IfOk result (λ shown. shown ≡ filter
-            (λ (v : HandleValuePair). has_parameter self.now.catalogue class v.handle) values.now) }
+            (λ (v : HandleValuePair). has_parameter self.now.catalogue class v.handle) values.old) }
+        ensures kept { OnOk result (values.new ≡ values.old) }
         ensures err { IfErr result (λ e. e ≡ Fault.OutOfMemory) }
     {
         let count = self.count_parameters(class, values.as_slice());
-        if count == values.len() {
-            return values.copy();
+        if count == values.as_slice().len() {
+            return values.share(self.alloc);
         }
         self.cut_parameters(class, values.as_slice(), count)
     }
@@ -180,16 +175,17 @@ impl KeptExecution {
         &self,
         federate: FederateNo,
         class: ClassNo,
-        values: &SharedList<HandleValuePair>,
+        values: &mut Values,
     ) -> Result<SharedList<HandleValuePair>, Fault>
         ensures ok { IfOk result (λ shown. shown ≡ subscribed_values (directory_of self.now) federate class
-            values.now) }
+            values.old) }
+        ensures kept { OnOk result (values.new ≡ values.old) }
         ensures err { IfErr result (λ e. e ≡ Fault.OutOfMemory) }
     {
         let subscribed = self.declarations.subscribed_attributes(federate, class);
         let first = count_subscribed(subscribed, values.as_slice());
-        if first == values.len() {
-            return values.copy();
+        if first == values.as_slice().len() {
+            return values.share(self.alloc);
         }
         cut_to_subscribed(self.alloc, subscribed, values.as_slice(), first)
     }
@@ -199,10 +195,11 @@ impl KeptExecution {
         &self,
         federate: FederateNo,
         class: ClassNo,
-        values: &SharedList<HandleValuePair>,
+        values: &mut Values,
     ) -> Result<Option<Content>, Fault>
-        ensures ok { IfOk result (λ x. x ≡ content_for (directory_of self.now) (AnInteraction class values.now)
+        ensures ok { IfOk result (λ x. x ≡ content_for (directory_of self.now) (AnInteraction class values.old)
             federate) }
+        ensures kept { OnOk result (values.new ≡ values.old) }
         ensures err { IfErr result (λ e. e ≡ Fault.OutOfMemory) }
     {
         match self
@@ -222,10 +219,11 @@ impl KeptExecution {
         &self,
         federate: FederateNo,
         object: ObjectNo,
-        values: &SharedList<HandleValuePair>,
+        values: &mut Values,
     ) -> Result<Option<Content>, Fault>
-        ensures ok { IfOk result (λ x. x ≡ content_for (directory_of self.now) (AnUpdate object values.now)
+        ensures ok { IfOk result (λ x. x ≡ content_for (directory_of self.now) (AnUpdate object values.old)
             federate) }
+        ensures kept { OnOk result (values.new ≡ values.old) }
         ensures err { IfErr result (λ e. e ≡ Fault.OutOfMemory) }
     {
         let class = self.registry.class_of(object);
@@ -257,8 +255,9 @@ impl KeptExecution {
     }
 
     /// What a message says to a federate, if anything. `OutOfMemory` where a growth was refused.
-    fn content_for(&self, body: &Body, federate: FederateNo) -> Result<Option<Content>, Fault>
-        ensures ok { IfOk result (λ x. x ≡ content_for (directory_of self.now) (body_said body.now) federate) }
+    fn content_for(&self, body: &mut Body, federate: FederateNo) -> Result<Option<Content>, Fault>
+        ensures ok { IfOk result (λ x. x ≡ content_for (directory_of self.now) (body_said body.old) federate) }
+        ensures kept { OnOk result (body_said body.new ≡ body_said body.old) }
         ensures err { IfErr result (λ e. e ≡ Fault.OutOfMemory) }
     {
         match body {
@@ -272,8 +271,8 @@ impl KeptExecution {
 
     /// What a message says to each federate that has ever joined, by number, counted from 1. `OutOfMemory` where a growth
     /// was refused.
-    pub(crate) fn contents_of(&self, body: &Body) -> Result<Vec<Option<Content>>, Fault>
-        ensures ok { IfOk result (λ contents. AreContents (directory_of self.now) (body_said body.now)
+    pub(crate) fn contents_of(&self, body: &mut Body) -> Result<Vec<Option<Content>>, Fault>
+        ensures ok { IfOk result (λ contents. AreContents (directory_of self.now) (body_said body.old)
             (length self.now.accounts) contents.items) }
         ensures few { IfOk result (λ contents. length contents.items ≤ max_joins) }
         ensures err { IfErr result (λ e. e ≡ Fault.OutOfMemory) }

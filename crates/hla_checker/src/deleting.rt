@@ -57,8 +57,8 @@ impl KeptExecution {
         ensures consistent { OnOk result (IsConsistent self.new) }
         ensures err { IfErr result (λ e. e ≡ Fault.OutOfMemory) }
     {
-        let message = self.deletion_of(object);
-        self.send(federate, stamp, &message)?;
+        let mut message = self.deletion_of(object);
+        self.send(federate, stamp, &mut message)?;
         self.remove_object(object);
         Ok(())
     }

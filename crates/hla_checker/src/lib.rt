@@ -20,5 +20,6 @@ mod sending_faults;
 mod subscribing;
 mod table;
 mod updating;
+mod values;
 
 pub use checking::{CheckFault, check_run};

@@ -43,11 +43,11 @@ impl KeptExecution {
         ensures err { IfErr result (λ e. e ≡ Fault.OutOfMemory) }
     {
         for object in objects {
-            let message = Message {
+            let mut message = Message {
                 order: Order::Receive,
                 body: Body::Deletion { object: *object },
             };
-            self.send(federate, None, &message)?;
+            self.send(federate, None, &mut message)?;
         }
         Ok(())
     }

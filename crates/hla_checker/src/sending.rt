@@ -16,7 +16,8 @@ ghost use Rattle.hla_checker.specs.Sending.{body_said, outgoing};
 use crate::contents::{Body, Message};
 use crate::kept::KeptExecution;
 use crate::pairs::by_handle;
-use hla_base::{ClassNo, EventHandle, Fault, FederateNo, HandleValuePair, List, SharedList, Ticks};
+use crate::values::Values;
+use hla_base::{ClassNo, EventHandle, Fault, FederateNo, HandleValuePair, List, Ticks};
 use hla_catalogue::Order;
 use hla_machine::{Choice, Outcome};
 use hla_verdicts::{Verdict, answer_to_test, is_sent};
@@ -40,18 +41,18 @@ impl KeptExecution {
         &mut self,
         federate: FederateNo,
         stamp: Option<Ticks>,
-        message: &Message,
+        message: &mut Message,
     ) -> Result<(), Fault>
         requires consistent { IsConsistent self.old }
         requires joined { (account_at self.old.accounts federate).is_joined ≡ true }
         requires room { (account_at self.old.accounts federate).next_serial ≤ max_serial }
         ensures sent { OnOk result (central_of self.new ≡ after_message (central_of self.old) federate stamp
-            (outgoing message.now)) }
+            (outgoing message.old)) }
         ensures consistent { OnOk result (IsConsistent self.new) }
         ensures err { IfErr result (λ e. e ≡ Fault.OutOfMemory) }
     {
-        let contents = self.contents_of(&message.body)?;
         let is_deletion = message.body.is_deletion();
+        let contents = self.contents_of(&mut message.body)?;
         self.accounts
             .send(federate, message.order, stamp, is_deletion, contents)?;
         Ok(())
@@ -108,9 +109,9 @@ impl KeptExecution {
         ensures err { IfErr result (λ e. e ≡ Fault.OutOfMemory) }
     {
         let order = self.catalogue.interaction_order(class);
-        let values = SharedList::from_list(by_handle(self.alloc, values)?)?;
+        let values = Values::of(by_handle(self.alloc, values)?);
         let body = Body::Interaction { class, values };
-        self.send(federate, stamp, &Message { order, body })
+        self.send(federate, stamp, &mut Message { order, body })
     }
 
     /// Whether the machine allows that a joined federate sends an interaction, which ended so and chose this; where it does,

@@ -16,9 +16,8 @@ ghost use Rattle.hla_verdicts.specs.Kept.{IsConsistent, JudgedStep, central_of, 
 use crate::contents::{Body, Message};
 use crate::kept::KeptExecution;
 use crate::pairs::by_handle;
-use hla_base::{
-    EventHandle, Fault, FederateNo, HandleValuePair, List, ObjectNo, Plain, SharedList, Ticks,
-};
+use crate::values::Values;
+use hla_base::{EventHandle, Fault, FederateNo, HandleValuePair, List, ObjectNo, Plain, Ticks};
 use hla_catalogue::Order;
 use hla_machine::{Choice, Outcome};
 use hla_verdicts::{Verdict, answer_to_test, is_sent};
@@ -137,9 +136,9 @@ impl KeptExecution {
         if values.is_empty() {
             return Ok(());
         }
-        let values = SharedList::from_list(values)?;
+        let values = Values::of(values);
         let body = Body::Update { object, values };
-        self.send(federate, stamp, &Message { order, body })
+        self.send(federate, stamp, &mut Message { order, body })
     }
 
     /// A joined federate updates attributes of an object: those whose updates go in receive order make one message, the

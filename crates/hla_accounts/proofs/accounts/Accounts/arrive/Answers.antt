@@ -1,8 +1,23 @@
--- Where order is not kept it is demoted.
-use Rattle.std.proofs.Common.{◌∙◌, sym}
-use Rattle.hla_accounts.specs.Accounts.{central_with}
-use Rattle.hla_accounts.proofs.ChangeLemmas.{arrived}
+-- Where order is not kept the message is demoted in the bag of the one account.
+use Rattle.std.proofs.Common.{◌≡◌, ◌≤◌, ◌-◌, ◌∷◌, [], ℕ, Option, length, set, subst, ap, sym, ◌∙◌}
+use Rattle.hla_machine.specs.Callbacks.{with_demoted}
+use Rattle.hla_accounts.specs.declared.bag.Waiting.{Waiting}
+use Rattle.hla_accounts.specs.Bags.{waiting_at}
+use Rattle.hla_accounts.specs.Accounts.{account_at, central_with}
+use Rattle.hla_accounts.proofs.ChangeLemmas.{account_read, bag_kept, demote_set, none_demoted, arrived}
 use Rattle.hla_accounts.proofs.accounts.Accounts.arrive.Goals as goal
 
+inside : (c : goal.After-self-1) → c.args.federate ≤ length c.self.inside.accounts.items
+inside c = rw c.self.view_is c.requires.within
+
+read : (c : goal.After-self-1) → c.index_mut.result.now ≡ account_at c.self.inside.accounts.items c.args.federate
+read c = account_read c.self.inside.accounts.items c.args.federate c.index_mut.result.now c.requires.some (inside c) c.index_mut.ensures.value
+
+pub invariant_of-self : goal.invariant_of-self
+invariant_of-self c = bag_kept c.self.inside.accounts.items c.args.federate c.requires.some (inside c) c.self.invariant c.index_mut.result.now c.demote_one.new.self (read c) c.demote_one.ensures.apart
+    (λ g m none. ap (λ (t : ℕ → ℕ → Option Waiting). t g m) c.demote_one.ensures.table ∙ none_demoted (waiting_at c.index_mut.result.now.bag) (c.args.event ∷ []) g m none)
+
 pub returns-then-not-is_order_kept : goal.returns-then-not-is_order_kept
-returns-then-not-is_order_kept c d = c.demote.ensures d ∙ arrived (central_with d c.args.self.now) c.args.federate c.args.event (sym c.is_order_kept.ensures ∙ c.if-not-is_order_kept.true)
+returns-then-not-is_order_kept c d = subst (λ v. central_with d (set c.self.inside.accounts.items (c.args.federate - 1) (record c.index_mut.result.now { bag = c.demote_one.new.self })) ≡ record (central_with d v) { bag = with_demoted (central_with d v).bag c.args.federate (c.args.event ∷ []) }) c.self.view_is
+    (demote_set d c.self.inside.accounts.items c.args.federate c.requires.some (inside c) c.index_mut.result.now c.demote_one.new.self (c.args.event ∷ []) (read c) c.demote_one.ensures.table)
+    ∙ arrived (central_with d c.args.self.now) c.args.federate c.args.event (sym c.is_order_kept.ensures ∙ c.if-not-is_order_kept.true)

@@ -15,7 +15,7 @@ returns-then-first-len-clause-ok c =
     let shows : HandleValuePair → Bool = λ (v : HandleValuePair). contains_number v.handle c.subscribed_attributes-subscribed.result.now in
     let counted = c.count_subscribed-first.ensures ∙ ap (prefix_len shows) c.as_slice.ensures in
     let all : prefix_len shows values ≡ length values = omega (arith, counted, c.len.ensures, c.if-first-len.true) in
-    subst (λ (ys : List HandleValuePair). IfOk c.copy.result (λ shown. shown ≡ ys)) (sym (whole_prefix shows values all) ∙ handed_values c.subscribed_attributes-subscribed.result.now ((directory_of c.args.self.now).subscribed c.args.federate c.args.class) (subst (λ (y : KeptValue). c.subscribed_attributes-subscribed.result.now ≡ option_map_or (λ (ns : List ℕ). ns) ((declarations_of y.declarations).subscribed c.args.federate c.args.class) []) c.self.view_is c.subscribed_attributes-subscribed.ensures) values) c.copy.ensures.ok
+    subst (λ (ys : List HandleValuePair). IfOk c.share.result (λ shown. shown ≡ ys)) (sym (whole_prefix shows values all) ∙ handed_values c.subscribed_attributes-subscribed.result.now ((directory_of c.args.self.now).subscribed c.args.federate c.args.class) (subst (λ (y : KeptValue). c.subscribed_attributes-subscribed.result.now ≡ option_map_or (λ (ns : List ℕ). ns) ((declarations_of y.declarations).subscribed c.args.federate c.args.class) []) c.self.view_is c.subscribed_attributes-subscribed.ensures) values) c.share.ensures.ok
 
 pub returns-clause-ok : goal.returns-clause-ok
 returns-clause-ok c =

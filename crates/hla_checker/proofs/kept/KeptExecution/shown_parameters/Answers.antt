@@ -12,4 +12,4 @@ returns-then-count-len-clause-ok c =
     let shows : HandleValuePair → Bool = λ (v : HandleValuePair). has_parameter c.args.self.now.catalogue c.args.class v.handle in
     let counted = c.count_parameters-count.ensures ∙ ap (prefix_len shows) c.as_slice.ensures in
     let all : prefix_len shows values ≡ length values = omega (arith, counted, c.len.ensures, c.if-count-len.true) in
-    subst (λ (ys : List HandleValuePair). IfOk c.copy.result (λ shown. shown ≡ ys)) (sym (whole_prefix shows values all)) c.copy.ensures.ok
+    subst (λ (ys : List HandleValuePair). IfOk c.share.result (λ shown. shown ≡ ys)) (sym (whole_prefix shows values all)) c.share.ensures.ok
