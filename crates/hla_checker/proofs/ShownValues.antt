@@ -1,10 +1,11 @@
 -- What is shown of values, one after another
-use Rattle.std.proofs.Common.{◌≡◌, ℕ, ◌+◌, ◌<◌, ◌&&◌, List, [], ◌∷◌, ◌++◌, length, filter, take, get_or, cond, Bool, true, false, Option, Some, None, refl, sym, ap, ◌∙◌, arith}
+use Rattle.std.proofs.Common.{◌≡◌, ℕ, zero, suc, drop, ◌+◌, ◌<◌, ◌≤◌, ◌&&◌, List, [], ◌∷◌, ◌++◌, length, filter, take, get_or, cond, Bool, true, false, Option, Some, None, refl, sym, ap, subst, ◌∙◌, arith}
 use Rattle.std.specs.List.{list_all, prefix_len}
 use Rattle.std.specs.Option.{option_map_or}
 use Rattle.std.proofs.lemmas.Bool.{and_parts}
-use Rattle.std.proofs.lemmas.List.{append-nil}
-use Rattle.std.proofs.lemmas.List.Elements.{filter_more}
+use Rattle.std.proofs.lemmas.List.{append-nil, append_assoc, take_more, take-append-drop}
+use Rattle.std.proofs.lemmas.List.Elements.{filter_more, filter-append}
+use Rattle.std.proofs.lemmas.List.Sums.{prefix_len-le-length, prefix_len_passes, prefix_len_stops}
 use Rattle.std.proofs.Math.Path.{fun_ext}
 use Rattle.hla_base.specs.declared.content.HandleValuePair.{HandleValuePair}
 use Rattle.hla_catalogue.specs.declared.declared.Order.{Order}
@@ -32,21 +33,48 @@ all_pass p (x ∷ xs) all = by_head p x xs (p x) refl (all ∙ omega arith) (all
 pub whole_prefix : {X : Type 0} (p : X → Bool) (xs : List X) → prefix_len p xs ≡ length xs → filter p xs ≡ xs
 whole_prefix p xs all = all_kept p xs (all_pass p xs all)
 
--- one more is shown
-pub shown_more : {X : Type 0} (p : X → Bool) (xs : List X) (i : ℕ) (v : X) (ys : List X) → i < length xs → v ≡ get_or xs i v → p v ≡ true → ys ≡ filter p (take i xs) → ys ++ v ∷ [] ≡ filter p (take (i + 1) xs)
-shown_more p xs i v ys l read passes so =
+-- one more is shown behind what was there
+pub shown_more : {X : Type 0} (p : X → Bool) (xs : List X) (i : ℕ) (v : X) (before ys : List X) → i < length xs → v ≡ get_or xs i v → p v ≡ true → ys ≡ before ++ filter p (take i xs) → ys ++ v ∷ [] ≡ before ++ filter p (take (i + 1) xs)
+shown_more p xs i v before ys l read passes so =
     ap (λ zs. zs ++ v ∷ []) so
-    ∙ sym (filter_more p xs i v l ∙ ap (λ x. filter p (take i xs) ++ cond (p x) (x ∷ []) []) (sym read) ∙ ap (λ b. filter p (take i xs) ++ cond b (v ∷ []) []) passes)
+    ∙ append_assoc before (filter p (take i xs)) (v ∷ [])
+    ∙ ap (λ zs. before ++ zs) (sym (filter_more p xs i v l ∙ ap (λ x. filter p (take i xs) ++ cond (p x) (x ∷ []) []) (sym read) ∙ ap (λ b. filter p (take i xs) ++ cond b (v ∷ []) []) passes))
 
 -- one more is not shown
-pub hidden_more : {X : Type 0} (p : X → Bool) (xs : List X) (i : ℕ) (d : X) (ys : List X) → i < length xs → p (get_or xs i d) ≡ false → ys ≡ filter p (take i xs) → ys ≡ filter p (take (i + 1) xs)
-hidden_more p xs i d ys l fails so =
-    so ∙ sym (append-nil (filter p (take i xs)))
-    ∙ sym (filter_more p xs i d l ∙ ap (λ b. filter p (take i xs) ++ cond b (get_or xs i d ∷ []) []) fails)
+pub hidden_more : {X : Type 0} (p : X → Bool) (xs : List X) (i : ℕ) (v : X) (before ys : List X) → i < length xs → v ≡ get_or xs i v → p v ≡ false → ys ≡ before ++ filter p (take i xs) → ys ≡ before ++ filter p (take (i + 1) xs)
+hidden_more p xs i v before ys l read fails so =
+    so
+    ∙ ap (λ zs. before ++ zs) (sym (filter_more p xs i v l ∙ ap (λ x. filter p (take i xs) ++ cond (p x) (x ∷ []) []) (sym read) ∙ ap (λ b. filter p (take i xs) ++ cond b (v ∷ []) []) fails ∙ append-nil (filter p (take i xs))))
 
-pub hidden_at : {X : Type 0} (p : X → Bool) (xs : List X) (i : ℕ) (ys : List X) → i < length xs → ((d : X) → p (get_or xs i d) ≡ false) → ys ≡ filter p (take i xs) → ys ≡ filter p (take (i + 1) xs)
-hidden_at p [] i ys l fails so = absurd (omega (arith, l))
-hidden_at p (x ∷ xs) i ys l fails so = hidden_more p (x ∷ xs) i x ys l (fails x) so
+kept_more : {X : Type 0} (p : X → Bool) (xs : List X) (i : ℕ) (d : X) → i < prefix_len p xs → filter p (take i xs) ≡ take i xs → filter p (take (i + 1) xs) ≡ take (i + 1) xs
+kept_more p xs i d l so =
+    let within : i < length xs = omega (arith, l, prefix_len-le-length p xs) in
+    filter_more p xs i d within
+    ∙ ap (λ b. filter p (take i xs) ++ cond b (get_or xs i d ∷ []) []) (prefix_len_passes p xs i d l)
+    ∙ ap (λ ys. ys ++ get_or xs i d ∷ []) so
+    ∙ sym (take_more xs i d within)
+
+-- what comes before the first that does not pass is kept
+kept_to : {X : Type 0} (p : X → Bool) (xs : List X) (d : X) (i : ℕ) → i ≤ prefix_len p xs → filter p (take i xs) ≡ take i xs
+kept_to p xs d zero l = refl
+kept_to p xs d (suc i) l =
+    let one : i + 1 ≡ suc i = omega arith in
+    subst (λ (n : ℕ). filter p (take n xs) ≡ take n xs) one (kept_more p xs i d (omega (arith, l)) (kept_to p xs d i (omega (arith, l))))
+
+cut_at : {X : Type 0} (p : X → Bool) (xs : List X) (d : X) (n : ℕ) → n ≡ prefix_len p xs → n < length xs → filter p xs ≡ take n xs ++ filter p (drop (n + 1) xs)
+cut_at p xs d n first l =
+    ap (filter p) (sym (take-append-drop (n + 1) xs))
+    ∙ filter-append p (take (n + 1) xs) (drop (n + 1) xs)
+    ∙ ap (λ ys. ys ++ filter p (drop (n + 1) xs))
+    (filter_more p xs n d l
+    ∙ ap (λ b. filter p (take n xs) ++ cond b (get_or xs n d ∷ []) []) (ap (λ m. p (get_or xs m d)) first ∙ prefix_len_stops p xs d (omega (arith, first, l)))
+    ∙ append-nil (filter p (take n xs))
+    ∙ kept_to p xs d n (omega (arith, first)))
+
+-- what is kept comes before the first that does not pass, or passes behind it
+pub cut_first : {X : Type 0} (p : X → Bool) (xs : List X) (n : ℕ) → n ≡ prefix_len p xs → n < length xs → filter p xs ≡ take n xs ++ filter p (drop (n + 1) xs)
+cut_first p [] n first l = absurd (omega (arith, l))
+cut_first p (x ∷ xs) n first l = cut_at p (x ∷ xs) x n first l
 
 -- where all pass one test, and none that does passes the other, none is kept
 pub none_kept : {X : Type 0} (p q : X → Bool) → ((x : X) → p x ≡ true → q x ≡ false) → (xs : List X) → list_all p xs ≡ true → filter q xs ≡ []

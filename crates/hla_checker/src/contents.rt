@@ -163,7 +163,7 @@ impl KeptExecution {
         ensures err { IfErr result (λ e. e ≡ Fault.OutOfMemory) }
     {
         let count = self.count_parameters(class, values.as_slice());
-        if count == values.as_slice().len() {
+        if count == values.len() {
             return values.share(self.alloc);
         }
         self.cut_parameters(class, values.as_slice(), count)
@@ -184,7 +184,7 @@ impl KeptExecution {
     {
         let subscribed = self.declarations.subscribed_attributes(federate, class);
         let first = count_subscribed(subscribed, values.as_slice());
-        if first == values.as_slice().len() {
+        if first == values.len() {
             return values.share(self.alloc);
         }
         cut_to_subscribed(self.alloc, subscribed, values.as_slice(), first)

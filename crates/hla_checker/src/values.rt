@@ -1,6 +1,6 @@
 //! The values of one message, which those who are shown all of them share.
 
-ghost use Rattle.std.specs.Prelude.{◌≡◌, OnOk, IfOk, IfErr};
+ghost use Rattle.std.specs.Prelude.{◌≡◌, length, OnOk, IfOk, IfErr};
 ghost use Rattle.hla_base.specs.declared.fault.Fault.TheVariants.{OutOfMemory};
 
 use hla_base::{Fault, HandleValuePair, List, Plain, SharedList};
@@ -45,6 +45,13 @@ impl Values {
             Some(shared) => shared.as_slice(),
             None => self.listed.as_slice(),
         }
+    }
+
+    /// How many values there are.
+    pub(crate) fn len(&self) -> usize
+        ensures { result ≡ length self.now }
+    {
+        self.as_slice().len()
     }
 
     /// A share of the values. The first one takes memory; `OutOfMemory` where that was refused, and the values are of no use then.
