@@ -15,7 +15,7 @@ returns-in-Some-clause-table c =
     let g = c.args.event.sender in
     let m = c.args.event.serial in
     let there = subst (λ (vs : List Waiting). Some c.in-Some.at ≡ position (is_of g m) vs) c.as_slice.ensures c.in-Some.ensures in
-    let now = removed_there ws g m c.in-Some.at c.self.invariant.apart there c.remove.new.self c.remove.ensures in
+    let now = removed_there ws g m c.in-Some.at c.self.invariant.apart there c.remove_or_cut.new.self c.remove_or_cut.ensures in
     now.table ∙ ap (λ (vs : List Waiting). upd2 (waiting_at vs) g m None) c.self.view_is
 
 pub returns-in_default-clause-table : goal.returns-in_default-clause-table
@@ -33,7 +33,7 @@ invariant_of-self c =
     let m = c.args.event.serial in
     let there = subst (λ (vs : List Waiting). Some c.in-Some.at ≡ position (is_of g m) vs) c.as_slice.ensures c.in-Some.ensures in
     let none : c.self.inside.indexing.index ≡ None = c.is_idle.ensures (search rules) in
-    subst (λ (vs : List Waiting). IsIndexingOf vs c.self.inside.indexing) (sym c.remove.ensures) (kept_less_found ws c.self.inside.indexing c.in-Some.at g m c.self.invariant none there)
+    subst (λ (vs : List Waiting). IsIndexingOf vs c.self.inside.indexing) (sym c.remove_or_cut.ensures) (kept_less_found ws c.self.inside.indexing c.in-Some.at g m c.self.invariant none there)
 
 pub returns-in-Some-clause-apart : goal.returns-in-Some-clause-apart
 returns-in-Some-clause-apart c = let kept = invariant_of-self c in kept.apart
