@@ -1,13 +1,17 @@
 #!/usr/bin/env python3
-"""Tells whether the prover refuses each wrong body of the files must-fail/*.edit, and by the contract of which function.
+"""Tells whether the prover refuses each wrong body of a crate, and by the contract of which function.
 
-An edit file holds wrong bodies of many functions, because what an edit costs is the reading of the libraries; `rt ci` shows that each
-file is refused. This program applies a file, checks the crate once, and looks for an error in each function that the file changes. Of
+`rt ci` tries the edit of each crate's must-fail/, one that tells much. All the others stand in wrong-bodies/, many in a file, and this
+program tries them and it. It applies a file, checks the crate once, and looks for an error in each function that the file changes. Of
 several wrong bodies of one function the first is checked so, and each other one alone, as is one of a function that calls another
 that the file changes. What turns a definition is refused by a theorem somewhere above it, so each of these is checked alone. It works
 in the folder of the crate, over what earlier checks kept, and puts the sources back; edit nothing while it runs.
 
-    bench/wrong_bodies.py [--alone] [CRATE..]     --alone: one check for each wrong body
+    bench/wrong_bodies.py [--alone] [--apply] [--write] [CRATE..]
+
+    --alone   one check for each wrong body
+    --apply   no check: only whether each stands on a text that is there once
+    --write   what came out goes to bench/wrong_bodies.txt, in place of what is there of these crates
 """
 import argparse
 import pathlib
@@ -16,7 +20,10 @@ import signal
 import subprocess
 import sys
 
-CRATES = pathlib.Path(__file__).resolve().parent.parent / "crates"
+BENCH = pathlib.Path(__file__).resolve().parent
+CRATES = BENCH.parent / "crates"
+RECORD = BENCH / "wrong_bodies.txt"
+FOLDERS = ("must-fail", "wrong-bodies")
 FUNCTION = re.compile(r"^\s*(?:pub(?:\([a-z]+\))?\s+)?(?:const\s+)?fn\s+(\w+)")
 BLOCK = re.compile(r"^(?:pub\s+)?(?:impl|trait)\b.*")
 ERROR = re.compile(r"(?:note: )?(?:\./)?((?:src|specs)/\S+?):(\d+):\d+:")
@@ -94,9 +101,8 @@ def refused(folder, bodies):
 
 
 def tried(folder, edit, alone):
-    """Says of each wrong body of an edit file whether it is refused; gives how many are not."""
+    """Gives, for each wrong body of an edit file, its name, whether it is refused, and where."""
     bodies = wrong_bodies(edit)
-    missing = 0
     single, together, taken = [], [], set()
     for it in bodies:
         changes = edited(folder, [it])[2][it[0]]
@@ -107,27 +113,56 @@ def tried(folder, edit, alone):
     for some in groups:
         found, changed, any_refused = refused(folder, some)
         for it in some:
-            by = [found[at] for at in changed[it[0]] if at in found]
+            by = [at for at in sorted(changed[it[0]], key=str) if at in found]
             is_refused = bool(by) or len(some) == 1 and any_refused
             if not is_refused and len(some) > 1:
                 # (a function is not checked where one that it calls is refused)
                 groups.append([it])
                 continue
-            missing += not is_refused
-            print(f"{folder.name}: {it[0]}: {'refused' if is_refused else 'NOT REFUSED'}: {by[0][:120] if by else 'elsewhere'}", flush=True)
-    return missing
+            print(f"{folder.name}: {it[0]}: {'refused' if is_refused else 'NOT REFUSED'}: {found[by[0]][:120] if by else 'elsewhere'}", flush=True)
+            yield it[0], is_refused, f"{by[0][0]}, {by[0][2] or 'an item'}" if by else "elsewhere"
+
+
+def edits_of(name):
+    """The edit files of a crate."""
+    return [edit for part in FOLDERS for edit in sorted((CRATES / name / part).glob("*.edit"))]
+
+
+def write(name, results):
+    """Puts what came out into the record, in place of what it has of the crate."""
+    lines = RECORD.read_text().splitlines() if RECORD.exists() else []
+    others = {}
+    for line in lines:
+        others.setdefault(line.split(":", 1)[0], []).append(line)
+    commit = subprocess.run(["git", "rev-parse", "--short", "HEAD"], cwd=BENCH, capture_output=True, text=True).stdout.strip()
+    missing = sum(not is_refused for _, is_refused, _ in results)
+    others[name] = [f"{name}: {len(results)} wrong bodies tried at {commit}, {missing} not refused"]
+    others[name] += [f"{name}: {title}: {'refused in ' + where if is_refused else 'NOT REFUSED'}" for title, is_refused, where in results]
+    RECORD.write_text("".join(line + "\n" for crate in sorted(others) for line in others[crate]))
 
 
 def main():
     words = argparse.ArgumentParser(description=__doc__, formatter_class=argparse.RawDescriptionHelpFormatter)
     words.add_argument("--alone", action="store_true", help="one check for each wrong body")
+    words.add_argument("--apply", action="store_true", help="only whether each can be applied")
+    words.add_argument("--write", action="store_true", help="write what came out into bench/wrong_bodies.txt")
     words.add_argument("crates", nargs="*")
     given = words.parse_args()
     # (stopped, it puts the sources back)
     signal.signal(signal.SIGTERM, lambda *_: sys.exit(1))
-    names = given.crates or sorted(it.parent.name for it in CRATES.glob("*/must-fail"))
-    missing = sum(tried(CRATES / name, edit, given.alone) for name in names for edit in sorted((CRATES / name / "must-fail").glob("*.edit")))
-    print(f"{missing} not refused")
+    names = given.crates or sorted({it.parent.name for part in FOLDERS for it in CRATES.glob(f"*/{part}")})
+    missing = count = 0
+    for name in names:
+        if given.apply:
+            applied = [edited(CRATES / name, wrong_bodies(edit)) for edit in edits_of(name)]
+            count += sum(len(changed) for _, _, changed in applied)
+            continue
+        results = [it for edit in edits_of(name) for it in tried(CRATES / name, edit, given.alone)]
+        missing += sum(not is_refused for _, is_refused, _ in results)
+        count += len(results)
+        if given.write:
+            write(name, results)
+    print(f"{count} wrong bodies, {missing} not refused" if not given.apply else f"{count} wrong bodies can be applied")
     return 1 if missing else 0
 
 
