@@ -65,7 +65,8 @@ fn play_bare(meter: &mut Meter, federates: u32, rounds: u64) -> Result<(), Fault
     Ok(())
 }
 
-/// Plays so many rounds on a bare federation.
+/// Plays so many rounds on a bare federation. `ErrorReadingFED` where the FED text was not read, `OutOfMemory` where a growth
+/// was refused, or else the fault of the first step that is refused.
 pub fn run_bare(alloc: Global, federates: u32, rounds: u64) -> Result<Counts, Fault> {
     let mut meter = Meter::new(alloc, catalogue(alloc, FED)?);
     let played = play_bare(&mut meter, federates, rounds);
@@ -176,7 +177,7 @@ fn end_of<L: Ledger + Naming, W: Publisher<L>>(
     }
 }
 
-/// The name of the federate of a number: the letter that has it.
+/// The name of the federate of a number: the letter that has it. `OutOfMemory` where the growth was refused.
 pub fn name_of(alloc: Global, federate: FederateNo) -> Result<List<u8>, Fault> {
     let mut name = List::new(alloc);
     name.push(b'@'.wrapping_add(federate.to_le_bytes()[0]))?;
@@ -396,7 +397,8 @@ fn run_at<L: Ledger + Naming + Send + Sync, R: Threads + Wait + Sync>(
     })
 }
 
-/// The same, at a brand of its own.
+/// The same, at a brand of its own. An error is the fault of the first call that is refused, `OutOfMemory` where a growth or
+/// a thread was refused, or `FederateInternalError` where the infrastructure does not close.
 pub fn run<R: Threads + Wait + Sync>(
     rt: &R,
     alloc: Global,

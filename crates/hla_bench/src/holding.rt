@@ -41,7 +41,7 @@ fn filled(alloc: Global, events: u32, random: &mut Random) -> Result<TsoQueue, F
     Ok(queue)
 }
 
-/// Takes the first event and puts one in behind it, again and again.
+/// Takes the first event and puts one in behind it, again and again. `OutOfMemory` where a growth was refused.
 pub fn run(alloc: Global, events: u32) -> Result<Counts, Fault> {
     let mut random = Random::new();
     let mut queue = filled(alloc, events, &mut random)?;

@@ -58,7 +58,8 @@ fn play(meter: &mut Meter, federates: u32, events: u32, rounds: u64) -> Result<(
     Ok(())
 }
 
-/// Plays so many rounds.
+/// Plays so many rounds. `ErrorReadingFED` where the FED text was not read, `OutOfMemory` where a growth was refused, or else
+/// the fault of the first step that is refused.
 pub fn run(alloc: Global, federates: u32, events: u32, rounds: u64) -> Result<Counts, Fault> {
     let mut meter = Meter::new(alloc, catalogue(alloc, FED)?);
     let played = play(&mut meter, federates, events, rounds);
@@ -76,7 +77,8 @@ fn play_records(
     Ok(meter.take_records())
 }
 
-/// The records of so many rounds.
+/// The records of so many rounds. `ErrorReadingFED` where the FED text was not read, `OutOfMemory` where a growth was
+/// refused, or else the fault of the first step that is refused.
 pub fn records(
     alloc: Global,
     federates: u32,

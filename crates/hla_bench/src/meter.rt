@@ -125,6 +125,7 @@ impl Meter {
     }
 
     /// A federation that no federate has joined yet, of whose steps there will be records behind that of its creation.
+    /// `OutOfMemory` where a growth was refused.
     pub fn with_history(alloc: Global, catalogue: Catalogue) -> Result<Meter, Fault> {
         match History::new(alloc, &catalogue) {
             Ok(history) => Ok(Meter {
@@ -140,7 +141,7 @@ impl Meter {
         }
     }
 
-    /// The counts, or what stopped the play on it.
+    /// The counts, or the `Fault` that stopped the play on it.
     pub fn end(self, played: Result<(), Fault>) -> Result<Counts, Fault> {
         let counts = self.counts;
         drop(self);
@@ -185,20 +186,23 @@ impl Meter {
         brought
     }
 
-    /// A joined federate calls a service.
+    /// A joined federate calls a service. An error is the fault of the step where it is refused, or `OutOfMemory` where a
+    /// growth was refused.
     pub fn call(&mut self, federate: FederateNo, service: Service) -> Result<(), Fault> {
         let _brought = self.step(Step::Call { federate, service })?;
         Ok(())
     }
 
-    /// A federate joins, under the letter that has its number.
+    /// A federate joins, under the letter that has its number. An error is the fault of the step where it is refused, or
+    /// `OutOfMemory` where a growth was refused.
     pub fn join(&mut self, federate: FederateNo) -> Result<(), Fault> {
         let name = name_of(self.alloc, federate)?;
         let _brought = self.step(Step::Join { name })?;
         Ok(())
     }
 
-    /// A federate becomes time regulating and time constrained.
+    /// A federate becomes time regulating and time constrained. An error is the fault of the first step that is refused, or
+    /// `OutOfMemory` where a growth was refused. Those before it stay done.
     pub fn enable_time(&mut self, federate: FederateNo, lookahead: Ticks) -> Result<(), Fault> {
         self.call(
             federate,
@@ -210,7 +214,8 @@ impl Meter {
         Ok(())
     }
 
-    /// A federate sends an interaction with one parameter of eight bytes.
+    /// A federate sends an interaction with one parameter of eight bytes. An error is the fault of the step where it is
+    /// refused, or `OutOfMemory` where a growth was refused. Then it is not counted as sent.
     pub fn send(
         &mut self,
         federate: FederateNo,
@@ -234,7 +239,7 @@ impl Meter {
         Ok(())
     }
 
-    /// The numbers of attributes.
+    /// The numbers of attributes. `OutOfMemory` where the growth was refused.
     pub fn numbers(&self, numbers: &[AttributeNo]) -> Result<List<AttributeNo>, Fault> {
         match Vec::from_slice(self.alloc, numbers) {
             Ok(numbers) => Ok(List::from_vec(numbers)),
@@ -242,7 +247,8 @@ impl Meter {
         }
     }
 
-    /// A federate updates attributes 1 and 2 of object 1, each with eight bytes.
+    /// A federate updates attributes 1 and 2 of object 1, each with eight bytes. An error is the fault of the step where it
+    /// is refused, or `OutOfMemory` where a growth was refused. Then it is not counted as sent.
     pub fn update(&mut self, federate: FederateNo) -> Result<(), Fault> {
         let mut values = List::new(self.alloc);
         for handle in 1..=2u32 {
@@ -263,13 +269,15 @@ impl Meter {
         Ok(())
     }
 
-    /// A federate ticks once.
+    /// A federate ticks once. An error is the fault of the step where it is refused, or `OutOfMemory` where a growth was
+    /// refused.
     pub fn tick(&mut self, federate: FederateNo) -> Result<(), Fault> {
         let _brought = self.step(Step::Tick { federate })?;
         Ok(())
     }
 
-    /// A federate announces its promise.
+    /// A federate announces its promise. An error is the fault of the step where it is refused, or `OutOfMemory` where a
+    /// growth was refused.
     pub fn announce(&mut self, federate: FederateNo) -> Result<(), Fault> {
         let _brought = self.step(Step::Announce { federate })?;
         Ok(())
@@ -285,7 +293,8 @@ impl Meter {
         Ok(())
     }
 
-    /// Carries all wires from a federate to the others until they are empty.
+    /// Carries all wires from a federate to the others until they are empty. An error is the fault of the first step that is
+    /// refused, or `OutOfMemory` where a growth was refused. Those before it stay done.
     pub fn carry_from(&mut self, from: FederateNo, federates: u32) -> Result<(), Fault> {
         for to in 1..=federates {
             if to != from {
@@ -295,7 +304,8 @@ impl Meter {
         Ok(())
     }
 
-    /// Ticks a federate until it is granted a time, or picks up nothing.
+    /// Ticks a federate until it is granted a time, or picks up nothing. An error is the fault of the first step that is
+    /// refused, or `OutOfMemory` where a growth was refused. Those before it stay done.
     pub fn visit(&mut self, federate: FederateNo) -> Result<Visit, Fault> {
         let mut received = 0u64;
         for _ in 0..u64::MAX {

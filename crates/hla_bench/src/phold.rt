@@ -121,7 +121,8 @@ impl Hold {
     }
 }
 
-/// Visits the federates in turn until so many events were given.
+/// Visits the federates in turn until so many events were given. `ErrorReadingFED` where the FED text was not read,
+/// `OutOfMemory` where a growth was refused, or else the fault of the first step that is refused.
 pub fn run(
     alloc: Global,
     federates: u32,

@@ -14,7 +14,7 @@ const CLASSES: u32 = 500;
 
 const ATTRIBUTES: u32 = 8;
 
-/// The catalogue of a FED text that has no faults.
+/// The catalogue of a FED text that has no faults. `ErrorReadingFED` where it has some, or a growth was refused.
 pub fn catalogue(alloc: Global, fed: &[u8]) -> Result<Catalogue, Fault> {
     match read(alloc, fed) {
         Ok(catalogue) => Ok(catalogue),
@@ -49,7 +49,8 @@ fn fed_text(alloc: Global, bytes: usize) -> Result<String, Fault> {
     Ok(text)
 }
 
-/// Reads a FED text again and again.
+/// Reads a FED text again and again. `OutOfMemory` where a growth was refused for the text, and `ErrorReadingFED` as of
+/// `catalogue`.
 pub fn run(alloc: Global, bytes: usize) -> Result<Counts, Fault> {
     let text = fed_text(alloc, bytes)?;
     let length = text.len() as u64;

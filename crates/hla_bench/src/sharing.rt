@@ -293,12 +293,13 @@ fn run_locked_at<L: Ledger>(
     Ok(counted(federates, rounds))
 }
 
-/// Plays so many rounds on the value, at a brand of its own.
+/// Plays so many rounds on the value, at a brand of its own. `HistoryFull` where the history is full, and `OutOfMemory` where
+/// a growth was refused; a step that is refused stops nothing.
 pub fn run_lent(alloc: Global, federates: u32, rounds: u64) -> Result<Counts, Fault> {
     run_lent_at::<Brand>(alloc, Blank::new(2049), federates, rounds)
 }
 
-/// The same, the value locked anew for each step.
+/// The same, the value locked anew for each step. The faults are `HistoryFull` and `OutOfMemory`, as of `run_lent`.
 pub fn run_locked(
     rt: &impl Wait,
     alloc: Global,

@@ -66,7 +66,8 @@ fn play(meter: &mut Meter, federates: u32, updates: u64) -> Result<(), Fault> {
     Ok(())
 }
 
-/// Plays so many updates for so many receivers.
+/// Plays so many updates for so many receivers. `ErrorReadingFED` where the FED text was not read, `OutOfMemory` where a
+/// growth was refused, or else the fault of the first step that is refused.
 pub fn run(alloc: Global, receivers: u32, updates: u64) -> Result<Counts, Fault> {
     let mut meter = Meter::new(alloc, catalogue(alloc, FED)?);
     let played = play(&mut meter, receivers.saturating_add(1), updates);

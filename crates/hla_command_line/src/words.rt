@@ -220,7 +220,7 @@ fn clap_task<'a>(alloc: Global, words: &'a [&'a str]) -> Result<Task<'a>, WordsF
 
 /// What the words ask for, the program's name in front; without others it is `play - -`. Words of a plain form (no other
 /// words, `fed FILE`, `play FED SCRIPT`, `check FED SCRIPT` or `run FED SCRIPT`, with names that are no options) take no memory
-/// and are never refused.
+/// and are never refused. `Refused` with clap's error where others ask for no task, and `Memory` where a growth was refused.
 #[tactic(auto, using(crate::proofs::PlainLemmas::read_alike))]
 pub fn parse<'a>(alloc: Global, words: &'a [&'a str]) -> Result<Task<'a>, WordsFault>
     ensures ok { IfOk result (λ task. task_of (texts words.entry.now) ≡ Some (named_task task)) }

@@ -1,10 +1,10 @@
--- Where words begin and end.
+-- Where words begin and end
 pub mod WordLemmas
--- One more line.
+-- One more line
 pub mod LineLemmas
--- One more pair.
+-- One more pair
 pub mod PairLemmas
--- The number that decimal digits say.
+-- The number that decimal digits say
 pub mod NumberLemmas
 -- The bytes of lines
 pub mod PlainLemmas

@@ -15,7 +15,7 @@ use hla_base::List;
 use hla_machine::ResignAction;
 use std::alloc::Global;
 
-/// The next word.
+/// The next word. `MissingWord` where none is left.
 pub fn next_word<'a>(words: &mut Words<'a>) -> Result<&'a [u8], ScriptFaultKind>
     ensures found { IfOk result (λ w. words.old ≡ w.now ∷ words.new) }
     ensures none { IfErr result (λ e. (e ≡ ScriptFaultKind.MissingWord) × (words.old ≡ [])) }
@@ -26,7 +26,7 @@ pub fn next_word<'a>(words: &mut Words<'a>) -> Result<&'a [u8], ScriptFaultKind>
     }
 }
 
-/// A name from the FED file.
+/// A name from the FED file. `MissingWord` where no word is left.
 pub fn name<'a>(words: &mut Words<'a>) -> Result<Word<'a>, ScriptFaultKind>
     ensures { Gives result words.new (name_in words.old) }
 {
@@ -34,7 +34,7 @@ pub fn name<'a>(words: &mut Words<'a>) -> Result<Word<'a>, ScriptFaultKind>
     Ok(Word::new(word))
 }
 
-/// A name that may be left out.
+/// A name that may be left out. It is never refused.
 pub fn optional<'a>(words: &mut Words<'a>) -> Result<Option<Word<'a>>, ScriptFaultKind>
     ensures { Gives result words.new (optional_in words.old) }
 {
@@ -44,7 +44,7 @@ pub fn optional<'a>(words: &mut Words<'a>) -> Result<Option<Word<'a>>, ScriptFau
     }
 }
 
-/// Names from the FED file up to the end of the line.
+/// Names from the FED file up to the end of the line. `OutOfMemory` where a growth was refused.
 pub fn names<'a>(alloc: Global, words: &mut Words<'a>) -> Result<List<Word<'a>>, ScriptFaultKind>
     ensures { Reads result words.new (names_in words.old) }
 {
@@ -57,7 +57,7 @@ pub fn names<'a>(alloc: Global, words: &mut Words<'a>) -> Result<List<Word<'a>>,
     Ok(found)
 }
 
-/// The action of a resignation.
+/// The action of a resignation. `MissingWord` where no word is left; `BadWord` where the next names no action.
 pub fn action(words: &mut Words<'_>) -> Result<ResignAction, ScriptFaultKind>
     ensures { Gives result words.new (action_in words.old) }
 {
@@ -103,7 +103,8 @@ fn number_of(word: &[u8]) -> Result<u64, ScriptFaultKind>
     }
 }
 
-/// A number.
+/// A number. `MissingWord` where no word is left; `BadNumber` where the next is not of decimal digits alone, or says more
+/// than a `u64` holds.
 pub fn number(words: &mut Words<'_>) -> Result<u64, ScriptFaultKind>
     ensures { Gives result words.new (number_word words.old) }
 {
@@ -111,7 +112,8 @@ pub fn number(words: &mut Words<'_>) -> Result<u64, ScriptFaultKind>
     number_of(word)
 }
 
-/// A federate's name.
+/// A federate's name. `MissingWord` where no word is left; `BadWord` where the next is `create`, `destroy`, `join`, `carry`
+/// or `announce`.
 pub fn federate<'a>(words: &mut Words<'a>) -> Result<Word<'a>, ScriptFaultKind>
     ensures { Gives result words.new (federate_in words.old) }
 {
@@ -130,7 +132,7 @@ fn len_before(word: &[u8], byte: u8) -> usize
     word.iter().take_while(|b| **b != byte).count()
 }
 
-/// A name and a value round the first `=`.
+/// A name and a value round the first `=`. `BadWord` where there is no `=`, or no name before it.
 #[tactic(auto, unfolding(crate::specs::Script::pair_of))]
 pub fn pair<'a>(word: &'a [u8]) -> Result<NameValuePair<'a>, ScriptFaultKind>
     ensures { result ≡ pair_of word.now }
@@ -157,7 +159,7 @@ fn word_stamp(word: &[u8]) -> Option<u64>
     }
 }
 
-/// A stamp that may be left out.
+/// A stamp that may be left out. `BadWord` where the next word is no stamp.
 pub fn optional_stamp(words: &mut Words<'_>) -> Result<Option<u64>, ScriptFaultKind>
     ensures { Gives result words.new (optional_stamp_in words.old) }
 {
@@ -170,7 +172,8 @@ pub fn optional_stamp(words: &mut Words<'_>) -> Result<Option<u64>, ScriptFaultK
     }
 }
 
-/// Pairs up to the end of the line, or up to a stamp, and that stamp.
+/// Pairs up to the end of the line, or up to a stamp, and that stamp. `BadWord` at a word that is neither a pair nor a stamp;
+/// `OutOfMemory` where a growth was refused.
 #[tactic(auto, using(crate::proofs::PairLemmas::pair_steps))]
 pub fn pairs_and_stamp<'a>(
     alloc: Global,
@@ -205,7 +208,8 @@ fn word_handle(word: &[u8]) -> Option<(u64, u64)>
     Some((sender, serial))
 }
 
-/// The sender and the serial of a message.
+/// The sender and the serial of a message. `MissingWord` where no word is left; `BadWord` where the next is not two numbers
+/// round a `.`.
 pub fn handle(words: &mut Words<'_>) -> Result<(u64, u64), ScriptFaultKind>
     ensures { Gives result words.new (handle_in words.old) }
 {

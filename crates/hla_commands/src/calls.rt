@@ -156,7 +156,8 @@ fn call_by<'a>(
     }
 }
 
-/// What a federate does.
+/// What a federate does. `MissingWord` where no word is left, and `UnknownWord` where the next is no verb; `MissingWord`,
+/// `BadWord`, `BadNumber` or `OutOfMemory` as of what that verb wants behind it.
 pub fn call<'a>(alloc: Global, words: &mut Words<'a>) -> Result<Call<'a>, ScriptFaultKind>
     ensures { Reads result words.new (call_in words.old) }
 {

@@ -110,8 +110,10 @@ fn command<'a>(
     }
 }
 
-/// Reads a script whole, or answers its first fault. Want of memory is answered only where a growth was refused; it may
-/// come before any other fault, and its line is left open.
+/// Reads a script whole, or answers its first fault, with its line: `TooLarge` where the script (at line 1) or a line is too
+/// long, `BadByte` where a byte may not stand in a line, and of the words of a command `UnknownWord`, `MissingWord`,
+/// `BadNumber`, `BadWord` or `ExtraWord`. `OutOfMemory` is answered only where a growth was refused; it may come before any
+/// other fault, and its line is left open.
 #[tactic(auto, using(crate::proofs::LineLemmas::steps, crate::proofs::PlainLemmas::plain_lines))]
 pub fn parse<'a>(alloc: Global, text: &'a [u8]) -> Result<Script<'a>, ScriptFault>
     ensures { ParsesAs result (script_of text.now) }

@@ -21,7 +21,7 @@ pub enum Trouble {
     NotClosed,
 }
 
-/// Puts an item at the end of a list.
+/// Puts an item at the end of a list. `Refused` with `OutOfMemory` where the growth was refused.
 pub fn keep<T: Drop>(list: &mut Vec<T>, item: T) -> Result<(), Trouble> {
     match list.push(item) {
         Ok(()) => Ok(()),
@@ -38,7 +38,8 @@ fn name(alloc: Global, text: &[u8]) -> Result<List<u8>, Fault> {
     Ok(name)
 }
 
-/// Joins a federate, with an ambassador that writes down what it hears.
+/// Joins a federate, with an ambassador that writes down what it hears. `Refused` with the fault of `Rti::join`, or with
+/// `OutOfMemory` where a growth was refused for the name; the ambassador is let go then.
 pub fn joined<L: Ledger + Naming, W: Publisher<L>>(
     rt: &impl Wait,
     alloc: Global,
@@ -81,7 +82,8 @@ fn set_up_display<L: Ledger + Naming, W: Publisher<L>>(
 }
 
 /// Says what each federate sends and receives and how it takes part in time, and gives each its part and a courier. It is done
-/// before the threads begin, so that the pump sends nothing before the display has subscribed.
+/// before the threads begin, so that the pump sends nothing before the display has subscribed. `Refused` with the fault of
+/// the first call that is refused, or with `OutOfMemory` where a growth was refused.
 pub fn ready<L: Ledger + Naming, W: Publisher<L>>(
     rt: &impl Wait,
     alloc: Global,

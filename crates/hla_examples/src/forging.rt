@@ -165,7 +165,8 @@ fn forgeries(records: &[Record], place: usize) -> Result<[Option<Record>; 7], Fa
     ])
 }
 
-/// Whether the checker tells of each forgery of the record at a place.
+/// Whether the checker tells of each forgery of the record at a place. The records stay. `OutOfMemory` where a copy was
+/// refused.
 pub fn tells_forgeries(alloc: Global, records: &mut [Record], place: usize) -> Result<bool, Fault> {
     for forged in forgeries(records, place)? {
         let Some(forged) = forged else {

@@ -25,7 +25,7 @@ pub enum LoadFault {
 }
 
 /// The bytes that a reader gives, up to a limit. `Read` is answered only where the reader has failed, and bytes only where it
-/// has not.
+/// has not. `Memory` where a growth was refused. After either some of its bytes may be taken.
 pub fn load<R: Read>(
     alloc: Global,
     reader: &mut Watched<R>,

@@ -1,4 +1,4 @@
--- One more member that a resignation has passed over.
+-- One more member that a resignation has passed over
 pub mod MemberLemmas
 -- One more name that is looked up
 pub mod AskLemmas

@@ -37,7 +37,8 @@ fn number_or(number: Option<u32>, fault: Fault) -> Result<u32, AskFault>
     }
 }
 
-/// The federate that joined last under a name, also where it has resigned since.
+/// The federate that joined last under a name, also where it has resigned since. Refused with `FederateNotExecutionMember`
+/// where none has joined under it.
 pub fn known_federate(members: &[Member], name: &[u8]) -> Result<FederateNo, AskFault>
     ensures { Finds result (known_federate members.now name.now) }
 {
@@ -47,7 +48,7 @@ pub fn known_federate(members: &[Member], name: &[u8]) -> Result<FederateNo, Ask
     )
 }
 
-/// The federate that is joined under a name.
+/// The federate that is joined under a name. Refused with `FederateNotExecutionMember` where none is.
 pub fn joined_federate(members: &[Member], name: &[u8]) -> Result<FederateNo, AskFault>
     ensures { Finds result (joined_federate members.now name.now) }
 {
@@ -57,14 +58,14 @@ pub fn joined_federate(members: &[Member], name: &[u8]) -> Result<FederateNo, As
     )
 }
 
-/// The object class that a name finds; 34 where there is none.
+/// The object class that a name finds. Refused with `NameNotFound` where there is none.
 pub fn object_class(catalogue: &Catalogue, name: &[u8]) -> Result<ClassNo, AskFault>
     ensures { Finds result (object_class_of catalogue.now name.now) }
 {
     number_or(catalogue.object_class(name), Fault::NameNotFound)
 }
 
-/// The interaction class that a name finds; 34 where there is none.
+/// The interaction class that a name finds. Refused with `NameNotFound` where there is none.
 pub fn interaction_class(catalogue: &Catalogue, name: &[u8]) -> Result<ClassNo, AskFault>
     ensures { Finds result (interaction_class_of catalogue.now name.now) }
 {
@@ -112,7 +113,8 @@ fn with_number(
     }
 }
 
-/// Attributes by their numbers. All names are looked up before want of memory is told.
+/// Attributes by their numbers. Refused with `NameNotFound` where one is not found; `Memory` where a growth was refused, and
+/// all are found.
 pub fn attributes(
     alloc: Global,
     catalogue: &Catalogue,
@@ -167,8 +169,8 @@ fn no_pairs(alloc: Global, room: usize) -> Result<List<HandleValuePair>, AskFaul
     }
 }
 
-/// Attributes or parameters by their numbers, with their values. All names are looked up before a value is refused, and all
-/// values are tested before want of memory is told.
+/// Attributes or parameters by their numbers, with their values. Refused with `NameNotFound` where a name is not found, or
+/// else with `LimitReached` where a value is too long; `Memory` where a growth was refused, and neither is so.
 pub fn pairs(
     alloc: Global,
     catalogue: &Catalogue,

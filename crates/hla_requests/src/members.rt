@@ -28,7 +28,7 @@ pub enum Change {
 }
 
 impl Change {
-    /// What a step changes; an error is want of memory for the name.
+    /// What a step changes. `OutOfMemory` where a growth was refused for the name.
     pub fn of(step: &Step) -> Result<Change, Fault>
         ensures { IfOk result (λ change. change ≡ change_of step.now) }
     {

@@ -202,7 +202,8 @@ fn time_service(call: &Call<'_>) -> Option<Service>
     }
 }
 
-/// The service that a federate calls; a tick calls none.
+/// The service that a federate calls; a tick calls none. Refused with `NameNotFound` where a name is not found in the FED
+/// file, or else with `LimitReached` where a value is too long; `Memory` where a growth was refused, and neither is so.
 pub fn service_of(
     alloc: Global,
     catalogue: &Catalogue,
@@ -254,7 +255,9 @@ pub fn service_of(
 }
 
 impl Request {
-    /// What a line asks for. All names and values of the line are tested before want of memory is told.
+    /// What a line asks for. Refused with `FederateNotExecutionMember` where nobody is joined under the name of a federate
+    /// (for a carry: where nobody ever was), or else as by `service_of`. All names and values of the line are tested before
+    /// `Memory` is told, where a growth was refused.
     pub fn of(
         alloc: Global,
         catalogue: &Catalogue,

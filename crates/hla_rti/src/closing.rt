@@ -107,7 +107,8 @@ pub struct Unsettled<L: Ledger, B: FederateAmbassador> {
     pub lefts: Vec<Left<L, B>>,
 }
 
-/// Lent what is under the lock: compares all transcripts with the history, and takes the records out where they agree.
+/// Lent what is under the lock: compares all transcripts with the history, and takes the records out where they agree. Else
+/// `Unsettled` with the place of the first that differs; then all comes back, and nothing has changed.
 pub fn settle<L: Ledger, B: FederateAmbassador>(
     shared: &mut Shared<L, B>,
     seat: Seat<L>,

@@ -37,8 +37,8 @@ impl<L: Ledger + Naming, B: FederateAmbassador, W: Publisher<L>> Model for Couri
 impl<L: Ledger + Naming, B: FederateAmbassador, W: Publisher<L>> Courier<L, B, W> {
     /// Takes the first message off the wire from one federate to another, and hands it to the second (this profile). Answers
     /// what was there. `FederationExecutionDoesNotExist`; `FederateNotExecutionMember` where the second is
-    /// not joined, the first never was, or both are one. `HistoryFull` and `OutOfMemory` without a record. A fault has
-    /// changed nothing.
+    /// not joined, the first never was, or both are one. `HistoryFull` and `OutOfMemory` without a record, and then nothing
+    /// has changed; of any other fault there is a record, and nothing else has changed.
     pub fn carry(
         &mut self,
         rt: &impl Wait,
@@ -56,7 +56,8 @@ impl<L: Ledger + Naming, B: FederateAmbassador, W: Publisher<L>> Courier<L, B, W
 
     /// Has a federate announce its promise by a null message on each of its wires, where it is above the last one (this
     /// profile). Answers the promise, in ticks, if it was announced. `FederationExecutionDoesNotExist`;
-    /// `FederateNotExecutionMember`. `HistoryFull` and `OutOfMemory` without a record. A fault has changed nothing.
+    /// `FederateNotExecutionMember`. `HistoryFull` and `OutOfMemory` without a record, and then nothing has changed; of any
+    /// other fault there is a record, and nothing else has changed.
     pub fn announce(
         &mut self,
         rt: &impl Wait,

@@ -44,7 +44,8 @@ impl<L: Ledger + Naming, B: FederateAmbassador, W: Publisher<L>> Model for Feder
 impl<L: Ledger + Naming, B: FederateAmbassador, W: Publisher<L>> Federate<L, B, W> {
     /// Calls a service that is given as a value, for programs that read from a text what a federate does; each service has
     /// a call of its own name, too. Resign is not called so, since the federate goes then. The faults are those of the service.
-    /// `HistoryFull` and `OutOfMemory` without a record. A fault has changed nothing.
+    /// `HistoryFull` and `OutOfMemory` without a record, and then nothing has changed; of any other fault there is a record,
+    /// and nothing else has changed.
     pub fn serve(&mut self, rt: &impl Wait, service: Service) -> Result<Answer, Fault>
         requires { IsPlain (step.Call self.old.federate service) }
         ensures served { IsServed self.old service result self.new }
@@ -124,7 +125,8 @@ impl<L: Ledger + Naming, B: FederateAmbassador, W: Publisher<L>> Federate<L, B, 
     /// Tick (HLA 1.3): gives the federate's ambassador at most one callback, and answers a copy of it, or none where there
     /// is nothing to give. `FederateInternalError` where the ambassador failed in it: the callback counts as given.
     /// `FederateNotExecutionMember` and `FederationExecutionDoesNotExist` where the federate or its execution is no longer
-    /// there. `HistoryFull` and `OutOfMemory` without a record; then nothing has changed.
+    /// there. `HistoryFull` and `OutOfMemory` without a record; then nothing has changed. Of any other fault there is a
+    /// record.
     pub fn tick(&mut self, rt: &impl Wait) -> Result<Option<Callback>, Fault>
         ensures execution { self.new.execution ≡ self.old.execution }
         ensures federate { self.new.federate ≡ self.old.federate }

@@ -104,7 +104,8 @@ impl<L: Ledger + Naming, B: FederateAmbassador, W: Publisher<L>> Rti<L, B, W> {
 
     /// Create Federation Execution (HLA 1.3, federation management), with the text of its FED file.
     /// `FederationExecutionAlreadyExists`; `ErrorReadingFED`; `LimitReached` where 16 executions are there, or 64 were
-    /// created. `HistoryFull` and `OutOfMemory` without a record. A fault has changed nothing.
+    /// created. `HistoryFull` and `OutOfMemory` without a record, and then nothing has changed; of any other fault there is a
+    /// record, and nothing else has changed.
     pub fn create(&mut self, rt: &impl Wait, name: ExecutionName, fed: &[u8]) -> Result<(), Fault>
         ensures answered { HasAnswered self.old.own name (act.Create (catalogue_from fed.now)) (said nothing result) self.new.own }
         ensures handed { self.new.handed ≡ self.old.handed }
@@ -113,7 +114,8 @@ impl<L: Ledger + Naming, B: FederateAmbassador, W: Publisher<L>> Rti<L, B, W> {
     }
 
     /// Destroy Federation Execution (HLA 1.3, federation management). `FederationExecutionDoesNotExist`;
-    /// `FederatesCurrentlyJoined`. `HistoryFull` and `OutOfMemory` without a record. A fault has changed nothing.
+    /// `FederatesCurrentlyJoined`. `HistoryFull` and `OutOfMemory` without a record, and then nothing has changed; of any
+    /// other fault there is a record, and nothing else has changed.
     pub fn destroy(&mut self, rt: &impl Wait, name: ExecutionName) -> Result<(), Fault>
         ensures answered { HasAnswered self.old.own name act.Destroy (said nothing result) self.new.own }
         ensures handed { self.new.handed ≡ self.old.handed }
@@ -166,9 +168,10 @@ impl<L: Ledger + Naming, B: FederateAmbassador, W: Publisher<L>> Rti<L, B, W> {
 
     /// Join Federation Execution (HLA 1.3, federation management): a federate of this name joins the execution, with an
     /// ambassador that has heard nothing. `FederationExecutionDoesNotExist`; `FederateAlreadyExecutionMember` where a joined
-    /// federate has the name; `LimitReached` where the name has not 1 to 64 bytes, the execution has had 16 joins, or
-    /// `MAX_CALLERS` callers were handed out, which is no step. `HistoryFull` and `OutOfMemory` without a record. A fault has
-    /// changed nothing, and the ambassador comes back with it.
+    /// federate has the name; `LimitReached` where the name has not 1 to 64 bytes, or the execution has had 16 joins. Without
+    /// a record come `LimitReached` where `MAX_CALLERS` callers were handed out, `HistoryFull` and `OutOfMemory`, and then
+    /// nothing has changed; of any other fault there is a record, and nothing else has changed. The ambassador comes back
+    /// with the fault.
     pub fn join(
         &mut self,
         rt: &impl Wait,

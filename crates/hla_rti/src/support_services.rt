@@ -13,8 +13,8 @@ use std::sync::Wait;
 use std::sync::ledger::Ledger;
 
 // Besides the faults that are told at each call: `FederationExecutionDoesNotExist` and `FederateNotExecutionMember` come before
-// all others where the execution or the federate is no longer there; `HistoryFull` and `OutOfMemory` come without a record.
-// A call that answers a fault has changed nothing.
+// all others where the execution or the federate is no longer there; `HistoryFull` and `OutOfMemory` come without a record,
+// and then nothing has changed. Of any other fault there is a record, and nothing else has changed.
 impl<L: Ledger + Naming, B: FederateAmbassador, W: Publisher<L>> Federate<L, B, W> {
     /// Get Object Class Handle (HLA 1.3, support services), of a class by its path or by the end of it. Answers its number.
     /// `NameNotFound`.

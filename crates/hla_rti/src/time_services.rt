@@ -13,14 +13,15 @@ use std::sync::Wait;
 use std::sync::ledger::Ledger;
 
 // Besides the faults that are told at each call: `FederationExecutionDoesNotExist` and `FederateNotExecutionMember` come before
-// all others where the execution or the federate is no longer there; `HistoryFull` and `OutOfMemory` come without a record.
-// A call that answers a fault has changed nothing.
+// all others where the execution or the federate is no longer there; `HistoryFull` and `OutOfMemory` come without a record,
+// and then nothing has changed. Of any other fault there is a record, and nothing else has changed.
 impl<L: Ledger + Naming, B: FederateAmbassador, W: Publisher<L>> Federate<L, B, W> {
     /// Enable Time Regulation (HLA 1.3, time management), from this time on and with this lookahead, in ticks; a later tick
     /// gives the callback that it is enabled. `TimeAdvanceAlreadyInProgress`; `TimeRegulationAlreadyEnabled`;
     /// `EnableTimeRegulationPending`; `InvalidFederationTime` where the time is above 10^18, below the federate's time, or,
-    /// of a constrained federate, another; `InvalidLookahead` where the lookahead is above 10^18; `LimitReached` after
-    /// 10^18 enablings.
+    /// of a constrained federate, another; `InvalidLookahead` where the lookahead is above 10^18; `InvalidFederationTime`,
+    /// too, where the federate is not constrained, the lookahead is 0, and it would begin above 10^18 for the bars of others;
+    /// `LimitReached` after 10^18 enablings.
     pub fn enable_time_regulation(
         &mut self,
         rt: &impl Wait,
@@ -132,28 +133,32 @@ impl<L: Ledger + Naming, B: FederateAmbassador, W: Publisher<L>> Federate<L, B, 
     }
 
     /// Query LBTS (HLA 1.3, time management). Answers, in ticks, the federate's bound, below which no message in time-stamp
-    /// order will come, or `FOREVER`.
+    /// order will come, or `FOREVER`. No fault but `FederationExecutionDoesNotExist`, `FederateNotExecutionMember`,
+    /// `HistoryFull` and `OutOfMemory`, as of each call.
     pub fn query_lbts(&mut self, rt: &impl Wait) -> Result<Ticks, Fault>
         ensures { IsServed self.old service.QueryLbts (said answer.Time result) self.new }
     {
         self.serve_time(rt, Service::QueryLbts)
     }
 
-    /// Query Federate Time (HLA 1.3, time management). Answers it in ticks.
+    /// Query Federate Time (HLA 1.3, time management). Answers it in ticks. No fault but `FederationExecutionDoesNotExist`,
+    /// `FederateNotExecutionMember`, `HistoryFull` and `OutOfMemory`, as of each call.
     pub fn query_federate_time(&mut self, rt: &impl Wait) -> Result<Ticks, Fault>
         ensures { IsServed self.old service.QueryFederateTime (said answer.Time result) self.new }
     {
         self.serve_time(rt, Service::QueryFederateTime)
     }
 
-    /// Query Minimum Next Event Time (HLA 1.3, time management). Answers it in ticks, or `FOREVER`.
+    /// Query Minimum Next Event Time (HLA 1.3, time management). Answers it in ticks, or `FOREVER`. No fault but
+    /// `FederationExecutionDoesNotExist`, `FederateNotExecutionMember`, `HistoryFull` and `OutOfMemory`, as of each call.
     pub fn query_min_next_event_time(&mut self, rt: &impl Wait) -> Result<Ticks, Fault>
         ensures { IsServed self.old service.QueryMinNextEventTime (said answer.Time result) self.new }
     {
         self.serve_time(rt, Service::QueryMinNextEventTime)
     }
 
-    /// Query Lookahead (HLA 1.3, time management). Answers, in ticks, the lookahead that was set last.
+    /// Query Lookahead (HLA 1.3, time management). Answers, in ticks, the lookahead that was set last. No fault but
+    /// `FederationExecutionDoesNotExist`, `FederateNotExecutionMember`, `HistoryFull` and `OutOfMemory`, as of each call.
     pub fn query_lookahead(&mut self, rt: &impl Wait) -> Result<Ticks, Fault>
         ensures { IsServed self.old service.QueryLookahead (said answer.Time result) self.new }
     {

@@ -18,7 +18,9 @@ use std::io::Write;
 use std::sync::Wait;
 use std::sync::ledger::Ledger;
 
-/// Writes how those lines came out that were done, and closes. Where a write fails, the infrastructure is let go.
+/// Writes how those lines came out that were done, and closes. `Memory` where a growth was refused for the text; `Write` only
+/// where the writer has failed, and then a part of the text may be written; `Close` where the infrastructure does not close.
+/// After a fault the infrastructure is let go.
 pub fn close_told<L: Ledger + Naming, P: Publisher<L>, W: Write>(
     rt: &impl Wait,
     alloc: Global,

@@ -260,7 +260,9 @@ fn told_in_order<L: Ledger + Naming, P: Publisher<L>, W: Write>(
 
 /// Plays a script over a FED file behind the lock of a run-time infrastructure, line by line on one thread, in an execution
 /// named `play`: what it asks for is what it asks for of `hla_script::play`. Then it writes how each line came out, and closes.
-/// `blank` is a ledger of 2,049 parts and `opened` an empty history, as `open_rti` takes them. The faults are those of `run_scripts`.
+/// `blank` is a ledger of 2,049 parts and `opened` an empty history, as `open_rti` takes them. `Fed` or else `Script` with
+/// the first fault of the texts, with nothing written; `Memory` where a growth was refused outside the steps; `Write` only
+/// where the writer has failed; and `Close` where the infrastructure does not close.
 #[tactic(auto, using(crate::proofs::EndLemmas::ends))]
 pub fn run_in_order<L: Ledger + Naming, R: Wait, W: Write>(
     rt: &R,

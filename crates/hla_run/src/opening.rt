@@ -80,8 +80,8 @@ fn opened<L: Ledger + Naming, P: Publisher<L>>(
     }
 }
 
-/// Does the lines that create and join, in the order of the script: the federates that joined. An error is want of memory
-/// outside the steps.
+/// Does the lines that create and join, in the order of the script: the federates that joined. `OutOfMemory` where a growth
+/// was refused outside the steps; what was done before stays done and noted.
 pub fn open<L: Ledger + Naming, P: Publisher<L>>(
     rt: &impl Wait,
     alloc: Global,

@@ -132,7 +132,8 @@ impl Outcomes {
         }
     }
 
-    /// Adds how those lines came out that were done, in the order of the script; an error is want of memory for the text.
+    /// Adds how those lines came out that were done, in the order of the script. `OutOfMemory` where a growth was refused;
+    /// then a part may have been added.
     pub fn print(
         &self,
         text: &mut Text,

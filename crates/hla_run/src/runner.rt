@@ -172,13 +172,15 @@ fn told_on_threads<
 /// until a callback comes, at most 1,000 times. After a tick with nothing its thread rests; where all do, are held by the gate or
 /// have ended, the last of them has each federate announce its promise and carries each wire once, and then all who rest tick
 /// again. Lines that have waited for long get as many such exchanges as all ticks with nothing while they waited. Those whom
-/// the gate holds are waited for, for nearly a second in all of a line's ticks. `gate` is called round each line of a thread. Then it writes how the lines came out that were done, in the order of the script, and closes. Where
-/// `is_watched`, a monitor is there from before the first step on, and reads the counts once all is done. `blank` is a ledger of
-/// 2,049 parts and `opened` an empty history, as `open_rti` takes them.
+/// the gate holds are waited for, for nearly a second in all of a line's ticks. `gate` is called round each line of a thread.
+/// Then it writes how the lines came out that were done, in the order of the script, and closes. Where `is_watched`, a
+/// monitor is there from before the first step on, and reads the counts once all is done. `blank` is a ledger of 2,049 parts
+/// and `opened` an empty history, as `open_rti` takes them.
 ///
-/// The FED file is tested before the script, and both before anything is done. `Memory` where a growth was refused outside the
-/// steps, or the monitor before any step; `Write` only where the writer has failed; `Close` where the infrastructure does not
-/// close; and `Monitor` where what the monitor read are not the counts of a beginning of the history.
+/// The FED file is tested before the script, and both before anything is done: `Fed` or else `Script` with the first fault,
+/// and nothing written. `Memory` where a growth was refused outside the steps, or the monitor before any step; `Write` only
+/// where the writer has failed; `Close` where the infrastructure does not close; and `Monitor` where what the monitor read
+/// are not the counts of a beginning of the history.
 #[tactic(auto, using(crate::proofs::EndLemmas::ends))]
 pub fn run_scripts<
     L: Ledger + Naming + Send + Sync,

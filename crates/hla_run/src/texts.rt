@@ -23,7 +23,7 @@ pub struct Texts<'a> {
     pub script: Script<'a>,
 }
 
-/// Reads the FED file, and then the script.
+/// Reads the FED file, and then the script. `Fed` with the first fault of the file, or else `Script` with that of the script.
 pub fn read_texts<'a>(alloc: Global, fed: &[u8], script: &'a [u8]) -> Result<Texts<'a>, RunFault>
     ensures describes { IfOk result (λ t. Describes fed.now t.catalogue) }
     ensures says { IfOk result (λ t. script_of script.now ≡ Ok t.script) }
@@ -39,7 +39,8 @@ pub fn read_texts<'a>(alloc: Global, fed: &[u8], script: &'a [u8]) -> Result<Tex
     }
 }
 
-/// Writes how those lines came out that were done.
+/// Writes how those lines came out that were done. `Memory` where a growth was refused, with nothing written; `Write` only
+/// where the writer has failed, and then a part may be written.
 pub fn write_outcomes<W: Write>(
     alloc: Global,
     catalogue: &Catalogue,

@@ -21,7 +21,7 @@ pub struct Ran {
     pub seen: Option<Status>,
 }
 
-/// A monitor, where one is to watch. An error is that of `Rti::monitor`.
+/// A monitor, where one is to watch. `LimitReached` as of `Rti::monitor`.
 pub fn watcher<L: Ledger + Naming, P: Publisher<L>>(
     rt: &impl Wait,
     rti: &mut Rti<L, Recorder, P>,

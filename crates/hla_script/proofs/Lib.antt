@@ -1,4 +1,4 @@
--- What records lead to.
+-- What records lead to
 pub mod KeepLemmas
--- What a line adds.
+-- What a line adds
 pub mod PlayLemmas

@@ -118,7 +118,8 @@ impl Execution {
         }
     }
 
-    /// Does what is asked, and answers its record. Where memory runs out, nothing has changed.
+    /// Does what is asked, and answers its record. `OutOfMemory` where a growth was refused; then nothing has changed. Any
+    /// other fault is in the record.
     pub fn act(&mut self, request: Request) -> Result<Record, Fault>
         requires name { self.old.name ≡ codes "play" }
         ensures ok { IfOk result (λ r. IsActed (act_of self.old.catalogue request r.outcome)

@@ -88,7 +88,8 @@ fn request_with_room(
 }
 
 /// Does what a line asks for, and prints how it ended: with the fault of a line that makes no step, or `HistoryFull` where
-/// the history is full, or `OutOfMemory`, or else as its record says. An error is want of memory for the text.
+/// the history is full, or `OutOfMemory`, or else as its record says. It answers `OutOfMemory` only where a growth was
+/// refused for the text; then what the line asks for may be done, with no record kept.
 pub fn play_line(
     execution: &mut Execution,
     records: &mut Vec<Record>,

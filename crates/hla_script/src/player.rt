@@ -100,8 +100,9 @@ fn play_lines<W: Write>(
 /// Plays a script over a FED file: does what its lines ask for, one after another, in an execution named `play`, writes
 /// how each ended, and answers the records. The execution may be destroyed and created again, at most `MAX_CREATES` times
 /// in all. The history holds at most `MAX_HISTORY` records, and a line finds it full then. The FED file is tested before
-/// the script, and both before anything is done. A line that runs out of memory says so and makes no step; `Memory` is
-/// answered where there was none for the texts, and `Write` only where the writer has failed.
+/// the script, and both before anything is done: `Fed` or `Script` with the first fault, and nothing written. A line that
+/// runs out of memory says so and makes no step; `Memory` is answered where there was none for the texts, and `Write` only
+/// where the writer has failed.
 pub fn play<W: Write>(
     alloc: Global,
     fed: &[u8],

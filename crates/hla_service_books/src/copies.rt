@@ -127,13 +127,13 @@ impl<'a> Copies<'a> {
         self.copies.clear();
     }
 
-    /// Writes a message down.
+    /// Writes a message down. `AllocError` where a growth was refused.
     pub fn note(&mut self, message: Message<'a>) -> Result<(), AllocError> {
         self.messages.push(message)?;
         Ok(())
     }
 
-    /// A copy of a message is sent.
+    /// A copy of a message is sent. `AllocError` where a growth was refused.
     pub fn send(&mut self, message: Message<'a>, receiver: u32) -> Result<(), AllocError> {
         self.copies.push(Copy {
             sender: message.sender,

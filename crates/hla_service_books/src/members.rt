@@ -94,7 +94,8 @@ impl<'a> Member<'a> {
         least
     }
 
-    /// It learns at once that a peer begins an epoch, and from where on that peer may send.
+    /// It learns at once that a peer begins an epoch, and from where on that peer may send. `AllocError` where a growth was
+    /// refused.
     pub fn hear_entry(&mut self, peer: u32, epoch: u32, entry: u64) -> Result<(), AllocError> {
         for row in self.rows.iter_mut() {
             if row.peer == peer {
@@ -140,7 +141,7 @@ impl Wires {
     }
 
     /// Puts a letter on a wire, behind the others. A null message takes the place of the last letter there, where that is a null
-    /// message of its epoch.
+    /// message of its epoch. `AllocError` where a growth was refused.
     pub fn put(&mut self, from: u32, to: u32, letter: Letter) -> Result<(), AllocError> {
         if let Letter::Null { epoch, .. } = letter {
             self.drop_last_null(from, to, epoch);

@@ -9,7 +9,8 @@ use crate::texts::{FOREVER, cut, handle, number, ticks};
 use std::alloc::AllocError;
 
 impl<'a> Books<'a> {
-    /// An object takes the next number, and is known to its owner.
+    /// An object takes the next number, and is known to its owner. `AllocError` where a growth was refused; then the books
+    /// are left halfway.
     pub fn register(&mut self, owner: u32, class: &str, object: u32) -> Result<bool, AllocError> {
         let known = vec![in self.alloc; owner]?;
         self.objects.push(Object {
@@ -24,7 +25,8 @@ impl<'a> Books<'a> {
         Ok(object as usize == self.objects.len())
     }
 
-    /// A federate is to discover each object that fits its subscriptions.
+    /// A federate is to discover each object that fits its subscriptions. `AllocError` where a growth was refused; then the
+    /// books are left halfway.
     pub fn discover(&mut self, federate: u32) -> Result<bool, AllocError> {
         for place in 0..self.objects.len().min(4096) {
             self.discover_object(federate, place as u32 + 1)?;
@@ -55,7 +57,8 @@ impl<'a> Books<'a> {
         self.objects.get_mut((number as usize).checked_sub(1)?)
     }
 
-    /// A deletion; with a stamp it goes in time-stamp order.
+    /// A deletion; with a stamp it goes in time-stamp order. `AllocError` where a growth was refused; then the books are left
+    /// halfway.
     pub fn delete(
         &mut self,
         sender: u32,
@@ -72,7 +75,7 @@ impl<'a> Books<'a> {
     }
 
     /// A federate that resigns deletes its objects by rising number, and if it regulates it puts FOREVER on its wires. What was not
-    /// given to it never is.
+    /// given to it never is. `AllocError` where a growth was refused; then the books are left halfway.
     pub fn resign(&mut self, federate: u32, line: &'a str) -> Result<bool, AllocError> {
         let mut is_allowed = true;
         for place in 0..self.objects.len().min(4096) {
@@ -95,7 +98,8 @@ impl<'a> Books<'a> {
         Ok(is_allowed)
     }
 
-    /// A null message of a federate's epoch on each of its wires.
+    /// A null message of a federate's epoch on each of its wires. `AllocError` where a growth was refused; then the books are
+    /// left halfway.
     pub fn put_null(&mut self, federate: u32, bound: u64) -> Result<(), AllocError> {
         let mut clock = self.clock(federate);
         clock.last_announced = bound;
@@ -108,7 +112,8 @@ impl<'a> Books<'a> {
         Ok(())
     }
 
-    /// A carry takes what was put on the wire first, and does with it what its kind says.
+    /// A carry takes what was put on the wire first, and does with it what its kind says. `AllocError` where a growth was
+    /// refused; then the books are left halfway.
     pub fn carry(&mut self, from: u32, to: u32, answer: &str) -> Result<bool, AllocError> {
         let (kind, what) = cut(answer);
         let letter = self.wires.take_first(from, to);
@@ -162,7 +167,7 @@ impl<'a> Books<'a> {
         Ok(matches!(message.said, Said::Deletion { .. }))
     }
 
-    /// A message joins what waits in receive order.
+    /// A message joins what waits in receive order. `AllocError` where a growth was refused; then the books are left halfway.
     pub fn receive(&mut self, sender: u32, serial: u32, receiver: u32) -> Result<(), AllocError> {
         self.copies
             .set_fate(sender, serial, receiver, Fate::Received);

@@ -71,7 +71,7 @@ impl<'a> Subscriptions<'a> {
         }
     }
 
-    /// Subscribes an interaction class.
+    /// Subscribes an interaction class. `AllocError` where a growth was refused.
     pub fn add_interaction(&mut self, class: &'a str) -> Result<(), AllocError> {
         self.interactions.push(class)?;
         Ok(())
@@ -109,7 +109,7 @@ impl<'a> Subscriptions<'a> {
         })
     }
 
-    /// Notes a line of declaration management.
+    /// Notes a line of declaration management. `AllocError` where a growth was refused.
     pub fn note(&mut self, verb: &str, rest: &'a str) -> Result<(), AllocError> {
         let (class, attributes) = cut(rest);
         match verb {

@@ -132,7 +132,8 @@ impl<'a> Books<'a> {
         found
     }
 
-    /// Notes a line of the script and its answer, and says whether the answer is one that the books allow.
+    /// Notes a line of the script and its answer, and says whether the answer is one that the books allow. `AllocError` where
+    /// a growth was refused; then the books are left halfway.
     pub fn note(&mut self, line: &'a str, answer: &str) -> Result<bool, AllocError> {
         let (ok, said) = cut(answer);
         let (word, rest) = cut(line);
@@ -259,7 +260,7 @@ impl<'a> Books<'a> {
         Ok(())
     }
 
-    /// The other federates that are joined.
+    /// The other federates that are joined. `AllocError` where a growth was refused.
     pub fn others(&self, federate: u32) -> Result<Vec<u32>, AllocError> {
         let mut others = Vec::new(self.alloc);
         for member in self.members.as_slice() {
@@ -296,7 +297,8 @@ impl<'a> Books<'a> {
     }
 
     /// A message takes the next serial, and goes to each of its receivers; with a stamp it is not below what the sender may send
-    /// or has announced, and in the past of none of them.
+    /// or has announced, and in the past of none of them. `AllocError` where a growth was refused; then the books are left
+    /// halfway.
     pub fn post(
         &mut self,
         sender: u32,
@@ -407,7 +409,7 @@ fn said_in(answer: Option<&str>, number: u64) -> Option<&str> {
 }
 
 /// Reads a transcript beside its script, which has no blank lines: a line for each line, with its number. Answers how often the
-/// laws were tried, or none where the transcript is not by the books.
+/// laws were tried, or none where the transcript is not by the books. `AllocError` where a growth was refused.
 pub fn read_services(
     alloc: Global,
     script: &str,

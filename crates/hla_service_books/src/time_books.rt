@@ -20,7 +20,7 @@ enum Due {
 }
 
 impl<'a> Books<'a> {
-    /// What a service of time management does.
+    /// What a service of time management does. `AllocError` where a growth was refused; then the books are left halfway.
     pub fn manage_time(
         &mut self,
         federate: u32,
@@ -132,7 +132,8 @@ impl<'a> Books<'a> {
         Ok(())
     }
 
-    /// A regulator announces what it may promise, if that is more than it announced last.
+    /// A regulator announces what it may promise, if that is more than it announced last. `AllocError` where a growth was
+    /// refused; then the books are left halfway.
     pub fn announce(&mut self, federate: u32, answer: &str) -> Result<bool, AllocError> {
         let clock = self.clock(federate);
         let promise = clock.promise(self.waiting(federate), self.bound(federate));
@@ -159,7 +160,8 @@ impl<'a> Books<'a> {
                 .is_some_and(|stamp| clock.least_stamp() < stamp)
     }
 
-    /// A retraction goes to each federate to which its message went.
+    /// A retraction goes to each federate to which its message went. `AllocError` where a growth was refused; then the books
+    /// are left halfway.
     pub fn retract(&mut self, federate: u32, event: (u32, u32)) -> Result<bool, AllocError> {
         let is_allowed = self.may_retract(federate, event);
         let (sender, serial) = event;
@@ -200,7 +202,7 @@ impl<'a> Books<'a> {
         }
     }
 
-    /// A federate is told what is due.
+    /// A federate is told what is due. `AllocError` where a growth was refused; then the books are left halfway.
     pub fn tick(&mut self, federate: u32, callback: &str) -> Result<bool, AllocError> {
         let (kind, rest) = cut(callback);
         match self.due(federate) {

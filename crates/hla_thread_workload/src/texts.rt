@@ -68,7 +68,7 @@ impl Text {
     }
 }
 
-/// A script of so many federates that go through so many rounds in lock-step.
+/// A script of so many federates that go through so many rounds in lock-step. `OutOfMemory` where a growth was refused.
 pub fn script(alloc: Global, federates: u32, rounds: u32, seed: u32) -> Result<String, Fault> {
     let mut text = Text {
         text: String::new(alloc),

@@ -1,4 +1,4 @@
--- One more write.
+-- One more write
 pub mod WriteLemmas
--- One more item of a list.
+-- One more item of a list
 pub mod ListLemmas

@@ -243,7 +243,8 @@ fn listing_text(alloc: Global, catalogue: &Catalogue) -> Result<Text, Fault>
 
 /// Lists what a FED file declares: a line for each object class and behind it one for each attribute that it declares
 /// itself, then a line for each interaction class and behind it one for each parameter that it declares itself. Nothing is
-/// written before the list is whole. `Write` is answered only where the writer has failed.
+/// written before the list is whole. `Fed` with the first fault of the FED file, and `Memory` where a growth was refused
+/// behind it, with nothing written; `Write` only where the writer has failed.
 pub fn list<W: Write>(alloc: Global, fed: &[u8], out: &mut Watched<W>) -> Result<(), ListFault>
     // What was written is the list of the catalogue that the FED file describes.
     ensures listed { OnOk result (IsListed fed.now (W.contents out.old.inner) (W.contents out.new.inner)) }

@@ -63,7 +63,7 @@ fn delivery(text: &mut Text, event: EventHandle, delivery: Delivery) -> Result<(
     }
 }
 
-/// Adds the text of a callback.
+/// Adds the text of a callback. `OutOfMemory` where a growth was refused; then a part may have been added.
 pub fn callback(text: &mut Text, catalogue: &Catalogue, callback: &Callback) -> Result<(), Fault>
     ensures ok { OnOk result (text.new ≡ text.old ++ callback_text catalogue.now callback.now) }
     ensures err { IfErr result (λ e. e ≡ Fault.OutOfMemory) }
@@ -168,7 +168,7 @@ fn fault(text: &mut Text, fault: Fault) -> Result<(), Fault>
     text.word_and_bytes(" ", fault.name().as_bytes())
 }
 
-/// Adds how a step ended.
+/// Adds how a step ended. `OutOfMemory` where a growth was refused; then a part may have been added.
 pub fn outcome(text: &mut Text, catalogue: &Catalogue, outcome: &Outcome) -> Result<(), Fault>
     ensures ok { OnOk result (text.new ≡ text.old ++ outcome_text catalogue.now outcome.now) }
     ensures err { IfErr result (λ e. e ≡ Fault.OutOfMemory) }
@@ -183,7 +183,7 @@ pub fn outcome(text: &mut Text, catalogue: &Catalogue, outcome: &Outcome) -> Res
     }
 }
 
-/// Adds a line: its number and how its step ended.
+/// Adds a line: its number and how its step ended. `OutOfMemory` where a growth was refused; then a part may have been added.
 pub fn print_line(
     text: &mut Text,
     catalogue: &Catalogue,

@@ -45,7 +45,7 @@ impl Text {
         self.bytes.clear();
     }
 
-    /// Adds bytes.
+    /// Adds bytes. `OutOfMemory` where a growth was refused.
     pub fn bytes(&mut self, bytes: &[u8]) -> Result<(), Fault>
         ensures ok { OnOk result (self.new ≡ self.old ++ bytes.now) }
         ensures err { IfErr result (λ e. e ≡ Fault.OutOfMemory) }
@@ -56,7 +56,7 @@ impl Text {
         }
     }
 
-    /// Adds a word.
+    /// Adds a word. `OutOfMemory` where a growth was refused.
     pub fn word(&mut self, word: &str) -> Result<(), Fault>
         ensures ok { OnOk result (self.new ≡ self.old ++ word.now) }
         ensures err { IfErr result (λ e. e ≡ Fault.OutOfMemory) }
@@ -64,7 +64,7 @@ impl Text {
         self.bytes(word.as_bytes())
     }
 
-    /// Adds a number in decimal digits.
+    /// Adds a number in decimal digits. `OutOfMemory` where a growth was refused.
     pub fn number(&mut self, number: u64) -> Result<(), Fault>
         ensures ok { OnOk result (self.new ≡ self.old ++ decimal number) }
         ensures err { IfErr result (λ e. e ≡ Fault.OutOfMemory) }
@@ -73,7 +73,7 @@ impl Text {
         self.word(digits.format(number))
     }
 
-    /// Adds a word and a number.
+    /// Adds a word and a number. `OutOfMemory` where a growth was refused; then a part may have been added.
     pub fn word_and_number(&mut self, word: &str, number: u64) -> Result<(), Fault>
         ensures ok { OnOk result (self.new ≡ self.old ++ (word.now ++ decimal number)) }
         ensures err { IfErr result (λ e. e ≡ Fault.OutOfMemory) }
@@ -82,7 +82,7 @@ impl Text {
         self.number(number)
     }
 
-    /// Adds a word and bytes.
+    /// Adds a word and bytes. `OutOfMemory` where a growth was refused; then a part may have been added.
     pub fn word_and_bytes(&mut self, word: &str, bytes: &[u8]) -> Result<(), Fault>
         ensures ok { OnOk result (self.new ≡ self.old ++ (word.now ++ bytes.now)) }
         ensures err { IfErr result (λ e. e ≡ Fault.OutOfMemory) }
@@ -91,7 +91,7 @@ impl Text {
         self.bytes(bytes)
     }
 
-    /// Adds a word and the name of a message.
+    /// Adds a word and the name of a message. `OutOfMemory` where a growth was refused; then a part may have been added.
     pub fn word_and_event(&mut self, word: &str, event: EventHandle) -> Result<(), Fault>
         ensures ok { OnOk result (self.new ≡ self.old ++ (word.now ++ event_text event)) }
         ensures err { IfErr result (λ e. e ≡ Fault.OutOfMemory) }
@@ -100,7 +100,8 @@ impl Text {
         self.word_and_number(".", event.serial)
     }
 
-    /// Adds a word and a time, a lookahead or a bound.
+    /// Adds a word and a time, a lookahead or a bound. `OutOfMemory` where a growth was refused; then a part may have been
+    /// added.
     pub fn word_and_time(&mut self, word: &str, time: Ticks) -> Result<(), Fault>
         ensures ok { OnOk result (self.new ≡ self.old ++ (word.now ++ time_text time)) }
         ensures err { IfErr result (λ e. e ≡ Fault.OutOfMemory) }

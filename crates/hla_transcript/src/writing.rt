@@ -10,8 +10,8 @@ use std::io::Write;
 #[derive(Clone, Copy, Debug, PartialEq, Eq)]
 pub struct WriteFailed;
 
-/// Writes all bytes, by as many writes as it takes; where one fails, a part of the bytes was written. It fails only where the
-/// writer does.
+/// Writes all bytes, by as many writes as it takes. `WriteFailed` where one fails or takes nothing, and only then; what those
+/// before it took stays written.
 pub fn write_whole<W: Write>(out: &mut Watched<W>, bytes: &[u8]) -> Result<(), WriteFailed>
     ensures ok { OnOk result (Appends (W.contents out.old.inner) (W.contents out.new.inner) bytes.now) }
     ensures err { OnErr result ((n : ℕ) × Appends (W.contents out.old.inner) (W.contents out.new.inner)

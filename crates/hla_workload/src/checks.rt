@@ -20,7 +20,7 @@ pub enum Play {
     ByUpdates,
 }
 
-/// Plays on a stage.
+/// Plays on a stage. `OutOfMemory` where a growth was refused; why a step is refused goes into the digest.
 pub fn play_on(stage: &mut Stage, play: Play, sizes: Sizes) -> Result<(), Fault> {
     match play {
         Play::InStep { is_flushed } => in_step(stage, sizes, is_flushed),
@@ -72,7 +72,8 @@ fn forge(records: &mut Vec<Record>) {
     }
 }
 
-/// Has the records of a play judged, as they are and forged.
+/// Has the records of a play judged, as they are and forged. `ErrorReadingFED` where the FED text was not read, and
+/// `OutOfMemory` where a growth was refused; why a step is refused goes into the digest.
 pub fn check(alloc: Global, play: Play, sizes: Sizes, digest: &mut Digest) -> Result<(), Fault> {
     let mut records = records_of(alloc, play, sizes, digest)?;
     let judged = judge(alloc, records.as_slice(), digest);
@@ -92,7 +93,8 @@ fn scaled(sizes: Sizes, federates: u32, amount: u32, rounds: u32) -> Sizes {
     }
 }
 
-/// Has the records of all kinds of plays judged.
+/// Has the records of all kinds of plays judged. `ErrorReadingFED` where the FED text was not read, and `OutOfMemory` where a
+/// growth was refused; why a step is refused goes into the digest.
 pub fn run(alloc: Global, sizes: Sizes) -> Result<Digest, Fault> {
     let mut digest = Digest::new();
     let late = scaled(sizes, 3, 4, 8);
@@ -106,7 +108,8 @@ pub fn run(alloc: Global, sizes: Sizes) -> Result<Digest, Fault> {
     Ok(digest)
 }
 
-/// Plays all kinds in one process, without records.
+/// Plays all kinds in one process, without records. `ErrorReadingFED` where the FED text was not read, and `OutOfMemory`
+/// where a growth was refused; why a step is refused goes into the digest.
 pub fn run_plays(alloc: Global, sizes: Sizes) -> Result<Digest, Fault> {
     let mut digest = Digest::new();
     let step = scaled(sizes, 4, 1, 8);

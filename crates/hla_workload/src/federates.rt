@@ -285,7 +285,8 @@ impl<L: Ledger + Naming, W: Publisher<L>> Carrier<L, W> {
         Ok(())
     }
 
-    /// Has all announce, and carries all wires.
+    /// Has all announce, and carries all wires. An error is the fault of the first call that is refused. Those before it stay
+    /// done.
     pub fn exchange(&mut self, rt: &impl Wait, field: &Field) -> Result<(), Fault> {
         for federate in 1..=field.federates {
             self.announce(rt, field, federate)?;
@@ -313,7 +314,9 @@ impl<L: Ledger + Naming, W: Publisher<L>> Carrier<L, W> {
     }
 }
 
-/// A federate becomes ready to take part: it publishes, subscribes, and is constrained; all but the last regulate.
+/// A federate becomes ready to take part: it publishes, subscribes, and is constrained; all but the last regulate. An error
+/// is the fault of the first call that is refused, or `OutOfMemory` where a growth was refused. The calls before it stay
+/// done.
 pub fn prepare<L: Ledger + Naming, W: Publisher<L>>(
     rt: &impl Wait,
     field: &Field,
@@ -344,7 +347,8 @@ fn numbers(alloc: Global) -> Result<List<u32>, Fault> {
     Ok(numbers)
 }
 
-/// A federate registers its objects; the number of the first.
+/// A federate registers its objects; the number of the first. An error is the fault of the first call that is refused, or
+/// `OutOfMemory` where a growth was refused. The calls before it stay done.
 pub fn register<L: Ledger + Naming, W: Publisher<L>>(
     rt: &impl Wait,
     field: &Field,

@@ -23,7 +23,8 @@ const FED: &[u8] = b"(FED
  (class C13 reliable timestamp (parameter P)) (class C14 reliable timestamp (parameter P))
  (class C15 reliable timestamp (parameter P)) (class C16 reliable timestamp (parameter P))))";
 
-/// An execution that nobody has joined.
+/// An execution that nobody has joined. `ErrorReadingFED` where the FED text was not read, and `OutOfMemory` where a growth
+/// was refused.
 pub fn opened(alloc: Global, sizes: Sizes, is_recorded: bool) -> Result<Stage, Fault> {
     let random = Random::new(sizes.seed, sizes.federates);
     Stage::new(alloc, FED, random, is_recorded)
@@ -79,7 +80,8 @@ fn join_in_step(stage: &mut Stage, federates: u32) -> Result<(), Fault> {
 }
 
 /// In step, by one tick in each round. The last federate falls behind: it sends nothing, and is granted its time, or in every second
-/// play flushes, when the others are done.
+/// play flushes, when the others are done. `OutOfMemory` where a growth was refused; why a step is refused goes into the
+/// digest.
 pub fn in_step(stage: &mut Stage, sizes: Sizes, is_flushed: bool) -> Result<(), Fault> {
     let Sizes {
         federates,
@@ -180,7 +182,8 @@ fn visit_by_events(stage: &mut Stage, federates: u32, federate: FederateNo) -> R
     stage.carry_from(federate, federates)
 }
 
-/// The hold model: each event that a federate is given makes it send one to another by chance, and all advance by Next Event Request.
+/// The hold model: each event that a federate is given makes it send one to another by chance, and all advance by Next Event
+/// Request. `OutOfMemory` where a growth was refused; why a step is refused goes into the digest.
 pub fn by_events(stage: &mut Stage, sizes: Sizes) -> Result<(), Fault> {
     let Sizes {
         federates,
@@ -219,7 +222,8 @@ fn join_for_updates(stage: &mut Stage, federates: u32) -> Result<(), Fault> {
     Ok(())
 }
 
-/// The first federate updates so many objects for all others in each round, and all advance.
+/// The first federate updates so many objects for all others in each round, and all advance. `OutOfMemory` where a growth was
+/// refused; why a step is refused goes into the digest.
 pub fn by_updates(stage: &mut Stage, sizes: Sizes) -> Result<(), Fault> {
     let Sizes {
         federates,

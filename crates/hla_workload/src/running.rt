@@ -291,7 +291,9 @@ fn run_at<L: Ledger + Naming + Send + Sync, R: Threads + Wait + Sync>(
     close(rt, rti, rest)
 }
 
-/// Runs federates of which each but the last has so many objects, for so many steps.
+/// Runs federates of which each but the last has so many objects, for so many steps. An error is the fault that stopped a
+/// federate or the courier (a refused update stops none), `OutOfMemory` where a growth or a thread was refused, or
+/// `FederateInternalError` where the infrastructure does not close.
 pub fn run<R: Threads + Wait + Sync>(rt: &R, alloc: Global, sizes: Sizes) -> Result<Digest, Fault> {
     let field = Field {
         alloc,

@@ -39,7 +39,8 @@ fn play_one(alloc: Global, text: Text, is_checked: bool, digest: &mut Digest) ->
     Ok(())
 }
 
-/// Plays scripts in step and scripts of updates in turn, as many as there are rounds.
+/// Plays scripts in step and scripts of updates in turn, as many as there are rounds. `OutOfMemory` where a growth was
+/// refused for a text, and `FederateInternalError` where a script was not played to its end.
 pub fn run_plays(alloc: Global, sizes: Sizes) -> Result<Digest, Fault> {
     let mut digest = Digest::new();
     for round in 0..sizes.rounds {

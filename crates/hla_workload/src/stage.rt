@@ -89,7 +89,8 @@ fn history_of(alloc: Global, catalogue: &Catalogue) -> Result<List<Record>, Faul
 }
 
 impl Stage {
-    /// A federation that no federate has joined yet.
+    /// A federation that no federate has joined yet. `ErrorReadingFED` where the FED text was not read, and `OutOfMemory`
+    /// where a growth was refused.
     pub fn new(
         alloc: Global,
         fed: &[u8],
@@ -163,19 +164,21 @@ impl Stage {
         }
     }
 
-    /// Does a step that is let go then.
+    /// Does a step that is let go then. `OutOfMemory` where a growth was refused; why a step is refused goes into the digest.
     pub fn step(&mut self, step: Step) -> Result<Brought, Fault> {
         let brought = self.done(&step);
         drop(step);
         brought
     }
 
-    /// A joined federate calls a service.
+    /// A joined federate calls a service. `OutOfMemory` where a growth was refused; why a step is refused goes into the
+    /// digest.
     pub fn call(&mut self, federate: FederateNo, service: Service) -> Result<Brought, Fault> {
         self.step(Step::Call { federate, service })
     }
 
-    /// A federate joins, under the letter that has its number.
+    /// A federate joins, under the letter that has its number. `OutOfMemory` where a growth was refused; why a step is
+    /// refused goes into the digest.
     pub fn join(&mut self, federate: FederateNo) -> Result<(), Fault> {
         let mut name = List::new(self.alloc);
         name.push(b'@'.wrapping_add(federate.to_le_bytes()[0]))?;
@@ -183,7 +186,8 @@ impl Stage {
         Ok(())
     }
 
-    /// A federate becomes time regulating.
+    /// A federate becomes time regulating. `OutOfMemory` where a growth was refused; why a step is refused goes into the
+    /// digest.
     pub fn regulate(&mut self, federate: FederateNo, lookahead: Ticks) -> Result<(), Fault> {
         let service = Service::EnableTimeRegulation { time: 0, lookahead };
         let _brought = self.call(federate, service)?;
@@ -191,14 +195,16 @@ impl Stage {
         Ok(())
     }
 
-    /// A federate becomes time constrained.
+    /// A federate becomes time constrained. `OutOfMemory` where a growth was refused; why a step is refused goes into the
+    /// digest.
     pub fn constrain(&mut self, federate: FederateNo) -> Result<(), Fault> {
         let _brought = self.call(federate, Service::EnableTimeConstrained)?;
         let _visit = self.visit(federate)?;
         Ok(())
     }
 
-    /// A federate sends an interaction with one parameter.
+    /// A federate sends an interaction with one parameter. `OutOfMemory` where a growth was refused; why a step is refused
+    /// goes into the digest.
     pub fn send(
         &mut self,
         federate: FederateNo,
@@ -217,7 +223,8 @@ impl Stage {
         )
     }
 
-    /// A federate updates some of so many attributes of an object.
+    /// A federate updates some of so many attributes of an object. `OutOfMemory` where a growth was refused; why a step is
+    /// refused goes into the digest.
     pub fn update(
         &mut self,
         federate: FederateNo,
@@ -236,7 +243,7 @@ impl Stage {
         )
     }
 
-    /// The numbers from one to another.
+    /// The numbers from one to another. `OutOfMemory` where a growth was refused.
     pub fn numbers(&self, last: u32) -> Result<List<u32>, Fault> {
         let mut numbers = List::new(self.alloc);
         for number in 1..=last {
@@ -245,7 +252,8 @@ impl Stage {
         Ok(numbers)
     }
 
-    /// A federate announces its promise.
+    /// A federate announces its promise. `OutOfMemory` where a growth was refused; why a step is refused goes into the
+    /// digest.
     pub fn announce(&mut self, federate: FederateNo) -> Result<(), Fault> {
         let _brought = self.step(Step::Announce { federate })?;
         Ok(())
@@ -261,7 +269,8 @@ impl Stage {
         Ok(())
     }
 
-    /// Carries all wires from a federate to the others until they are empty.
+    /// Carries all wires from a federate to the others until they are empty. `OutOfMemory` where a growth was refused; why a
+    /// step is refused goes into the digest.
     pub fn carry_from(&mut self, from: FederateNo, federates: u32) -> Result<(), Fault> {
         for to in 1..=federates {
             if to != from {
@@ -271,7 +280,8 @@ impl Stage {
         Ok(())
     }
 
-    /// Ticks a federate until it is granted a time, or picks up nothing.
+    /// Ticks a federate until it is granted a time, or picks up nothing. `OutOfMemory` where a growth was refused; why a step
+    /// is refused goes into the digest.
     pub fn visit(&mut self, federate: FederateNo) -> Result<Visit, Fault> {
         let mut events = 0u64;
         for _ in 0..u64::MAX {

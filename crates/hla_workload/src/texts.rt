@@ -33,7 +33,7 @@ pub struct Text {
 }
 
 impl Text {
-    /// A script that creates the execution, and that so many federates join.
+    /// A script that creates the execution, and that so many federates join. `OutOfMemory` where a growth was refused.
     pub fn new(alloc: Global, federates: u32, random: Random) -> Result<Text, Fault> {
         let mut text = Text {
             text: String::new(alloc),
@@ -63,19 +63,19 @@ impl Text {
         writeln!(self.text, "{words}").map_err(|_| Fault::OutOfMemory)
     }
 
-    /// A line of a federate.
+    /// A line of a federate. `OutOfMemory` where a growth was refused.
     pub fn call(&mut self, federate: u32, words: &str) -> Result<(), Fault> {
         self.lines = self.lines.wrapping_add(1);
         writeln!(self.text, "Federate-{federate} {words}").map_err(|_| Fault::OutOfMemory)
     }
 
-    /// A line of a federate that ends in a number.
+    /// A line of a federate that ends in a number. `OutOfMemory` where a growth was refused.
     pub fn call_with(&mut self, federate: u32, words: &str, number: u64) -> Result<(), Fault> {
         self.lines = self.lines.wrapping_add(1);
         writeln!(self.text, "Federate-{federate} {words}{number}").map_err(|_| Fault::OutOfMemory)
     }
 
-    /// A federate sends an interaction.
+    /// A federate sends an interaction. `OutOfMemory` where a growth was refused.
     pub fn send(&mut self, federate: u32, stamp: u64) -> Result<(), Fault> {
         self.lines = self.lines.wrapping_add(1);
         let munition = self.random.next();
@@ -160,7 +160,7 @@ fn round_in_step(text: &mut Text, federates: u32, time: u64) -> Result<(), Fault
     Ok(())
 }
 
-/// A script of federates in step, as long as a script may be.
+/// A script of federates in step, as long as a script may be. `OutOfMemory` where a growth was refused.
 pub fn in_step(alloc: Global, federates: u32, rounds: u32, random: Random) -> Result<Text, Fault> {
     let mut text = Text::new(alloc, federates, random)?;
     begin_in_step(&mut text, federates)?;
@@ -199,7 +199,8 @@ fn begin_updates(text: &mut Text, federates: u32, objects: u32) -> Result<(), Fa
     Ok(())
 }
 
-/// A script in which one federate updates so many objects for all others, as long as a script may be.
+/// A script in which one federate updates so many objects for all others, as long as a script may be. `OutOfMemory` where a
+/// growth was refused.
 pub fn by_updates(
     alloc: Global,
     federates: u32,

@@ -31,7 +31,7 @@ fn value(alloc: Global, random: &mut Random, number: u32) -> Result<Value, Fault
     Value::new(alloc, &bytes[..length])
 }
 
-/// Values of two numbers up to one or more, by chance; the first is always there.
+/// Values of two numbers up to one or more, by chance; the first is always there. `OutOfMemory` where a growth was refused.
 pub fn chosen_values(
     alloc: Global,
     random: &mut Random,

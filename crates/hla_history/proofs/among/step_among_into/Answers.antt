@@ -4,8 +4,8 @@ use Rattle.std.specs.Str.{bytes_eq}
 use Rattle.hla_history.specs.Hosts.{Host}
 use Rattle.hla_history.specs.Hosting.{HostedValue, host_of, table_of}
 use Rattle.hla_history.specs.Writing.{chosen_in}
-use Rattle.hla_history.proofs.Places.{no_place, found_there, table_with, ends_there, ends_nowhere, hosts_there, hosts_nowhere}
-use Rattle.hla_history.proofs.Written.{where_ok, written_nowhere, written_there}
+use Rattle.hla_history.proofs.Executions.Places.{no_place, found_there, table_with, ends_there, ends_nowhere, hosts_there, hosts_nowhere}
+use Rattle.hla_history.proofs.Records.Written.{where_ok, written_nowhere, written_there}
 use Rattle.hla_history.proofs.among.step_among_into.Goals as goal
 
 pub step_into-requires-clause-ambassadors : goal.step_into-requires-clause-ambassadors

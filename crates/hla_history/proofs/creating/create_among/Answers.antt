@@ -4,8 +4,8 @@ use Rattle.std.specs.Str.{bytes_eq}
 use Rattle.hla_catalogue.specs.CatalogueValue.{CatalogueValue}
 use Rattle.hla_machine.specs.declared.step.Record.{Record}
 use Rattle.hla_history.specs.Hosting.{HostedValue, hosts_of, table_of}
-use Rattle.hla_history.proofs.Creations.{creation_is, creation_absent, created_hosts, ends_refused, ends_done}
-use Rattle.hla_history.proofs.Places.{place_there}
+use Rattle.hla_history.proofs.Executions.Creations.{creation_is, creation_absent, created_hosts, ends_refused, ends_done}
+use Rattle.hla_history.proofs.Executions.Places.{place_there}
 use Rattle.hla_history.proofs.creating.create_among.Goals as goal
 
 pub returns-in_ok-refused-in-Some-clause-ends : goal.returns-in_ok-refused-in-Some-clause-ends

@@ -1,6 +1,6 @@
 use Rattle.std.proofs.Common.{refl, ap}
 use Rattle.hla_machine.specs.declared.step.Record.{Record}
-use Rattle.hla_history.proofs.Creations.{destroyed_hosts}
+use Rattle.hla_history.proofs.Executions.Creations.{destroyed_hosts}
 use Rattle.hla_history.proofs.creating.destroy_among.Goals as goal
 
 pub returns-in_ok-made-in-None-clause-hosts : goal.returns-in_ok-made-in-None-clause-hosts

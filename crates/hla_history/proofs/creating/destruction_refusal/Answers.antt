@@ -1,7 +1,7 @@
 use Rattle.std.proofs.Common.{sym, ◌∙◌, true, false}
 use Rattle.hla_history.specs.Hosting.{host_of, table_of}
-use Rattle.hla_history.proofs.Creations.{destruction_nowhere, destruction_there}
-use Rattle.hla_history.proofs.Places.{no_place, found_there}
+use Rattle.hla_history.proofs.Executions.Creations.{destruction_nowhere, destruction_there}
+use Rattle.hla_history.proofs.Executions.Places.{no_place, found_there}
 use Rattle.hla_history.proofs.creating.destruction_refusal.Goals as goal
 
 pub returns-in-None : goal.returns-in-None

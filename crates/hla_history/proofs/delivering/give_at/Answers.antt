@@ -1,5 +1,5 @@
 use Rattle.std.proofs.lemmas.Option.{slice_get_within}
-use Rattle.hla_history.proofs.Ears.{gives}
+use Rattle.hla_history.proofs.Heard.Ears.{gives}
 use Rattle.hla_history.proofs.delivering.give_at.Goals as goal
 
 pub returns-clause-heard : goal.returns-clause-heard

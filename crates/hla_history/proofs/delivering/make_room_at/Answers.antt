@@ -1,5 +1,5 @@
 use Rattle.std.proofs.Common.{◌<◌, length, rules}
-use Rattle.hla_history.proofs.Ears.{same_heard, room_at, none_at}
+use Rattle.hla_history.proofs.Heard.Ears.{same_heard, room_at, none_at}
 use Rattle.hla_history.proofs.delivering.make_room_at.Goals as goal
 
 pub returns-in_err-make_room-in-Some-clause-heard : goal.returns-in_err-make_room-in-Some-clause-heard

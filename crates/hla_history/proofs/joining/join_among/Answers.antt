@@ -4,7 +4,7 @@ use Rattle.std.specs.Str.{bytes_eq}
 use Rattle.hla_machine.specs.declared.step.Record.{Record}
 use Rattle.hla_machine.specs.declared.step.Step.TheVariants.{Join}
 use Rattle.hla_history.specs.Hosting.{HostedValue, host_of, table_of}
-use Rattle.hla_history.proofs.Places.{no_place, found_there, table_with, record_foreseen, ends_foreseen, ends_nowhere, hosts_there, hosts_nowhere}
+use Rattle.hla_history.proofs.Executions.Places.{no_place, found_there, table_with, record_foreseen, ends_foreseen, ends_nowhere, hosts_there, hosts_nowhere}
 use Rattle.hla_history.proofs.joining.join_among.Goals as goal
 
 pub returns-in-Ok-clause-ends : goal.returns-in-Ok-clause-ends

@@ -5,7 +5,7 @@ use Rattle.hla_machine.specs.declared.service.Service.TheVariants as service
 use Rattle.hla_machine.specs.declared.step.Record.{Record}
 use Rattle.hla_machine.specs.declared.step.Step.TheVariants.{Call}
 use Rattle.hla_history.specs.Hosting.{HostedValue, host_of, table_of}
-use Rattle.hla_history.proofs.Places.{no_place, found_there, table_with, record_foreseen, ends_foreseen, ends_nowhere, hosts_there, hosts_nowhere, heard_there}
+use Rattle.hla_history.proofs.Executions.Places.{no_place, found_there, table_with, record_foreseen, ends_foreseen, ends_nowhere, hosts_there, hosts_nowhere, heard_there}
 use Rattle.hla_history.proofs.joining.resign_among.Goals as goal
 
 pub resign-requires : goal.resign-requires

@@ -1,6 +1,6 @@
 use Rattle.std.proofs.Common.{ap, arith}
 use Rattle.hla_base.specs.Fault.{number_of}
-use Rattle.hla_history.proofs.Foreseen.{does_step, refused_stays}
+use Rattle.hla_history.proofs.Steps.Foreseen.{does_step, refused_stays}
 use Rattle.hla_history.proofs.preparing.done.Goals as goal
 use Rattle.hla_history.proofs.preparing.done.Goals.{in-Ok, in-Err+then-number-eq38, in-Err+else-number-eq38}
 

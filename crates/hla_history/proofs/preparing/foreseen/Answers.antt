@@ -1,4 +1,4 @@
-use Rattle.hla_history.proofs.Foreseen.{foreseen_record}
+use Rattle.hla_history.proofs.Steps.Foreseen.{foreseen_record}
 use Rattle.hla_history.proofs.preparing.foreseen.Goals as goal
 
 pub returns-in-Ok-clause-record : goal.returns-in-Ok-clause-record

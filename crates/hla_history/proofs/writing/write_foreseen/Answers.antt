@@ -1,6 +1,6 @@
 use Rattle.std.proofs.Common.{◌++◌, ◌∷◌, [], ◌∙◌, ap}
 use Rattle.hla_machine.specs.declared.step.Record.{Record}
-use Rattle.hla_history.proofs.Foreseen.{foreseen_named}
+use Rattle.hla_history.proofs.Steps.Foreseen.{foreseen_named}
 use Rattle.hla_history.proofs.writing.write_foreseen.Goals as goal
 
 pub returns-in-Ok-foresee-clause-written : goal.returns-in-Ok-foresee-clause-written

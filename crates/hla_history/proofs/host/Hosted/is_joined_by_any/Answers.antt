@@ -2,7 +2,7 @@ use Rattle.std.proofs.Common.{◌∙◌, ap}
 use Rattle.hla_machine.specs.Runs.{is_joined_by_any}
 use Rattle.hla_components.specs.CentralOf.{central}
 use Rattle.hla_history.specs.Hosting.{HostedValue, components_hosted}
-use Rattle.hla_history.proofs.Creations.{joined_there}
+use Rattle.hla_history.proofs.Executions.Creations.{joined_there}
 use Rattle.hla_history.proofs.host.Hosted.is_joined_by_any.Goals as goal
 
 pub returns : goal.returns

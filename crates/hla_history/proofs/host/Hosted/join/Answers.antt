@@ -6,7 +6,7 @@ use Rattle.hla_history.specs.Creating.{is_accepted}
 use Rattle.hla_history.specs.Hosts.{host_after}
 use Rattle.hla_history.specs.Hosting.{HostedValue, components_hosted, heard_of, host_of}
 use Rattle.hla_machine.specs.declared.step.Step.TheVariants.{Join}
-use Rattle.hla_history.proofs.Seats.{host_joins, len_joins, heard_length}
+use Rattle.hla_history.proofs.Heard.Seats.{host_joins, len_joins, heard_length}
 use Rattle.hla_history.proofs.host.Hosted.join.Goals as goal
 
 pub invariant_of-self-in-Ok-taken : goal.invariant_of-self-in-Ok-taken

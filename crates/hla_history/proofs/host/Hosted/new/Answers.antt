@@ -1,6 +1,6 @@
 use Rattle.std.proofs.Common.{◌≡◌, ◌∙◌, ap, sym, arith, vec_len, None, ◌++◌, ◌∷◌, []}
 use Rattle.hla_history.specs.Hosting.{heard_of}
-use Rattle.hla_history.proofs.Creations.{new_hosted, new_length}
+use Rattle.hla_history.proofs.Executions.Creations.{new_hosted, new_length}
 use Rattle.hla_history.proofs.host.Hosted.new.Goals as goal
 
 pub invariant_of-result : goal.invariant_of-result

@@ -5,8 +5,8 @@ use Rattle.hla_machine.specs.declared.step.Record.{Record}
 use Rattle.hla_machine.specs.declared.step.Step.TheVariants.{Call}
 use Rattle.hla_history.specs.Hosts.{host_after}
 use Rattle.hla_history.specs.Hosting.{HostedValue, components_hosted, heard_of, host_of}
-use Rattle.hla_history.proofs.Hosting.{ambassadors_ready}
-use Rattle.hla_history.proofs.Seats.{ear_resigns, host_resigns, len_resigns}
+use Rattle.hla_history.proofs.Heard.Hosting.{ambassadors_ready}
+use Rattle.hla_history.proofs.Heard.Seats.{ear_resigns, host_resigns, len_resigns}
 use Rattle.hla_history.proofs.host.Hosted.resign.Goals as goal
 
 pub unseated-back-requires : goal.unseated-back-requires

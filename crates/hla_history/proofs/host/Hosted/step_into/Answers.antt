@@ -5,8 +5,8 @@ use Rattle.hla_federation.specs.FederationValue.{FederationValue}
 use Rattle.hla_history.specs.Heard.{callback_in}
 use Rattle.hla_history.specs.Hosting.{HostedValue, components_hosted, heard_of}
 use Rattle.hla_history.specs.Writing.{step_record}
-use Rattle.hla_history.proofs.Hosting.{ambassadors_ready, delivers, len_fits, given_fits, host_steps}
-use Rattle.hla_history.proofs.Written.{last_is}
+use Rattle.hla_history.proofs.Heard.Hosting.{ambassadors_ready, delivers, len_fits, given_fits, host_steps}
+use Rattle.hla_history.proofs.Records.Written.{last_is}
 use Rattle.hla_history.proofs.host.Hosted.step_into.Goals as goal
 use Rattle.hla_history.proofs.host.Hosted.step_into.Goals.{in-Ok, in-Err-carry_out}
 

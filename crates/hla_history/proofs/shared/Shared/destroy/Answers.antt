@@ -1,6 +1,6 @@
 use Rattle.std.proofs.Common.{arith}
 use Rattle.hla_history.specs.Hosting.{hosts_of}
-use Rattle.hla_history.proofs.Creations.{kept_destroy}
+use Rattle.hla_history.proofs.Executions.Creations.{kept_destroy}
 use Rattle.hla_history.proofs.shared.Shared.destroy.Goals as goal
 
 pub invariant_of-self-2 : goal.invariant_of-self-2

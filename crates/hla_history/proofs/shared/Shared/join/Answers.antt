@@ -1,8 +1,8 @@
 use Rattle.std.proofs.Common.{arith}
 use Rattle.hla_machine.specs.declared.step.Step.TheVariants.{Join}
 use Rattle.hla_history.specs.Hosting.{hosts_of, table_of}
-use Rattle.hla_history.proofs.FormLaws.{ends_in_form}
-use Rattle.hla_history.proofs.Kept.{kept_step}
+use Rattle.hla_history.proofs.Steps.FormLaws.{ends_in_form}
+use Rattle.hla_history.proofs.Records.Kept.{kept_step}
 use Rattle.hla_history.proofs.shared.Shared.join.Goals as goal
 
 pub invariant_of-self : goal.invariant_of-self

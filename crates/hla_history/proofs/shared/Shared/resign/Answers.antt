@@ -2,7 +2,7 @@ use Rattle.std.proofs.Common.{arith}
 use Rattle.hla_machine.specs.declared.service.Service.TheVariants as service
 use Rattle.hla_machine.specs.declared.step.Step.TheVariants.{Call}
 use Rattle.hla_history.specs.Hosting.{hosts_of, table_of}
-use Rattle.hla_history.proofs.Kept.{kept_step}
+use Rattle.hla_history.proofs.Records.Kept.{kept_step}
 use Rattle.hla_history.proofs.shared.Shared.resign.Goals as goal
 
 pub invariant_of-self-2 : goal.invariant_of-self-2

@@ -2,8 +2,8 @@ use Rattle.std.proofs.Common.{arith, refl}
 use Rattle.hla_machine.specs.declared.step.Record.{Record}
 use Rattle.hla_history.specs.Hosting.{hosts_of, table_of}
 use Rattle.hla_history.specs.Writing.{step_record, chosen_in}
-use Rattle.hla_history.proofs.FormLaws.{ends_in_form}
-use Rattle.hla_history.proofs.Kept.{kept_step}
+use Rattle.hla_history.proofs.Steps.FormLaws.{ends_in_form}
+use Rattle.hla_history.proofs.Records.Kept.{kept_step}
 use Rattle.hla_history.proofs.shared.Shared.step_into.Goals as goal
 
 pub invariant_of-self-2 : goal.invariant_of-self-2

@@ -21,7 +21,7 @@ use Rattle.hla_history.specs.Creating.{heard_from}
 use Rattle.hla_history.specs.Heard.{given_outcome}
 use Rattle.hla_history.specs.Hosts.{Host, HostTable, set_host, host_after, hosts_after_step}
 use Rattle.hla_history.specs.Hosting.{HostedValue, host_of, table_of, EndsIn}
-use Rattle.hla_history.proofs.NextLaws.{next_real}
+use Rattle.hla_history.proofs.Steps.NextLaws.{next_real}
 
 -- two names are equal the same way round
 pub apart_back : (a b : List ℕ) (t : Bool) → bytes_eq b a ≡ t → bytes_eq a b ≡ false → t ≡ false

@@ -22,7 +22,7 @@ use Rattle.hla_components.specs.Executions.{Federations, no_federations, central
 use Rattle.hla_history.specs.Heard.{given_outcome, given_record, heard_then, heard_after_act, heard_after, heard_by}
 use Rattle.hla_history.specs.Hosting.{EndsIn}
 use Rattle.hla_history.specs.Hosts.{Host, HostTable, Hosts, with_record, no_hosts, new_host, set_host, host_after, hosts_after_step, hosts_after, federations_of, HasAmbassadors, HearsAll, IsLockKept}
-use Rattle.hla_history.proofs.Ambassadors.{given_done, given_refused, hears_then, has_after}
+use Rattle.hla_history.proofs.Heard.Ambassadors.{given_done, given_refused, hears_then, has_after}
 
 -- ---- the executions that stand for the components
 components_there : Option Host → Option Components

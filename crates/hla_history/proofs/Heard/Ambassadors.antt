@@ -17,7 +17,7 @@ use Rattle.hla_components.specs.Components.{Components}
 use Rattle.hla_components.specs.Next.{next}
 use Rattle.hla_history.specs.Heard.{callback_in, given_outcome, with_heard, heard_then}
 use Rattle.hla_history.specs.Hosts.{HeardTable, Host, IsPlain, with_callback, table_after, host_after, HasAmbassadors}
-use Rattle.hla_history.proofs.NextLaws.{plain_stays, join_cases, resign_cases, IsJoining, IsResigning, IsTurnedDown}
+use Rattle.hla_history.proofs.Steps.NextLaws.{plain_stays, join_cases, resign_cases, IsJoining, IsResigning, IsTurnedDown}
 
 -- ---- outcomes
 -- an outcome that is given is the record's, but for a tick's

@@ -15,7 +15,7 @@ use Rattle.hla_components.specs.Next.{next}
 use Rattle.hla_history.specs.Heard.{callback_in, given_outcome}
 use Rattle.hla_history.specs.Hosts.{HeardTable, IsPlain, with_callback, table_after, host_after, HasAmbassadors}
 use Rattle.hla_history.specs.Hosting.{HostedValue, host_of, components_hosted, components_after, heard_of, heard_table, heard_then_of, IsReady, CanDeliver}
-use Rattle.hla_history.proofs.NextLaws.{told_joined, untold_join, untold_call, untold_carry, untold_announce, plain_stays, next_real}
+use Rattle.hla_history.proofs.Steps.NextLaws.{told_joined, untold_join, untold_call, untold_carry, untold_announce, plain_stays, next_real}
 
 -- who is heard at f has an ear there
 pub ear_at : (ears : List (Option Hearing)) (f : ℕ) → is_some (heard_table (heard_of ears) f) ≡ true → (e : Hearing) × (slice_get ears f ≡ Some (Some e))

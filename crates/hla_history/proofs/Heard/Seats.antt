@@ -19,9 +19,9 @@ use Rattle.hla_components.specs.Next.{next}
 use Rattle.hla_history.specs.Creating.{is_accepted}
 use Rattle.hla_history.specs.Hosts.{table_after, host_after}
 use Rattle.hla_history.specs.Hosting.{heard_of, heard_table}
-use Rattle.hla_history.proofs.Ears.{table_set}
-use Rattle.hla_history.proofs.Hosting.{ear_at}
-use Rattle.hla_history.proofs.NextLaws.{join_cases, resign_cases, IsJoining, IsResigning, IsTurnedDown}
+use Rattle.hla_history.proofs.Heard.Ears.{table_set}
+use Rattle.hla_history.proofs.Heard.Hosting.{ear_at}
+use Rattle.hla_history.proofs.Steps.NextLaws.{join_cases, resign_cases, IsJoining, IsResigning, IsTurnedDown}
 
 -- ---- one more ear
 append_off : (hs : List (Option (List Callback))) (x : Option (List Callback)) (g : ℕ) → length hs ≢ g → get_or (hs ++ x ∷ []) g None ≡ get_or hs g None

@@ -5,7 +5,7 @@ use Rattle.std.proofs.lemmas.Bool.{cases_eq, eq-eqb, ne_eqb}
 use Rattle.std.proofs.lemmas.Option.{slice_get_within}
 use Rattle.hla_machine.specs.declared.step.Record.{Record}
 use Rattle.hla_history.specs.Closing.{records_by}
-use Rattle.hla_history.proofs.Ears.{at_set}
+use Rattle.hla_history.proofs.Heard.Ears.{at_set}
 
 own_first : (n : ℕ) (r : Record) (rs : List Record) → r.actor ≡ n → records_by n (r ∷ rs) ≡ r ∷ records_by n rs
 own_first n r rs same = ap (λ b. cond b (r ∷ records_by n rs) (records_by n rs)) (eq-eqb r.actor n same)

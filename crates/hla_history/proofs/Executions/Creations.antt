@@ -28,8 +28,8 @@ use Rattle.hla_history.specs.Creating.{creation_fault, destruction_fault}
 use Rattle.hla_history.specs.Heard.{given_outcome, given_record}
 use Rattle.hla_history.specs.Hosts.{Host, Hosts, new_host, set_host, hosts_after, federations_of, IsLockKept}
 use Rattle.hla_history.specs.Hosting.{HostedValue, components_hosted, heard_table, host_of, hosts_of, table_of}
-use Rattle.hla_history.proofs.Kept.{kept_more}
-use Rattle.hla_history.proofs.Places.{apart_back}
+use Rattle.hla_history.proofs.Records.Kept.{kept_more}
+use Rattle.hla_history.proofs.Executions.Places.{apart_back}
 
 -- ---- a new execution
 none_heard : (f : ℕ) → heard_table (None ∷ []) f ≡ None

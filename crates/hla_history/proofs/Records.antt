@@ -1,0 +1,6 @@
+-- The record of a step in its place
+pub mod Written
+-- How a record keeps what the lock keeps
+pub mod Kept
+-- Transcripts that are matched with the history, record by record
+pub mod Matching
