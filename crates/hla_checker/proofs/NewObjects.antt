@@ -12,9 +12,9 @@ use Rattle.hla_machine.specs.Central.{Central}
 use Rattle.hla_accounts.specs.declared.account.Account.{Account}
 use Rattle.hla_accounts.specs.declared.offers.Offer.{Offer}
 use Rattle.hla_accounts.specs.Accounts.{account_at, central_with, offers_from}
-use Rattle.hla_accounts.proofs.AccountLemmas.{account_at-past}
-use Rattle.hla_accounts.proofs.DiscoveryLemmas.{none_offered, offers_in}
-use Rattle.hla_accounts.proofs.MessageLemmas.{joined_in}
+use Rattle.hla_accounts.proofs.Changes.Accounts.{account_at-past}
+use Rattle.hla_accounts.proofs.Sendings.Discoveries.{none_offered, offers_in}
+use Rattle.hla_accounts.proofs.Sendings.Messages.{joined_in}
 use Rattle.hla_checker.specs.Offering.{wanted_discoveries, known_to_joined}
 
 -- nobody past the last has joined

@@ -24,9 +24,9 @@ use Rattle.hla_machine.specs.declared.step.Choice.TheVariants as choice
 use Rattle.hla_machine.proofs.Tests.{all_clear}
 use Rattle.hla_accounts.specs.declared.account.Account.{Account}
 use Rattle.hla_accounts.specs.Accounts.{account_at, central_with}
-use Rattle.hla_accounts.proofs.CountLemmas.{same_size}
-use Rattle.hla_accounts.proofs.DiscoveryLemmas.{offers_in}
-use Rattle.hla_accounts.proofs.MessageLemmas.{joined_in}
+use Rattle.hla_accounts.proofs.Changes.Counts.{same_size}
+use Rattle.hla_accounts.proofs.Sendings.Discoveries.{offers_in}
+use Rattle.hla_accounts.proofs.Sendings.Messages.{joined_in}
 use Rattle.hla_verdicts.specs.declared.verdict.Verdict.TheVariants as verdict
 use Rattle.hla_verdicts.specs.Kept.{KeptValue, IsConsistent, JudgedStep, central_of, directory_kept}
 use Rattle.hla_checker.specs.Offering.{known_to_joined}

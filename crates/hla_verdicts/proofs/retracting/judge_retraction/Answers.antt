@@ -6,7 +6,7 @@ use Rattle.hla_machine.specs.Machine.{central_seen}
 use Rattle.hla_machine.specs.declared.service.Service.TheVariants as services
 use Rattle.hla_machine.specs.declared.step.Step.TheVariants as steps
 use Rattle.hla_accounts.specs.Accounts.{central_with}
-use Rattle.hla_accounts.proofs.CountLemmas.{same_size}
+use Rattle.hla_accounts.proofs.Changes.Counts.{same_size}
 use Rattle.hla_verdicts.proofs.StepVerdicts.{refused_told, done_wrong}
 use Rattle.hla_verdicts.proofs.CallVerdicts.{joined_within}
 use Rattle.hla_verdicts.proofs.ServiceVerdicts.{joined_refusal, plain_chose, plain_not_done, plain_done}

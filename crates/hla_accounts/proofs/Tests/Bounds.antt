@@ -6,7 +6,7 @@ use Rattle.std.specs.Option.{option_map_or}
 use Rattle.std.proofs.lemmas.Bool.Decides.{nat_tests, Decides-by_and, Decides-like, Decides-and, Decides-or, Decides-eqb, Decides-below_and}
 use Rattle.std.proofs.lemmas.Bool.{cases_lt}
 use Rattle.hla_base.specs.Limits.{forever}
-use Rattle.hla_accounts.proofs.AccountLemmas.{account_at-past}
+use Rattle.hla_accounts.proofs.Changes.Accounts.{account_at-past}
 use Rattle.std.proofs.lemmas.List.Elements.{All-nil, All-cons, All-head, All-tail}
 use Rattle.hla_base.specs.declared.row.AdvanceKind.{AdvanceKind}
 use Rattle.hla_base.specs.declared.row.AdvanceRequest.{AdvanceRequest}
@@ -23,7 +23,7 @@ use Rattle.hla_accounts.specs.declared.bag.Waiting.{Waiting}
 use Rattle.hla_accounts.specs.Bags.{is_of, waiting_at, AreApart}
 use Rattle.hla_accounts.specs.Accounts.{AreKept, no_account, account_at, copy_of, copy_given, copy_at, central_with}
 use Rattle.hla_accounts.specs.Bounds.{is_retracted, ordered_stamp, is_at_most_waiting, is_below_all_tso, is_below_wake, is_below_request, is_below_out, leaves_below, all_leave, is_below_bound, has_reached}
-use Rattle.hla_accounts.proofs.BagLemmas.{waiting_at-nil, waiting_at-cons, key_of}
+use Rattle.hla_accounts.proofs.Bags.Contents.{waiting_at-nil, waiting_at-cons, key_of}
 
 -- ---- what holds of each copy
 -- P holds of each copy in the bag, by its sender and serial

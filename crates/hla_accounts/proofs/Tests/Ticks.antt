@@ -28,7 +28,7 @@ use Rattle.hla_accounts.specs.Bags.{waiting_at, is_listed}
 use Rattle.hla_accounts.specs.Accounts.{account_at, offers_from, copy_of, copy_given, copy_at, central_with, AreKept}
 use Rattle.hla_accounts.specs.Bounds.{is_retracted, ordered_stamp, is_below_all_tso, is_below_bound, has_reached}
 use Rattle.hla_accounts.specs.Ticks.{is_flush_granted, is_granted_as, may_grant, may_receive, is_sent_in_receive_order, is_not_earlier, is_first_ro, is_at_first_pick, is_key_le, is_not_before, is_least_key, may_pick, may_pick_as, may_pick_now, has_no_offer, is_discovered, may_deliver, is_moved_below, is_among_if_below, are_below, may_constrain}
-use Rattle.hla_accounts.proofs.BoundLemmas.{each_decided, Decides-leb, below_all_tso_decided, below_bound_decided, reached_decided}
+use Rattle.hla_accounts.proofs.Tests.Bounds.{each_decided, Decides-leb, below_all_tso_decided, below_bound_decided, reached_decided}
 
 -- ---- tests of optional values
 pub if_some_decided : {X : Type 0} (test : X → Bool) (P : X → Type 0) → ((x : X) → Decides (test x) (P x)) → (o : Option X) → Decides (option_map_or test o true) (IfSome o P)

@@ -15,8 +15,8 @@ use Rattle.hla_accounts.specs.declared.index.Key.{Key}
 use Rattle.hla_accounts.specs.declared.index.Index.{Index}
 use Rattle.hla_accounts.specs.Bags.{is_of, waiting_at, AreApart}
 use Rattle.hla_accounts.specs.Indexes.{key_at, waiting_key_cmp, delivery_at, has_key, IsIndexOf}
-use Rattle.hla_accounts.proofs.BagLemmas.{waiting_at-nil, waiting_at-cons, key_of}
-use Rattle.hla_accounts.proofs.KeyLemmas.{key_total, same_key}
+use Rattle.hla_accounts.proofs.Bags.Contents.{waiting_at-nil, waiting_at-cons, key_of}
+use Rattle.hla_accounts.proofs.Indexes.Keys.{key_total, same_key}
 
 abbrev pub key_of_waiting : Waiting → Key
 key_of_waiting w = key_at w.event.sender w.event.serial w.delivery

@@ -23,7 +23,7 @@ use Rattle.hla_accounts.specs.Bounds.{is_retracted, ordered_stamp, demoted_stamp
 use Rattle.hla_accounts.specs.Ticks.{is_among_if_below, is_sent_in_receive_order, is_not_earlier, is_key_le, is_not_before}
 use Rattle.hla_accounts.specs.Calls.{is_at_most_demoted}
 use Rattle.hla_accounts.specs.Indexes.{waiting_name_cmp, HasNamesOf, key_at, is_ordered_below, is_demoted_below, is_ordered_before, is_received_before, delivery_at, IsIndexOf}
-use Rattle.hla_accounts.proofs.RangeLemmas.{all_in_range}
+use Rattle.hla_accounts.proofs.Indexes.Ranges.{all_in_range}
 
 abbrev pub is_key_retracted : List Account → Key → Bool
 is_key_retracted accounts k = is_retracted accounts k.sender k.serial

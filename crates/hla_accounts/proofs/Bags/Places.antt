@@ -18,7 +18,7 @@ use Rattle.hla_accounts.specs.declared.bag.Waiting.{Waiting}
 use Rattle.hla_accounts.specs.Bags.{is_of, is_listed, waiting_at, demoted_delivery, demoted_waiting, with_listed_demoted, AreApart}
 use Rattle.hla_accounts.specs.Bounds.{ordered_stamp}
 use Rattle.hla_accounts.specs.Indexes.{delivery_at}
-use Rattle.hla_accounts.proofs.BagLemmas.{waiting_at-nil, waiting_at-cons, waiting_at-find, waiting_at-push, waiting_at-remove, waiting_at-demote, apart-remove, apart-demote, key_of, stays, demoted_if}
+use Rattle.hla_accounts.proofs.Bags.Contents.{waiting_at-nil, waiting_at-cons, waiting_at-find, waiting_at-push, waiting_at-remove, waiting_at-demote, apart-remove, apart-demote, key_of, stays, demoted_if}
 
 -- ---- where a message stands
 -- where none has the name, each has another

@@ -16,7 +16,7 @@ use Rattle.hla_accounts.specs.declared.index.Name.{Name}
 use Rattle.hla_accounts.specs.contracts.index.KeyOrd.TheImpl as keys
 use Rattle.hla_accounts.specs.Bags.{is_listed}
 use Rattle.hla_accounts.specs.Indexes.{key_at, waiting_key_cmp, waiting_name_cmp, has_key, HasNamesOf}
-use Rattle.hla_accounts.proofs.KeyLemmas.{key_apart, is_eq-waiting_name_cmp, same_order}
+use Rattle.hla_accounts.proofs.Indexes.Keys.{key_apart, is_eq-waiting_name_cmp, same_order}
 
 abbrev pub Table : Type 0
 Table = ℕ → ℕ → Option Delivery

@@ -10,7 +10,7 @@ use Rattle.hla_machine.specs.Central.{Central}
 use Rattle.hla_accounts.specs.declared.account.Account.{Account}
 use Rattle.hla_accounts.specs.Accounts.{account_at, central_with, offers_from}
 use Rattle.hla_accounts.specs.Sendings.{item_for}
-use Rattle.hla_accounts.proofs.MessageLemmas.{joined_in, item_for-past, item_for-push, item_for-nil}
+use Rattle.hla_accounts.proofs.Sendings.Messages.{joined_in, item_for-past, item_for-push, item_for-nil}
 
 -- what each is to discover of each other's objects
 abbrev pub offers_in : List Account → ℕ → ℕ → List Discovery

@@ -15,9 +15,9 @@ use Rattle.hla_accounts.specs.declared.index.Index.{Index}
 use Rattle.hla_accounts.specs.declared.indexing.Indexing.{Indexing}
 use Rattle.hla_accounts.specs.Bags.{is_of, waiting_at, demoted_delivery, demoted_waiting, IsNotBelow, AreNotBelow, AreApart}
 use Rattle.hla_accounts.specs.Indexes.{delivery_at, IsIndexOf, IsHead, IsIndexingOf}
-use Rattle.hla_accounts.proofs.BagLemmas.{waiting_at-find, apart-push}
-use Rattle.hla_accounts.proofs.PlaceLemmas.{stands_there, found_at, removed_there, demoted_at, delivered, delivered_at, delivered_demoted}
-use Rattle.hla_accounts.proofs.StampLemmas.{bounds_push, bounds_remove, bounds_set, lesser_bounds}
+use Rattle.hla_accounts.proofs.Bags.Contents.{waiting_at-find, apart-push}
+use Rattle.hla_accounts.proofs.Bags.Places.{stands_there, found_at, removed_there, demoted_at, delivered, delivered_at, delivered_demoted}
+use Rattle.hla_accounts.proofs.Bags.Stamps.{bounds_push, bounds_remove, bounds_set, lesser_bounds}
 
 -- ---- the first messages and the tail
 or_none : (a b : Option Waiting) → option_or a b ≡ None → a ≡ None
