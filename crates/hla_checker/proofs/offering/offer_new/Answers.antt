@@ -4,7 +4,7 @@ use Rattle.hla_object_registry.specs.Registered.{registry_of}
 use Rattle.hla_machine.specs.Central.{Central}
 use Rattle.hla_accounts.proofs.Changes.Counts.{same_size}
 use Rattle.hla_verdicts.specs.Kept.{directory_kept}
-use Rattle.hla_checker.proofs.NewObjects.{offered_all, offered_first, offered_more}
+use Rattle.hla_checker.proofs.Objects.NewObjects.{offered_all, offered_first, offered_more}
 use Rattle.hla_checker.proofs.offering.offer_new.Goals as goal
 
 pub loop-federate-init : goal.loop-federate-init

@@ -23,7 +23,7 @@ use Rattle.hla_verdicts.specs.Verdicts.{Judged}
 use Rattle.hla_verdicts.specs.Kept.{IsConsistent, JudgedStep, central_of}
 use Rattle.hla_checker.specs.declared.table.ExecutionTable.{ExecutionTable}
 use Rattle.hla_checker.specs.Table.{AreConsistent, JudgedAct, central_named, centrals_of, executions_of}
-use Rattle.hla_checker.proofs.TablePlaces.{set_central}
+use Rattle.hla_checker.proofs.Executions.TablePlaces.{set_central}
 
 -- ---- what is not so
 pub ended_otherwise : (found fault : Option Fault) (out : Outcome) (R Q : Type 0) (b : Bool) → found ≡ fault → Decides b (EndsAs found out) → b ≡ false → Judged (EndsAs fault out × R) Q verdict.Wrong

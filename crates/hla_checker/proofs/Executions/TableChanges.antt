@@ -14,7 +14,7 @@ use Rattle.hla_verdicts.specs.Kept.{IsConsistent, central_of}
 use Rattle.hla_checker.specs.Creating.{creation_tests}
 use Rattle.hla_checker.specs.Table.{AreConsistent, central_named, centrals_of}
 use Rattle.std.proofs.lemmas.List.Elements.{All-filter, All-push, All-set}
-use Rattle.hla_checker.proofs.TablePlaces.{set_central, table_pushed, table_removed}
+use Rattle.hla_checker.proofs.Executions.TablePlaces.{set_central, table_pushed, table_removed}
 
 pub named_is : (x : NamedExecution) (c : Central) → central_of x.execution ≡ c → central_named x ≡ c
 unfolding central_named

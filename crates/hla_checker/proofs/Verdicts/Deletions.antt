@@ -29,8 +29,8 @@ use Rattle.hla_accounts.specs.declared.account.Account.{Account}
 use Rattle.hla_accounts.specs.Accounts.{central_with}
 use Rattle.hla_verdicts.specs.Kept.{KeptValue, IsConsistent, central_of, directory_kept, directory_of}
 use Rattle.hla_verdicts.proofs.ServiceVerdicts.{IsPlain}
-use Rattle.hla_checker.proofs.SendingTests.{count_deletions}
-use Rattle.hla_checker.proofs.UpdateVerdicts.{after_append, after_directory, after_serial, serials_left}
+use Rattle.hla_checker.proofs.Sends.SendingTests.{count_deletions}
+use Rattle.hla_checker.proofs.Sends.Updates.{after_append, after_directory, after_serial, serials_left}
 
 -- ---- services that answer that they are done
 deletion_done : (object : ℕ) (stamp : Option ℕ) (c : Central) (f : ℕ) (a : Answer) (o : Choice) → MayAnswer c f (service.DeleteObjectInstance object stamp) a o → a ≡ answer.Done
