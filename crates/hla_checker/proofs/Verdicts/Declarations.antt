@@ -30,9 +30,9 @@ use Rattle.hla_verdicts.specs.declared.verdict.Verdict.TheVariants as verdict
 use Rattle.hla_verdicts.specs.Calls.{AnswersDone, ChoosesNothing}
 use Rattle.hla_checker.specs.Declaring.{declaration_of, declaration_tests, with_declaration, IsOfClass}
 use Rattle.hla_verdicts.specs.Kept.{KeptValue, IsConsistent, JudgedStep, central_of, directory_kept, directory_of}
-use Rattle.hla_verdicts.proofs.CallVerdicts.{joined_within}
-use Rattle.hla_verdicts.proofs.ServiceVerdicts.{joined_refusal}
-use Rattle.hla_verdicts.proofs.EndingVerdicts.{ending_done}
+use Rattle.hla_verdicts.proofs.Steps.Calls.{joined_within}
+use Rattle.hla_verdicts.proofs.Steps.Services.{joined_refusal}
+use Rattle.hla_verdicts.proofs.Steps.Endings.{ending_done}
 
 -- ---- a call that was done, and has no answer
 pub done_judged : (v w new : KeptValue) (f : ℕ) (x : Service) (found : Option Fault) (out : Outcome) (o : Choice) → v ≡ w → (account_at w.accounts f).is_joined ≡ true

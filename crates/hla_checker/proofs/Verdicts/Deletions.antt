@@ -28,7 +28,7 @@ use Rattle.hla_machine.proofs.Tests.{all_clear, not-is-false}
 use Rattle.hla_accounts.specs.declared.account.Account.{Account}
 use Rattle.hla_accounts.specs.Accounts.{central_with}
 use Rattle.hla_verdicts.specs.Kept.{KeptValue, IsConsistent, central_of, directory_kept, directory_of}
-use Rattle.hla_verdicts.proofs.ServiceVerdicts.{IsPlain}
+use Rattle.hla_verdicts.proofs.Steps.Services.{IsPlain}
 use Rattle.hla_checker.proofs.Sends.SendingTests.{count_deletions}
 use Rattle.hla_checker.proofs.Sends.Updates.{after_append, after_directory, after_serial, serials_left}
 

@@ -23,7 +23,7 @@ use Rattle.hla_accounts.specs.Accounts.{central_with}
 use Rattle.hla_verdicts.specs.declared.verdict.Verdict.TheVariants as verdict
 use Rattle.hla_verdicts.specs.Answers.{joiner_in}
 use Rattle.hla_verdicts.specs.Kept.{KeptValue, IsConsistent, central_of, directory_kept, directory_of}
-use Rattle.hla_verdicts.proofs.StepVerdicts.{JudgedCentral}
+use Rattle.hla_verdicts.proofs.Steps.Outcomes.{JudgedCentral}
 
 -- ---- after a joining
 module _ (v : KeptValue) (decl : DeclarationLists) (accounts : List Account) (name given : List ℕ)

@@ -21,8 +21,8 @@ use Rattle.hla_accounts.specs.Accounts.{account_at}
 use Rattle.hla_verdicts.specs.declared.verdict.Verdict.{Verdict}
 use Rattle.hla_verdicts.specs.Calls.{IsHandleIn, TestsLookUp, ToldOf}
 use Rattle.hla_verdicts.specs.Kept.{KeptValue, IsConsistent, JudgedStep, central_of, directory_of}
-use Rattle.hla_verdicts.proofs.StepVerdicts.{kept_unchanged}
-use Rattle.hla_verdicts.proofs.ServiceVerdicts.{joined_refusal}
+use Rattle.hla_verdicts.proofs.Steps.Outcomes.{kept_unchanged}
+use Rattle.hla_verdicts.proofs.Steps.Services.{joined_refusal}
 
 -- a call that changes nothing, as it is told of
 pub called_unchanged : (v w : KeptValue) (f : ℕ) (x : Service) (found : Option Fault) (out : Outcome) (o : Choice) (told : Verdict) → v ≡ w → IsConsistent w → (account_at w.accounts f).is_joined ≡ true

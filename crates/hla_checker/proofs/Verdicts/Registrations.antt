@@ -30,7 +30,7 @@ use Rattle.hla_accounts.proofs.Sendings.Messages.{joined_in}
 use Rattle.hla_verdicts.specs.declared.verdict.Verdict.TheVariants as verdict
 use Rattle.hla_verdicts.specs.Kept.{KeptValue, IsConsistent, JudgedStep, central_of, directory_kept}
 use Rattle.hla_checker.specs.Offering.{known_to_joined}
-use Rattle.hla_verdicts.proofs.ServiceVerdicts.{joined_refusal}
+use Rattle.hla_verdicts.proofs.Steps.Services.{joined_refusal}
 
 -- ---- after a registration
 module _ (v : KeptValue) (q r : List Registered) (accounts : List Account) (f class : ℕ) (name : List ℕ) (attributes : List ℕ) where

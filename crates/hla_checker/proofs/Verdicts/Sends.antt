@@ -29,8 +29,8 @@ use Rattle.hla_verdicts.specs.declared.verdict.Verdict.TheVariants as verdict
 use Rattle.hla_verdicts.specs.Answers.{sent_in}
 use Rattle.hla_verdicts.specs.Kept.{KeptValue, IsConsistent, central_of, directory_of}
 use Rattle.hla_checker.specs.Sending.{body_said, outgoing, AreContents}
-use Rattle.hla_verdicts.proofs.StepVerdicts.{JudgedCentral}
-use Rattle.hla_verdicts.proofs.CallVerdicts.{joined_within}
+use Rattle.hla_verdicts.proofs.Steps.Outcomes.{JudgedCentral}
+use Rattle.hla_verdicts.proofs.Steps.Calls.{joined_within}
 
 -- ---- the contents are those of the message
 content_same : (v : KeptValue) (b : Body) (f : ℕ) → content_for (directory_of v) b f ≡ content_for (central_of v).directory b f

@@ -39,7 +39,7 @@ use Rattle.hla_verdicts.specs.declared.verdict.Verdict.TheVariants as verdict
 use Rattle.hla_verdicts.specs.Verdicts.{Judged}
 use Rattle.hla_verdicts.specs.Answers.{carried_in}
 use Rattle.hla_verdicts.specs.RowServices.{row_change_of, row_tests}
-use Rattle.hla_verdicts.proofs.StepVerdicts.{JudgedCentral}
+use Rattle.hla_verdicts.proofs.Steps.Outcomes.{JudgedCentral}
 
 -- ---- who is joined has an account
 pub joined_within : (accounts : List Account) (f : ℕ) → (account_at accounts f).is_joined ≡ true → (0 < f) × (f ≤ length accounts)

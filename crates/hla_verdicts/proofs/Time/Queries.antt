@@ -22,8 +22,8 @@ use Rattle.hla_verdicts.specs.declared.verdict.Verdict.{Verdict}
 use Rattle.hla_verdicts.specs.declared.verdict.Verdict.TheVariants as verdict
 use Rattle.hla_verdicts.specs.Answers.{time_in}
 use Rattle.hla_verdicts.specs.Queries.{time_query_of, MayTell}
-use Rattle.hla_verdicts.proofs.StepVerdicts.{JudgedCentral}
-use Rattle.hla_verdicts.proofs.CallVerdicts.{call_refusal}
+use Rattle.hla_verdicts.proofs.Steps.Outcomes.{JudgedCentral}
+use Rattle.hla_verdicts.proofs.Steps.Calls.{call_refusal}
 
 pub record IsQuery (x : Service) (q : Query) : Type 0 where
   pub tests : (s : Seen) (f : ℕ) → call_tests s f x ≡ []

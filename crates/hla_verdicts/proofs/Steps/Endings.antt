@@ -17,7 +17,7 @@ use Rattle.hla_machine.specs.Machine.{IsChoice, MayAnswer, after_call, central_s
 use Rattle.hla_verdicts.specs.declared.verdict.Verdict.{Verdict}
 use Rattle.hla_verdicts.specs.declared.verdict.Verdict.TheVariants as verdict
 use Rattle.hla_verdicts.specs.Calls.{AnswersDone, ChoosesNothing, TestsLookUp}
-use Rattle.hla_verdicts.proofs.StepVerdicts.{JudgedCentral}
+use Rattle.hla_verdicts.proofs.Steps.Outcomes.{JudgedCentral}
 
 module _ (c : Central) (f : ℕ) (x : Service) (plain : ChoosesNothing x) where
   ending_chooses : (out : Outcome) (o : Choice) → IsChoice (Call f x) out o → o ≡ choice.None

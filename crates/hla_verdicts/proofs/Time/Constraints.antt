@@ -26,7 +26,7 @@ use Rattle.hla_verdicts.specs.declared.verdict.Verdict.{Verdict}
 use Rattle.hla_verdicts.specs.declared.verdict.Verdict.TheVariants as verdict
 use Rattle.hla_verdicts.specs.Verdicts.{Judged}
 use Rattle.hla_verdicts.specs.Accounted.{JudgedPick}
-use Rattle.hla_verdicts.proofs.StepVerdicts.{JudgedCentral}
+use Rattle.hla_verdicts.proofs.Steps.Outcomes.{JudgedCentral}
 
 pub constrained_after : (c b d : Central) (f : ℕ) (es : List EventHandle) → b ≡ with_central_row c f (changed_row EnterConstraint (c.row f)) → d ≡ record b { bag = with_demoted b.bag f es } → d ≡ after_constraint c f (choice.Moved es)
 constrained_after c b d f es row bag = bag ∙ ap (λ (x : Central). record x { bag = with_demoted x.bag f es }) row

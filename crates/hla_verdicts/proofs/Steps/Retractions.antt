@@ -14,7 +14,7 @@ use Rattle.hla_machine.specs.declared.step.Answer.{Answer}
 use Rattle.hla_machine.specs.declared.step.Answer.TheVariants as answer
 use Rattle.hla_machine.specs.declared.step.Choice.{Choice}
 use Rattle.hla_machine.specs.declared.step.Choice.TheVariants as choice
-use Rattle.hla_verdicts.proofs.ServiceVerdicts.{IsPlain}
+use Rattle.hla_verdicts.proofs.Steps.Services.{IsPlain}
 
 retract_done : (e : EventHandle) (c : Central) (f : ℕ) (a : Answer) (o : Choice) → MayAnswer c f (service.Retract e) a o → a ≡ answer.Done
 retract_done e c f answer.Done o may = refl

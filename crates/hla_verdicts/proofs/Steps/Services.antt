@@ -18,8 +18,8 @@ use Rattle.hla_machine.specs.Machine.{IsChoice, IsServiceChoice, MayAnswer, afte
 use Rattle.hla_verdicts.specs.declared.verdict.Verdict.{Verdict}
 use Rattle.hla_verdicts.specs.declared.verdict.Verdict.TheVariants as verdict
 use Rattle.hla_verdicts.specs.Verdicts.{Judged}
-use Rattle.hla_verdicts.proofs.StepVerdicts.{JudgedCentral}
-use Rattle.hla_verdicts.proofs.CallVerdicts.{call_refusal}
+use Rattle.hla_verdicts.proofs.Steps.Outcomes.{JudgedCentral}
+use Rattle.hla_verdicts.proofs.Steps.Calls.{call_refusal}
 
 -- what a test tells of the answer to a call that is not refused
 abbrev pub JudgedDone : Central → ℕ → Service → Answer → Choice → Central → Verdict → Type 0

@@ -23,7 +23,7 @@ use Rattle.hla_verdicts.specs.declared.verdict.Verdict.{Verdict}
 use Rattle.hla_verdicts.specs.declared.verdict.Verdict.TheVariants as verdict
 use Rattle.hla_verdicts.specs.Verdicts.{Judged}
 use Rattle.hla_verdicts.specs.Accounted.{JudgedPick}
-use Rattle.hla_verdicts.proofs.StepVerdicts.{JudgedCentral}
+use Rattle.hla_verdicts.proofs.Steps.Outcomes.{JudgedCentral}
 
 -- a time that is granted is within the limits
 pub granted_low : (c : Central) (f t : ℕ) → RowNumbers (c.row f) → WhileAdvancing (c.row f) (MayGrant c f t) → t ≤ max_time
