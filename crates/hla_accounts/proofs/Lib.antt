@@ -1,4 +1,4 @@
--- What waits for one federate: its bag, their places, the line, and bounds of the stamps
+-- What waits for one federate: the bag, where each message stands, the line, and bounds of the stamps
 pub mod Bags
 -- The index of what waits for one federate: its keys, its upkeep, and what is asked of it
 pub mod Indexes
