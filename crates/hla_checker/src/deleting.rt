@@ -64,7 +64,7 @@ impl KeptExecution {
     }
 
     /// Whether the machine allows that a joined federate deletes an object, which ended so and chose this; where it does,
-    /// the object is deleted. `OutOfMemory` where a growth was refused; nothing is said of what is kept then.
+    /// the object is deleted. `OutOfMemory` where a growth was refused; nothing is said of the state then.
     pub(crate) fn judge_delete_object_instance(
         &mut self,
         federate: FederateNo,

@@ -195,7 +195,7 @@ impl KeptExecution {
     }
 
     /// Whether the machine allows a step that ended so and chose this; where it does, the state after it is kept.
-    /// `OutOfMemory` where a growth was refused; nothing is said of what is kept then.
+    /// `OutOfMemory` where a growth was refused; nothing is said of the state then.
     pub(crate) fn judge(
         &mut self,
         step: &Step,

@@ -107,8 +107,8 @@ impl KeptExecution {
     }
 
     /// Whether the machine allows a joined federate's Register Object Instance that ended so and chose this; where it does,
-    /// the object is registered. `OutOfMemory` where a growth was refused; nothing is said of what is kept then. It looks
-    /// at each object for each federate.
+    /// the object is registered. `OutOfMemory` where a growth was refused; nothing is said of the state then. It looks at
+    /// each object for each federate.
     pub(crate) fn judge_registration(
         &mut self,
         federate: FederateNo,

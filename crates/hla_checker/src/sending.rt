@@ -37,7 +37,7 @@ impl Body {
 
 impl KeptExecution {
     /// A joined federate sends a message, with a stamp in ticks or without one. `OutOfMemory` where a growth was refused;
-    /// nothing is said of what is kept then.
+    /// nothing is said of the state then.
     pub(crate) fn send(
         &mut self,
         federate: FederateNo,
@@ -116,7 +116,7 @@ impl KeptExecution {
     }
 
     /// Whether the machine allows that a joined federate sends an interaction, which ended so and chose this; where it
-    /// does, it is sent. `OutOfMemory` where a growth was refused; nothing is said of what is kept then.
+    /// does, it is sent. `OutOfMemory` where a growth was refused; nothing is said of the state then.
     pub(crate) fn judge_send_interaction(
         &mut self,
         federate: FederateNo,

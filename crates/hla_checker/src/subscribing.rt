@@ -57,7 +57,7 @@ impl KeptExecution {
     }
 
     /// Whether the machine allows a joined federate's Subscribe Object Class Attributes that ended so and chose this; where
-    /// it does, the class is subscribed. `OutOfMemory` where a growth was refused; nothing is said of what is kept then. It
+    /// it does, the class is subscribed. `OutOfMemory` where a growth was refused; nothing is said of the state then. It
     /// looks at each object.
     pub(crate) fn judge_subscription(
         &mut self,
