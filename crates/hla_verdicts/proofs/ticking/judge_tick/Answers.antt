@@ -4,7 +4,7 @@ use Rattle.hla_machine.specs.Directory.{new_directory}
 use Rattle.hla_machine.specs.declared.step.Step.TheVariants as steps
 use Rattle.hla_accounts.specs.Accounts.{central_with}
 use Rattle.hla_verdicts.proofs.Steps.Outcomes.{refused_told, done_wrong}
-use Rattle.hla_verdicts.proofs.Given.Ticks.{caller_room, failed_told, failed_wrong, ticked_told}
+use Rattle.hla_verdicts.proofs.Picks.Ticks.{caller_room, failed_told, failed_wrong, ticked_told}
 use Rattle.hla_verdicts.proofs.ticking.judge_tick.Goals as goal
 
 pub judge_pick-requires : goal.judge_pick-requires
