@@ -94,7 +94,8 @@ impl Accounts {
         self.accounts[federate as usize - 1].due.add(event)
     }
 
-    /// A retraction of an event is under way to a federate. `OutOfMemory` where a growth was refused.
+    /// A retraction of an event is under way to a federate. `OutOfMemory` where a growth was refused; nothing is said of
+    /// the accounts then.
     pub fn add_owed(&mut self, federate: FederateNo, event: EventHandle) -> Result<(), Fault>
         requires some { 0 < federate }
         requires within { federate ≤ length self.old }
@@ -125,8 +126,8 @@ impl Accounts {
     }
 
     /// A retraction arrives for a federate (HLA 1.3, Retract): it takes the message back, or the federate, which has picked
-    /// it up, is to be asked to. `OutOfMemory` where a growth was refused. It takes the time of `Bag::remove`, and looks at all
-    /// retractions that are under way to the federate.
+    /// it up, is to be asked to. `OutOfMemory` where a growth was refused; nothing is said of the accounts then. It takes
+    /// the time of `Bag::remove`, and looks at all retractions that are under way to the federate.
     pub fn settle(&mut self, federate: FederateNo, event: EventHandle) -> Result<(), Fault>
         requires some { 0 < federate }
         requires within { federate ≤ length self.old }

@@ -167,8 +167,8 @@ impl Index {
         }
     }
 
-    /// A message waits behind the others. Where a growth was refused the index is of no use any more. The time grows with the
-    /// logarithm of what waits, as that of each of the calls below.
+    /// A message waits behind the others. `AllocError` where a growth was refused; the index is of no use any more then.
+    /// The time grows with the logarithm of what waits.
     pub fn add(&mut self, event: EventHandle, delivery: Delivery) -> Result<(), AllocError>
         ensures { (t : ℕ → ℕ → Option Delivery) → IsIndexOf self.old t → t event.sender event.serial ≡ None →
             OnOk result (IsIndexOf self.new (upd2 t event.sender event.serial (Some delivery))) }
@@ -181,8 +181,8 @@ impl Index {
         Ok(())
     }
 
-    /// All messages from a place on wait, too; those before it are in the index. Where a growth was refused the index is of no
-    /// use any more.
+    /// All messages from a place on wait, too; those before it are in the index. `AllocError` where a growth was refused;
+    /// the index is of no use any more then. It takes the time of `add` for each.
     pub fn extend(&mut self, waiting: &[Waiting], from: usize) -> Result<(), AllocError>
         requires apart { AreApart waiting.now }
         requires within { from ≤ length waiting.now }
@@ -196,7 +196,8 @@ impl Index {
         Ok(())
     }
 
-    /// The message that stands at a place waits no longer.
+    /// The message that stands at a place waits no longer. The time grows with the logarithm of what waits, and the numbers
+    /// behind it move, or those in front of it where these are fewer.
     pub fn remove(&mut self, place: usize, event: EventHandle, delivery: Delivery)
         ensures { (t : ℕ → ℕ → Option Delivery) → IsIndexOf self.old t →
             t event.sender event.serial ≡ Some delivery →
@@ -207,7 +208,8 @@ impl Index {
         let _ = self.numbers.remove(place);
     }
 
-    /// A message is to be given in another way than before. Where a growth was refused the index is of no use any more.
+    /// A message is to be given in another way than before. `AllocError` where a growth was refused; the index is of no use
+    /// any more then. It takes the time of `add`.
     pub fn change(
         &mut self,
         event: EventHandle,
@@ -223,7 +225,8 @@ impl Index {
         Ok(())
     }
 
-    /// Where the message stands that an event handle names, if it waits. The caller tests that it stands there.
+    /// Where the message stands that an event handle names, if it waits. The caller tests that it stands there. It takes
+    /// the time of `add`.
     pub fn place_of(&self, event: EventHandle) -> Option<usize>
         ensures { (t : ℕ → ℕ → Option Delivery) → IsIndexOf self.now t →
             MatchOption result (t event.sender event.serial ≡ None) (λ _. t event.sender event.serial ≢ None) }

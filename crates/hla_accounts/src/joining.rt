@@ -13,7 +13,8 @@ use hla_base::{Fault, FederateNo, List};
 use std::alloc::Global;
 
 impl Accounts {
-    /// A federate joins, under the next number (Join Federation Execution). `OutOfMemory` where a growth was refused.
+    /// A federate joins, under the next number (Join Federation Execution). `OutOfMemory` where a growth was refused;
+    /// nothing is said of the accounts then.
     pub fn join(&mut self, name: List<u8>, alloc: Global) -> Result<(), Fault>
         requires { length self.old < max_joins }
         ensures ok { OnOk result ((d : Directory) → central_with d self.new ≡ after_join (central_with d self.old) name) }

@@ -163,7 +163,8 @@ impl Accounts {
         self.accounts[federate as usize - 1].offers.take_first(from);
     }
 
-    /// A discovery waits for a federate, behind the others. `OutOfMemory` where a growth was refused.
+    /// A discovery waits for a federate, behind the others. `OutOfMemory` where a growth was refused; nothing is said of
+    /// the accounts then.
     pub fn add_offer(&mut self, federate: FederateNo, offer: Offer) -> Result<(), Fault>
         requires some { 0 < federate }
         requires within { federate ≤ length self.old }

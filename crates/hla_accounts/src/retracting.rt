@@ -63,7 +63,8 @@ impl Accounts {
         event.sender != federate && self.is_joined(federate) && self.was_sent_to(event, federate)
     }
 
-    /// The retraction of a message is under way to each federate to which it goes. `OutOfMemory` where a growth was refused.
+    /// The retraction of a message is under way to each federate to which it goes. `OutOfMemory` where a growth was
+    /// refused; nothing is said of the accounts then.
     pub fn owe(&mut self, event: EventHandle) -> Result<(), Fault>
         ensures ok { OnOk result ((d : Directory) → let c = central_with d self.old in central_with d self.new ≡ record c {
           owed = owed_to_receivers c.owed event.sender event.serial (is_told_of self.old event.sender event.serial);
@@ -78,8 +79,8 @@ impl Accounts {
         Ok(())
     }
 
-    /// A federate retracts its message (Retract): each other federate to which it was sent and that is joined is to be told.
-    /// `OutOfMemory` where a growth was refused.
+    /// A federate retracts its message (Retract): each other federate to which it was sent and that is joined is to be
+    /// told. `OutOfMemory` where a growth was refused; nothing is said of the accounts then.
     pub fn take_back(&mut self, event: EventHandle) -> Result<(), Fault>
         requires some { 0 < event.sender }
         requires within { event.sender ≤ length self.old }

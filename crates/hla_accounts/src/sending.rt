@@ -29,8 +29,8 @@ impl Accounts {
         self.accounts[federate as usize - 1].take_serial();
     }
 
-    /// A federate sends a message that it may retract, with a stamp in ticks, to these receivers: the message takes its next
-    /// serial. `OutOfMemory` where a growth was refused.
+    /// A federate sends a message that it may retract, with a stamp in ticks, to these receivers: the message takes its
+    /// next serial. `OutOfMemory` where a growth was refused; nothing is said of the accounts then.
     pub fn note(
         &mut self,
         federate: FederateNo,
@@ -54,7 +54,8 @@ impl Accounts {
         self.accounts[federate as usize - 1].note(stamp, receivers)
     }
 
-    /// A copy of a message waits for a federate. `OutOfMemory` where a growth was refused.
+    /// A copy of a message waits for a federate. `OutOfMemory` where a growth was refused; nothing is said of the accounts
+    /// then.
     pub fn put(&mut self, federate: FederateNo, waiting: Waiting) -> Result<(), Fault>
         requires some { 0 < federate }
         requires within { federate ≤ length self.old }

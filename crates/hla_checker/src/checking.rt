@@ -21,8 +21,8 @@ pub enum CheckFault {
 }
 
 /// Whether records are a run of all executions from none, as the central machine has it: each is a step that it allows in
-/// the state to which those before it lead. It knows the machine alone: no components, no wires, no epochs. `Place` is the
-/// first record that is no step.
+/// the state to which those before it lead. It knows the machine alone: no components, no wires, no epochs. `Place` says
+/// which is the first record that is no step; `Memory` where a growth was refused.
 pub fn check_run(alloc: Global, records: &[Record]) -> Result<(), CheckFault>
     ensures ok { IfOk result (λ _. IsWholeRun records.now) }
     ensures err { IfErr result (TellsFault records.now) }

@@ -270,7 +270,7 @@ impl KeptExecution {
     }
 
     /// What a message says to each federate that has ever joined, by number, counted from 1. `OutOfMemory` where a growth
-    /// was refused.
+    /// was refused; nothing is said of the values then.
     pub(crate) fn contents_of(&self, body: &mut Body) -> Result<Vec<Option<Content>>, Fault>
         ensures ok { IfOk result (λ contents. AreContents (directory_of self.now) (body_said body.old)
             (length self.now.accounts) contents.items) }

@@ -145,7 +145,7 @@ impl KeptExecution {
     }
 
     /// Whether the machine allows a joined federate's Publish Object Class that ended so and chose this; where it does, the
-    /// class is published. `OutOfMemory` where a growth was refused.
+    /// class is published. `OutOfMemory` where a growth was refused; nothing is said of the state then.
     pub(crate) fn judge_publishing(
         &mut self,
         federate: FederateNo,

@@ -63,8 +63,8 @@ impl KeptExecution {
         Ok(())
     }
 
-    /// Whether the machine allows that a joined federate deletes an object, which ended so and chose this; where it does, the
-    /// object is deleted. `OutOfMemory` where a growth was refused.
+    /// Whether the machine allows that a joined federate deletes an object, which ended so and chose this; where it does,
+    /// the object is deleted. `OutOfMemory` where a growth was refused; nothing is said of the state then.
     pub(crate) fn judge_delete_object_instance(
         &mut self,
         federate: FederateNo,

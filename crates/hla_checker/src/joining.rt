@@ -28,7 +28,7 @@ impl KeptExecution {
     }
 
     /// Whether the machine allows a joining that ended so and chose this; where it does, the federate is joined.
-    /// `OutOfMemory` where a growth was refused.
+    /// `OutOfMemory` where a growth was refused; nothing is said of the state then.
     pub(crate) fn judge_join(
         &mut self,
         name: &List<u8>,

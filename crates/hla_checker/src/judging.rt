@@ -54,7 +54,7 @@ fn judge_moving_call(
 
 impl KeptExecution {
     /// Whether the machine allows a look-up of a joined federate that ended so and chose this.
-    #[tactic(auto, using(hla_verdicts::proofs::StepVerdicts::step_as))]
+    #[tactic(auto, using(hla_verdicts::proofs::Steps::Outcomes::step_as))]
     fn judge_look_up(
         &self,
         federate: FederateNo,
@@ -93,7 +93,7 @@ impl KeptExecution {
     /// Whether the machine allows a call of a joined federate that ended so and chose this, where it does more than change its
     /// row, ask for a time or change one declaration; where it does, the state after it is kept. `OutOfMemory` where a growth
     /// was refused.
-    #[tactic(auto, using(hla_verdicts::proofs::StepVerdicts::called_as))]
+    #[tactic(auto, using(hla_verdicts::proofs::Steps::Outcomes::called_as))]
     fn judge_other_call(
         &mut self,
         federate: FederateNo,
@@ -195,7 +195,7 @@ impl KeptExecution {
     }
 
     /// Whether the machine allows a step that ended so and chose this; where it does, the state after it is kept.
-    /// `OutOfMemory` where a growth was refused.
+    /// `OutOfMemory` where a growth was refused; nothing is said of the state then.
     pub(crate) fn judge(
         &mut self,
         step: &Step,

@@ -106,8 +106,9 @@ impl KeptExecution {
         Ok(())
     }
 
-    /// Whether the machine allows a joined federate's Register Object Instance that ended so and chose this; where it does, the
-    /// object is registered. `OutOfMemory` where a growth was refused. It looks at each object for each federate.
+    /// Whether the machine allows a joined federate's Register Object Instance that ended so and chose this; where it does,
+    /// the object is registered. `OutOfMemory` where a growth was refused; nothing is said of the state then. It looks at
+    /// each object for each federate.
     pub(crate) fn judge_registration(
         &mut self,
         federate: FederateNo,

@@ -71,7 +71,7 @@ impl KeptExecution {
     }
 
     /// Whether the machine allows that a joined federate resigns so, which ended so and chose this; where it does, it
-    /// resigns. `OutOfMemory` where a growth was refused.
+    /// resigns. `OutOfMemory` where a growth was refused; nothing is said of the state then.
     pub(crate) fn judge_resign(
         &mut self,
         federate: FederateNo,

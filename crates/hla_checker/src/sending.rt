@@ -36,7 +36,8 @@ impl Body {
 }
 
 impl KeptExecution {
-    /// A joined federate sends a message, with a stamp in ticks or without one. `OutOfMemory` where a growth was refused.
+    /// A joined federate sends a message, with a stamp in ticks or without one. `OutOfMemory` where a growth was refused;
+    /// nothing is said of the state then.
     pub(crate) fn send(
         &mut self,
         federate: FederateNo,
@@ -114,8 +115,8 @@ impl KeptExecution {
         self.send(federate, stamp, &mut Message { order, body })
     }
 
-    /// Whether the machine allows that a joined federate sends an interaction, which ended so and chose this; where it does,
-    /// it is sent. `OutOfMemory` where a growth was refused.
+    /// Whether the machine allows that a joined federate sends an interaction, which ended so and chose this; where it
+    /// does, it is sent. `OutOfMemory` where a growth was refused; nothing is said of the state then.
     pub(crate) fn judge_send_interaction(
         &mut self,
         federate: FederateNo,

@@ -56,8 +56,9 @@ impl KeptExecution {
         Ok(())
     }
 
-    /// Whether the machine allows a joined federate's Subscribe Object Class Attributes that ended so and chose this; where it
-    /// does, the class is subscribed. `OutOfMemory` where a growth was refused. It looks at each object.
+    /// Whether the machine allows a joined federate's Subscribe Object Class Attributes that ended so and chose this; where
+    /// it does, the class is subscribed. `OutOfMemory` where a growth was refused; nothing is said of the state then. It
+    /// looks at each object.
     pub(crate) fn judge_subscription(
         &mut self,
         federate: FederateNo,

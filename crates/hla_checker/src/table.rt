@@ -216,7 +216,7 @@ impl ExecutionTable {
     }
 
     /// Whether the machine allows a record; where it does, the state after it is kept. `OutOfMemory` where a growth was
-    /// refused.
+    /// refused; nothing is said of the executions then.
     pub(crate) fn judge(&mut self, recorded: &Record) -> Result<Verdict, Fault>
         requires consistent { AreConsistent self.old.executions.items }
         ensures ok { IfOk result (JudgedAct self.old recorded.now.execution recorded.now.act

@@ -166,7 +166,7 @@ impl KeptExecution {
     }
 
     /// Whether the machine allows that a joined federate updates attributes of an object, which ended so and chose this;
-    /// where it does, the update is sent. `OutOfMemory` where a growth was refused.
+    /// where it does, the update is sent. `OutOfMemory` where a growth was refused; nothing is said of the state then.
     pub(crate) fn judge_update_attribute_values(
         &mut self,
         federate: FederateNo,

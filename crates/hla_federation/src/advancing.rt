@@ -13,6 +13,9 @@ use hla_members::Change;
 
 impl Parts {
     /// Time Advance Request, Next Event Request, their Available forms, or Flush Queue Request, to a time in ticks.
+    /// Refused, it changes nothing: `TimeAdvanceAlreadyInProgress` in an advance; `EnableTimeRegulationPending` and
+    /// `EnableTimeConstrainedPending` while that role is pending; `InvalidFederationTime` where the time is above 10^18;
+    /// `FederationTimeAlreadyPassed` where it is below the federate's; the first that applies. It takes no memory.
     pub fn request_advance(
         &mut self,
         federate: FederateNo,
@@ -31,7 +34,9 @@ impl Parts {
         Ok(Answer::Done)
     }
 
-    /// Enable Time Constrained.
+    /// Enable Time Constrained. Refused, it changes nothing: `TimeAdvanceAlreadyInProgress` in an advance;
+    /// `TimeConstrainedAlreadyEnabled` where the role is enabled; `EnableTimeConstrainedPending` where it is pending; the
+    /// first that applies. It takes no memory.
     pub fn enable_time_constrained(&mut self, federate: FederateNo) -> Result<Answer, Fault>
         requires { MayCall self.old federate }
         ensures whole { IsWhole self.new }
@@ -44,7 +49,9 @@ impl Parts {
         Ok(Answer::Done)
     }
 
-    /// Disable Time Constrained: what waits in time-stamp order is given in receive order from now on.
+    /// Disable Time Constrained: what waits in time-stamp order is given in receive order from now on. Refused, it changes
+    /// nothing: `TimeAdvanceAlreadyInProgress` in an advance; `TimeConstrainedWasNotEnabled` where the role is not enabled;
+    /// else `OutOfMemory` where room for what moves was refused.
     pub fn disable_time_constrained(&mut self, federate: FederateNo) -> Result<Answer, Fault>
         requires { MayCall self.old federate }
         ensures whole { IsWhole self.new }
@@ -57,7 +64,9 @@ impl Parts {
         Ok(Answer::Done)
     }
 
-    /// Modify Lookahead, in ticks.
+    /// Modify Lookahead, in ticks. Refused, it changes nothing: `TimeRegulationWasNotEnabled` where the federate does not
+    /// regulate; `TimeAdvanceAlreadyInProgress` in an advance; `InvalidLookahead` where the lookahead is above 10^18; the
+    /// first that applies. It takes no memory.
     pub fn modify_lookahead(
         &mut self,
         federate: FederateNo,
@@ -80,7 +89,8 @@ impl Parts {
         Ok(Answer::Done)
     }
 
-    /// Enable Asynchronous Delivery.
+    /// Enable Asynchronous Delivery. Refused, it changes nothing: `AsynchronousDeliveryAlreadyEnabled` where it is so
+    /// already. It takes no memory.
     pub fn enable_asynchronous_delivery(&mut self, federate: FederateNo) -> Result<Answer, Fault>
         requires { MayCall self.old federate }
         ensures whole { IsWhole self.new }
@@ -94,7 +104,8 @@ impl Parts {
         Ok(Answer::Done)
     }
 
-    /// Disable Asynchronous Delivery.
+    /// Disable Asynchronous Delivery. Refused, it changes nothing: `AsynchronousDeliveryAlreadyDisabled` where it is so
+    /// already. It takes no memory.
     pub fn disable_asynchronous_delivery(&mut self, federate: FederateNo) -> Result<Answer, Fault>
         requires { MayCall self.old federate }
         ensures whole { IsWhole self.new }
@@ -113,7 +124,7 @@ impl Parts {
         Ok(Answer::Done)
     }
 
-    /// Query LBTS.
+    /// Query LBTS: the federate's bound, in ticks, or `FOREVER`. It is never refused.
     pub fn query_lbts(&self, federate: FederateNo) -> Result<Answer, Fault>
         requires { MayCall self.now federate }
         ensures { Answers self.now (step.Call federate service.QueryLbts) result }
@@ -121,7 +132,7 @@ impl Parts {
         Ok(Answer::Time(self.members.local(federate).bound()))
     }
 
-    /// Query Federate Time.
+    /// Query Federate Time, in ticks. It is never refused.
     pub fn query_federate_time(&self, federate: FederateNo) -> Result<Answer, Fault>
         requires { MayCall self.now federate }
         ensures { Answers self.now (step.Call federate service.QueryFederateTime) result }
@@ -129,7 +140,8 @@ impl Parts {
         Ok(Answer::Time(self.members.local(federate).state().time()))
     }
 
-    /// Query Minimum Next Event Time.
+    /// Query Minimum Next Event Time: the lesser of the federate's bound and the least stamp that waits, in ticks, or
+    /// `FOREVER`. It is never refused.
     pub fn query_min_next_event_time(&self, federate: FederateNo) -> Result<Answer, Fault>
         requires { MayCall self.now federate }
         ensures { Answers self.now (step.Call federate service.QueryMinNextEventTime) result }
@@ -137,7 +149,7 @@ impl Parts {
         Ok(Answer::Time(self.members.local(federate).least_waiting()))
     }
 
-    /// Query Lookahead: the lookahead that was set last.
+    /// Query Lookahead: the lookahead that was set last, in ticks. It is never refused.
     pub fn query_lookahead(&self, federate: FederateNo) -> Result<Answer, Fault>
         requires { MayCall self.now federate }
         ensures { Answers self.now (step.Call federate service.QueryLookahead) result }

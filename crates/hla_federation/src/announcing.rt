@@ -23,7 +23,8 @@ impl Parts {
         sender != peer && self.members.is_joined(peer)
     }
 
-    /// Adds a null message for each other federate that is joined.
+    /// Adds a null message for each other federate that is joined. `OutOfMemory` where a growth was refused; nothing is
+    /// said of the outbox then.
     pub fn address_null(
         &self,
         outbox: &mut Outbox,
@@ -80,7 +81,9 @@ impl Parts {
         }
     }
 
-    /// A federate announces what it may promise, if that is more than it announced last.
+    /// A federate announces what it may promise, if that is more than it announced last. Refused, it changes nothing:
+    /// `FederateNotExecutionMember` where the federate is not joined; else `OutOfMemory` where there is something to
+    /// announce and a growth was refused.
     pub fn announce(&mut self, federate: FederateNo) -> Result<Answer, Fault>
         requires { IsSound self.old }
         ensures whole { IsWhole self.new }
@@ -98,7 +101,8 @@ impl Parts {
         Ok(Answer::Announced(Some(bound)))
     }
 
-    /// Adds what a federate that resigns announces last, if it regulates or has asked to: `FOREVER`.
+    /// Adds what a federate that resigns announces last, if it regulates or has asked to: `FOREVER`. `OutOfMemory` where a
+    /// growth was refused; nothing is said of the outbox then.
     pub fn address_last_null(&self, outbox: &mut Outbox, federate: FederateNo) -> Result<(), Fault>
         requires whole { IsWhole self.now }
         requires some { 0 < federate }

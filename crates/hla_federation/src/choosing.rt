@@ -85,7 +85,8 @@ impl Parts {
         }
     }
 
-    /// What any step would choose; nothing changes.
+    /// What any step would choose; nothing changes. `OutOfMemory` where the list of what would move was refused room, which
+    /// happens to no step but those that take memory themselves.
     pub fn choice(&self, step: &Step) -> Result<Choice, Fault>
         requires { IsSound self.now }
         ensures ok { IfOk result (λ c. c ≡ (next (state_of self.now) step.now).choice) }

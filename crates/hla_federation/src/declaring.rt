@@ -10,7 +10,9 @@ use hla_base::{AttributeNo, ClassNo, Fault, FederateNo, List, Plain};
 use hla_machine::Answer;
 
 impl Parts {
-    /// Publish Object Class, with these attributes in place of those that were published before.
+    /// Publish Object Class, with these attributes in place of those that were published before. Refused, it changes
+    /// nothing: `ObjectClassNotDefined` where the FED file has no such class; `AttributeNotDefined` where the class has not
+    /// each of the attributes; else `OutOfMemory` where a growth was refused.
     pub fn publish_object_class(
         &mut self,
         federate: FederateNo,
@@ -31,7 +33,8 @@ impl Parts {
         Ok(Answer::Done)
     }
 
-    /// Unpublish Object Class.
+    /// Unpublish Object Class. Refused, it changes nothing: `ObjectClassNotDefined` where the FED file has no such class;
+    /// `ObjectClassNotPublished` where the federate does not publish it. It takes no memory.
     pub fn unpublish_object_class(
         &mut self,
         federate: FederateNo,
@@ -49,7 +52,8 @@ impl Parts {
         Ok(Answer::Done)
     }
 
-    /// Unsubscribe Object Class.
+    /// Unsubscribe Object Class. Refused, it changes nothing: `ObjectClassNotDefined` where the FED file has no such class;
+    /// `ObjectClassNotSubscribed` where the federate does not subscribe it. It takes no memory.
     pub fn unsubscribe_object_class(
         &mut self,
         federate: FederateNo,
@@ -67,7 +71,8 @@ impl Parts {
         Ok(Answer::Done)
     }
 
-    /// Publish Interaction Class.
+    /// Publish Interaction Class. Refused, it changes nothing: `InteractionClassNotDefined` where the FED file has no such
+    /// class. It takes no memory.
     pub fn publish_interaction_class(
         &mut self,
         federate: FederateNo,
@@ -85,7 +90,8 @@ impl Parts {
         Ok(Answer::Done)
     }
 
-    /// Unpublish Interaction Class.
+    /// Unpublish Interaction Class. Refused, it changes nothing: `InteractionClassNotDefined` where the FED file has no
+    /// such class; `InteractionClassNotPublished` where the federate does not publish it. It takes no memory.
     pub fn unpublish_interaction_class(
         &mut self,
         federate: FederateNo,
@@ -104,7 +110,8 @@ impl Parts {
         Ok(Answer::Done)
     }
 
-    /// Subscribe Interaction Class.
+    /// Subscribe Interaction Class. Refused, it changes nothing: `InteractionClassNotDefined` where the FED file has no
+    /// such class. It takes no memory.
     pub fn subscribe_interaction_class(
         &mut self,
         federate: FederateNo,
@@ -123,7 +130,8 @@ impl Parts {
         Ok(Answer::Done)
     }
 
-    /// Unsubscribe Interaction Class.
+    /// Unsubscribe Interaction Class. Refused, it changes nothing: `InteractionClassNotDefined` where the FED file has no
+    /// such class; `InteractionClassNotSubscribed` where the federate does not subscribe it. It takes no memory.
     pub fn unsubscribe_interaction_class(
         &mut self,
         federate: FederateNo,

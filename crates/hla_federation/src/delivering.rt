@@ -9,7 +9,9 @@ use hla_base::{Fault, FederateNo};
 use hla_machine::Answer;
 
 impl Parts {
-    /// The first message on a wire comes to its receiver.
+    /// The first message on a wire comes to its receiver. Refused, it changes nothing: `FederateNotExecutionMember` where
+    /// the receiver is not joined, the sender never was, or both are one; else `OutOfMemory` where a growth was refused,
+    /// which happens to no empty wire and no null message.
     pub fn carry(&mut self, from: FederateNo, to: FederateNo) -> Result<Answer, Fault>
         requires { IsSound self.old }
         ensures whole { IsWhole self.new }
@@ -22,7 +24,8 @@ impl Parts {
         Ok(Answer::Carried(carried))
     }
 
-    /// A federate ticks.
+    /// A federate ticks. Refused, it changes nothing: `FederateNotExecutionMember` where it is not joined; else
+    /// `OutOfMemory` where it is to be constrained from now on and room for what moves was refused.
     #[tactic(auto, using(crate::proofs::Steps::Declaring::tick_refused))]
     pub fn tick(&mut self, federate: FederateNo) -> Result<Answer, Fault>
         requires { IsSound self.old }

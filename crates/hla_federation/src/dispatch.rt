@@ -122,7 +122,8 @@ impl Parts {
         }
     }
 
-    /// A query or a support service that a federate calls.
+    /// A query or a support service that a federate calls. Nothing changes. It is refused with the fault of the support
+    /// service; else with `OutOfMemory` where the copy of an object's name was refused room.
     pub fn answer(&self, federate: FederateNo, service: &Service) -> Result<Answer, Fault>
         requires may { MayCall self.now federate }
         requires question { IsQuestion service.now }
@@ -166,7 +167,8 @@ impl Parts {
         }
     }
 
-    /// Any step.
+    /// Any step. Refused, it changes nothing: with the first fault that the definitions give, or with `OutOfMemory` where
+    /// they give none, the step is one that takes memory, and a growth was refused.
     #[tactic(auto, using(crate::proofs::Steps::Doing::ends_chosen))]
     pub fn step(&mut self, step: &Step) -> Result<Answer, Fault>
         requires sound { IsSound self.old }

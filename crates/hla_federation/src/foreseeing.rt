@@ -312,7 +312,9 @@ impl Parts {
         }
     }
 
-    /// How a step would end, and what it would choose; nothing changes.
+    /// How a step would end, and what it would choose; nothing changes. `OutOfMemory` where a growth was refused: it
+    /// happens to no step but those that take memory themselves, and a tick that would give a message or a discovery, of
+    /// which the answer has a copy.
     pub fn foresee(&self, step: &Step) -> Result<Foreseen, Fault>
         requires { IsSound self.now }
         ensures outcome { IfOk result (λ x. x.outcome ≡ (next (state_of self.now) step.now).outcome) }

@@ -46,7 +46,9 @@ impl Parts {
         Ok(member)
     }
 
-    /// Join Federation Execution.
+    /// Join Federation Execution. Refused, it changes nothing: `FederateAlreadyExecutionMember` where a joined federate has
+    /// the name; `LimitReached` where 16 have ever joined, or the name has not 1 to 64 bytes; else `OutOfMemory` where a
+    /// growth was refused.
     pub fn join(&mut self, name: &[u8]) -> Result<Answer, Fault>
         requires { IsSound self.old }
         ensures whole { IsWhole self.new }
@@ -123,7 +125,9 @@ impl Parts {
         Ok(outbox)
     }
 
-    /// Resign Federation Execution.
+    /// Resign Federation Execution. Refused, it changes nothing: by `DeleteObjects` `LimitReached` where the deletions need
+    /// more serials than are left; by `NoAction` `FederateOwnsAttributes` while the federate has objects; by the other
+    /// actions `InvalidResignAction`; else `OutOfMemory` where a growth was refused.
     pub fn resign(&mut self, federate: FederateNo, action: ResignAction) -> Result<Answer, Fault>
         requires { MayCall self.old federate }
         ensures whole { IsWhole self.new }

@@ -11,7 +11,7 @@ use hla_base::{ClassNo, Fault, FederateNo, ObjectNo};
 use hla_machine::Answer;
 
 impl Parts {
-    /// Get Object Class Handle.
+    /// Get Object Class Handle. `NameNotFound` where no object class has the name. It takes no memory.
     pub fn get_object_class_handle(
         &self,
         federate: FederateNo,
@@ -26,7 +26,7 @@ impl Parts {
         }
     }
 
-    /// Get Interaction Class Handle.
+    /// Get Interaction Class Handle. `NameNotFound` where no interaction class has the name. It takes no memory.
     pub fn get_interaction_class_handle(
         &self,
         federate: FederateNo,
@@ -41,7 +41,8 @@ impl Parts {
         }
     }
 
-    /// Get Attribute Handle.
+    /// Get Attribute Handle. `ObjectClassNotDefined` where the FED file has no such class; `NameNotFound` where the class
+    /// has no attribute of this name. It takes no memory.
     pub fn get_attribute_handle(
         &self,
         federate: FederateNo,
@@ -60,7 +61,8 @@ impl Parts {
         }
     }
 
-    /// Get Parameter Handle.
+    /// Get Parameter Handle. `InteractionClassNotDefined` where the FED file has no such class; `NameNotFound` where the
+    /// class has no parameter of this name. It takes no memory.
     pub fn get_parameter_handle(
         &self,
         federate: FederateNo,
@@ -79,7 +81,8 @@ impl Parts {
         }
     }
 
-    /// Get Object Instance Handle.
+    /// Get Object Instance Handle. `ObjectNotKnown` where no object of this name is there that is known to the federate. It
+    /// takes no memory.
     pub fn get_object_instance_handle(
         &self,
         federate: FederateNo,
@@ -94,7 +97,8 @@ impl Parts {
         }
     }
 
-    /// Get Object Instance Name.
+    /// Get Object Instance Name. `ObjectNotKnown` where the object is not there, or not known to the federate; else
+    /// `OutOfMemory` where room for the copy was refused.
     pub fn get_object_instance_name(
         &self,
         federate: FederateNo,

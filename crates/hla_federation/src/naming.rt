@@ -8,7 +8,7 @@ use hla_base::{Fault, List, ObjectNo, SharedList};
 use std::alloc::Global;
 use std::io::Write;
 
-/// The name of an object for which none was given.
+/// The name of an object for which none was given. `OutOfMemory` where a growth was refused.
 pub fn default_name(alloc: Global, object: ObjectNo) -> Result<List<u8>, Fault>
     ensures ok { IfOk result (λ name. name ≡ default_name object) }
     ensures err { IfErr result (λ e. e ≡ Fault.OutOfMemory) }
@@ -20,7 +20,7 @@ pub fn default_name(alloc: Global, object: ObjectNo) -> Result<List<u8>, Fault>
     }
 }
 
-/// A copy of a name.
+/// A copy of a name. `OutOfMemory` where room for it was refused.
 pub fn name_copy(alloc: Global, name: &[u8]) -> Result<List<u8>, Fault>
     ensures ok { IfOk result (λ copy. copy ≡ name.now) }
     ensures err { IfErr result (λ e. e ≡ Fault.OutOfMemory) }
@@ -31,7 +31,7 @@ pub fn name_copy(alloc: Global, name: &[u8]) -> Result<List<u8>, Fault>
     }
 }
 
-/// A copy of a name, which its own copies share.
+/// A copy of a name, which its own copies share. `OutOfMemory` where a growth was refused.
 pub fn shared_name(alloc: Global, name: &[u8]) -> Result<SharedList<u8>, Fault>
     ensures ok { IfOk result (λ copy. copy ≡ name.now) }
     ensures err { IfErr result (λ e. e ≡ Fault.OutOfMemory) }

@@ -201,9 +201,10 @@ impl Parts {
         }
     }
 
-    /// The update as a federate receives it at a class, with the attributes that it subscribes there: a share of `whole`, or
-    /// of the part that was kept for those who subscribe the same, where there is one. So receivers of two kinds, those who
-    /// subscribe all and those who subscribe one part, cost two events.
+    /// The update as a federate receives it at a class, with the attributes that it subscribes there: a share of `whole`,
+    /// or of the part that was kept for those who subscribe the same, where there is one. So receivers of two kinds, those
+    /// who subscribe all and those who subscribe one part, cost two events. `OutOfMemory` where a growth was refused;
+    /// nothing is said of `made` then.
     pub(crate) fn shared_reflection<'a>(
         &'a self,
         made: &mut Option<Made<'a>>,

@@ -88,7 +88,7 @@ impl Parts {
             .publishes_attribute(federate, class, v.handle))
     }
 
-    /// Why a federate may not call or tick, if it may not.
+    /// Why a federate may not call, announce or tick, if it may not.
     pub fn caller_fault(&self, federate: FederateNo) -> Option<Fault>
         ensures { result ≡ first_fault (joined_test (state_of self.now).directory federate ∷ []) }
     {

@@ -83,7 +83,10 @@ impl Parts {
         }
     }
 
-    /// Register Object Instance.
+    /// Register Object Instance. Refused, it changes nothing: `ObjectClassNotDefined` where the FED file has no such class;
+    /// `ObjectClassNotPublished` where the federate does not publish it; `ObjectAlreadyRegistered` where an object ever had
+    /// the name; `LimitReached` where 4,096 objects were ever registered, or the name has not 1 to 255 bytes; the first
+    /// that applies; else `OutOfMemory` where a growth was refused.
     pub fn register_object_instance(
         &mut self,
         federate: FederateNo,
@@ -207,7 +210,9 @@ impl Parts {
     }
 
     /// Subscribe Object Class Attributes, with these in place of those that were subscribed before. The federate is to
-    /// discover what fits its subscriptions then.
+    /// discover what fits its subscriptions then. Refused, it changes nothing: `ObjectClassNotDefined` where the FED file
+    /// has no such class; `AttributeNotDefined` where the class has not each of the attributes; else `OutOfMemory` where a
+    /// growth was refused.
     pub fn subscribe_object_class_attributes(
         &mut self,
         federate: FederateNo,

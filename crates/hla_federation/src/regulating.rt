@@ -32,8 +32,13 @@ impl Parts {
             .regulation_fault(low, time, lookahead)
     }
 
-    /// Enable Time Regulation, at a time and with a lookahead, in ticks: a new epoch begins, of which the others learn at once,
-    /// and its first null message goes to each of them.
+    /// Enable Time Regulation, at a time and with a lookahead, in ticks: a new epoch begins, of which the others learn at
+    /// once, and its first null message goes to each of them. Refused, it changes nothing: `TimeAdvanceAlreadyInProgress`
+    /// in an advance; `TimeRegulationAlreadyEnabled` where the role is enabled; `EnableTimeRegulationPending` where it is
+    /// pending; `InvalidFederationTime` where the time is above 10^18, is not the time of a constrained caller, or is below
+    /// that of another; `InvalidLookahead` where the lookahead is above 10^18; `InvalidFederationTime` once more, where a
+    /// caller that is not constrained would begin above 10^18, with the lookahead 0; `LimitReached` where it has enabled
+    /// regulation 10^18 times; the first that applies; else `OutOfMemory` where a growth was refused.
     pub fn enable_time_regulation(
         &mut self,
         federate: FederateNo,
@@ -57,7 +62,8 @@ impl Parts {
         Ok(Answer::Done)
     }
 
-    /// Disable Time Regulation: the federate announces `FOREVER`.
+    /// Disable Time Regulation: the federate announces `FOREVER`. Refused, it changes nothing:
+    /// `TimeRegulationWasNotEnabled` where the role is not enabled; else `OutOfMemory` where a growth was refused.
     pub fn disable_time_regulation(&mut self, federate: FederateNo) -> Result<Answer, Fault>
         requires { MayCall self.old federate }
         ensures whole { IsWhole self.new }

@@ -92,6 +92,8 @@ impl Parts {
     }
 
     /// Retract: each receiver of the message that is still joined gets the retraction on its wire, behind the message.
+    /// Refused, it changes nothing: `InvalidRetractionHandle` where the message is another's, or may not be retracted, or
+    /// no more; else `OutOfMemory` where a growth was refused.
     pub fn retract(&mut self, federate: FederateNo, event: EventHandle) -> Result<Answer, Fault>
         requires { MayCall self.old federate }
         ensures whole { IsWhole self.new }

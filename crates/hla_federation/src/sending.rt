@@ -282,7 +282,8 @@ impl Parts {
             && self.registry.was_made_known(object, federate)
     }
 
-    /// Adds the removal of an object for each other federate to which it is known.
+    /// Adds the removal of an object for each other federate to which it is known. `OutOfMemory` where a growth was
+    /// refused; nothing is said of the outbox then.
     pub fn address_removal(
         &self,
         outbox: &mut Outbox,
@@ -356,7 +357,11 @@ impl Parts {
     }
 
     /// Send Interaction, with a stamp in ticks or without one. It goes in time-stamp order if its class has that order, a
-    /// stamp is given and the federate regulates.
+    /// stamp is given and the federate regulates. Refused, it changes nothing: `InteractionClassNotDefined` where the FED
+    /// file has no such class; `InteractionParameterNotDefined` where the class has not each of the parameters;
+    /// `InteractionClassNotPublished` where the federate does not publish it; `InvalidFederationTime` where the stamp is
+    /// above 10^18, or below the federate's least stamp where a message goes in time-stamp order; `LimitReached` where no
+    /// serial is left; the first that applies; else `OutOfMemory` where a growth was refused.
     pub fn send_interaction(
         &mut self,
         federate: FederateNo,
@@ -386,7 +391,11 @@ impl Parts {
 
     /// Update Attribute Values, with a stamp in ticks or without one. The attributes whose updates go in receive order make
     /// one message, the others another one after it, which goes in time-stamp order if a stamp is given and the federate
-    /// regulates.
+    /// regulates. Refused, it changes nothing: `ObjectNotKnown` where the object is not there, or not known to the
+    /// federate; `AttributeNotDefined` where its class has not each of the attributes; `AttributeNotOwned` and
+    /// `AttributeNotPublished` where the federate does not own, or publish, each of them; `InvalidFederationTime` where the
+    /// stamp is above 10^18, or below the federate's least stamp where a message goes in time-stamp order; `LimitReached`
+    /// where too few serials are left; the first that applies; else `OutOfMemory` where a growth was refused.
     pub fn update_attribute_values(
         &mut self,
         federate: FederateNo,
@@ -424,7 +433,11 @@ impl Parts {
     }
 
     /// Delete Object Instance, with a stamp in ticks or without one. The removals go in time-stamp order if the class has
-    /// that order, a stamp is given and the federate regulates. A deletion cannot be retracted.
+    /// that order, a stamp is given and the federate regulates. A deletion cannot be retracted. Refused, it changes
+    /// nothing: `ObjectNotKnown` where the object is not there, or not known to the federate; `DeletePrivilegeNotHeld`
+    /// where it is another's; `InvalidFederationTime` where the stamp is above 10^18, or below the federate's least stamp
+    /// where a message goes in time-stamp order; `LimitReached` where no serial is left; the first that applies; else
+    /// `OutOfMemory` where a growth was refused.
     pub fn delete_object_instance(
         &mut self,
         federate: FederateNo,

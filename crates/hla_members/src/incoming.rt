@@ -63,7 +63,7 @@ fn hand_over(wire: &mut Wire, from: FederateNo, local: &mut Local) -> Result<Car
 }
 
 impl Incoming {
-    /// A wire from each federate that may join, with nothing on it.
+    /// A wire from each federate that may join, with nothing on it. `OutOfMemory` where room for them was refused.
     pub fn new(alloc: Global) -> Result<Incoming, Fault>
         ensures ok { IfOk result (λ w. AreQuiet w.wires) }
         ensures err { IfErr result (λ e. e ≡ Fault.OutOfMemory) }
@@ -77,7 +77,8 @@ impl Incoming {
         Ok(Incoming { wires })
     }
 
-    /// Makes room for this many more messages on the wire from a federate; `OutOfMemory` where that was refused.
+    /// Makes room for this many more messages on the wire from a federate; `OutOfMemory` where that was refused. Nothing
+    /// but room changes, either way.
     pub fn reserve(&mut self, from: FederateNo, count: usize) -> Result<(), Fault>
         requires some { 0 < from }
         requires within { from ≤ max_joins }

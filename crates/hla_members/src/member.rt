@@ -51,7 +51,7 @@ impl Model for Member {
 }
 
 impl Member {
-    /// A federate that has just joined.
+    /// A federate that has just joined. `OutOfMemory` where room for the wires to it was refused.
     pub fn new(alloc: Global, name: List<u8>) -> Result<Member, Fault>
         ensures ok { IfOk result (λ m. m.shown ≡ record (new_member name [] m.shown.incoming) {
           local = m.shown.local;
@@ -138,7 +138,8 @@ impl Member {
         self.sent.retract(serial);
     }
 
-    /// Makes room for this many more messages on the wire from a federate; `OutOfMemory` where that was refused.
+    /// Makes room for this many more messages on the wire from a federate; `OutOfMemory` where that was refused. Nothing
+    /// but room changes, either way.
     pub fn reserve(&mut self, from: FederateNo, count: usize) -> Result<(), Fault>
         requires some { 0 < from }
         requires within { from ≤ max_joins }

@@ -187,7 +187,7 @@ impl Members {
         self.members[federate as usize - 1].retract(serial);
     }
 
-    /// Makes room for one more federate; `OutOfMemory` where that was refused.
+    /// Makes room for one more federate; `OutOfMemory` where that was refused. Nothing but room changes, either way.
     pub fn reserve_one(&mut self) -> Result<(), Fault>
         ensures same { self.new.shown ≡ self.old.shown }
         ensures ok { OnOk result (0 < self.new.spare) }
@@ -297,7 +297,8 @@ impl Members {
         self.put(along.source(peer), along.target(peer), message);
     }
 
-    /// Makes room for all messages of an outbox on their wires; `OutOfMemory` where that was refused.
+    /// Makes room for all messages of an outbox on their wires; `OutOfMemory` where that was refused. Nothing but room
+    /// changes, either way.
     pub fn reserve_all(&mut self, along: Direction, outbox: &Outbox) -> Result<(), Fault>
         requires { IsEnd along (members_of self.old.shown).next_federate }
         ensures same { self.new.shown ≡ self.old.shown }
@@ -500,8 +501,9 @@ impl Members {
         entry
     }
 
-    /// From which stamp on a federate may begin to regulate that would like to from a time on, in ticks: what it announces
-    /// last and the others have announced settles it, and no component is asked for more.
+    /// From which stamp on a federate may begin to regulate that would like to from a time on, in ticks: the greatest of
+    /// that time, its own bar, and what `Local::entry` says of each other one: its bar, or how far what it announced last
+    /// shows that it may get, where it regulates and waits in a next-event request.
     pub fn entry(&self, federate: FederateNo, earliest: Ticks) -> Ticks
         ensures { result ≡ greatest (members_of self.now.shown).next_federate earliest
             (entry_by (members_of self.now.shown).local federate) }

@@ -63,7 +63,8 @@ impl Outbox {
         }
     }
 
-    /// Adds a message for a federate, behind the others; `OutOfMemory` where a growth was refused.
+    /// Adds a message for a federate, behind the others; `OutOfMemory` where a growth was refused; nothing is said of the
+    /// outbox then.
     #[inline(always)]
     pub fn put(&mut self, peer: FederateNo, message: Message) -> Result<(), Fault>
         requires some { 0 < peer }

@@ -85,7 +85,7 @@ fn judge_taking(
 }
 
 /// Whether the machine allows a carry that ended so and chose this; where it does, its message arrives. `OutOfMemory` where
-/// a growth was refused.
+/// a growth was refused; nothing is said of the accounts then.
 pub fn judge_carry(
     accounts: &mut Accounts,
     from: FederateNo,

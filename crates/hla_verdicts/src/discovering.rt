@@ -44,8 +44,8 @@ fn judge_offer(
     Verdict::Allowed
 }
 
-/// Whether a joined federate may discover an object at this class and with this name; where it may, it has. The registry says
-/// whose the object is. `OutOfMemory` where a growth was refused.
+/// Whether a joined federate may discover an object at this class and with this name; where it may, it has. The registry
+/// says whose the object is. `OutOfMemory` where a growth was refused; nothing is said of the accounts then.
 pub(crate) fn judge_discovery(
     accounts: &mut Accounts,
     registry: &Registry,

@@ -13,7 +13,8 @@ use crate::verdict::Verdict;
 use hla_base::Fault;
 use hla_machine::{Answer, Choice, Outcome};
 
-/// The answer that is left to test, where a call that ended so is not to be refused and chose nothing; else what is told of it.
+/// The answer that is left to test, where a call that ended so is not to be refused and chose nothing; else, as the error,
+/// the `Verdict` that is told of it.
 pub fn answer_to_test<'a>(
     fault: Option<Fault>,
     outcome: &'a Outcome,

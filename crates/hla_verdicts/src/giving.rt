@@ -66,8 +66,8 @@ fn judge_giving(
     Verdict::Allowed
 }
 
-/// Whether a joined federate may be given an update of an object; where it may, it is given. `OutOfMemory` where a growth was
-/// refused.
+/// Whether a joined federate may be given an update of an object; where it may, it is given. `OutOfMemory` where a growth
+/// was refused; nothing is said of the accounts then.
 pub(crate) fn judge_reflection(
     accounts: &mut Accounts,
     federate: FederateNo,
@@ -90,7 +90,7 @@ pub(crate) fn judge_reflection(
 }
 
 /// Whether a joined federate may be given an interaction; where it may, it is given. `OutOfMemory` where a growth was
-/// refused.
+/// refused; nothing is said of the accounts then.
 pub(crate) fn judge_interaction(
     accounts: &mut Accounts,
     federate: FederateNo,

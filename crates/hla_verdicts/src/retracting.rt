@@ -14,8 +14,8 @@ use hla_accounts::Accounts;
 use hla_base::{EventHandle, Fault, FederateNo};
 use hla_machine::{Choice, Outcome};
 
-/// Whether the machine allows a call of Retract by a joined federate that ended so and chose this; where it does, the message
-/// is retracted. `OutOfMemory` where a growth was refused.
+/// Whether the machine allows a call of Retract by a joined federate that ended so and chose this; where it does, the
+/// message is retracted. `OutOfMemory` where a growth was refused; nothing is said of the accounts then.
 pub fn judge_retraction(
     accounts: &mut Accounts,
     federate: FederateNo,

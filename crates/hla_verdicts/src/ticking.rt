@@ -266,7 +266,7 @@ fn judge_answer(
 }
 
 /// Whether the machine allows a tick that ended so and chose this; where it does, its callback has been picked up.
-/// `OutOfMemory` where a growth was refused.
+/// `OutOfMemory` where a growth was refused; nothing is said of the accounts then.
 pub fn judge_tick(
     accounts: &mut Accounts,
     registry: &Registry,

@@ -1,6 +1,6 @@
 -- What stands at the place that was noted has the name, and no other has it.
 use Rattle.std.proofs.Common.{sym, ◌∙◌}
-use Rattle.hla_accounts.proofs.PlaceLemmas.{stands_there}
+use Rattle.hla_accounts.proofs.Bags.Places.{stands_there}
 use Rattle.hla_accounts.proofs.bag.place_by_note.Goals as goal
 
 pub returns-in-Some : goal.returns-in-Some

@@ -4,8 +4,8 @@ use Rattle.std.specs.List.{position}
 use Rattle.std.proofs.lemmas.List.{take_all}
 use Rattle.hla_accounts.specs.declared.bag.Waiting.{Waiting}
 use Rattle.hla_accounts.specs.Bags.{is_of}
-use Rattle.hla_accounts.proofs.PlaceLemmas.{found_none, none_found}
-use Rattle.hla_accounts.proofs.IndexingLemmas.{found_behind, none_in_both}
+use Rattle.hla_accounts.proofs.Bags.Places.{found_none, none_found}
+use Rattle.hla_accounts.proofs.Indexes.Indexing.{found_behind, none_in_both}
 use Rattle.hla_accounts.proofs.bag.scan_from.Goals as goal
 
 pub returns-in-Some : goal.returns-in-Some

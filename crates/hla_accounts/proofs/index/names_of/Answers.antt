@@ -2,7 +2,7 @@
 use Rattle.std.proofs.Common.{◌+◌, get_or, take}
 use Rattle.std.proofs.lemmas.List.{take_more}
 use Rattle.hla_base.specs.declared.number.EventHandle.{EventHandle}
-use Rattle.hla_accounts.proofs.IndexLemmas.{no_names, names_added}
+use Rattle.hla_accounts.proofs.Indexes.Upkeep.{no_names, names_added}
 use Rattle.hla_accounts.proofs.index.names_of.Goals as goal
 
 pub loop-event-init : goal.loop-event-init

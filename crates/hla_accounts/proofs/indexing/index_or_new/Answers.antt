@@ -1,7 +1,7 @@
 -- A new index is one of the first 0 messages.
 use Rattle.std.proofs.Common.{◌≡◌, ℕ, take, subst, sym, ap, ◌∙◌}
 use Rattle.hla_accounts.specs.Indexes.{delivery_at, IsIndexOf, IsHead}
-use Rattle.hla_accounts.proofs.PlaceLemmas.{delivered_nil}
+use Rattle.hla_accounts.proofs.Bags.Places.{delivered_nil}
 use Rattle.hla_accounts.proofs.indexing.index_or_new.Goals as goal
 
 pub returns-in-None : goal.returns-in-None

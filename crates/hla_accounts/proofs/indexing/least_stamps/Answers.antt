@@ -3,7 +3,7 @@ use Rattle.std.proofs.Common.{◌≡◌, ◌++◌, ◌∷◌, ◌+◌, [], take,
 use Rattle.std.proofs.lemmas.List.{take_more}
 use Rattle.hla_accounts.specs.declared.bag.Waiting.{Waiting}
 use Rattle.hla_accounts.specs.Bags.{AreNotBelow}
-use Rattle.hla_accounts.proofs.StampLemmas.{bounds_push, lesser_bounds}
+use Rattle.hla_accounts.proofs.Bags.Stamps.{bounds_push, lesser_bounds}
 use Rattle.hla_accounts.proofs.indexing.least_stamps.Goals as goal
 
 pub loop-message-preserved : goal.loop-message-preserved

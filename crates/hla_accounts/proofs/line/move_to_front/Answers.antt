@@ -2,7 +2,7 @@
 use Rattle.std.proofs.Common.{◌≡◌, ◌+◌, ◌-◌, ◌++◌, ℕ, length, take, drop, subst, sym, arith}
 use Rattle.std.specs.List.{remove}
 use borrow.Rule.Slice.PartMut.{put_mid, mid_of}
-use Rattle.hla_accounts.proofs.LineLemmas.{put_front, front_alone}
+use Rattle.hla_accounts.proofs.Bags.Lines.{put_front, front_alone}
 use Rattle.hla_accounts.proofs.line.move_to_front.Goals as goal
 
 pub returns-then-start-place-clause-rest : goal.returns-then-start-place-clause-rest

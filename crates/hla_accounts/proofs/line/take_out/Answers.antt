@@ -1,7 +1,7 @@
 -- The message goes to the front and then into the gap, or those behind it move up.
 use Rattle.std.proofs.Common.{◌≡◌, ◌+◌, ◌-◌, drop, length, sym, ap, ◌∙◌, arith}
 use Rattle.std.specs.List.{remove}
-use Rattle.hla_accounts.proofs.LineLemmas.{drop-remove, last_alone}
+use Rattle.hla_accounts.proofs.Bags.Lines.{drop-remove, last_alone}
 use Rattle.hla_accounts.proofs.line.take_out.Goals as goal
 
 pub returns-else-place-as_slice-clause-rest : goal.returns-else-place-as_slice-clause-rest

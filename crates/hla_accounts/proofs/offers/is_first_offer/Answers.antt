@@ -1,6 +1,6 @@
 -- The first offer decides.
 use mathlib.Core.Bool.{false≢true}
-use Rattle.hla_accounts.proofs.OfferLemmas.{next_of, of_some, of_none}
+use Rattle.hla_accounts.proofs.Tests.NextOffers.{next_of, of_some, of_none}
 use Rattle.hla_accounts.proofs.offers.is_first_offer.Goals as goal
 
 pub returns-in-Some : goal.returns-in-Some

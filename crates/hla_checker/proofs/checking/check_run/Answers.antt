@@ -1,5 +1,5 @@
 use Rattle.std.proofs.Common.{◌<◌, length, arith}
-use Rattle.hla_checker.proofs.RunLemmas.{run_more}
+use Rattle.hla_checker.proofs.Executions.Runs.{run_more}
 use Rattle.hla_checker.proofs.checking.check_run.Goals as goal
 
 pub loop-place-preserved : goal.loop-place-preserved

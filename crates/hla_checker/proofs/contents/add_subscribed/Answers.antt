@@ -2,7 +2,7 @@
 use Rattle.std.proofs.Common.{◌∷◌, ◌++◌, [], sym, ap, ◌∙◌}
 use Rattle.hla_base.specs.declared.content.HandleValuePair.{HandleValuePair}
 use Rattle.hla_catalogue.specs.Lookup.{contains_number}
-use Rattle.hla_checker.proofs.ShownValues.{shown_more, hidden_more}
+use Rattle.hla_checker.proofs.Sends.ShownValues.{shown_more, hidden_more}
 use Rattle.hla_checker.proofs.contents.add_subscribed.Goals as goal
 use Rattle.hla_checker.proofs.contents.add_subscribed.Goals.{then-contains+in_ok-copy+in_ok-push, else-contains}
 

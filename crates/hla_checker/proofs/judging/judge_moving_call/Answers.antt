@@ -1,6 +1,6 @@
 use Rattle.hla_machine.specs.declared.service.Service.TheVariants as services
 use Rattle.hla_accounts.specs.Accounts.{central_with}
-use Rattle.hla_verdicts.proofs.ConstraintVerdicts.{moving_called}
+use Rattle.hla_verdicts.proofs.Time.Constraints.{moving_called}
 use Rattle.hla_checker.proofs.judging.judge_moving_call.Goals as goal
 
 pub returns-in_ok-verdict-in-Retract-clause-ok : goal.returns-in_ok-verdict-in-Retract-clause-ok

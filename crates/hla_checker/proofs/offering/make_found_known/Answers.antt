@@ -5,7 +5,7 @@ use Rattle.hla_machine.specs.Directory.{Directory, discovery_of}
 use Rattle.hla_object_registry.specs.Registered.{RegistryValue, registry_of}
 use Rattle.hla_object_registry.proofs.Unregistered.{no_object_above}
 use Rattle.hla_verdicts.specs.Kept.{directory_kept}
-use Rattle.hla_checker.proofs.FoundObjects.{known_more, known_same, known_all, still_found, is_found}
+use Rattle.hla_checker.proofs.Objects.FoundObjects.{known_more, known_same, known_all, still_found, is_found}
 use Rattle.hla_checker.proofs.offering.make_found_known.Goals as goal
 use Rattle.hla_checker.proofs.offering.make_found_known.Goals.{then-is_some, else-is_some}
 

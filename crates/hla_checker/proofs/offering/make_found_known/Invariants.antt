@@ -4,7 +4,7 @@ use Rattle.hla_declaration.specs.Declarations.{declarations_of}
 use Rattle.hla_object_registry.specs.Registered.{registry_of}
 use Rattle.hla_machine.specs.Directory.{discovery_of}
 use Rattle.hla_verdicts.specs.Kept.{directory_kept}
-use Rattle.hla_checker.proofs.FoundObjects.{known_below}
+use Rattle.hla_checker.proofs.Objects.FoundObjects.{known_below}
 use Rattle.hla_checker.proofs.offering.make_found_known.Given as goal
 
 abbrev pub invariant-loop-object : goal.invariant-loop-object

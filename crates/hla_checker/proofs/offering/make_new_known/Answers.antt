@@ -6,7 +6,7 @@ use Rattle.hla_machine.specs.Directory.{Directory, discovery_of}
 use Rattle.hla_object_registry.specs.Registered.{RegistryValue, registry_of}
 use Rattle.hla_accounts.specs.Accounts.{account_at}
 use Rattle.hla_verdicts.specs.Kept.{directory_kept}
-use Rattle.hla_checker.proofs.NewObjects.{among_all, among_first, among_more, among_same, not_joined, still_among}
+use Rattle.hla_checker.proofs.Objects.NewObjects.{among_all, among_first, among_more, among_same, not_joined, still_among}
 use Rattle.hla_checker.proofs.offering.make_new_known.Goals as goal
 use Rattle.hla_checker.proofs.offering.make_new_known.Goals.{then-is_to_discover, else-is_to_discover}
 

@@ -5,7 +5,7 @@ use Rattle.hla_object_registry.specs.Registered.{registry_of}
 use Rattle.hla_machine.specs.Directory.{discovery_of}
 use Rattle.hla_accounts.specs.Accounts.{account_at}
 use Rattle.hla_verdicts.specs.Kept.{directory_kept}
-use Rattle.hla_checker.proofs.NewObjects.{known_among}
+use Rattle.hla_checker.proofs.Objects.NewObjects.{known_among}
 use Rattle.hla_checker.proofs.offering.make_new_known.Given as goal
 
 abbrev pub invariant-loop-federate : goal.invariant-loop-federate

@@ -2,7 +2,7 @@
 use Rattle.hla_declaration.specs.Declarations.{declarations_of}
 use Rattle.hla_object_registry.specs.Registered.{registry_of}
 use Rattle.hla_verdicts.specs.Kept.{directory_kept}
-use Rattle.hla_checker.proofs.NewObjects.{AreOfferedBelow}
+use Rattle.hla_checker.proofs.Objects.NewObjects.{AreOfferedBelow}
 use Rattle.hla_checker.proofs.offering.offer_new.Given as goal
 
 abbrev pub invariant-loop-federate : goal.invariant-loop-federate

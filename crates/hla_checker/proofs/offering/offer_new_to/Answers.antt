@@ -1,10 +1,10 @@
 use Rattle.std.proofs.Common.{sym, ◌∙◌}
 use Rattle.hla_declaration.specs.Declarations.{declarations_of}
 use Rattle.hla_object_registry.specs.Registered.{registry_of}
-use Rattle.hla_accounts.proofs.CountLemmas.{on_ok}
-use Rattle.hla_accounts.proofs.MessageLemmas.{joined_in}
+use Rattle.hla_accounts.proofs.Changes.Counts.{on_ok}
+use Rattle.hla_accounts.proofs.Sendings.Messages.{joined_in}
 use Rattle.hla_verdicts.specs.Kept.{directory_kept}
-use Rattle.hla_checker.proofs.NewObjects.{not_other_out, not_other_self, offered_nothing, offered_others, other_so}
+use Rattle.hla_checker.proofs.Objects.NewObjects.{not_other_out, not_other_self, offered_nothing, offered_others, other_so}
 use Rattle.hla_checker.proofs.offering.offer_new_to.Goals as goal
 use Rattle.hla_checker.proofs.offering.offer_new_to.Goals.{then-owner-federate-via-then-owner-federate, then-owner-federate-via-else-owner-federate+then-not-is_joined}
 

@@ -8,7 +8,7 @@ use Rattle.hla_accounts.specs.declared.offers.Offer.{Offer}
 use Rattle.hla_accounts.specs.Accounts.{offers_from}
 use Rattle.hla_verdicts.specs.Kept.{directory_kept}
 use Rattle.hla_checker.specs.Offering.{is_wanted, wanted_of}
-use Rattle.hla_checker.proofs.FoundObjects.{found_first, offer_more, offer_none, wanted_none, wanted_some, when_none}
+use Rattle.hla_checker.proofs.Objects.FoundObjects.{found_first, offer_more, offer_none, wanted_none, wanted_some, when_none}
 use Rattle.hla_checker.proofs.offering.offers_to.Goals as goal
 use Rattle.hla_checker.proofs.offering.offers_to.Goals.{in-Some+in_ok-name+in-Ok, in_default}
 

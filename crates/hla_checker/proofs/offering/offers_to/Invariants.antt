@@ -6,7 +6,7 @@ use Rattle.hla_object_registry.specs.Registered.{registry_of}
 use Rattle.hla_accounts.specs.Accounts.{offers_from}
 use Rattle.hla_verdicts.specs.Kept.{directory_kept}
 use Rattle.hla_checker.specs.Offering.{wanted_of}
-use Rattle.hla_checker.proofs.FoundObjects.{found_below}
+use Rattle.hla_checker.proofs.Objects.FoundObjects.{found_below}
 use Rattle.hla_checker.proofs.offering.offers_to.Given as goal
 
 abbrev pub invariant-loop-object : goal.invariant-loop-object

@@ -1,7 +1,7 @@
 use Rattle.std.proofs.Common.{rules}
 use Rattle.hla_accounts.specs.Accounts.{central_with}
 use Rattle.hla_machine.specs.declared.step.Step.TheVariants as steps
-use Rattle.hla_verdicts.proofs.StepVerdicts.{refused_told, done_wrong, announcement_told}
+use Rattle.hla_verdicts.proofs.Steps.Outcomes.{refused_told, done_wrong, announcement_told}
 use Rattle.hla_verdicts.proofs.announcing.judge_announcement.Goals as goal
 
 pub returns-in-Refused : goal.returns-in-Refused

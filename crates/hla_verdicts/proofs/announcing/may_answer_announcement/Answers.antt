@@ -1,7 +1,7 @@
 use Rattle.std.proofs.Common.{sym, ◌∙◌}
 use Rattle.hla_accounts.specs.Accounts.{central_with}
 use Rattle.hla_machine.specs.declared.step.Choice.TheVariants as choices
-use Rattle.hla_verdicts.proofs.StepVerdicts.{announcement_so}
+use Rattle.hla_verdicts.proofs.Steps.Outcomes.{announcement_so}
 use Rattle.hla_verdicts.proofs.announcing.may_answer_announcement.Goals as goal
 
 pub returns-in-Some : goal.returns-in-Some

@@ -1,4 +1,4 @@
-use Rattle.hla_accounts.proofs.CallLemmas.{may_announce_decided}
+use Rattle.hla_accounts.proofs.Tests.Calls.{may_announce_decided}
 use Rattle.hla_verdicts.proofs.announcing.may_promise.Goals as goal
 
 pub returns-in-Some : goal.returns-in-Some

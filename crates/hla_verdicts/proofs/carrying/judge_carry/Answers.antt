@@ -3,8 +3,8 @@ use Rattle.hla_catalogue.specs.CatalogueValue.{empty_catalogue}
 use Rattle.hla_machine.specs.Directory.{new_directory}
 use Rattle.hla_machine.specs.declared.step.Step.TheVariants as steps
 use Rattle.hla_accounts.specs.Accounts.{central_with}
-use Rattle.hla_verdicts.proofs.StepVerdicts.{refused_told, done_wrong}
-use Rattle.hla_verdicts.proofs.CallVerdicts.{carry_room, carry_told}
+use Rattle.hla_verdicts.proofs.Steps.Outcomes.{refused_told, done_wrong}
+use Rattle.hla_verdicts.proofs.Steps.Calls.{carry_room, carry_told}
 use Rattle.hla_verdicts.proofs.carrying.judge_carry.Goals as goal
 
 pub judge_taking-requires : goal.judge_taking-requires

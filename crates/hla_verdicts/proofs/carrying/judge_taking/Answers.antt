@@ -1,6 +1,6 @@
 use Rattle.std.proofs.Common.{sym, ◌∙◌}
 use Rattle.hla_accounts.specs.Accounts.{central_with}
-use Rattle.hla_verdicts.proofs.CallVerdicts.{joined_within, carry_else, carry_wrong, carry_taken}
+use Rattle.hla_verdicts.proofs.Steps.Calls.{joined_within, carry_else, carry_wrong, carry_taken}
 use Rattle.hla_verdicts.proofs.carrying.judge_taking.Goals as goal
 
 pub returns-in-None-clause-ok : goal.returns-in-None-clause-ok

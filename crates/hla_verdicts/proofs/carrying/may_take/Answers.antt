@@ -1,4 +1,4 @@
-use Rattle.hla_accounts.proofs.CallLemmas.{may_carry_decided}
+use Rattle.hla_accounts.proofs.Tests.Calls.{may_carry_decided}
 use Rattle.hla_verdicts.proofs.carrying.may_take.Goals as goal
 
 pub returns : goal.returns

@@ -1,5 +1,5 @@
 use Rattle.hla_accounts.specs.Accounts.{central_with}
-use Rattle.hla_verdicts.proofs.CallVerdicts.{event_arrived, removal_arrived, retraction_arrived}
+use Rattle.hla_verdicts.proofs.Steps.Calls.{event_arrived, removal_arrived, retraction_arrived}
 use Rattle.hla_verdicts.proofs.carrying.take.Goals as goal
 
 pub returns-in-Event-clause-ok : goal.returns-in-Event-clause-ok

@@ -1,6 +1,6 @@
 -- One after another the events are compared with those that follow.
 use Rattle.std.proofs.Common.{◌∙◌, sym}
-use Rattle.hla_accounts.proofs.CallLemmas.{distinct_rest}
+use Rattle.hla_accounts.proofs.Tests.Calls.{distinct_rest}
 use Rattle.hla_verdicts.proofs.constraining.are_moved_once.Goals as goal
 
 pub loop-place-preserved : goal.loop-place-preserved

@@ -1,8 +1,8 @@
 use Rattle.std.proofs.Common.{ℕ, ◌≤◌, sym, ap, subst}
 use Rattle.hla_machine.specs.Central.{Central}
 use Rattle.hla_accounts.specs.Accounts.{central_with}
-use Rattle.hla_accounts.proofs.CountLemmas.{same_size}
-use Rattle.hla_verdicts.proofs.ConstraintVerdicts.{constrained_after}
+use Rattle.hla_accounts.proofs.Changes.Counts.{same_size}
+use Rattle.hla_verdicts.proofs.Time.Constraints.{constrained_after}
 use Rattle.hla_verdicts.proofs.constraining.constrain.Goals as goal
 
 pub demote-requires-clause-within : goal.demote-requires-clause-within

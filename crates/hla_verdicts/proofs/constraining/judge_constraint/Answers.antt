@@ -1,5 +1,5 @@
 use Rattle.hla_accounts.specs.Accounts.{central_with}
-use Rattle.hla_verdicts.proofs.ConstraintVerdicts.{constrained_as}
+use Rattle.hla_verdicts.proofs.Time.Constraints.{constrained_as}
 use Rattle.hla_verdicts.proofs.constraining.judge_constraint.Goals as goal
 
 pub returns-in-Moved-clause-judged : goal.returns-in-Moved-clause-judged

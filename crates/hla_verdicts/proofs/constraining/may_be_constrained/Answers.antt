@@ -1,4 +1,4 @@
-use Rattle.hla_accounts.proofs.TickLemmas.{may_constrain_decided}
+use Rattle.hla_accounts.proofs.Tests.Ticks.{may_constrain_decided}
 use Rattle.hla_verdicts.proofs.constraining.may_be_constrained.Goals as goal
 
 pub returns : goal.returns

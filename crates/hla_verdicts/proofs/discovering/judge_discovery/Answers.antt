@@ -1,7 +1,7 @@
 use Rattle.std.proofs.Common.{ℕ, sym, ap, ◌∙◌}
 use Rattle.hla_machine.specs.Directory.{Object}
 use Rattle.hla_accounts.specs.Accounts.{central_with}
-use Rattle.hla_verdicts.proofs.DiscoveryVerdicts.{discovered_of}
+use Rattle.hla_verdicts.proofs.Picks.Discoveries.{discovered_of}
 use Rattle.hla_verdicts.proofs.discovering.judge_discovery.Goals as goal
 
 pub returns-clause-ok : goal.returns-clause-ok

@@ -1,8 +1,8 @@
 use Rattle.std.proofs.Common.{sym, ap, ◌∙◌}
 use mathlib.Core.Bool.{false≢true}
 use Rattle.hla_machine.specs.Central.{Central}
-use Rattle.hla_accounts.proofs.CountLemmas.{same_size}
-use Rattle.hla_verdicts.proofs.CallVerdicts.{joined_within}
+use Rattle.hla_accounts.proofs.Changes.Counts.{same_size}
+use Rattle.hla_verdicts.proofs.Steps.Calls.{joined_within}
 use Rattle.hla_verdicts.proofs.discovering.judge_offer.Goals as goal
 
 pub returns-then-not-is_next_offer-clause-judged : goal.returns-then-not-is_next_offer-clause-judged

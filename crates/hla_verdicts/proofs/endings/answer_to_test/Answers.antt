@@ -1,8 +1,8 @@
 use Rattle.std.proofs.Common.{◌≡◌, Some, rules}
 use Rattle.std.specs.Bool.{Decides}
 use Rattle.hla_machine.specs.declared.step.Step.TheVariants.{Call}
-use Rattle.hla_verdicts.proofs.StepVerdicts.{refused_told, done_wrong}
-use Rattle.hla_verdicts.proofs.EndingVerdicts.{ending_chose}
+use Rattle.hla_verdicts.proofs.Steps.Outcomes.{refused_told, done_wrong}
+use Rattle.hla_verdicts.proofs.Steps.Endings.{ending_chose}
 use Rattle.hla_verdicts.proofs.endings.answer_to_test.Goals as goal
 use Rattle.hla_verdicts.proofs.endings.answer_to_test.Goals.{After-of}
 

@@ -1,4 +1,4 @@
-use Rattle.hla_verdicts.proofs.EndingVerdicts.{ending_not_done}
+use Rattle.hla_verdicts.proofs.Steps.Endings.{ending_not_done}
 use Rattle.hla_verdicts.proofs.endings.verdict_unless_done.Goals as goal
 
 pub returns-else-is_done : goal.returns-else-is_done

@@ -1,8 +1,8 @@
 use Rattle.std.proofs.Common.{ℕ, ◌≤◌, sym, ap, subst}
 use Rattle.hla_machine.specs.Central.{Central}
 use Rattle.hla_accounts.specs.Accounts.{central_with}
-use Rattle.hla_accounts.proofs.CountLemmas.{same_size}
-use Rattle.hla_verdicts.proofs.GivenVerdicts.{handed_over, handed_late, picked_up}
+use Rattle.hla_accounts.proofs.Changes.Counts.{same_size}
+use Rattle.hla_verdicts.proofs.Picks.Messages.{handed_over, handed_late, picked_up}
 use Rattle.hla_verdicts.proofs.giving.give.Goals as goal
 
 pub take-requires-in-TimeStamp-clause-within : goal.take-requires-in-TimeStamp-clause-within

@@ -1,7 +1,7 @@
 use Rattle.std.proofs.Common.{ap}
 use Rattle.hla_base.specs.declared.content.Content.TheVariants as contents
 use Rattle.hla_accounts.specs.Accounts.{central_with}
-use Rattle.hla_verdicts.proofs.GivenVerdicts.{judged_of}
+use Rattle.hla_verdicts.proofs.Picks.Messages.{judged_of}
 use Rattle.hla_verdicts.proofs.giving.judge_reflection.Goals as goal
 
 pub returns-clause-ok : goal.returns-clause-ok

@@ -1,6 +1,6 @@
 use Rattle.std.proofs.Common.{sym, ◌∙◌}
 use Rattle.hla_accounts.specs.Accounts.{central_with}
-use Rattle.hla_verdicts.proofs.QueryVerdicts.{query_is, query_chose, query_refused, query_else, query_told}
+use Rattle.hla_verdicts.proofs.Time.Queries.{query_is, query_chose, query_refused, query_else, query_told}
 use Rattle.hla_verdicts.proofs.queries.judge_query.Goals as goal
 
 pub returns-then-not-is_nothing : goal.returns-then-not-is_nothing

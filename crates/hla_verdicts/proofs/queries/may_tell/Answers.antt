@@ -1,4 +1,4 @@
-use Rattle.hla_accounts.proofs.CallLemmas.{may_bound_decided, may_be_next_decided}
+use Rattle.hla_accounts.proofs.Tests.Calls.{may_bound_decided, may_be_next_decided}
 use Rattle.hla_verdicts.proofs.queries.may_tell.Goals as goal
 
 pub returns-in-Bound : goal.returns-in-Bound

@@ -1,5 +1,5 @@
 use Rattle.hla_accounts.specs.Accounts.{central_with}
-use Rattle.hla_verdicts.proofs.RegulationVerdicts.{asking_not_done, asking_as}
+use Rattle.hla_verdicts.proofs.Time.Regulations.{asking_not_done, asking_as}
 use Rattle.hla_verdicts.proofs.regulating.judge_asking.Goals as goal
 
 pub returns-then-not-is_done-clause-judged : goal.returns-then-not-is_done-clause-judged

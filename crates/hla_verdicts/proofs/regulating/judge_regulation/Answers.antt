@@ -2,8 +2,8 @@ use Rattle.std.proofs.Common.{rules, sym, ◌∙◌}
 use Rattle.hla_machine.specs.declared.service.Service.TheVariants as services
 use Rattle.hla_machine.specs.declared.step.Step.TheVariants as steps
 use Rattle.hla_accounts.specs.Accounts.{central_with}
-use Rattle.hla_verdicts.proofs.StepVerdicts.{refused_told, done_wrong}
-use Rattle.hla_verdicts.proofs.ServiceVerdicts.{joined_refusal, done_told}
+use Rattle.hla_verdicts.proofs.Steps.Outcomes.{refused_told, done_wrong}
+use Rattle.hla_verdicts.proofs.Steps.Services.{joined_refusal, done_told}
 use Rattle.hla_verdicts.proofs.regulating.judge_regulation.Goals as goal
 
 pub judge_asking-requires-clause-free : goal.judge_asking-requires-clause-free

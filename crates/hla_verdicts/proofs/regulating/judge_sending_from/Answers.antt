@@ -1,8 +1,8 @@
 use Rattle.std.proofs.Common.{sym, ap, ◌∙◌}
 use mathlib.Core.Bool.{false≢true}
 use Rattle.hla_machine.specs.Central.{Central}
-use Rattle.hla_accounts.proofs.CountLemmas.{same_size}
-use Rattle.hla_verdicts.proofs.CallVerdicts.{joined_within}
+use Rattle.hla_accounts.proofs.Changes.Counts.{same_size}
+use Rattle.hla_verdicts.proofs.Steps.Calls.{joined_within}
 use Rattle.hla_verdicts.proofs.regulating.judge_sending_from.Goals as goal
 
 pub change_row-requires-clause-some : goal.change_row-requires-clause-some

@@ -1,5 +1,5 @@
 use Rattle.std.proofs.Common.{◌+◌}
-use Rattle.hla_accounts.proofs.CallLemmas.{may_enter_decided}
+use Rattle.hla_accounts.proofs.Tests.Calls.{may_enter_decided}
 use Rattle.hla_verdicts.proofs.regulating.may_send_from.Goals as goal
 
 pub returns-clause-may : goal.returns-clause-may

@@ -6,11 +6,11 @@ use Rattle.hla_machine.specs.Machine.{central_seen}
 use Rattle.hla_machine.specs.declared.service.Service.TheVariants as services
 use Rattle.hla_machine.specs.declared.step.Step.TheVariants as steps
 use Rattle.hla_accounts.specs.Accounts.{central_with}
-use Rattle.hla_accounts.proofs.CountLemmas.{same_size}
-use Rattle.hla_verdicts.proofs.StepVerdicts.{refused_told, done_wrong}
-use Rattle.hla_verdicts.proofs.CallVerdicts.{joined_within}
-use Rattle.hla_verdicts.proofs.ServiceVerdicts.{joined_refusal, plain_chose, plain_not_done, plain_done}
-use Rattle.hla_verdicts.proofs.RetractionVerdicts.{retract_plain, retractor, retracted_kept, retracted_after}
+use Rattle.hla_accounts.proofs.Changes.Counts.{same_size}
+use Rattle.hla_verdicts.proofs.Steps.Outcomes.{refused_told, done_wrong}
+use Rattle.hla_verdicts.proofs.Steps.Calls.{joined_within}
+use Rattle.hla_verdicts.proofs.Steps.Services.{joined_refusal, plain_chose, plain_not_done, plain_done}
+use Rattle.hla_verdicts.proofs.Steps.Retractions.{retract_plain, retractor, retracted_kept, retracted_after}
 use Rattle.hla_verdicts.proofs.retracting.judge_retraction.Goals as goal
 
 pub returns-then-not-is_nothing-clause-ok : goal.returns-then-not-is_nothing-clause-ok

@@ -3,8 +3,8 @@ use Rattle.hla_catalogue.specs.CatalogueValue.{empty_catalogue}
 use Rattle.hla_machine.specs.Directory.{new_directory}
 use Rattle.hla_machine.specs.declared.step.Step.TheVariants as steps
 use Rattle.hla_accounts.specs.Accounts.{central_with}
-use Rattle.hla_verdicts.proofs.StepVerdicts.{refused_told, done_wrong}
-use Rattle.hla_verdicts.proofs.CallVerdicts.{joined_within, row_service_of, row_refusal, row_chose, row_not_done, row_done, size_changed}
+use Rattle.hla_verdicts.proofs.Steps.Outcomes.{refused_told, done_wrong}
+use Rattle.hla_verdicts.proofs.Steps.Calls.{joined_within, row_service_of, row_refusal, row_chose, row_not_done, row_done, size_changed}
 use Rattle.hla_verdicts.proofs.row_services.judge_row_service.Goals as goal
 
 pub change_row-requires-clause-some : goal.change_row-requires-clause-some

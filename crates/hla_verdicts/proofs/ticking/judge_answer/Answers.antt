@@ -1,5 +1,5 @@
 use Rattle.hla_accounts.specs.Accounts.{central_with}
-use Rattle.hla_verdicts.proofs.TickVerdicts.{given_one}
+use Rattle.hla_verdicts.proofs.Picks.Ticks.{given_one}
 use Rattle.hla_verdicts.proofs.ticking.judge_answer.Goals as goal
 
 pub returns-in_ok-verdict-in-Some-clause-ok : goal.returns-in_ok-verdict-in-Some-clause-ok

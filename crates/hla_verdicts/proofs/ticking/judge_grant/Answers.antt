@@ -4,8 +4,8 @@ use Rattle.hla_catalogue.specs.CatalogueValue.{empty_catalogue}
 use Rattle.hla_machine.specs.Directory.{new_directory}
 use Rattle.hla_machine.specs.Central.{Central}
 use Rattle.hla_accounts.specs.Accounts.{central_with}
-use Rattle.hla_accounts.proofs.CountLemmas.{same_size}
-use Rattle.hla_verdicts.proofs.TickVerdicts.{granted_low}
+use Rattle.hla_accounts.proofs.Changes.Counts.{same_size}
+use Rattle.hla_verdicts.proofs.Picks.Ticks.{granted_low}
 use Rattle.hla_verdicts.proofs.ticking.judge_grant.Goals as goal
 
 pub returns-then-not-may_be_granted-clause-judged : goal.returns-then-not-may_be_granted-clause-judged

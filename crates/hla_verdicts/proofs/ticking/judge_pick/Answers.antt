@@ -1,6 +1,6 @@
 use Rattle.hla_callbacks.specs.declared.callback.Callback.TheVariants as callbacks
 use Rattle.hla_accounts.specs.Accounts.{central_with}
-use Rattle.hla_verdicts.proofs.TickVerdicts.{picked_as}
+use Rattle.hla_verdicts.proofs.Picks.Ticks.{picked_as}
 use Rattle.hla_verdicts.proofs.ticking.judge_pick.Goals as goal
 
 pub returns-in_ok-verdict-in-ReflectAttributeValues-clause-ok : goal.returns-in_ok-verdict-in-ReflectAttributeValues-clause-ok

@@ -3,8 +3,8 @@ use Rattle.hla_catalogue.specs.CatalogueValue.{empty_catalogue}
 use Rattle.hla_machine.specs.Directory.{new_directory}
 use Rattle.hla_machine.specs.declared.step.Step.TheVariants as steps
 use Rattle.hla_accounts.specs.Accounts.{central_with}
-use Rattle.hla_verdicts.proofs.StepVerdicts.{refused_told, done_wrong}
-use Rattle.hla_verdicts.proofs.TickVerdicts.{caller_room, failed_told, failed_wrong, ticked_told}
+use Rattle.hla_verdicts.proofs.Steps.Outcomes.{refused_told, done_wrong}
+use Rattle.hla_verdicts.proofs.Picks.Ticks.{caller_room, failed_told, failed_wrong, ticked_told}
 use Rattle.hla_verdicts.proofs.ticking.judge_tick.Goals as goal
 
 pub judge_pick-requires : goal.judge_pick-requires

@@ -1,5 +1,5 @@
 use Rattle.hla_accounts.specs.Accounts.{account_at}
-use Rattle.hla_accounts.proofs.CallLemmas.{listed_decided}
+use Rattle.hla_accounts.proofs.Tests.Calls.{listed_decided}
 use Rattle.hla_verdicts.proofs.ticking.may_be_asked.Goals as goal
 
 pub returns : goal.returns

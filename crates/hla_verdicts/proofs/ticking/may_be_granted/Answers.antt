@@ -1,4 +1,4 @@
-use Rattle.hla_accounts.proofs.TickLemmas.{may_grant_decided}
+use Rattle.hla_accounts.proofs.Tests.Ticks.{may_grant_decided}
 use Rattle.hla_verdicts.proofs.ticking.may_be_granted.Goals as goal
 
 pub returns : goal.returns

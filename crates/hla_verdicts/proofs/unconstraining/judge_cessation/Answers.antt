@@ -1,5 +1,5 @@
 use Rattle.hla_accounts.specs.Accounts.{central_with}
-use Rattle.hla_verdicts.proofs.ConstraintVerdicts.{cease_as, cease_not_done}
+use Rattle.hla_verdicts.proofs.Time.Constraints.{cease_as, cease_not_done}
 use Rattle.hla_verdicts.proofs.unconstraining.judge_cessation.Goals as goal
 
 pub returns-then-not-is_done-clause-judged : goal.returns-then-not-is_done-clause-judged

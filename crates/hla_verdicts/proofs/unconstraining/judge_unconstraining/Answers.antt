@@ -2,8 +2,8 @@ use Rattle.std.proofs.Common.{rules, ◌∙◌}
 use Rattle.hla_machine.specs.declared.service.Service.TheVariants as services
 use Rattle.hla_machine.specs.declared.step.Step.TheVariants as steps
 use Rattle.hla_accounts.specs.Accounts.{central_with}
-use Rattle.hla_verdicts.proofs.StepVerdicts.{refused_told, done_wrong}
-use Rattle.hla_verdicts.proofs.ConstraintVerdicts.{ceased_told, unconstrain_refusal}
+use Rattle.hla_verdicts.proofs.Steps.Outcomes.{refused_told, done_wrong}
+use Rattle.hla_verdicts.proofs.Time.Constraints.{ceased_told, unconstrain_refusal}
 use Rattle.hla_verdicts.proofs.unconstraining.judge_unconstraining.Goals as goal
 
 pub returns-else-not-is_nothing-clause-judged : goal.returns-else-not-is_nothing-clause-judged

@@ -1,4 +1,4 @@
-use Rattle.hla_accounts.proofs.CallLemmas.{may_cease_decided}
+use Rattle.hla_accounts.proofs.Tests.Calls.{may_cease_decided}
 use Rattle.hla_verdicts.proofs.unconstraining.may_cease.Goals as goal
 
 pub returns : goal.returns

@@ -3,7 +3,7 @@ use Rattle.std.proofs.Common.{◌≡◌, ◌+◌, length, ap, ◌∙◌, arith}
 use Rattle.hla_base.specs.Rows.{bar_of}
 use Rattle.hla_base.specs.Tables.{greatest}
 use Rattle.hla_accounts.specs.Accounts.{account_at}
-use Rattle.hla_accounts.proofs.EntryLemmas.{greatest_none, greatest_next}
+use Rattle.hla_accounts.proofs.Tests.Entries.{greatest_none, greatest_next}
 use Rattle.hla_accounts.proofs.accounts.Accounts.greatest_bar.Goals as goal
 
 pub loop-other-init : goal.loop-other-init

@@ -2,7 +2,7 @@
 use Rattle.std.proofs.Common.{refl, sym, ap, ◌∙◌}
 use Rattle.std.specs.List.{list_any}
 use Rattle.hla_accounts.specs.declared.account.Account.{Account}
-use Rattle.hla_accounts.proofs.RefusalLemmas.{asked_of_one}
+use Rattle.hla_accounts.proofs.Tests.Refusals.{asked_of_one}
 use Rattle.hla_accounts.proofs.accounts.Accounts.is_any_joined.Goals as goal
 
 pub returns : goal.returns

@@ -1,7 +1,7 @@
 -- A stamp is tested by its own limit, and by the row where some part goes in time-stamp order.
 use Rattle.std.proofs.Common.{◌∙◌, arith}
 use Rattle.hla_accounts.specs.Accounts.{account_at}
-use Rattle.hla_accounts.proofs.RefusalLemmas.{early_part, no_part, no_stamp}
+use Rattle.hla_accounts.proofs.Tests.Refusals.{early_part, no_part, no_stamp}
 use Rattle.hla_accounts.proofs.accounts.Accounts.is_bad_stamp.Goals as goal
 
 pub returns-then-is_some_timestamp : goal.returns-then-is_some_timestamp

@@ -1,7 +1,7 @@
 -- One after another the numbers are visited.
 use Rattle.std.proofs.Common.{◌≡◌, ◌≤◌, ◌<◌, ◌+◌, ◌∙◌, ℕ, length, refl, sym, true, arith}
 use Rattle.hla_accounts.specs.Bounds.{leaves_below}
-use Rattle.hla_accounts.proofs.BoundLemmas.{all_left, one_left, visited}
+use Rattle.hla_accounts.proofs.Tests.Bounds.{all_left, one_left, visited}
 use Rattle.hla_accounts.proofs.accounts.Accounts.is_below_bound.Goals as goal
 
 pub loop-other-preserved : goal.loop-other-preserved

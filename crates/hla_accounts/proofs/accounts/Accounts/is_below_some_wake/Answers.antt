@@ -1,8 +1,8 @@
 -- One after another the numbers are visited.
 use Rattle.std.proofs.Common.{◌≡◌, ◌≤◌, ◌<◌, ◌+◌, ◌∙◌, ℕ, length, sym, false, arith}
 use Rattle.hla_accounts.specs.Calls.{is_below_wake_of}
-use Rattle.hla_accounts.proofs.BoundLemmas.{visited}
-use Rattle.hla_accounts.proofs.EntryLemmas.{some_found, none_found}
+use Rattle.hla_accounts.proofs.Tests.Bounds.{visited}
+use Rattle.hla_accounts.proofs.Tests.Entries.{some_found, none_found}
 use Rattle.hla_accounts.proofs.accounts.Accounts.is_below_some_wake.Goals as goal
 
 pub loop-other-preserved : goal.loop-other-preserved

@@ -3,7 +3,7 @@ use Rattle.std.proofs.Common.{◌&&◌, refl, sym, ap, ◌∙◌}
 use Rattle.std.specs.List.{list_any}
 use Rattle.std.specs.Str.{bytes_eq}
 use Rattle.hla_accounts.specs.declared.account.Account.{Account}
-use Rattle.hla_accounts.proofs.RefusalLemmas.{asked_of_one}
+use Rattle.hla_accounts.proofs.Tests.Refusals.{asked_of_one}
 use Rattle.hla_accounts.proofs.accounts.Accounts.is_named.Goals as goal
 
 pub returns : goal.returns

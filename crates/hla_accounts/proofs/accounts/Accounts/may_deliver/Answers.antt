@@ -1,8 +1,8 @@
 -- It waits or does not, and the rest is tested.
 use Rattle.std.proofs.lemmas.Bool.Decides.{Decides-at}
 use Rattle.hla_accounts.specs.Accounts.{AreKept}
-use Rattle.hla_accounts.proofs.AccountLemmas.{nothing_waits}
-use Rattle.hla_accounts.proofs.TickLemmas.{may_deliver_decided}
+use Rattle.hla_accounts.proofs.Changes.Accounts.{nothing_waits}
+use Rattle.hla_accounts.proofs.Tests.Ticks.{may_deliver_decided}
 use Rattle.hla_accounts.proofs.accounts.Accounts.may_deliver.Goals as goal
 
 pub may_deliver_waiting-requires : goal.may_deliver_waiting-requires

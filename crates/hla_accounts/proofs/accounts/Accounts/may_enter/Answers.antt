@@ -1,6 +1,6 @@
 -- It is the greatest bar, or at most some wake.
 use Rattle.std.proofs.Common.{inl, inr}
-use Rattle.hla_accounts.proofs.EntryLemmas.{entry_within}
+use Rattle.hla_accounts.proofs.Tests.Entries.{entry_within}
 use Rattle.hla_accounts.proofs.accounts.Accounts.may_enter.Goals as goal
 
 pub returns-then-entry-low-clause-within : goal.returns-then-entry-low-clause-within

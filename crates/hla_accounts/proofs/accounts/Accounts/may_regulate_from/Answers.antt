@@ -6,7 +6,7 @@ use Rattle.hla_catalogue.specs.CatalogueValue.{empty_catalogue}
 use Rattle.hla_machine.specs.Directory.{new_directory}
 use Rattle.hla_machine.specs.Central.{low_entry}
 use Rattle.hla_accounts.specs.Accounts.{account_at}
-use Rattle.hla_accounts.proofs.EntryLemmas.{IsClear, clear_limits, entry_limits}
+use Rattle.hla_accounts.proofs.Tests.Entries.{IsClear, clear_limits, entry_limits}
 use Rattle.hla_accounts.proofs.accounts.Accounts.may_regulate_from.Goals as goal
 
 clear : (c : goal.After-may_enter) → IsClear (account_at c.args.self.now c.args.federate).state (greatest (length c.args.self.now + 1) (c.args.time + c.args.lookahead) (λ g. bar_of (account_at c.args.self.now g).state)) c.args.time c.args.lookahead

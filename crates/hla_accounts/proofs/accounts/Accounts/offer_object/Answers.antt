@@ -2,7 +2,7 @@
 use Rattle.std.proofs.Common.{◌∷◌, [], refl, arith, length-append}
 use Rattle.std.proofs.lemmas.Iterator.Adapters.{YieldsList-from_vec}
 use Rattle.std.proofs.lemmas.Iterator.Consumers.{YieldsList-end}
-use Rattle.hla_accounts.proofs.DiscoveryLemmas.{offers_none, offers_more, offers_all}
+use Rattle.hla_accounts.proofs.Sendings.Discoveries.{offers_none, offers_more, offers_all}
 use Rattle.hla_accounts.proofs.accounts.Accounts.offer_object.Goals as goal
 
 pub loop-discovery-init : goal.loop-discovery-init

@@ -1,6 +1,6 @@
 -- So far the discoveries of those wait whose part of the list was taken.
 use Rattle.std.proofs.Common.{◌≡◌, ◌+◌, length}
-use Rattle.hla_accounts.proofs.DiscoveryLemmas.{AreOffered}
+use Rattle.hla_accounts.proofs.Sendings.Discoveries.{AreOffered}
 use Rattle.hla_accounts.proofs.accounts.Accounts.offer_object.Given as goal
 
 abbrev pub invariant-loop-discovery : goal.invariant-loop-discovery

@@ -1,7 +1,7 @@
 -- One after another it is under way to those that are told.
 use Rattle.std.proofs.Common.{◌∙◌, sym, ap, arith}
 use Rattle.hla_accounts.specs.Accounts.{central_with}
-use Rattle.hla_accounts.proofs.RetractLemmas.{owes_none, owes_size, owes_more, owes_same, owes_all}
+use Rattle.hla_accounts.proofs.Sendings.Retractions.{owes_none, owes_size, owes_more, owes_same, owes_all}
 use Rattle.hla_accounts.proofs.accounts.Accounts.owe.Goals as goal
 use Rattle.hla_accounts.proofs.accounts.Accounts.owe.Goals.{then-is_told+in_ok-add_owed, else-is_told}
 

@@ -1,5 +1,5 @@
 -- So far it is under way to the numbers below.
-use Rattle.hla_accounts.proofs.RetractLemmas.{IsOwedBelow}
+use Rattle.hla_accounts.proofs.Sendings.Retractions.{IsOwedBelow}
 use Rattle.hla_accounts.proofs.accounts.Accounts.owe.Given as goal
 
 abbrev pub invariant-loop-receiver : goal.invariant-loop-receiver

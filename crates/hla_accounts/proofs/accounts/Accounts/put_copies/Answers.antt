@@ -2,7 +2,7 @@
 use Rattle.std.proofs.Common.{◌∷◌, [], refl, arith, length-append}
 use Rattle.std.proofs.lemmas.Iterator.Adapters.{YieldsList-from_vec}
 use Rattle.std.proofs.lemmas.Iterator.Consumers.{YieldsList-end}
-use Rattle.hla_accounts.proofs.MessageLemmas.{puts_none, puts_serial, puts_free, puts_more, puts_all}
+use Rattle.hla_accounts.proofs.Sendings.Messages.{puts_none, puts_serial, puts_free, puts_more, puts_all}
 use Rattle.hla_accounts.proofs.accounts.Accounts.put_copies.Goals as goal
 
 pub loop-content-init : goal.loop-content-init

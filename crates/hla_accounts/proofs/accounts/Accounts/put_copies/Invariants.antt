@@ -1,6 +1,6 @@
 -- So far the copies for those whose contents were taken wait.
 use Rattle.std.proofs.Common.{◌≡◌, ◌+◌, length}
-use Rattle.hla_accounts.proofs.MessageLemmas.{ArePut}
+use Rattle.hla_accounts.proofs.Sendings.Messages.{ArePut}
 use Rattle.hla_accounts.proofs.accounts.Accounts.put_copies.Given as goal
 
 abbrev pub invariant-loop-content : goal.invariant-loop-content

@@ -2,7 +2,7 @@
 use Rattle.std.proofs.Common.{ℕ, Bool, true, sym, ap, ◌∙◌, arith}
 use Rattle.hla_base.specs.Tables.{upd}
 use Rattle.hla_retraction.specs.Receivers.{receiver_set}
-use Rattle.hla_accounts.proofs.MessageLemmas.{told_none, told_more, told_same, told_all, receives, receives_none, receives_within}
+use Rattle.hla_accounts.proofs.Sendings.Messages.{told_none, told_more, told_same, told_all, receives, receives_none, receives_within}
 use Rattle.hla_accounts.proofs.accounts.Accounts.receivers_of.Goals as goal
 use Rattle.hla_accounts.proofs.accounts.Accounts.receivers_of.Goals.{then-is_receiver, else-is_receiver}
 

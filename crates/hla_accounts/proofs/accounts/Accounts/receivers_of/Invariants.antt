@@ -4,7 +4,7 @@ use Rattle.hla_base.specs.Tables.{is_other}
 use Rattle.hla_retraction.specs.Receivers.{receiver_set}
 use Rattle.hla_accounts.specs.Accounts.{account_at}
 use Rattle.hla_accounts.specs.Sendings.{item_for}
-use Rattle.hla_accounts.proofs.MessageLemmas.{told_below}
+use Rattle.hla_accounts.proofs.Sendings.Messages.{told_below}
 use Rattle.hla_accounts.proofs.accounts.Accounts.receivers_of.Given as goal
 
 abbrev pub invariant-loop-federate : goal.invariant-loop-federate

@@ -5,7 +5,7 @@ use Rattle.hla_base.specs.declared.row.TimeRow.{TimeRow}
 use Rattle.hla_base.specs.RowRefusals.{first_fault, regulation_tests}
 use Rattle.hla_accounts.specs.declared.account.Account.{Account}
 use Rattle.hla_accounts.specs.Accounts.{account_at}
-use Rattle.hla_accounts.proofs.RefusalLemmas.{entry_tested}
+use Rattle.hla_accounts.proofs.Tests.Refusals.{entry_tested}
 use Rattle.hla_accounts.proofs.accounts.Accounts.regulation_fault.Goals as goal
 
 pub returns-in-Some : goal.returns-in-Some

@@ -2,7 +2,7 @@
 use Rattle.std.proofs.Common.{◌≡◌, eqb, true, List, [], ◌∷◌, length, refl, sym, subst, ◌∙◌, arith, eqb-true}
 use Rattle.hla_accounts.specs.declared.bag.Waiting.{Waiting}
 use Rattle.hla_accounts.specs.Bags.{waiting_at, with_listed_demoted}
-use Rattle.hla_accounts.proofs.BagLemmas.{waiting_at-demote}
+use Rattle.hla_accounts.proofs.Bags.Contents.{waiting_at-demote}
 use Rattle.hla_accounts.proofs.bag.Bag.demote.Goals as goal
 
 none_waits : (ws : List Waiting) → eqb (length ws) 0 ≡ true → ws ≡ []

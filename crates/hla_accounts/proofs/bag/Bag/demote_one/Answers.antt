@@ -4,7 +4,7 @@ use Rattle.std.specs.List.{position}
 use Rattle.hla_accounts.specs.declared.bag.Waiting.{Waiting}
 use Rattle.hla_accounts.specs.Bags.{is_of, waiting_at, with_listed_demoted, AreApart}
 use Rattle.hla_accounts.specs.Bounds.{ordered_stamp}
-use Rattle.hla_accounts.proofs.PlaceLemmas.{demoted_at, none_demoted_one, found_none, unmoved}
+use Rattle.hla_accounts.proofs.Bags.Places.{demoted_at, none_demoted_one, found_none, unmoved}
 use Rattle.hla_accounts.proofs.bag.Bag.demote_one.Goals as goal
 
 pub returns-then-is_some-clause-table : goal.returns-then-is_some-clause-table

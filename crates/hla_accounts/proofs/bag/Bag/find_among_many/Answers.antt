@@ -1,7 +1,7 @@
 -- What stands at its place is the message.
 use Rattle.std.proofs.Common.{◌≡◌, ◌<◌, List, length, get_or, subst, sym, ◌∙◌}
 use Rattle.hla_accounts.specs.declared.bag.Waiting.{Waiting}
-use Rattle.hla_accounts.proofs.PlaceLemmas.{there_at, found_inside, found_none}
+use Rattle.hla_accounts.proofs.Bags.Places.{there_at, found_inside, found_none}
 use Rattle.hla_accounts.proofs.bag.Bag.find_among_many.Goals as goal
 
 pub bounds-as_slice-place : goal.bounds-as_slice-place

@@ -5,8 +5,8 @@ use Rattle.std.specs.Option.{option_map_or}
 use Rattle.hla_accounts.specs.declared.bag.Waiting.{Waiting}
 use Rattle.hla_accounts.specs.Bags.{is_of, waiting_at}
 use Rattle.hla_accounts.specs.Indexes.{delivery_at}
-use Rattle.hla_accounts.proofs.PlaceLemmas.{stands_there, undelivered}
-use Rattle.hla_accounts.proofs.IndexingLemmas.{head_of}
+use Rattle.hla_accounts.proofs.Bags.Places.{stands_there, undelivered}
+use Rattle.hla_accounts.proofs.Indexes.Indexing.{head_of}
 use Rattle.hla_accounts.proofs.bag.Bag.place_among_many.Goals as goal
 
 pub returns-in-Some-place_of : goal.returns-in-Some-place_of

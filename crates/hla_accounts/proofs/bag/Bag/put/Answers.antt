@@ -4,7 +4,7 @@ use Rattle.hla_base.specs.Tables.{upd2}
 use Rattle.hla_accounts.specs.declared.bag.Waiting.{Waiting}
 use Rattle.hla_accounts.specs.Bags.{waiting_at, AreApart}
 use Rattle.hla_accounts.specs.Indexes.{IsIndexingOf}
-use Rattle.hla_accounts.proofs.BagLemmas.{waiting_at-push, apart-push}
+use Rattle.hla_accounts.proofs.Bags.Contents.{waiting_at-push, apart-push}
 use Rattle.hla_accounts.proofs.bag.Bag.put.Goals as goal
 
 free : (ws value : List Waiting) (w : Waiting) → ws ≡ value → waiting_at value w.event.sender w.event.serial ≡ None → waiting_at ws w.event.sender w.event.serial ≡ None

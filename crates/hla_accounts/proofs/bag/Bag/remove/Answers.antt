@@ -5,8 +5,8 @@ use Rattle.hla_base.specs.Tables.{upd2}
 use Rattle.hla_accounts.specs.declared.bag.Waiting.{Waiting}
 use Rattle.hla_accounts.specs.Bags.{is_of, waiting_at}
 use Rattle.hla_accounts.specs.Indexes.{IsIndexingOf}
-use Rattle.hla_accounts.proofs.IndexingLemmas.{kept_less_found}
-use Rattle.hla_accounts.proofs.PlaceLemmas.{removed_there, found_none, unwritten}
+use Rattle.hla_accounts.proofs.Indexes.Indexing.{kept_less_found}
+use Rattle.hla_accounts.proofs.Bags.Places.{removed_there, found_none, unwritten}
 use Rattle.hla_accounts.proofs.bag.Bag.remove.Goals as goal
 
 pub returns-in-Some-clause-table : goal.returns-in-Some-clause-table

@@ -3,7 +3,7 @@ use Rattle.std.proofs.Common.{List, None, ap, ◌∙◌}
 use Rattle.hla_base.specs.Tables.{upd2}
 use Rattle.hla_accounts.specs.declared.bag.Waiting.{Waiting}
 use Rattle.hla_accounts.specs.Bags.{waiting_at}
-use Rattle.hla_accounts.proofs.PlaceLemmas.{removed_there, found_none, unwritten}
+use Rattle.hla_accounts.proofs.Bags.Places.{removed_there, found_none, unwritten}
 use Rattle.hla_accounts.proofs.bag.Bag.remove_from_many.Goals as goal
 
 pub returns-clause-table : goal.returns-clause-table

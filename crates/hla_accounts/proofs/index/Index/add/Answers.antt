@@ -1,6 +1,6 @@
 -- The key and the name of the new message come in.
 use Rattle.std.proofs.Common.{Some, true, refl}
-use Rattle.hla_accounts.proofs.IndexLemmas.{key_now, number_now, keys_added, names_written}
+use Rattle.hla_accounts.proofs.Indexes.Upkeep.{key_now, number_now, keys_added, names_written}
 use Rattle.hla_accounts.proofs.index.Index.add.Goals as goal
 
 pub returns : goal.returns

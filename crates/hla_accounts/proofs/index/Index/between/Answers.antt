@@ -3,7 +3,7 @@ use Rattle.std.proofs.Common.{◌≡◌, subst}
 use Rattle.std.specs.List.{filter}
 use Rattle.std.specs.BTreeMap.Range.{range_contains}
 use Rattle.std.specs.declared.ops.Bound.TheVariants.{Included, Excluded}
-use Rattle.hla_accounts.proofs.KeyLemmas.{same_order}
+use Rattle.hla_accounts.proofs.Indexes.Keys.{same_order}
 use Rattle.hla_accounts.proofs.index.Index.between.Goals as goal
 
 pub returns-clause-keys : goal.returns-clause-keys

@@ -1,6 +1,6 @@
 -- One key of the message goes, and the other comes in.
 use Rattle.std.proofs.Common.{true, false}
-use Rattle.hla_accounts.proofs.IndexLemmas.{key_now, keys_changed, names_kept}
+use Rattle.hla_accounts.proofs.Indexes.Upkeep.{key_now, keys_changed, names_kept}
 use Rattle.hla_accounts.proofs.index.Index.change.Goals as goal
 
 pub returns : goal.returns

@@ -4,7 +4,7 @@ use Rattle.std.proofs.lemmas.List.{get_or-drop, take_all, take_more}
 use Rattle.hla_accounts.specs.declared.bag.Waiting.{Waiting}
 use Rattle.hla_accounts.specs.Bags.{waiting_at}
 use Rattle.hla_accounts.specs.Indexes.{delivery_at, IsIndexOf}
-use Rattle.hla_accounts.proofs.PlaceLemmas.{free_before, delivered_push, undelivered_back}
+use Rattle.hla_accounts.proofs.Bags.Places.{free_before, delivered_push, undelivered_back}
 use Rattle.hla_accounts.proofs.index.Index.extend.Goals as goal
 
 pub loop-message-init : goal.loop-message-init

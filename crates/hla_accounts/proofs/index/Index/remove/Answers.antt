@@ -1,6 +1,6 @@
 -- The key and the name of the message go.
 use Rattle.std.proofs.Common.{None, false, refl}
-use Rattle.hla_accounts.proofs.IndexLemmas.{key_now, number_now, keys_removed, names_written}
+use Rattle.hla_accounts.proofs.Indexes.Upkeep.{key_now, number_now, keys_removed, names_written}
 use Rattle.hla_accounts.proofs.index.Index.remove.Goals as goal
 
 pub returns : goal.returns

@@ -6,8 +6,8 @@ use Rattle.hla_accounts.specs.declared.bag.Waiting.{Waiting}
 use Rattle.hla_accounts.specs.declared.indexing.Indexing.{Indexing}
 use Rattle.hla_accounts.specs.Bags.{demoted_delivery, IsNotBelow}
 use Rattle.hla_accounts.specs.Indexes.{delivery_at, IsIndexOf, IsIndexingOf, IsCaughtUp}
-use Rattle.hla_accounts.proofs.PlaceLemmas.{delivered_at}
-use Rattle.hla_accounts.proofs.IndexingLemmas.{head_of, whole, own_place, kept_demoted, kept_demoted_none}
+use Rattle.hla_accounts.proofs.Bags.Places.{delivered_at}
+use Rattle.hla_accounts.proofs.Indexes.Indexing.{head_of, whole, own_place, kept_demoted, kept_demoted_none}
 use Rattle.hla_accounts.proofs.indexing.Indexing.demote.Goals as goal
 use Rattle.hla_accounts.proofs.indexing.Indexing.demote.Goals.{in-Some+else-is_ok, in_default}
 

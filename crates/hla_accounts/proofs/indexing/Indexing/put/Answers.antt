@@ -1,7 +1,7 @@
 -- The new message is in the tail, and its stamp is not below the bounds.
 use Rattle.std.proofs.Common.{sym, subst}
 use Rattle.hla_accounts.specs.Bags.{IsNotBelow}
-use Rattle.hla_accounts.proofs.IndexingLemmas.{kept_put}
+use Rattle.hla_accounts.proofs.Indexes.Indexing.{kept_put}
 use Rattle.hla_accounts.proofs.indexing.Indexing.put.Goals as goal
 
 pub returns : goal.returns

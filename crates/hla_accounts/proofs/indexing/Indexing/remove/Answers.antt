@@ -2,8 +2,8 @@
 use Rattle.std.proofs.Common.{◌≡◌, get_or, List, subst}
 use Rattle.hla_accounts.specs.declared.bag.Waiting.{Waiting}
 use Rattle.hla_accounts.specs.Indexes.{delivery_at, IsCaughtUp}
-use Rattle.hla_accounts.proofs.PlaceLemmas.{delivered_at}
-use Rattle.hla_accounts.proofs.IndexingLemmas.{head_of, whole, own_place, kept_less, kept_less_none}
+use Rattle.hla_accounts.proofs.Bags.Places.{delivered_at}
+use Rattle.hla_accounts.proofs.Indexes.Indexing.{head_of, whole, own_place, kept_less, kept_less_none}
 use Rattle.hla_accounts.proofs.indexing.Indexing.remove.Goals as goal
 
 pub returns-in_default : goal.returns-in_default

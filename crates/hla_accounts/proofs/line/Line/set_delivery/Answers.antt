@@ -1,7 +1,7 @@
 -- What is written behind the gap is written in the list.
 use Rattle.std.proofs.Common.{◌<◌, List, length, drop, set, get_or, subst, sym, ap, ◌∙◌, arith, length-drop}
 use Rattle.hla_accounts.specs.declared.bag.Waiting.{Waiting}
-use Rattle.hla_accounts.proofs.LineLemmas.{set_behind}
+use Rattle.hla_accounts.proofs.Bags.Lines.{set_behind}
 use Rattle.hla_accounts.proofs.line.Line.set_delivery.Goals as goal
 
 pub returns : goal.returns

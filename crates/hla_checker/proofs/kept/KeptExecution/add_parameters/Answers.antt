@@ -3,7 +3,7 @@ use Rattle.std.proofs.Common.{◌∷◌, ◌++◌, [], sym, ap, ◌∙◌}
 use Rattle.hla_base.specs.declared.content.HandleValuePair.{HandleValuePair}
 use Rattle.hla_catalogue.specs.Lookup.{has_parameter}
 use Rattle.hla_verdicts.specs.Kept.{KeptValue}
-use Rattle.hla_checker.proofs.ShownValues.{shown_more, hidden_more}
+use Rattle.hla_checker.proofs.Sends.ShownValues.{shown_more, hidden_more}
 use Rattle.hla_checker.proofs.kept.KeptExecution.add_parameters.Goals as goal
 use Rattle.hla_checker.proofs.kept.KeptExecution.add_parameters.Goals.{then-has_parameter+in_ok-copy+in_ok-push, else-has_parameter}
 

@@ -1,7 +1,7 @@
 use Rattle.std.proofs.Common.{ap, sym, subst, ◌∙◌}
 use Rattle.hla_machine.specs.Machine.{after_join}
 use Rattle.hla_verdicts.specs.Kept.{KeptValue, IsConsistent, central_of}
-use Rattle.hla_checker.proofs.JoinVerdicts.{joined_central, joined_consistent}
+use Rattle.hla_checker.proofs.Verdicts.Joins.{joined_central, joined_consistent}
 use Rattle.hla_checker.proofs.kept.KeptExecution.admit.Goals as goal
 
 pub returns-clause-joined : goal.returns-clause-joined

@@ -1,7 +1,7 @@
 use Rattle.std.proofs.Common.{◌≡◌, Bool, cond, true, false, refl, ap, sym, ◌∙◌}
 use mir.Val.{bool_byte}
 use Rattle.hla_verdicts.specs.Kept.{directory_of}
-use Rattle.hla_checker.proofs.SendingTests.{sum_is, length-update}
+use Rattle.hla_checker.proofs.Sends.SendingTests.{sum_is, length-update}
 use Rattle.hla_checker.proofs.kept.KeptExecution.count_parts.Goals as goal
 
 byte_is : (b : Bool) → bool_byte b ≡ cond b 1 0

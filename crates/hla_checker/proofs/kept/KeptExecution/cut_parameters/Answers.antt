@@ -3,7 +3,7 @@ use Rattle.std.proofs.Common.{◌++◌, ◌+◌, drop, filter, sym, ap, ◌∙�
 use Rattle.std.proofs.lemmas.List.{take_rest}
 use Rattle.hla_base.specs.declared.content.HandleValuePair.{HandleValuePair}
 use Rattle.hla_catalogue.specs.Lookup.{has_parameter}
-use Rattle.hla_checker.proofs.ShownValues.{cut_first}
+use Rattle.hla_checker.proofs.Sends.ShownValues.{cut_first}
 use Rattle.hla_checker.proofs.kept.KeptExecution.cut_parameters.Goals as goal
 
 pub returns-clause-ok : goal.returns-clause-ok

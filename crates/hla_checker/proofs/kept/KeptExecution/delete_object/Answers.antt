@@ -4,7 +4,7 @@ use Rattle.hla_machine.specs.Directory.{Outgoing, without_object}
 use Rattle.hla_machine.specs.Machine.{with_central_directory}
 use Rattle.hla_machine.specs.Sends.{after_messages}
 use Rattle.hla_verdicts.specs.Kept.{central_of}
-use Rattle.hla_checker.proofs.DeletionVerdicts.{exists_within, still_registered}
+use Rattle.hla_checker.proofs.Verdicts.Deletions.{exists_within, still_registered}
 use Rattle.hla_checker.proofs.kept.KeptExecution.delete_object.Goals as goal
 
 pub remove_object-requires-clause-registered : goal.remove_object-requires-clause-registered

@@ -9,7 +9,7 @@ use Rattle.hla_machine.specs.Directory.{ADeletion, deletion_sent, is_of_order}
 use Rattle.hla_accounts.specs.Accounts.{account_at}
 use Rattle.hla_verdicts.specs.Kept.{KeptValue, directory_of}
 use Rattle.hla_checker.specs.Sending.{sending_tests}
-use Rattle.hla_checker.proofs.SendingTests.{one_stamped, deletion_rest}
+use Rattle.hla_checker.proofs.Sends.SendingTests.{one_stamped, deletion_rest}
 use Rattle.hla_checker.proofs.kept.KeptExecution.deletion_fault.Goals as goal
 
 pub returns-else-owner-federate : goal.returns-else-owner-federate

@@ -2,7 +2,7 @@ use Rattle.std.proofs.Common.{ap, ◌∙◌}
 use Rattle.hla_catalogue.specs.Lookup.{deletion_order}
 use Rattle.hla_object_registry.specs.Registered.{registry_of}
 use Rattle.hla_verdicts.specs.Kept.{KeptValue}
-use Rattle.hla_checker.proofs.DeletionVerdicts.{out_of_order}
+use Rattle.hla_checker.proofs.Verdicts.Deletions.{out_of_order}
 use Rattle.hla_checker.proofs.kept.KeptExecution.deletion_of.Goals as goal
 
 pub returns : goal.returns

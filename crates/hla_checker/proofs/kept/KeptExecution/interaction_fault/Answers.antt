@@ -7,7 +7,7 @@ use Rattle.hla_machine.specs.Directory.{AnInteraction, by_handle, interaction_se
 use Rattle.hla_accounts.specs.Accounts.{account_at}
 use Rattle.hla_verdicts.specs.Kept.{KeptValue, directory_of}
 use Rattle.hla_checker.specs.Sending.{sending_tests}
-use Rattle.hla_checker.proofs.SendingTests.{one_stamped, interaction_rest}
+use Rattle.hla_checker.proofs.Sends.SendingTests.{one_stamped, interaction_rest}
 use Rattle.hla_checker.proofs.kept.KeptExecution.interaction_fault.Goals as goal
 
 pub returns-else-not-publishes_interaction_class : goal.returns-else-not-publishes_interaction_class

@@ -1,8 +1,8 @@
 use Rattle.std.proofs.Common.{refl}
 use Rattle.hla_machine.specs.declared.step.Step.TheVariants as steps
 use Rattle.hla_verdicts.specs.Kept.{KeptValue, directory_of}
-use Rattle.hla_verdicts.proofs.StepVerdicts.{kept_changed, kept_unchanged, step_as}
-use Rattle.hla_verdicts.proofs.CallVerdicts.{size_carried}
+use Rattle.hla_verdicts.proofs.Steps.Outcomes.{kept_changed, kept_unchanged, step_as}
+use Rattle.hla_verdicts.proofs.Steps.Calls.{size_carried}
 use Rattle.hla_checker.proofs.kept.KeptExecution.judge.Goals as goal
 
 pub returns-in_ok-verdict-in-Call-clause-ok : goal.returns-in_ok-verdict-in-Call-clause-ok

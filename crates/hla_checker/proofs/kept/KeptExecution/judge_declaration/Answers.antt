@@ -1,7 +1,7 @@
 use Rattle.std.proofs.Common.{refl}
 use Rattle.hla_verdicts.specs.Kept.{KeptValue, central_of}
-use Rattle.hla_checker.proofs.DeclarationVerdicts.{caller_within, declaration_done, declaration_fault_is, declaration_is, declared_class}
-use Rattle.hla_checker.proofs.LookUpVerdicts.{called_unchanged}
+use Rattle.hla_checker.proofs.Verdicts.Declarations.{caller_within, declaration_done, declaration_fault_is, declaration_is, declared_class}
+use Rattle.hla_checker.proofs.Verdicts.LookUps.{called_unchanged}
 use Rattle.hla_checker.proofs.kept.KeptExecution.judge_declaration.Goals as goal
 
 pub declare-requires-clause-some : goal.declare-requires-clause-some

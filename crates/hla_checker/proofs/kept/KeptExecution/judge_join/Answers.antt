@@ -6,8 +6,8 @@ use Rattle.hla_machine.specs.Refusals.{refusal}
 use Rattle.hla_machine.specs.Machine.{central_seen}
 use Rattle.hla_machine.specs.declared.step.Step.TheVariants as steps
 use Rattle.hla_verdicts.specs.Kept.{KeptValue, central_of, directory_of}
-use Rattle.hla_verdicts.proofs.StepVerdicts.{refused_told, done_wrong, kept_unchanged}
-use Rattle.hla_checker.proofs.JoinVerdicts.{join_room, join_done}
+use Rattle.hla_verdicts.proofs.Steps.Outcomes.{refused_told, done_wrong, kept_unchanged}
+use Rattle.hla_checker.proofs.Verdicts.Joins.{join_room, join_done}
 use Rattle.hla_checker.proofs.kept.KeptExecution.judge_join.Goals as goal
 
 pub admit-requires-clause-room : goal.admit-requires-clause-room

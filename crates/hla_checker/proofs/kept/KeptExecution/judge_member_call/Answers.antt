@@ -1,7 +1,7 @@
 use Rattle.std.proofs.Common.{refl}
 use Rattle.hla_machine.specs.declared.step.Step.TheVariants as steps
 use Rattle.hla_verdicts.specs.Kept.{KeptValue, directory_of}
-use Rattle.hla_verdicts.proofs.StepVerdicts.{kept_changed, kept_unchanged}
+use Rattle.hla_verdicts.proofs.Steps.Outcomes.{kept_changed, kept_unchanged}
 use Rattle.hla_checker.proofs.kept.KeptExecution.judge_member_call.Goals as goal
 
 pub returns-in-Some-clause-ok : goal.returns-in-Some-clause-ok

@@ -4,7 +4,7 @@ use Rattle.hla_catalogue.specs.Lookup.{object_class_named}
 use Rattle.hla_machine.specs.declared.service.Service.TheVariants as services
 use Rattle.hla_machine.specs.Refusals.{not_found}
 use Rattle.hla_verdicts.specs.Kept.{KeptValue, central_of}
-use Rattle.hla_checker.proofs.LookUpVerdicts.{called_unchanged, object_class_look_up}
+use Rattle.hla_checker.proofs.Verdicts.LookUps.{called_unchanged, object_class_look_up}
 use Rattle.hla_checker.proofs.kept.KeptExecution.judge_object_class_number.Goals as goal
 
 pub returns : goal.returns

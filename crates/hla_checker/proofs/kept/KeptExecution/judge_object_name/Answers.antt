@@ -3,8 +3,8 @@ use Rattle.hla_machine.specs.declared.service.Service.TheVariants as services
 use Rattle.hla_machine.specs.declared.step.Answer.TheVariants as answers
 use Rattle.hla_object_registry.specs.Registered.{registry_of}
 use Rattle.hla_verdicts.specs.Kept.{KeptValue, central_of}
-use Rattle.hla_verdicts.proofs.EndingVerdicts.{looked_up}
-use Rattle.hla_checker.proofs.LookUpVerdicts.{called_unchanged, object_name_look_up}
+use Rattle.hla_verdicts.proofs.Steps.Endings.{looked_up}
+use Rattle.hla_checker.proofs.Verdicts.LookUps.{called_unchanged, object_name_look_up}
 use Rattle.hla_checker.proofs.kept.KeptExecution.judge_object_name.Goals as goal
 
 pub returns-in-Err : goal.returns-in-Err

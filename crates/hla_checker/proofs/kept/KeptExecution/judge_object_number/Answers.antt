@@ -6,8 +6,8 @@ use Rattle.hla_machine.specs.declared.step.Choice.TheVariants as choices
 use Rattle.hla_machine.specs.Refusals.{call_tests}
 use Rattle.hla_machine.specs.Machine.{MayAnswer, central_seen}
 use Rattle.hla_verdicts.specs.Kept.{central_of}
-use Rattle.hla_verdicts.proofs.EndingVerdicts.{looked_up}
-use Rattle.hla_checker.proofs.LookUpVerdicts.{called_unchanged, object_number_look_up}
+use Rattle.hla_verdicts.proofs.Steps.Endings.{looked_up}
+use Rattle.hla_checker.proofs.Verdicts.LookUps.{called_unchanged, object_number_look_up}
 use Rattle.hla_checker.proofs.kept.KeptExecution.judge_object_number.Goals as goal
 
 pub returns-in-Err : goal.returns-in-Err

@@ -1,6 +1,6 @@
 use Rattle.hla_machine.specs.declared.service.Service.TheVariants as services
 use Rattle.hla_verdicts.specs.Kept.{KeptValue}
-use Rattle.hla_verdicts.proofs.StepVerdicts.{called_as, called_changed}
+use Rattle.hla_verdicts.proofs.Steps.Outcomes.{called_as, called_changed}
 use Rattle.hla_checker.proofs.kept.KeptExecution.judge_other_call.Goals as goal
 
 pub returns-in-Retract-clause-ok : goal.returns-in-Retract-clause-ok

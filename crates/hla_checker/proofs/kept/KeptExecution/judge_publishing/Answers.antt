@@ -7,8 +7,8 @@ use Rattle.hla_machine.specs.Refusals.{no_attribute, no_object_class}
 use Rattle.hla_object_registry.specs.Registered.{registry_of}
 use Rattle.hla_accounts.specs.Accounts.{central_with}
 use Rattle.hla_verdicts.specs.Kept.{KeptValue, central_of, directory_kept, directory_of}
-use Rattle.hla_checker.proofs.DeclarationVerdicts.{caller_within, class_within, declared_consistent, done_judged, publishing_only}
-use Rattle.hla_checker.proofs.LookUpVerdicts.{called_unchanged}
+use Rattle.hla_checker.proofs.Verdicts.Declarations.{caller_within, class_within, declared_consistent, done_judged, publishing_only}
+use Rattle.hla_checker.proofs.Verdicts.LookUps.{called_unchanged}
 use Rattle.hla_checker.proofs.kept.KeptExecution.judge_publishing.Goals as goal
 
 pub publish_object_class-requires-clause-some : goal.publish_object_class-requires-clause-some

@@ -8,9 +8,9 @@ use Rattle.hla_machine.specs.Refusals.{call_tests}
 use Rattle.hla_machine.specs.declared.service.Service.TheVariants as services
 use Rattle.hla_machine.specs.declared.step.Answer.TheVariants as answers
 use Rattle.hla_verdicts.specs.Kept.{KeptValue, central_of}
-use Rattle.hla_verdicts.proofs.CallVerdicts.{joined_within}
-use Rattle.hla_checker.proofs.LookUpVerdicts.{called_unchanged}
-use Rattle.hla_checker.proofs.RegistrationVerdicts.{registration_done, registration_fault, registration_room, registration_unused, registration_wrong}
+use Rattle.hla_verdicts.proofs.Steps.Calls.{joined_within}
+use Rattle.hla_checker.proofs.Verdicts.LookUps.{called_unchanged}
+use Rattle.hla_checker.proofs.Verdicts.Registrations.{registration_done, registration_fault, registration_room, registration_unused, registration_wrong}
 use Rattle.hla_checker.proofs.kept.KeptExecution.judge_registration.Goals as goal
 
 pub register-requires-clause-some : goal.register-requires-clause-some

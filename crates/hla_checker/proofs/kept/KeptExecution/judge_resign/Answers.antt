@@ -3,9 +3,9 @@ use Rattle.hla_machine.specs.Machine.{central_seen}
 use Rattle.hla_machine.specs.declared.service.Service.TheVariants as services
 use Rattle.hla_machine.specs.declared.step.Step.TheVariants as steps
 use Rattle.hla_verdicts.specs.Kept.{central_of}
-use Rattle.hla_verdicts.proofs.StepVerdicts.{kept_unchanged}
-use Rattle.hla_verdicts.proofs.ServiceVerdicts.{joined_refusal, plain_not_done, plain_done}
-use Rattle.hla_checker.proofs.DeletionVerdicts.{resign_plain, resign_room, resign_ways}
+use Rattle.hla_verdicts.proofs.Steps.Outcomes.{kept_unchanged}
+use Rattle.hla_verdicts.proofs.Steps.Services.{joined_refusal, plain_not_done, plain_done}
+use Rattle.hla_checker.proofs.Verdicts.Deletions.{resign_plain, resign_room, resign_ways}
 use Rattle.hla_checker.proofs.kept.KeptExecution.judge_resign.Goals as goal
 
 pub returns-then-not-is_done-clause-ok : goal.returns-then-not-is_done-clause-ok

@@ -8,9 +8,9 @@ use Rattle.hla_machine.specs.Sends.{after_messages}
 use Rattle.hla_machine.specs.declared.service.Service.TheVariants as services
 use Rattle.hla_machine.specs.declared.step.Step.TheVariants as steps
 use Rattle.hla_verdicts.specs.Kept.{central_of, directory_of}
-use Rattle.hla_verdicts.proofs.StepVerdicts.{kept_unchanged}
-use Rattle.hla_verdicts.proofs.ServiceVerdicts.{joined_refusal}
-use Rattle.hla_checker.proofs.SendVerdicts.{interaction_sending, sending_wrong, sending_done}
+use Rattle.hla_verdicts.proofs.Steps.Outcomes.{kept_unchanged}
+use Rattle.hla_verdicts.proofs.Steps.Services.{joined_refusal}
+use Rattle.hla_checker.proofs.Verdicts.Sends.{interaction_sending, sending_wrong, sending_done}
 use Rattle.hla_checker.proofs.kept.KeptExecution.judge_send_interaction.Goals as goal
 
 pub returns-then-not-is_sent-clause-ok : goal.returns-then-not-is_sent-clause-ok

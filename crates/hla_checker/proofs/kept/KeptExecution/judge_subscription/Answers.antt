@@ -4,10 +4,10 @@ use Rattle.hla_machine.specs.declared.service.Service.TheVariants as services
 use Rattle.hla_machine.specs.Machine.{after_subscribe}
 use Rattle.hla_machine.specs.Refusals.{no_attribute, no_object_class}
 use Rattle.hla_verdicts.specs.Kept.{central_of, directory_of}
-use Rattle.hla_verdicts.proofs.CallVerdicts.{joined_within}
-use Rattle.hla_checker.proofs.DeclarationVerdicts.{class_within, done_judged}
-use Rattle.hla_checker.proofs.LookUpVerdicts.{called_unchanged}
-use Rattle.hla_checker.proofs.SubscriptionVerdicts.{subscribing_only}
+use Rattle.hla_verdicts.proofs.Steps.Calls.{joined_within}
+use Rattle.hla_checker.proofs.Verdicts.Declarations.{class_within, done_judged}
+use Rattle.hla_checker.proofs.Verdicts.LookUps.{called_unchanged}
+use Rattle.hla_checker.proofs.Verdicts.Subscriptions.{subscribing_only}
 use Rattle.hla_checker.proofs.kept.KeptExecution.judge_subscription.Goals as goal
 
 pub subscribe-requires-clause-some : goal.subscribe-requires-clause-some

@@ -1,4 +1,4 @@
-use Rattle.hla_checker.proofs.NewExecution.{new_execution}
+use Rattle.hla_checker.proofs.Executions.NewExecution.{new_execution}
 use Rattle.hla_checker.proofs.kept.KeptExecution.new.Goals as goal
 
 pub returns-clause-new : goal.returns-clause-new

@@ -5,7 +5,7 @@ use Rattle.hla_base.specs.declared.content.HandleValuePair.{HandleValuePair}
 use Rattle.hla_catalogue.specs.declared.declared.Order.TheVariants.{Receive, Timestamp}
 use Rattle.hla_catalogue.specs.Lookup.{attribute_order}
 use Rattle.hla_machine.specs.Directory.{is_of_order}
-use Rattle.hla_checker.proofs.ShownValues.{all_kept, none_kept, not_stamped, not_received}
+use Rattle.hla_checker.proofs.Sends.ShownValues.{all_kept, none_kept, not_stamped, not_received}
 use Rattle.hla_checker.proofs.kept.KeptExecution.parts_of.Goals as goal
 
 pub returns-then-has_only-clause-received : goal.returns-then-has_only-clause-received

@@ -5,7 +5,7 @@ use Rattle.hla_machine.specs.Machine.{after_register}
 use Rattle.hla_accounts.specs.Accounts.{account_at}
 use Rattle.hla_verdicts.specs.Kept.{KeptValue, IsConsistent, central_of, directory_kept}
 use Rattle.hla_checker.specs.Offering.{known_to_joined}
-use Rattle.hla_checker.proofs.RegistrationVerdicts.{registered_central, registered_consistent}
+use Rattle.hla_checker.proofs.Verdicts.Registrations.{registered_central, registered_consistent}
 use Rattle.hla_checker.proofs.kept.KeptExecution.register.Goals as goal
 
 pub returns-clause-registered : goal.returns-clause-registered

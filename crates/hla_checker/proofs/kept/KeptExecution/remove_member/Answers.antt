@@ -1,7 +1,7 @@
 use Rattle.std.proofs.Common.{ap, sym, subst, ◌∙◌}
 use Rattle.hla_machine.specs.Machine.{after_leaving}
 use Rattle.hla_verdicts.specs.Kept.{KeptValue, IsConsistent, central_of}
-use Rattle.hla_checker.proofs.DeletionVerdicts.{left_central, left_consistent}
+use Rattle.hla_checker.proofs.Verdicts.Deletions.{left_central, left_consistent}
 use Rattle.hla_checker.proofs.kept.KeptExecution.remove_member.Goals as goal
 
 pub returns-clause-left : goal.returns-clause-left

@@ -6,7 +6,7 @@ use Rattle.hla_machine.specs.Machine.{after_leaving}
 use Rattle.hla_machine.specs.Sends.{after_messages}
 use Rattle.hla_accounts.specs.Accounts.{account_at}
 use Rattle.hla_verdicts.specs.Kept.{KeptValue, central_of, directory_of}
-use Rattle.hla_checker.proofs.UpdateVerdicts.{after_directory}
+use Rattle.hla_checker.proofs.Sends.Updates.{after_directory}
 use Rattle.hla_checker.proofs.kept.KeptExecution.resign.Goals as goal
 
 pub send_deletions-requires-clause-room : goal.send_deletions-requires-clause-room

@@ -1,7 +1,7 @@
 use Rattle.std.proofs.Common.{true, false, sym, ◌∙◌}
 use Rattle.hla_machine.specs.Directory.{deletions_sent, objects_of}
 use Rattle.hla_verdicts.specs.Kept.{KeptValue, directory_of}
-use Rattle.hla_checker.proofs.SendingTests.{count_deletions, resign_told}
+use Rattle.hla_checker.proofs.Sends.SendingTests.{count_deletions, resign_told}
 use Rattle.hla_checker.proofs.kept.KeptExecution.resign_fault.Goals as goal
 
 pub returns-then-is_out_of_serials : goal.returns-then-is_out_of_serials

@@ -2,7 +2,7 @@ use Rattle.std.proofs.Common.{sym, subst, length, ap, ◌∙◌}
 use Rattle.hla_machine.specs.Sends.{after_message}
 use Rattle.hla_verdicts.specs.Kept.{KeptValue, IsConsistent, central_of, directory_of}
 use Rattle.hla_checker.specs.Sending.{body_said, outgoing, AreContents}
-use Rattle.hla_checker.proofs.SendVerdicts.{cut_to, message_consistent}
+use Rattle.hla_checker.proofs.Verdicts.Sends.{cut_to, message_consistent}
 use Rattle.hla_checker.proofs.kept.KeptExecution.send.Goals as goal
 
 pub returns-clause-sent : goal.returns-clause-sent

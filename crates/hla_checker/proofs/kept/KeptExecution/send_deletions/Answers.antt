@@ -1,7 +1,7 @@
 use Rattle.std.proofs.Common.{◌≤◌, ℕ, arith, refl, sym, subst, ◌∙◌}
 use Rattle.hla_base.specs.Limits.{max_serial}
 use Rattle.hla_verdicts.specs.Kept.{central_of}
-use Rattle.hla_checker.proofs.DeletionVerdicts.{deletions_joined, deletions_serial, deletions_more}
+use Rattle.hla_checker.proofs.Verdicts.Deletions.{deletions_joined, deletions_serial, deletions_more}
 use Rattle.hla_checker.proofs.kept.KeptExecution.send_deletions.Goals as goal
 
 pub send-requires-clause-joined : goal.send-requires-clause-joined

@@ -7,7 +7,7 @@ use Rattle.hla_base.specs.declared.content.HandleValuePair.{HandleValuePair}
 use Rattle.hla_catalogue.specs.Lookup.{contains_number}
 use Rattle.hla_declaration.specs.Declarations.{declarations_of}
 use Rattle.hla_verdicts.specs.Kept.{KeptValue, directory_of}
-use Rattle.hla_checker.proofs.ShownValues.{whole_prefix, handed_values}
+use Rattle.hla_checker.proofs.Sends.ShownValues.{whole_prefix, handed_values}
 use Rattle.hla_checker.proofs.kept.KeptExecution.shown_attributes.Goals as goal
 
 pub returns-then-first-len-clause-ok : goal.returns-then-first-len-clause-ok

@@ -4,7 +4,7 @@ use Rattle.std.specs.List.{prefix_len}
 use Rattle.std.proofs.lemmas.List.Sums.{prefix_len-le-length}
 use Rattle.hla_base.specs.declared.content.HandleValuePair.{HandleValuePair}
 use Rattle.hla_catalogue.specs.Lookup.{has_parameter}
-use Rattle.hla_checker.proofs.ShownValues.{whole_prefix}
+use Rattle.hla_checker.proofs.Sends.ShownValues.{whole_prefix}
 use Rattle.hla_checker.proofs.kept.KeptExecution.shown_parameters.Goals as goal
 
 pub returns-then-count-len-clause-ok : goal.returns-then-count-len-clause-ok

@@ -2,7 +2,7 @@ use Rattle.std.proofs.Common.{◌≤◌, ℕ, Some, length, arith, sym, ap, subs
 use Rattle.hla_declaration.specs.Declarations.{declarations_of}
 use Rattle.hla_machine.specs.Machine.{after_subscribe}
 use Rattle.hla_verdicts.specs.Kept.{KeptValue, IsConsistent, central_of}
-use Rattle.hla_checker.proofs.SubscriptionVerdicts.{subscribed_central, subscribed_consistent}
+use Rattle.hla_checker.proofs.Verdicts.Subscriptions.{subscribed_central, subscribed_consistent}
 use Rattle.hla_checker.proofs.kept.KeptExecution.subscribe.Goals as goal
 
 pub subscribe_object_class_attributes-requires-clause-joined : goal.subscribe_object_class_attributes-requires-clause-joined

@@ -10,7 +10,7 @@ use Rattle.hla_machine.specs.Refusals.{is_published}
 use Rattle.hla_accounts.specs.Accounts.{account_at}
 use Rattle.hla_verdicts.specs.Kept.{KeptValue, directory_of}
 use Rattle.hla_checker.specs.Sending.{sending_tests}
-use Rattle.hla_checker.proofs.SendingTests.{any_stamped, update_rest}
+use Rattle.hla_checker.proofs.Sends.SendingTests.{any_stamped, update_rest}
 use Rattle.hla_checker.proofs.kept.KeptExecution.update_fault.Goals as goal
 
 pub returns-then-lacks_publication : goal.returns-then-lacks_publication

@@ -8,8 +8,8 @@ use Rattle.hla_machine.specs.Directory.{is_of_order}
 use Rattle.hla_accounts.specs.Accounts.{account_at}
 use Rattle.hla_accounts.specs.Sendings.{is_sent_in_order}
 use Rattle.hla_verdicts.specs.Kept.{KeptValue, directory_of}
-use Rattle.hla_checker.proofs.SendingTests.{sum_is}
-use Rattle.hla_checker.proofs.UpdateVerdicts.{update_handle_is}
+use Rattle.hla_checker.proofs.Sends.SendingTests.{sum_is}
+use Rattle.hla_checker.proofs.Sends.Updates.{update_handle_is}
 use Rattle.hla_checker.proofs.kept.KeptExecution.update_handle.Goals as goal
 
 byte_is : (b : Bool) → bool_byte b ≡ cond b 1 0

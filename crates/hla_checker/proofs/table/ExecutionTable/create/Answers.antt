@@ -1,7 +1,7 @@
 use Rattle.std.proofs.Common.{arith, ap, true, is_some, ◌∙◌}
 use Rattle.hla_machine.specs.Central.{new_central}
 use Rattle.hla_checker.specs.Table.{centrals_of}
-use Rattle.hla_checker.proofs.TableChanges.{creation_room, creation_absent, created, consistent_pushed}
+use Rattle.hla_checker.proofs.Executions.TableChanges.{creation_room, creation_absent, created, consistent_pushed}
 use Rattle.hla_checker.proofs.table.ExecutionTable.create.Goals as goal
 
 pub overflow_add-self : goal.overflow_add-self

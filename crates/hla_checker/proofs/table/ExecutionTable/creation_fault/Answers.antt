@@ -4,7 +4,7 @@ use Rattle.std.specs.Str.{bytes_eq}
 use Rattle.hla_checker.specs.declared.table.NamedExecution.{NamedExecution}
 use Rattle.hla_checker.specs.Table.{centrals_of}
 use Rattle.hla_checker.specs.Creating.{creation_tests}
-use Rattle.hla_checker.proofs.TablePlaces.{place_there}
+use Rattle.hla_checker.proofs.Executions.TablePlaces.{place_there}
 use Rattle.hla_checker.proofs.table.ExecutionTable.creation_fault.Goals as goal
 
 pub returns : goal.returns

@@ -1,4 +1,4 @@
-use Rattle.hla_checker.proofs.TableChanges.{destroyed, consistent_removed}
+use Rattle.hla_checker.proofs.Executions.TableChanges.{destroyed, consistent_removed}
 use Rattle.hla_checker.proofs.table.ExecutionTable.destroy.Goals as goal
 
 pub returns-clause-after : goal.returns-clause-after

@@ -3,8 +3,8 @@ use Rattle.std.specs.List.{position}
 use Rattle.std.specs.Str.{bytes_eq}
 use Rattle.hla_checker.specs.declared.table.NamedExecution.{NamedExecution}
 use Rattle.hla_checker.specs.Table.{centrals_of}
-use Rattle.hla_checker.proofs.TableChanges.{destruction_nowhere, destruction_there}
-use Rattle.hla_checker.proofs.TablePlaces.{no_place, found_there}
+use Rattle.hla_checker.proofs.Executions.TableChanges.{destruction_nowhere, destruction_there}
+use Rattle.hla_checker.proofs.Executions.TablePlaces.{no_place, found_there}
 use Rattle.hla_checker.proofs.table.ExecutionTable.destruction_fault.Goals as goal
 
 pub returns-in-None : goal.returns-in-None

@@ -4,9 +4,9 @@ use Rattle.std.specs.Str.{bytes_eq}
 use Rattle.hla_checker.specs.declared.table.NamedExecution.{NamedExecution}
 use Rattle.hla_checker.specs.declared.table.ExecutionTable.{ExecutionTable}
 use Rattle.std.specs.Vec.{with_item}
-use Rattle.hla_checker.proofs.TablePlaces.{no_place, found_there, table_with}
-use Rattle.hla_checker.proofs.TableChanges.{consistent_set}
-use Rattle.hla_checker.proofs.ActVerdicts.{step_nowhere, step_there}
+use Rattle.hla_checker.proofs.Executions.TablePlaces.{no_place, found_there, table_with}
+use Rattle.hla_checker.proofs.Executions.TableChanges.{consistent_set}
+use Rattle.hla_checker.proofs.Executions.Acts.{step_nowhere, step_there}
 use Rattle.hla_checker.proofs.table.ExecutionTable.judge_step.Goals as goal
 
 pub returns-in-None-clause-ok : goal.returns-in-None-clause-ok
