@@ -11,7 +11,7 @@ ghost use Rattle.hla_accounts.specs.Indexes.{IsIndexingOf};
 
 use crate::bounds::ordered_stamp;
 use crate::indexing::{INDEXED_FROM, Indexing};
-use crate::line::Line;
+use crate::line::WaitingLine;
 use crate::places::Places;
 use hla_base::{Content, EventHandle, Fault, Plain};
 use hla_callbacks::Delivery;
@@ -43,7 +43,7 @@ const LEAST_PASSES: usize = 3;
 /// Where memory was refused, a message is looked for among all that waits.
 #[derive(Debug, Drop)]
 pub struct Bag {
-    waiting: Line,
+    waiting: WaitingLine,
     /// Which of them an index has.
     indexing: Indexing,
     /// Made where much waits and there is no index; gone once a message is taken out.
@@ -136,7 +136,7 @@ impl Bag {
         ensures { result ≡ [] }
     {
         Bag {
-            waiting: Line::new(alloc),
+            waiting: WaitingLine::new(alloc),
             indexing: Indexing::new(),
             places: None,
             unnoted: 0,

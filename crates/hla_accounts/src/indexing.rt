@@ -8,7 +8,7 @@ ghost use Rattle.hla_accounts.specs.Indexes.{delivery_at, IsIndexOf, IsHead, IsI
 
 use crate::bag::Waiting;
 use crate::index::Index;
-use crate::line::Line;
+use crate::line::WaitingLine;
 use hla_base::{FOREVER, Ticks};
 use hla_callbacks::Delivery;
 use std::alloc::Global;
@@ -149,7 +149,7 @@ impl Indexing {
     /// Adds the tail to the index, or makes one of all messages. The time grows with the tail, times the logarithm of what
     /// waits. Where a growth is refused it looks at each message, and there is no index any more.
     #[cold]
-    pub fn extend(&mut self, waiting: &Line)
+    pub fn extend(&mut self, waiting: &WaitingLine)
         requires { IsIndexingOf waiting.now self.old }
         ensures kept { IsIndexingOf waiting.now self.new }
         ensures all { IsCaughtUp waiting.now self.new }
@@ -184,7 +184,7 @@ impl Indexing {
     }
 
     /// Adds the tail to the index, if there is one, as `extend`.
-    pub fn catch_up(&mut self, waiting: &Line)
+    pub fn catch_up(&mut self, waiting: &WaitingLine)
         requires { IsIndexingOf waiting.now self.old }
         ensures kept { IsIndexingOf waiting.now self.new }
         ensures all { IsCaughtUp waiting.now self.new }
@@ -229,7 +229,7 @@ impl Indexing {
     }
 
     /// The message at a place is to be taken out; the index, where there is one, has all messages.
-    pub fn remove(&mut self, waiting: &Line, place: usize)
+    pub fn remove(&mut self, waiting: &WaitingLine, place: usize)
         requires kept { IsIndexingOf waiting.now self.old }
         requires all { IsCaughtUp waiting.now self.old }
         requires within { place < length waiting.now }
@@ -245,7 +245,7 @@ impl Indexing {
 
     /// The message at a place is to be moved to receive order, and then given so; the index, where there is one, has all
     /// messages. Where a growth is refused it looks at each message.
-    pub fn demote(&mut self, waiting: &Line, place: usize, after: Delivery)
+    pub fn demote(&mut self, waiting: &WaitingLine, place: usize, after: Delivery)
         requires kept { IsIndexingOf waiting.now self.old }
         requires all { IsCaughtUp waiting.now self.old }
         requires within { place < length waiting.now }

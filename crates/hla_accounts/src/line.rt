@@ -22,13 +22,13 @@ const CLOSED_PART: usize = 8;
 /// Messages in the order of their sending. Contracts see the list. Messages are mostly taken out near the front, so a gap may
 /// stand there, of messages that say nothing: what stands in front of a message that is taken out moves up in its place.
 #[derive(Debug, Drop)]
-pub struct Line {
+pub struct WaitingLine {
     waiting: Vec<Waiting>,
     /// How long the gap is.
     start: usize,
 }
 
-impl Model for Line {
+impl Model for WaitingLine {
     ghost use Rattle.std.specs.Prelude.{◌≤◌, List, length, drop};
     ghost use Rattle.hla_accounts.specs.declared.bag.Waiting.{Waiting};
 
@@ -116,12 +116,12 @@ fn close_gap(waiting: &mut Vec<Waiting>, start: usize)
     waiting.truncate(count);
 }
 
-impl Line {
+impl WaitingLine {
     /// No messages; it takes no memory.
-    pub fn new(alloc: Global) -> Line
+    pub fn new(alloc: Global) -> WaitingLine
         ensures { result ≡ [] }
     {
-        Line {
+        WaitingLine {
             waiting: Vec::new(alloc),
             start: 0,
         }

@@ -8,10 +8,10 @@ use Rattle.hla_machine.specs.declared.service.Service.{Service}
 use Rattle.hla_machine.specs.declared.service.Service.TheVariants as service
 use Rattle.hla_machine.specs.Directory.{Directory}
 use Rattle.hla_machine.specs.Refusals.{no_object_class, no_interaction_class}
-use Rattle.hla_checker.specs.declared.declaring.Declaration.{Declaration}
-use Rattle.hla_checker.specs.declared.declaring.Declaration.TheVariants.{UnpublishObject, UnsubscribeObject, PublishInteraction, UnpublishInteraction, SubscribeInteraction, UnsubscribeInteraction}
+use Rattle.hla_checker.specs.declared.declaring.ClassDeclaration.{ClassDeclaration}
+use Rattle.hla_checker.specs.declared.declaring.ClassDeclaration.TheVariants.{UnpublishObject, UnsubscribeObject, PublishInteraction, UnpublishInteraction, SubscribeInteraction, UnsubscribeInteraction}
 
-abbrev pub declaration_of : Service → Option Declaration
+abbrev pub declaration_of : Service → Option ClassDeclaration
 declaration_of (service.UnpublishObjectClass class) = Some (UnpublishObject class)
 declaration_of (service.UnsubscribeObjectClass class) = Some (UnsubscribeObject class)
 declaration_of (service.PublishInteractionClass class) = Some (PublishInteraction class)
@@ -21,7 +21,7 @@ declaration_of (service.UnsubscribeInteractionClass class) = Some (UnsubscribeIn
 declaration_of s = None
 
 -- the tests of the service that declares it
-abbrev pub declaration_tests : Directory → ℕ → Declaration → List Test
+abbrev pub declaration_tests : Directory → ℕ → ClassDeclaration → List Test
 declaration_tests d f (UnpublishObject class) = no_object_class d class ∷ test_for fault.ObjectClassNotPublished (not (is_some (d.published f class))) ∷ []
 declaration_tests d f (UnsubscribeObject class) = no_object_class d class ∷ test_for fault.ObjectClassNotSubscribed (not (is_some (d.subscribed f class))) ∷ []
 declaration_tests d f (PublishInteraction class) = no_interaction_class d class ∷ []
@@ -30,7 +30,7 @@ declaration_tests d f (SubscribeInteraction class) = no_interaction_class d clas
 declaration_tests d f (UnsubscribeInteraction class) = no_interaction_class d class ∷ test_for fault.InteractionClassNotSubscribed (not (d.subscribed_interaction f class)) ∷ []
 
 -- its class is one of those of the declarations
-abbrev pub IsOfClass : DeclarationsValue → Declaration → Type 0
+abbrev pub IsOfClass : DeclarationsValue → ClassDeclaration → Type 0
 IsOfClass t (UnpublishObject class) = (0 < class) × (class ≤ t.object_classes)
 IsOfClass t (UnsubscribeObject class) = (0 < class) × (class ≤ t.object_classes)
 IsOfClass t (PublishInteraction class) = (0 < class) × (class ≤ t.interaction_classes)
@@ -38,7 +38,7 @@ IsOfClass t (UnpublishInteraction class) = (0 < class) × (class ≤ t.interacti
 IsOfClass t (SubscribeInteraction class) = (0 < class) × (class ≤ t.interaction_classes)
 IsOfClass t (UnsubscribeInteraction class) = (0 < class) × (class ≤ t.interaction_classes)
 
-abbrev pub with_declaration : DeclarationsValue → ℕ → Declaration → DeclarationsValue
+abbrev pub with_declaration : DeclarationsValue → ℕ → ClassDeclaration → DeclarationsValue
 with_declaration t f (UnpublishObject class) = record t { published = upd2 t.published f class None }
 with_declaration t f (UnsubscribeObject class) = record t { subscribed = upd2 t.subscribed f class None }
 with_declaration t f (PublishInteraction class) = record t { published_interaction = upd2 t.published_interaction f class true }

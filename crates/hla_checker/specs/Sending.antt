@@ -9,7 +9,7 @@ use Rattle.hla_accounts.specs.declared.account.Account.{Account}
 use Rattle.hla_accounts.specs.Sendings.{item_for}
 use Rattle.hla_checker.specs.declared.contents.Body as said
 use Rattle.hla_checker.specs.declared.contents.Body.TheVariants.{Interaction, Update, Deletion}
-use Rattle.hla_checker.specs.declared.contents.Message.{Message}
+use Rattle.hla_checker.specs.declared.contents.ServiceMessage.{ServiceMessage}
 
 -- the tests of the stamp and of the serials, which each service that sends ends with
 abbrev pub sending_tests : Account → Option ℕ → List Outgoing → List Test
@@ -20,7 +20,7 @@ body_said (Interaction class values) = AnInteraction class values
 body_said (Update object values) = AnUpdate object values
 body_said (Deletion object) = ADeletion object
 
-abbrev pub outgoing : Message → Outgoing
+abbrev pub outgoing : ServiceMessage → Outgoing
 outgoing m = record { order = m.order; body = body_said m.body }
 
 -- what a message says to the first n federates, whose numbers are counted from 1

@@ -29,7 +29,7 @@ pub(crate) enum Body {
 
 /// One message of a service.
 #[derive(Debug, Drop)]
-pub(crate) struct Message {
+pub(crate) struct ServiceMessage {
     pub(crate) order: Order,
     pub(crate) body: Body,
 }

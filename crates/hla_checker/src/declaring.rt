@@ -18,7 +18,7 @@ use hla_verdicts::{Verdict, verdict_unless_done};
 
 /// What a federate declares of a class by its number alone.
 #[derive(Clone, Copy, Debug, PartialEq, Eq)]
-pub(crate) enum Declaration {
+pub(crate) enum ClassDeclaration {
     /// Unpublish Object Class.
     UnpublishObject { class: ClassNo },
     /// Unsubscribe Object Class.
@@ -34,28 +34,28 @@ pub(crate) enum Declaration {
 }
 
 /// What a service declares, where it needs no more than a class.
-pub(crate) fn declaration_of(service: &Service) -> Option<Declaration>
+pub(crate) fn declaration_of(service: &Service) -> Option<ClassDeclaration>
     ensures { result ≡ declaration_of service.now }
 {
     match service {
-        Service::UnpublishObjectClass { class } => Some(Declaration::UnpublishObject {
+        Service::UnpublishObjectClass { class } => Some(ClassDeclaration::UnpublishObject {
             class: *class,
         }),
-        Service::UnsubscribeObjectClass { class } => Some(Declaration::UnsubscribeObject {
+        Service::UnsubscribeObjectClass { class } => Some(ClassDeclaration::UnsubscribeObject {
             class: *class,
         }),
-        Service::PublishInteractionClass { class } => Some(Declaration::PublishInteraction {
+        Service::PublishInteractionClass { class } => Some(ClassDeclaration::PublishInteraction {
             class: *class,
         }),
-        Service::UnpublishInteractionClass { class } => Some(Declaration::UnpublishInteraction {
-            class: *class,
-        }),
-        Service::SubscribeInteractionClass { class } => Some(Declaration::SubscribeInteraction {
-            class: *class,
-        }),
-        Service::UnsubscribeInteractionClass { class } => Some(Declaration::UnsubscribeInteraction {
-            class: *class,
-        }),
+        Service::UnpublishInteractionClass { class } => Some(
+            ClassDeclaration::UnpublishInteraction { class: *class },
+        ),
+        Service::SubscribeInteractionClass { class } => Some(
+            ClassDeclaration::SubscribeInteraction { class: *class },
+        ),
+        Service::UnsubscribeInteractionClass { class } => Some(
+            ClassDeclaration::UnsubscribeInteraction { class: *class },
+        ),
         Service::Resign { .. }
         | Service::PublishObjectClass { .. }
         | Service::SubscribeObjectClassAttributes { .. }
@@ -90,29 +90,29 @@ pub(crate) fn declaration_of(service: &Service) -> Option<Declaration>
 }
 
 /// A federate declares this from now on.
-fn declare(declarations: &mut Declarations, federate: FederateNo, declaration: Declaration)
+fn declare(declarations: &mut Declarations, federate: FederateNo, declaration: ClassDeclaration)
     requires some { 0 < federate }
     requires joined { federate ≤ (declarations_of declarations.old).federates }
     requires defined { IsOfClass (declarations_of declarations.old) declaration }
     ensures { declarations_of declarations.new ≡ with_declaration (declarations_of declarations.old) federate declaration }
 {
     match declaration {
-        Declaration::UnpublishObject { class } => {
+        ClassDeclaration::UnpublishObject { class } => {
             declarations.unpublish_object_class(federate, class);
         }
-        Declaration::UnsubscribeObject { class } => {
+        ClassDeclaration::UnsubscribeObject { class } => {
             declarations.unsubscribe_object_class(federate, class);
         }
-        Declaration::PublishInteraction { class } => {
+        ClassDeclaration::PublishInteraction { class } => {
             declarations.publish_interaction_class(federate, class);
         }
-        Declaration::UnpublishInteraction { class } => {
+        ClassDeclaration::UnpublishInteraction { class } => {
             declarations.unpublish_interaction_class(federate, class);
         }
-        Declaration::SubscribeInteraction { class } => {
+        ClassDeclaration::SubscribeInteraction { class } => {
             declarations.subscribe_interaction_class(federate, class);
         }
-        Declaration::UnsubscribeInteraction { class } => {
+        ClassDeclaration::UnsubscribeInteraction { class } => {
             declarations.unsubscribe_interaction_class(federate, class);
         }
     }
@@ -125,7 +125,7 @@ impl KeptExecution {
         &mut self,
         federate: FederateNo,
         service: &Service,
-        declaration: Declaration,
+        declaration: ClassDeclaration,
         outcome: &Outcome,
         choice: &Choice,
     ) -> Verdict

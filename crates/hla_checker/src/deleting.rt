@@ -12,7 +12,7 @@ ghost use Rattle.hla_accounts.specs.Accounts.{account_at};
 ghost use Rattle.hla_verdicts.specs.Kept.{IsConsistent, JudgedStep, central_of, directory_of};
 ghost use Rattle.hla_checker.specs.Sending.{outgoing};
 
-use crate::contents::{Body, Message};
+use crate::contents::{Body, ServiceMessage};
 use crate::kept::KeptExecution;
 use hla_base::{Fault, FederateNo, ObjectNo, Ticks};
 use hla_machine::{Choice, Outcome};
@@ -20,11 +20,11 @@ use hla_verdicts::{Verdict, answer_to_test, is_done};
 
 impl KeptExecution {
     /// The message that an object is deleted.
-    fn deletion_of(&self, object: ObjectNo) -> Message
+    fn deletion_of(&self, object: ObjectNo) -> ServiceMessage
         ensures { outgoing result ∷ [] ≡ deletion_sent (directory_of self.now) object }
     {
         let class = self.registry.class_of(object);
-        Message {
+        ServiceMessage {
             order: self.catalogue.deletion_order(class),
             body: Body::Deletion { object },
         }

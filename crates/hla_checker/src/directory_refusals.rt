@@ -8,7 +8,7 @@ ghost use Rattle.hla_machine.specs.Refusals.{no_attribute, no_interaction_class,
 ghost use Rattle.hla_checker.specs.Declaring.{declaration_tests};
 ghost use Rattle.hla_verdicts.specs.Kept.{directory_of};
 
-use crate::declaring::Declaration;
+use crate::declaring::ClassDeclaration;
 use crate::kept::KeptExecution;
 use hla_base::{AttributeNo, ClassNo, Fault, FederateNo};
 
@@ -87,21 +87,21 @@ impl KeptExecution {
     pub(crate) fn declaration_fault(
         &self,
         federate: FederateNo,
-        declaration: Declaration,
+        declaration: ClassDeclaration,
     ) -> Option<Fault>
         ensures { result ≡ first_fault (declaration_tests (directory_of self.now) federate declaration) }
     {
         match declaration {
-            Declaration::UnpublishObject { class } => {
+            ClassDeclaration::UnpublishObject { class } => {
                 let is_published = self.declarations.publishes_object_class(federate, class);
                 self.object_class_fault(class, is_published, Fault::ObjectClassNotPublished)
             }
-            Declaration::UnsubscribeObject { class } => {
+            ClassDeclaration::UnsubscribeObject { class } => {
                 let is_subscribed = self.declarations.subscribes_object_class(federate, class);
                 self.object_class_fault(class, is_subscribed, Fault::ObjectClassNotSubscribed)
             }
-            Declaration::PublishInteraction { class } => self.interaction_class_fault(class),
-            Declaration::UnpublishInteraction { class } => {
+            ClassDeclaration::PublishInteraction { class } => self.interaction_class_fault(class),
+            ClassDeclaration::UnpublishInteraction { class } => {
                 let is_published = self
                     .declarations
                     .publishes_interaction_class(federate, class);
@@ -111,8 +111,8 @@ impl KeptExecution {
                     Fault::InteractionClassNotPublished,
                 )
             }
-            Declaration::SubscribeInteraction { class } => self.interaction_class_fault(class),
-            Declaration::UnsubscribeInteraction { class } => {
+            ClassDeclaration::SubscribeInteraction { class } => self.interaction_class_fault(class),
+            ClassDeclaration::UnsubscribeInteraction { class } => {
                 let is_subscribed = self
                     .declarations
                     .subscribes_interaction_class(federate, class);

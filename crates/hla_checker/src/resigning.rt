@@ -11,7 +11,7 @@ ghost use Rattle.hla_machine.specs.declared.step.Step.TheVariants as steps;
 ghost use Rattle.hla_accounts.specs.Accounts.{account_at};
 ghost use Rattle.hla_verdicts.specs.Kept.{IsConsistent, JudgedStep, central_of, directory_of};
 
-use crate::contents::{Body, Message};
+use crate::contents::{Body, ServiceMessage};
 use crate::kept::KeptExecution;
 use hla_base::{Fault, FederateNo, ObjectNo};
 use hla_catalogue::Order;
@@ -43,7 +43,7 @@ impl KeptExecution {
         ensures err { IfErr result (λ e. e ≡ Fault.OutOfMemory) }
     {
         for object in objects {
-            let mut message = Message {
+            let mut message = ServiceMessage {
                 order: Order::Receive,
                 body: Body::Deletion { object: *object },
             };

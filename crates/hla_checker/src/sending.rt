@@ -13,7 +13,7 @@ ghost use Rattle.hla_accounts.specs.Accounts.{account_at};
 ghost use Rattle.hla_verdicts.specs.Kept.{IsConsistent, JudgedStep, central_of, directory_of};
 ghost use Rattle.hla_checker.specs.Sending.{body_said, outgoing};
 
-use crate::contents::{Body, Message};
+use crate::contents::{Body, ServiceMessage};
 use crate::kept::KeptExecution;
 use crate::pairs::by_handle;
 use crate::values::Values;
@@ -42,7 +42,7 @@ impl KeptExecution {
         &mut self,
         federate: FederateNo,
         stamp: Option<Ticks>,
-        message: &mut Message,
+        message: &mut ServiceMessage,
     ) -> Result<(), Fault>
         requires consistent { IsConsistent self.old }
         requires joined { (account_at self.old.accounts federate).is_joined ≡ true }
@@ -112,7 +112,7 @@ impl KeptExecution {
         let order = self.catalogue.interaction_order(class);
         let values = Values::of(by_handle(self.alloc, values)?);
         let body = Body::Interaction { class, values };
-        self.send(federate, stamp, &mut Message { order, body })
+        self.send(federate, stamp, &mut ServiceMessage { order, body })
     }
 
     /// Whether the machine allows that a joined federate sends an interaction, which ended so and chose this; where it

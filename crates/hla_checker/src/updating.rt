@@ -13,7 +13,7 @@ ghost use Rattle.hla_machine.specs.declared.step.Step.TheVariants as steps;
 ghost use Rattle.hla_accounts.specs.Accounts.{account_at};
 ghost use Rattle.hla_verdicts.specs.Kept.{IsConsistent, JudgedStep, central_of, directory_of};
 
-use crate::contents::{Body, Message};
+use crate::contents::{Body, ServiceMessage};
 use crate::kept::KeptExecution;
 use crate::pairs::by_handle;
 use crate::values::Values;
@@ -138,7 +138,7 @@ impl KeptExecution {
         }
         let values = Values::of(values);
         let body = Body::Update { object, values };
-        self.send(federate, stamp, &mut Message { order, body })
+        self.send(federate, stamp, &mut ServiceMessage { order, body })
     }
 
     /// A joined federate updates attributes of an object: those whose updates go in receive order make one message, the

@@ -18,7 +18,7 @@ use Rattle.hla_commands.specs.declared.lines.Call.{Call}
 use Rattle.hla_commands.specs.declared.lines.Call.TheVariants as call
 use Rattle.hla_commands.specs.declared.lines.NameValuePair.{NameValuePair}
 use Rattle.hla_federation.specs.Steps.Advancing.{request_service}
-use Rattle.hla_requests.specs.declared.members.Member.{Member}
+use Rattle.hla_requests.specs.declared.members.NamedFederate.{NamedFederate}
 use Rattle.hla_requests.specs.declared.lookups.AskFault.{AskFault}
 use Rattle.hla_requests.specs.declared.lookups.AskFault.TheVariants as stop
 use Rattle.hla_requests.specs.declared.lookups.Class.{Class}
@@ -51,11 +51,11 @@ number_or None e = Err e
 
 -- ---- the numbers of names
 -- somebody has joined under the name since the last create that was accepted
-abbrev pub known_federate : List Member → List ℕ → Result ℕ Fault
+abbrev pub known_federate : List NamedFederate → List ℕ → Result ℕ Fault
 known_federate ms name = number_or (federate_named ms name) fault.FederateNotExecutionMember
 
 -- somebody is joined under the name
-abbrev pub joined_federate : List Member → List ℕ → Result ℕ Fault
+abbrev pub joined_federate : List NamedFederate → List ℕ → Result ℕ Fault
 joined_federate ms name = number_or (joined_federate_named ms name) fault.FederateNotExecutionMember
 
 abbrev pub object_class_of : CatalogueValue → List ℕ → Result ℕ Fault
@@ -189,7 +189,7 @@ step_by f (Some s) = step.Call f s
 
 -- what a line asks for, or the fault with which it is answered without a step: federates are tested before the names of
 -- the FED file, and names before values
-abbrev pub request_of : CatalogueValue → List Member → Command → Result Request Fault
+abbrev pub request_of : CatalogueValue → List NamedFederate → Command → Result Request Fault
 request_of c ms command.Create = Ok request.Create
 request_of c ms command.Destroy = Ok request.Destroy
 request_of c ms (command.Join name) = Ok (request.Step (step.Join name))

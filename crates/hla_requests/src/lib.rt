@@ -6,5 +6,5 @@ mod members;
 mod steps;
 
 pub use lookups::{AskFault, Class};
-pub use members::{Change, Member, federate_named, joined_federate_named, note};
+pub use members::{MemberChange, NamedFederate, federate_named, joined_federate_named, note};
 pub use steps::{Request, service_of};

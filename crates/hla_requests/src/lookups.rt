@@ -5,7 +5,7 @@ ghost use Rattle.hla_base.specs.declared.fault.Fault.{Fault};
 ghost use Rattle.hla_base.specs.declared.content.HandleValuePair.{HandleValuePair};
 ghost use Rattle.hla_requests.specs.Requests.{Asks, Finds, number_or, known_federate, joined_federate, object_class_of, interaction_class_of, handle_named, named_handles, named_pairs, with_last_handle, with_last_pair, object_number, federate_number};
 
-use crate::members::{Member, federate_named, joined_federate_named};
+use crate::members::{NamedFederate, federate_named, joined_federate_named};
 use hla_base::{AttributeNo, ClassNo, Fault, FederateNo, HandleValuePair, List, ObjectNo, Value};
 use hla_catalogue::Catalogue;
 use hla_commands::{NameValuePair, Word};
@@ -39,7 +39,7 @@ fn number_or(number: Option<u32>, fault: Fault) -> Result<u32, AskFault>
 
 /// The federate that joined last under a name, also where it has resigned since. Refused with `FederateNotExecutionMember`
 /// where none has joined under it.
-pub fn known_federate(members: &[Member], name: &[u8]) -> Result<FederateNo, AskFault>
+pub fn known_federate(members: &[NamedFederate], name: &[u8]) -> Result<FederateNo, AskFault>
     ensures { Finds result (known_federate members.now name.now) }
 {
     number_or(
@@ -49,7 +49,7 @@ pub fn known_federate(members: &[Member], name: &[u8]) -> Result<FederateNo, Ask
 }
 
 /// The federate that is joined under a name. Refused with `FederateNotExecutionMember` where none is.
-pub fn joined_federate(members: &[Member], name: &[u8]) -> Result<FederateNo, AskFault>
+pub fn joined_federate(members: &[NamedFederate], name: &[u8]) -> Result<FederateNo, AskFault>
     ensures { Finds result (joined_federate members.now name.now) }
 {
     number_or(

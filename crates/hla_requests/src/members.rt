@@ -9,7 +9,7 @@ use hla_machine::{Answer, Outcome, Service, Step};
 
 /// A federate that joined, under its name.
 #[derive(Debug, Drop)]
-pub struct Member {
+pub struct NamedFederate {
     pub name: List<u8>,
     pub number: FederateNo,
     /// Whether it has not resigned since.
@@ -18,7 +18,7 @@ pub struct Member {
 
 /// What a step changes of those that have joined, if it is done.
 #[derive(Debug, Drop)]
-pub enum Change {
+pub enum MemberChange {
     /// A federate joins under a name.
     Joins { name: List<u8> },
     /// A federate resigns.
@@ -27,26 +27,26 @@ pub enum Change {
     Stays,
 }
 
-impl Change {
+impl MemberChange {
     /// What a step changes. `OutOfMemory` where a growth was refused for the name.
-    pub fn of(step: &Step) -> Result<Change, Fault>
+    pub fn of(step: &Step) -> Result<MemberChange, Fault>
         ensures { IfOk result (λ change. change ≡ change_of step.now) }
     {
         match step {
-            Step::Join { name } => Ok(Change::Joins { name: name.copy()? }),
+            Step::Join { name } => Ok(MemberChange::Joins { name: name.copy()? }),
             Step::Call {
                 federate,
                 service: Service::Resign { .. },
-            } => Ok(Change::Resigns {
+            } => Ok(MemberChange::Resigns {
                 federate: *federate,
             }),
-            _ => Ok(Change::Stays),
+            _ => Ok(MemberChange::Stays),
         }
     }
 }
 
 /// Notes that a federate has resigned.
-fn resign(members: &mut [Member], federate: FederateNo)
+fn resign(members: &mut [NamedFederate], federate: FederateNo)
     ensures { members.new ≡ map (without federate) members.old }
 {
     for member in members.iter_mut() {
@@ -57,7 +57,7 @@ fn resign(members: &mut [Member], federate: FederateNo)
 }
 
 /// Notes a change, if its step was done.
-pub fn note(members: &mut Vec<Member>, change: Change, outcome: &Outcome)
+pub fn note(members: &mut Vec<NamedFederate>, change: MemberChange, outcome: &Outcome)
     requires { vec_len members.old + 1 ≤ vec_capacity members.old }
     ensures { members.new.items ≡ with_change members.old.items change outcome.now }
 {
@@ -65,17 +65,17 @@ pub fn note(members: &mut Vec<Member>, change: Change, outcome: &Outcome)
         return;
     };
     match change {
-        Change::Joins { name } => {
+        MemberChange::Joins { name } => {
             if let Answer::Federate(number) = answer {
-                members.push_reserved(Member {
+                members.push_reserved(NamedFederate {
                     name,
                     number: *number,
                     is_joined: true,
                 });
             }
         }
-        Change::Resigns { federate } => resign(members.as_mut_slice(), federate),
-        Change::Stays => {}
+        MemberChange::Resigns { federate } => resign(members.as_mut_slice(), federate),
+        MemberChange::Stays => {}
     }
 }
 
@@ -88,7 +88,7 @@ fn is_same_name(one: &[u8], other: &[u8]) -> bool
 
 /// The federate that joined last under a name, also where it has resigned since.
 #[tactic(auto, unfolding(crate::specs::Members::federate_named))]
-pub fn federate_named(members: &[Member], name: &[u8]) -> Option<FederateNo>
+pub fn federate_named(members: &[NamedFederate], name: &[u8]) -> Option<FederateNo>
     ensures { result ≡ federate_named members.now name.now }
 {
     members
@@ -100,7 +100,7 @@ pub fn federate_named(members: &[Member], name: &[u8]) -> Option<FederateNo>
 
 /// The federate that is joined under a name.
 #[tactic(auto, unfolding(crate::specs::Members::joined_federate_named))]
-pub fn joined_federate_named(members: &[Member], name: &[u8]) -> Option<FederateNo>
+pub fn joined_federate_named(members: &[NamedFederate], name: &[u8]) -> Option<FederateNo>
     ensures { result ≡ joined_federate_named members.now name.now }
 {
     members

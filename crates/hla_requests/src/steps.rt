@@ -8,7 +8,7 @@ use crate::lookups::{
     AskFault, Class, attributes, federate_number, interaction_class, joined_federate,
     known_federate, object_class, object_number, pairs,
 };
-use crate::members::Member;
+use crate::members::NamedFederate;
 use hla_base::{AdvanceKind, EventHandle, List, Ticks};
 use hla_catalogue::Catalogue;
 use hla_commands::{Call, Command, Declaration, NameValuePair, Word};
@@ -261,7 +261,7 @@ impl Request {
     pub fn of(
         alloc: Global,
         catalogue: &Catalogue,
-        members: &[Member],
+        members: &[NamedFederate],
         command: &Command<'_>,
     ) -> Result<Request, AskFault>
         ensures { Asks result (request_of catalogue.now members.now command.now) }

@@ -9,7 +9,7 @@ use Rattle.hla_machine.specs.declared.step.Outcome.{Outcome}
 use Rattle.hla_machine.specs.declared.step.Outcome.TheVariants as outcome
 use Rattle.hla_machine.specs.declared.step.Choice.{Choice}
 use Rattle.hla_machine.specs.declared.step.Record.{Record}
-use Rattle.hla_rti.specs.Callers.{Caller, Member, HasActed, HasNotActed, answer_given, HasAnswered, HasResigned, IsServed}
+use Rattle.hla_rti.specs.Callers.{Caller, FederateCaller, HasActed, HasNotActed, answer_given, HasAnswered, HasResigned, IsServed}
 use Rattle.hla_machine.specs.declared.service.Service.{Service}
 use Rattle.hla_history.specs.Forms.{AnswerForm, IsOfForm, EndsInForm}
 
@@ -82,5 +82,5 @@ given_in_form form out result is gives = subst (λ (r : Result Answer Fault). If
 pub answered_as : (old new : Caller) (name : List ℕ) (a : Act) (given own : Result Answer Fault) → own ≡ given → HasAnswered old name a given new → HasAnswered old name a own new
 answered_as old new name a given own same done = subst (λ (r : Result Answer Fault). HasAnswered old name a r new) (sym same) done
 
-pub served_as : (old new : Member) (x : Service) (given own : Result Answer Fault) → own ≡ given → IsServed old x given new → IsServed old x own new
+pub served_as : (old new : FederateCaller) (x : Service) (given own : Result Answer Fault) → own ≡ given → IsServed old x given new → IsServed old x own new
 served_as old new x given own same done = subst (λ (r : Result Answer Fault). IsServed old x r new) (sym same) done

@@ -63,13 +63,13 @@ abbrev pub HasResigned : Caller → List ℕ → Act → Caller → Type 0
 HasResigned old name a new = HasActed old name a (outcome.Done answer.Done) new
 
 -- a federate of an execution, as a caller
-pub record Member : Type 0 where
+pub record FederateCaller : Type 0 where
   pub execution : List ℕ
   pub federate : ℕ
   pub caller : Caller
 
 -- a federate's call of a service
-unfoldable pub IsServed : Member → Service → Result Answer Fault → Member → Type 0
+unfoldable pub IsServed : FederateCaller → Service → Result Answer Fault → FederateCaller → Type 0
 IsServed old service result new =
     (new.execution ≡ old.execution)
     × (new.federate ≡ old.federate)

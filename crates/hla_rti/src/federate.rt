@@ -34,9 +34,9 @@ pub struct Federate<L: Ledger + Naming, B: FederateAmbassador, W: Publisher<L>> 
 }
 
 impl<L: Ledger + Naming, B: FederateAmbassador, W: Publisher<L>> Model for Federate<L, B, W> {
-    ghost use Rattle.hla_rti.specs.Callers.{Member};
+    ghost use Rattle.hla_rti.specs.Callers.{FederateCaller};
 
-    ghost Value = { Member };
+    ghost Value = { FederateCaller };
 
     ghost view = { λ f. record { execution = f.execution; federate = f.federate; caller = f.seat } };
 }

@@ -8,7 +8,7 @@ ghost use Rattle.hla_run.specs.Running.{AreTold, IsPastReading, IsRunFrom, Stops
 
 use crate::closing::close_told;
 use crate::fault::RunFault;
-use crate::outcomes::{Outcomes, Told, outcome_of_done};
+use crate::outcomes::{LineOutcome, Outcomes, outcome_of_done};
 use crate::player::{Acted, Deed, Player, do_deed};
 use crate::texts::{Texts, read_texts};
 use hla_base::{ExecutionName, Fault, FederateNo, List, MAX_HISTORY, Plain};
@@ -17,7 +17,7 @@ use hla_catalogue::Catalogue;
 use hla_commands::{Command, Line};
 use hla_machine::{Answer, Outcome, Step};
 use hla_monitor::{Naming, Opened, Publisher};
-use hla_requests::{AskFault, Change, Member, Request, note};
+use hla_requests::{AskFault, MemberChange, NamedFederate, Request, note};
 use hla_rti::{Closed, Courier, Federate, Left, Rti, open_rti};
 use hla_transcript::Watched;
 use std::alloc::Global;
@@ -31,7 +31,7 @@ struct Cast<L: Ledger + Naming, P: Publisher<L>> {
     alloc: Global,
     execution: ExecutionName,
     courier: Courier<L, Recorder, P>,
-    members: Vec<Member>,
+    members: Vec<NamedFederate>,
     joined: Vec<Federate<L, Recorder, P>>,
     lefts: Vec<Left<L, Recorder>>,
 }
@@ -124,7 +124,7 @@ impl<L: Ledger + Naming, P: Publisher<L>> Cast<L, P> {
         rti: &mut Rti<L, Recorder, P>,
         step: Step,
     ) -> Result<Outcome, Fault> {
-        let change = match Change::of(&step) {
+        let change = match MemberChange::of(&step) {
             Ok(change) => change,
             Err(fault) => {
                 drop(step);
@@ -181,7 +181,7 @@ impl<L: Ledger + Naming, P: Publisher<L>> Cast<L, P> {
     {
         for (place, line) in lines.iter().enumerate() {
             let outcome = self.line(rt, rti, fed, catalogue, &line.command)?;
-            outcomes.note(Told { place, outcome });
+            outcomes.note(LineOutcome { place, outcome });
         }
         Ok(())
     }

@@ -1,7 +1,7 @@
 //! A federate's life on its thread.
 
 use crate::gate::Gate;
-use crate::outcomes::{Told, outcome_of_tick};
+use crate::outcomes::{LineOutcome, outcome_of_tick};
 use crate::player::{Acted, Deed, Player, do_deed};
 use crate::resting::{LineWait, Rested, RestingRoom};
 use hla_base::{ExecutionName, Fault, FederateNo, List};
@@ -39,7 +39,7 @@ pub struct Life<L: Ledger + Naming, P: Publisher<L>> {
     pub player: Player<L, P>,
     pub courier: Courier<L, Recorder, P>,
     /// How its lines came out, those that are done.
-    pub told: Vec<Told>,
+    pub told: Vec<LineOutcome>,
     /// Whether a growth was refused; then its last lines may not be done.
     pub lacks_memory: bool,
 }
@@ -189,7 +189,7 @@ impl<L: Ledger + Naming, P: Publisher<L>> Life<L, P> {
         let Acted { player, outcome } = done(rt, stage, player, &mut courier, call);
         stage.room.hold(rt);
         stage.gate.after(number, line);
-        let is_kept = told.push(Told { place, outcome }).is_ok();
+        let is_kept = told.push(LineOutcome { place, outcome }).is_ok();
         Life {
             name,
             number,

@@ -3,7 +3,7 @@
 ghost use Rattle.std.specs.Prelude.{◌≡◌, length, IfOk, OnOk};
 
 use crate::life::Life;
-use crate::outcomes::{Outcomes, Told, outcome_of_done};
+use crate::outcomes::{LineOutcome, Outcomes, outcome_of_done};
 use crate::player::Player;
 use hla_base::{ExecutionName, Fault, List};
 use hla_callbacks::Recorder;
@@ -96,7 +96,7 @@ pub fn open<L: Ledger + Naming, P: Publisher<L>>(
     let mut lives = Vec::new(alloc);
     for (place, line) in lines.iter().enumerate() {
         if let Some(outcome) = opened(rt, alloc, rti, execution, fed, &line.command, &mut lives)? {
-            outcomes.note(Told { place, outcome });
+            outcomes.note(LineOutcome { place, outcome });
         }
     }
     Ok(lives)
@@ -115,7 +115,7 @@ pub fn destroy<L: Ledger + Naming, P: Publisher<L>>(
     for (place, line) in lines.iter().enumerate() {
         if let Command::Destroy = &line.command {
             let outcome = outcome_of_done(rti.destroy(rt, execution));
-            outcomes.note(Told { place, outcome });
+            outcomes.note(LineOutcome { place, outcome });
         }
     }
 }
@@ -137,7 +137,7 @@ pub fn refuse_strangers<L: Ledger + Naming, P: Publisher<L>>(
         if let Command::Federate { name, .. } = &line.command {
             if !has_joined(lives, name.as_slice()) {
                 let outcome = Outcome::Refused(Fault::FederateNotExecutionMember);
-                outcomes.note(Told { place, outcome });
+                outcomes.note(LineOutcome { place, outcome });
             }
         }
     }

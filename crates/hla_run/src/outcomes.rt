@@ -16,7 +16,7 @@ use std::marker::Model;
 
 /// How the line at a place of a script, counted from 0, came out.
 #[derive(Drop)]
-pub struct Told {
+pub struct LineOutcome {
     pub place: usize,
     pub outcome: Outcome,
 }
@@ -114,7 +114,7 @@ impl Outcomes {
     }
 
     /// Notes how the line at a place came out.
-    pub fn note(&mut self, told: Told)
+    pub fn note(&mut self, told: LineOutcome)
         ensures { length self.new ≡ length self.old }
     {
         match self.by_place.get_mut(told.place) {
@@ -124,7 +124,7 @@ impl Outcomes {
     }
 
     /// Notes how lines came out.
-    pub fn note_all(&mut self, all: Vec<Told>)
+    pub fn note_all(&mut self, all: Vec<LineOutcome>)
         ensures { length self.new ≡ length self.old }
     {
         for told in all {

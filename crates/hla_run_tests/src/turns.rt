@@ -127,7 +127,7 @@ struct Life<L: Ledger + Naming, P: Publisher<L>> {
 
 /// What all threads of a run share.
 #[derive(Drop)]
-struct Stage<'a> {
+struct OldStage<'a> {
     alloc: Global,
     execution: ExecutionName,
     catalogue: &'a Catalogue,
@@ -154,7 +154,7 @@ fn served<L: Ledger + Naming, P: Publisher<L>>(
 /// Does what a line asks of the federate, which does not resign.
 fn done<L: Ledger + Naming, P: Publisher<L>>(
     rt: &impl Wait,
-    stage: &Stage,
+    stage: &OldStage,
     life: &mut Life<L, P>,
     call: &Call<'_>,
 ) -> Outcome {
@@ -174,7 +174,7 @@ fn done<L: Ledger + Naming, P: Publisher<L>>(
 /// Does the federate's lines of the script, in order.
 fn live<L: Ledger + Naming, P: Publisher<L>>(
     rt: &impl Wait,
-    stage: &Stage,
+    stage: &OldStage,
     mut life: Life<L, P>,
 ) -> Life<L, P> {
     for (place, line) in stage.lines.iter().enumerate() {
@@ -290,7 +290,7 @@ fn lived<L: Ledger + Naming + Send + Sync, P: Publisher<L> + Send, R: Threads + 
     let execution = ExecutionName::new(b"play").ok()?;
     rti.create(rt, execution, FED).ok()?;
     let lives = all_joined(rt, alloc, rti, execution, lines);
-    let stage = Stage {
+    let stage = OldStage {
         alloc,
         execution,
         catalogue,

@@ -23,7 +23,7 @@ use Rattle.hla_components.specs.Next.{Outcomes, next, components_seen}
 use Rattle.hla_federation.specs.FederationValue.{FederationValue}
 use Rattle.hla_federation.specs.Steps.Memory.{IsRefusedWith}
 use Rattle.hla_federation.specs.Steps.State.{state_of}
-use Rattle.hla_requests.specs.declared.members.Member.{Member}
+use Rattle.hla_requests.specs.declared.members.NamedFederate.{NamedFederate}
 use Rattle.hla_components.specs.Executions.{Federations, no_federations, central_executions, with_created, with_destroyed, ending_unless, next_act, after_record, step_in, IsNext, AreNext}
 use Rattle.hla_script.specs.Keeping.{components_of, DoesNext, IsStepped, Standing, Holds, execution_after_destroy, IsDestroyed, Leads, IsActed, IsKept}
 use Rattle.hla_script.specs.Playing.{created_catalogue}
@@ -61,7 +61,7 @@ led_by_create c n new few e = record {
   follows = λ x h. create_holds (Some c) None x (accepted_create c n x few h) (record { creates = n + 1; here = Some new }) (record { creates = omega (arith, h.creates); present = omega (arith, h.present); execution = ap (λ (d : Components). Some d) (sym e) });
 }
 
-pub creation_acts : (c : CatalogueValue) (n m : ℕ) (old : Option Components) (ms after : List Member) (new : Components) (r : Record) → n < max_creates → m ≡ n + 1 → old ≡ None → new ≡ new_components c → r ≡ creation c → after ≡ []
+pub creation_acts : (c : CatalogueValue) (n m : ℕ) (old : Option Components) (ms after : List NamedFederate) (new : Components) (r : Record) → n < max_creates → m ≡ n + 1 → old ≡ None → new ≡ new_components c → r ≡ creation c → after ≡ []
     → IsActed (act.Create (created_catalogue c r.outcome)) (record { creates = n; here = old }) ms r (record { creates = m; here = Some new }) after
 creation_acts c n m old ms after new r few next none is_new same cleared =
     let main : IsActed (act.Create (Some c)) (record { creates = n; here = None }) ms (creation c) (record { creates = n + 1; here = Some new }) [] =
@@ -83,7 +83,7 @@ led_by_excess c n many = record {
   follows = λ x h. create_holds (Some c) (Some fault.LimitReached) x (refused_create c n x many h) (record { creates = n; here = None }) h;
 }
 
-pub excess_acts : (c : CatalogueValue) (n : ℕ) (old : Option Components) (ms : List Member) (r : Record) → max_creates ≤ n → old ≡ None → r ≡ excess c
+pub excess_acts : (c : CatalogueValue) (n : ℕ) (old : Option Components) (ms : List NamedFederate) (r : Record) → max_creates ≤ n → old ≡ None → r ≡ excess c
     → IsActed (act.Create (created_catalogue c r.outcome)) (record { creates = n; here = old }) ms r (record { creates = n; here = old }) ms
 excess_acts c n old ms r many none same =
     let main : IsActed (act.Create (Some c)) (record { creates = n; here = None }) ms (excess c) (record { creates = n; here = None }) ms =
@@ -97,7 +97,7 @@ repetition = record { actor = 0; execution = codes "play"; act = act.Create None
 repeated_create : (n : ℕ) (s : Components) (x : Federations) → Holds x (record { creates = n; here = Some s }) → create_fault (central_executions x) (codes "play") None ≡ Some fault.FederationExecutionAlreadyExists
 repeated_create n s x h = rw h.execution refl
 
-pub repetition_acts : (c : CatalogueValue) (n : ℕ) (f : Option FederationValue) (ms : List Member) (r : Record) → is_some f ≡ true → r ≡ repetition
+pub repetition_acts : (c : CatalogueValue) (n : ℕ) (f : Option FederationValue) (ms : List NamedFederate) (r : Record) → is_some f ≡ true → r ≡ repetition
     → IsActed (act.Create (created_catalogue c r.outcome)) (record { creates = n; here = option_map components_of f }) ms r (record { creates = n; here = option_map components_of f }) ms
 repetition_acts c n None ms r there same = cc
 repetition_acts c n (Some f) ms r there same =
@@ -132,7 +132,7 @@ destroyed_holds n None None out x ends h = rw ends (record { creates = h.creates
 destroyed_holds n (Some c) None out x ends h = rw ends (record { creates = h.creates; present = omega (arith, h.present); execution = refl })
 destroyed_holds n old (Some e) out x ends h = rw ends h
 
-pub acted_destroy : (n : ℕ) (old new : Option Components) (ms : List Member) (out : Outcome) (r : Record) → IsDestroyed old out new → r ≡ destruction out
+pub acted_destroy : (n : ℕ) (old new : Option Components) (ms : List NamedFederate) (out : Outcome) (r : Record) → IsDestroyed old out new → r ≡ destruction out
     → IsActed act.Destroy (record { creates = n; here = old }) ms r (record { creates = n; here = new }) ms
 acted_destroy n old new ms out r is same =
     let ends : (x : Federations) → Holds x (record { creates = n; here = old }) → EndsAs (destroy_fault (option_map central (x.execution (codes "play")))) out =
@@ -166,12 +166,12 @@ next_more : (rs : List Record) (x y : Federations) (r : Record) → AreNext x rs
 next_more [] x y r run is = (subst (λ (z : Federations). IsNext z r) (sym run) is, ap (λ (z : Federations). after_record z r) run)
 next_more (q ∷ rs) x y r run is = (run.0, next_more rs (after_record x q) y r run.1 is)
 
-members_more : (rs : List Record) (ms : List Member) (r : Record) → members_from ms (rs ++ r ∷ []) ≡ member_after (members_from ms rs) r.act r.outcome
+members_more : (rs : List Record) (ms : List NamedFederate) (r : Record) → members_from ms (rs ++ r ∷ []) ≡ member_after (members_from ms rs) r.act r.outcome
 unfolding members_from
 members_more [] ms r = refl
 members_more (q ∷ rs) ms r = members_more rs (member_after ms q.act q.outcome) r
 
-pub keeps_more : (a : Act) (rs : List Record) (old new : Standing) (ms ms' : List Member) (r : Record) → IsKept rs old ms → IsActed a old ms r new ms' → IsKept (rs ++ r ∷ []) new ms'
+pub keeps_more : (a : Act) (rs : List Record) (old new : Standing) (ms ms' : List NamedFederate) (r : Record) → IsKept rs old ms → IsActed a old ms r new ms' → IsKept (rs ++ r ∷ []) new ms'
 keeps_more a rs old new ms ms' r kept acted =
     let x = kept.executions in
     let is : r.act ≡ a = ap (λ (q : Record). q.act) acted.same in
@@ -228,7 +228,7 @@ stepped_holds : (n : ℕ) (here : Option Components) (x : Federations) (s : Step
 stepped_holds n None x s out chosen new does h = rw does.2 h
 stepped_holds n (Some c) x s out chosen new does h = rw does.2 (record { creates = h.creates; present = h.present; execution = refl })
 
-pub step_acts : (n : ℕ) (old new : Option Components) (ms after : List Member) (s : Step) (out : Outcome) (chosen : Choice) (r : Record) → IsStepped old s out chosen new → r ≡ step_record s out chosen → after ≡ member_after ms (act.Step s) out
+pub step_acts : (n : ℕ) (old new : Option Components) (ms after : List NamedFederate) (s : Step) (out : Outcome) (chosen : Choice) (r : Record) → IsStepped old s out chosen new → r ≡ step_record s out chosen → after ≡ member_after ms (act.Step s) out
     → IsActed (act.Step s) (record { creates = n; here = old }) ms r (record { creates = n; here = new }) after
 step_acts n old new ms after s out chosen r is same joined =
     let main : IsActed (act.Step s) (record { creates = n; here = old }) ms (step_record s out chosen) (record { creates = n; here = new }) after =

@@ -6,7 +6,7 @@ use Rattle.hla_base.specs.Limits.{max_history}
 use Rattle.hla_base.specs.declared.fault.Fault.{Fault}
 use Rattle.hla_base.specs.declared.fault.Fault.TheVariants as fault
 use Rattle.hla_commands.specs.declared.lines.Command.{Command}
-use Rattle.hla_requests.specs.declared.members.Member.{Member}
+use Rattle.hla_requests.specs.declared.members.NamedFederate.{NamedFederate}
 use Rattle.hla_catalogue.specs.CatalogueValue.{CatalogueValue}
 use Rattle.hla_machine.specs.declared.step.Outcome.{Outcome}
 use Rattle.hla_machine.specs.declared.step.Outcome.TheVariants as outcome
@@ -46,10 +46,10 @@ adds_one c other line before asked r old new same admitted remembered is printed
 }
 
 -- ---- why a line is not admitted
-module _ (c : CatalogueValue) (command : Command) (before : List Record) (slice ms : List Member) (same : slice ≡ ms) (joined : ms ≡ members before) where
+module _ (c : CatalogueValue) (command : Command) (before : List Record) (slice ms : List NamedFederate) (same : slice ≡ ms) (joined : ms ≡ members before) where
   -- what is asked hangs on the members that the records say
   meant : (asked : Result Request AskFault) → Asks asked (request_of c slice command) → Asks asked (request_of c (members before) command)
-  meant asked asks = subst (λ (xs : List Member). Asks asked (request_of c xs command)) (same ∙ joined) asks
+  meant asked asks = subst (λ (xs : List NamedFederate). Asks asked (request_of c xs command)) (same ∙ joined) asks
 
   pub ends_refused : (e : Fault) → Asks {X = Request} (Err (stop.Refused e)) (request_of c slice command) → LineEnds c before command (outcome.Refused e) []
   ends_refused e asks = WithoutStep e (meant (Err (stop.Refused e)) asks) refl refl

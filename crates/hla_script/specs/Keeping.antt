@@ -14,7 +14,7 @@ use Rattle.hla_machine.specs.declared.step.Outcome.TheVariants as outcome
 use Rattle.hla_machine.specs.declared.step.Choice.{Choice}
 use Rattle.hla_machine.specs.declared.step.Choice.TheVariants as choice
 use Rattle.hla_machine.specs.declared.step.Record.{Record}
-use Rattle.hla_requests.specs.declared.members.Member.{Member}
+use Rattle.hla_requests.specs.declared.members.NamedFederate.{NamedFederate}
 use Rattle.hla_components.specs.Executions.{Federations, no_federations, IsNext, AreNext, after_record}
 use Rattle.hla_requests.specs.Members.{members, member_after}
 
@@ -66,14 +66,14 @@ pub record Leads (r : Record) (old new : Standing) : Type 0 where
   pub follows : (x : Federations) → Holds x old → Holds (after_record x r) new
 
 -- a record of an act leads from one state and its members to others
-pub record IsActed (act : Act) (old : Standing) (joined : List Member) (r : Record) (new : Standing) (joined_then : List Member) : Type 0 where
+pub record IsActed (act : Act) (old : Standing) (joined : List NamedFederate) (r : Record) (new : Standing) (joined_then : List NamedFederate) : Type 0 where
   pub same : r ≡ record { actor = 0; execution = codes "play"; act = act; outcome = r.outcome; choice = r.choice }
   pub remembered : r.outcome ≢ outcome.Refused fault.OutOfMemory
   pub members : joined_then ≡ member_after joined act r.outcome
   pub leads : Leads r old new
 
 -- the records are those of the next-state function from no executions, and lead to this state and these members
-pub record IsKept (records : List Record) (now : Standing) (joined : List Member) : Type 0 where
+pub record IsKept (records : List Record) (now : Standing) (joined : List NamedFederate) : Type 0 where
   pub executions : Federations
   pub next : AreNext no_federations records executions
   pub holds : Holds executions now

@@ -10,7 +10,7 @@ use hla_base::{Fault, MAX_CREATES, Plain, SharedList};
 use hla_catalogue::Catalogue;
 use hla_federation::Federation;
 use hla_machine::{Act, Answer, Choice, Outcome, Record, Step};
-use hla_requests::{Change, Member, Request, note};
+use hla_requests::{MemberChange, NamedFederate, Request, note};
 use std::alloc::Global;
 
 /// The execution named `play`, which may not be there, with what its FED file says and the federates that have joined
@@ -24,7 +24,7 @@ pub struct Execution {
     /// How often it was created.
     pub creates: u32,
     pub federation: Option<Federation>,
-    pub members: Vec<Member>,
+    pub members: Vec<NamedFederate>,
 }
 
 /// How a step ended, and what it chose.
@@ -212,7 +212,7 @@ impl Execution {
         ensures catalogue { self.new.catalogue ≡ self.old.catalogue }
         ensures name { self.new.name ≡ self.old.name }
     {
-        let change = Change::of(step)?;
+        let change = MemberChange::of(step)?;
         if self.members.reserve(1).is_err() {
             return Err(Fault::OutOfMemory);
         }

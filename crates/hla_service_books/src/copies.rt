@@ -14,7 +14,7 @@ pub enum Said<'a> {
 
 /// A message of an interaction, an update or a deletion.
 #[derive(Clone, Copy)]
-pub struct Message<'a> {
+pub struct BookedMessage<'a> {
     pub sender: u32,
     pub serial: u32,
     /// Its stamp, if it goes in time-stamp order.
@@ -53,11 +53,11 @@ struct Copy {
 /// All messages and their copies.
 #[derive(Drop)]
 pub struct Copies<'a> {
-    messages: Vec<Message<'a>>,
+    messages: Vec<BookedMessage<'a>>,
     copies: Vec<Copy>,
 }
 
-impl Message<'_> {
+impl BookedMessage<'_> {
     /// Whether a callback tells of it, in the order in which it is to be given.
     pub fn is_told_by(self, callback: &str, is_ordered: bool) -> bool {
         let (head, tail) = match callback.split_once(" TSO ") {
@@ -128,13 +128,13 @@ impl<'a> Copies<'a> {
     }
 
     /// Writes a message down. `AllocError` where a growth was refused.
-    pub fn note(&mut self, message: Message<'a>) -> Result<(), AllocError> {
+    pub fn note(&mut self, message: BookedMessage<'a>) -> Result<(), AllocError> {
         self.messages.push(message)?;
         Ok(())
     }
 
     /// A copy of a message is sent. `AllocError` where a growth was refused.
-    pub fn send(&mut self, message: Message<'a>, receiver: u32) -> Result<(), AllocError> {
+    pub fn send(&mut self, message: BookedMessage<'a>, receiver: u32) -> Result<(), AllocError> {
         self.copies.push(Copy {
             sender: message.sender,
             serial: message.serial,
@@ -147,7 +147,7 @@ impl<'a> Copies<'a> {
     }
 
     /// The message of a sender with a serial, if there is one.
-    pub fn message(&self, sender: u32, serial: u32) -> Option<Message<'a>> {
+    pub fn message(&self, sender: u32, serial: u32) -> Option<BookedMessage<'a>> {
         for message in self.messages.as_slice() {
             if message.sender == sender && message.serial == serial {
                 return Some(*message);

@@ -22,7 +22,7 @@ pub enum Control {
 
 /// A federate, by its number from 1 on.
 #[derive(Drop)]
-pub struct Member<'a> {
+pub struct BookedFederate<'a> {
     pub number: u32,
     pub name: &'a str,
     pub is_joined: bool,
@@ -59,10 +59,10 @@ pub struct Wires {
     posted: Vec<Posted>,
 }
 
-impl<'a> Member<'a> {
+impl<'a> BookedFederate<'a> {
     /// A federate that has just joined.
-    pub fn new(alloc: Global, number: u32, name: &'a str) -> Member<'a> {
-        Member {
+    pub fn new(alloc: Global, number: u32, name: &'a str) -> BookedFederate<'a> {
+        BookedFederate {
             number,
             name,
             is_joined: true,

@@ -3,8 +3,8 @@
 //! allow it.
 
 use crate::clocks::Clock;
-use crate::copies::{Copies, Message, Said};
-use crate::members::{Letter, Member, Wires};
+use crate::copies::{BookedMessage, Copies, Said};
+use crate::members::{BookedFederate, Letter, Wires};
 use crate::receivers::{Object, Part, has_part};
 use crate::texts::{FOREVER, cut, handle, number, stamp_of};
 use std::alloc::{AllocError, Global};
@@ -60,7 +60,7 @@ impl Tally {
 #[derive(Drop)]
 pub struct Books<'a> {
     pub alloc: Global,
-    pub members: Vec<Member<'a>>,
+    pub members: Vec<BookedFederate<'a>>,
     pub objects: Vec<Object>,
     pub copies: Copies<'a>,
     pub wires: Wires,
@@ -81,12 +81,12 @@ impl<'a> Books<'a> {
     }
 
     /// A federate by number, counted from 1, if it has joined.
-    pub fn member(&self, federate: u32) -> Option<&Member<'a>> {
+    pub fn member(&self, federate: u32) -> Option<&BookedFederate<'a>> {
         self.members.get((federate as usize).checked_sub(1)?)
     }
 
     /// A federate by number, to be changed.
-    pub fn member_mut(&mut self, federate: u32) -> Option<&mut Member<'a>> {
+    pub fn member_mut(&mut self, federate: u32) -> Option<&mut BookedFederate<'a>> {
         self.members.get_mut((federate as usize).checked_sub(1)?)
     }
 
@@ -246,13 +246,13 @@ impl<'a> Books<'a> {
 
     /// A federate that joins knows at once what each other one announced last.
     fn join(&mut self, name: &'a str, federate: u32) -> Result<bool, AllocError> {
-        let mut newcomer = Member::new(self.alloc, federate, name);
+        let mut newcomer = BookedFederate::new(self.alloc, federate, name);
         self.introduce(&mut newcomer)?;
         self.members.push(newcomer)?;
         Ok(federate as usize == self.members.len())
     }
 
-    fn introduce(&self, newcomer: &mut Member<'a>) -> Result<(), AllocError> {
+    fn introduce(&self, newcomer: &mut BookedFederate<'a>) -> Result<(), AllocError> {
         for member in self.members.as_slice() {
             let clock = member.clock;
             newcomer.hear_entry(member.number, clock.epoch, clock.last_announced)?;
@@ -315,7 +315,7 @@ impl<'a> Books<'a> {
             }
             None => 0,
         };
-        let message = Message {
+        let message = BookedMessage {
             sender,
             serial,
             stamp,

@@ -3,7 +3,7 @@
 use crate::workload::digest::Digest;
 use crate::workload::plays::{by_events, by_updates, in_step, opened};
 use crate::workload::sizes::Sizes;
-use crate::workload::stage::Stage;
+use crate::workload::stage::Arena;
 use hla_base::Fault;
 use hla_checker::{CheckFault, check_run};
 use hla_machine::{Answer, Outcome, Record};
@@ -21,7 +21,7 @@ pub enum Play {
 }
 
 /// Plays on a stage. `OutOfMemory` where a growth was refused; why a step is refused goes into the digest.
-pub fn play_on(stage: &mut Stage, play: Play, sizes: Sizes) -> Result<(), Fault> {
+pub fn play_on(stage: &mut Arena, play: Play, sizes: Sizes) -> Result<(), Fault> {
     match play {
         Play::InStep { is_flushed } => in_step(stage, sizes, is_flushed),
         Play::ByEvents => by_events(stage, sizes),

@@ -2,7 +2,7 @@
 
 use crate::random::Random;
 use crate::workload::sizes::Sizes;
-use crate::workload::stage::{Brought, Stage};
+use crate::workload::stage::{Arena, Brought};
 use crate::workload::values::ATTRIBUTES;
 use hla_base::{EventHandle, Fault, FederateNo, MAX_TIME, Ticks};
 use hla_machine::Service;
@@ -25,13 +25,13 @@ const FED: &[u8] = b"(FED
 
 /// An execution that nobody has joined. `ErrorReadingFED` where the FED text was not read, and `OutOfMemory` where a growth
 /// was refused.
-pub fn opened(alloc: Global, sizes: Sizes, is_recorded: bool) -> Result<Stage, Fault> {
+pub fn opened(alloc: Global, sizes: Sizes, is_recorded: bool) -> Result<Arena, Fault> {
     let random = Random::new(sizes.seed, sizes.federates);
-    Stage::new(alloc, FED, random, is_recorded)
+    Arena::new(alloc, FED, random, is_recorded)
 }
 
 /// All wires are carried.
-fn carry_all(stage: &mut Stage, federates: u32) -> Result<(), Fault> {
+fn carry_all(stage: &mut Arena, federates: u32) -> Result<(), Fault> {
     for from in 1..=federates {
         stage.announce(from)?;
         stage.carry_from(from, federates)?;
@@ -41,7 +41,7 @@ fn carry_all(stage: &mut Stage, federates: u32) -> Result<(), Fault> {
 
 /// In step: each sends its events, and asks for its time; one event is retracted now and then.
 fn send_round(
-    stage: &mut Stage,
+    stage: &mut Arena,
     federate: FederateNo,
     events: u32,
     time: Ticks,
@@ -58,7 +58,7 @@ fn send_round(
 }
 
 /// Retracts one event in sixteen.
-fn retract_some(stage: &mut Stage, federate: FederateNo, event: EventHandle) -> Result<(), Fault> {
+fn retract_some(stage: &mut Arena, federate: FederateNo, event: EventHandle) -> Result<(), Fault> {
     if stage.random.is_once_in(16) {
         let _brought = stage.call(federate, Service::Retract { event })?;
     }
@@ -66,7 +66,7 @@ fn retract_some(stage: &mut Stage, federate: FederateNo, event: EventHandle) -> 
 }
 
 /// All join, and send and receive what goes to all; all but the last regulate, and all are constrained.
-fn join_in_step(stage: &mut Stage, federates: u32) -> Result<(), Fault> {
+fn join_in_step(stage: &mut Arena, federates: u32) -> Result<(), Fault> {
     for federate in 1..=federates {
         stage.join(federate)?;
         let _p = stage.call(federate, Service::PublishInteractionClass { class: 1 })?;
@@ -82,7 +82,7 @@ fn join_in_step(stage: &mut Stage, federates: u32) -> Result<(), Fault> {
 /// In step, by one tick in each round. The last federate falls behind: it sends nothing, and is granted its time, or in every second
 /// play flushes, when the others are done. `OutOfMemory` where a growth was refused; why a step is refused goes into the
 /// digest.
-pub fn in_step(stage: &mut Stage, sizes: Sizes, is_flushed: bool) -> Result<(), Fault> {
+pub fn in_step(stage: &mut Arena, sizes: Sizes, is_flushed: bool) -> Result<(), Fault> {
     let Sizes {
         federates,
         amount,
@@ -123,7 +123,7 @@ fn class_of_other(random: &mut Random, federates: u32, federate: FederateNo) -> 
 
 /// Sends so many events to others by chance, each some ticks from a time on.
 fn send_on(
-    stage: &mut Stage,
+    stage: &mut Arena,
     federates: u32,
     federate: FederateNo,
     events: u64,
@@ -142,7 +142,7 @@ fn send_on(
 
 /// Retracts one event in thirty-two, and sends another in its place.
 fn retract_and_send(
-    stage: &mut Stage,
+    stage: &mut Arena,
     federate: FederateNo,
     event: EventHandle,
     class: u32,
@@ -156,7 +156,7 @@ fn retract_and_send(
 }
 
 /// All join, and each receives its own class and may send all.
-fn join_by_events(stage: &mut Stage, federates: u32) -> Result<(), Fault> {
+fn join_by_events(stage: &mut Arena, federates: u32) -> Result<(), Fault> {
     for federate in 1..=federates {
         stage.join(federate)?;
         for other in 1..=federates {
@@ -172,7 +172,7 @@ fn join_by_events(stage: &mut Stage, federates: u32) -> Result<(), Fault> {
 }
 
 /// A federate picks up what it may, answers each event by one, and tells the others how far it is.
-fn visit_by_events(stage: &mut Stage, federates: u32, federate: FederateNo) -> Result<(), Fault> {
+fn visit_by_events(stage: &mut Arena, federates: u32, federate: FederateNo) -> Result<(), Fault> {
     let visit = stage.visit(federate)?;
     if let Some(time) = visit.grant {
         send_on(stage, federates, federate, visit.events, time)?;
@@ -184,7 +184,7 @@ fn visit_by_events(stage: &mut Stage, federates: u32, federate: FederateNo) -> R
 
 /// The hold model: each event that a federate is given makes it send one to another by chance, and all advance by Next Event
 /// Request. `OutOfMemory` where a growth was refused; why a step is refused goes into the digest.
-pub fn by_events(stage: &mut Stage, sizes: Sizes) -> Result<(), Fault> {
+pub fn by_events(stage: &mut Arena, sizes: Sizes) -> Result<(), Fault> {
     let Sizes {
         federates,
         amount,
@@ -205,7 +205,7 @@ pub fn by_events(stage: &mut Stage, sizes: Sizes) -> Result<(), Fault> {
 }
 
 /// The first federate publishes all attributes and regulates; the others subscribe them, every second one half of them.
-fn join_for_updates(stage: &mut Stage, federates: u32) -> Result<(), Fault> {
+fn join_for_updates(stage: &mut Arena, federates: u32) -> Result<(), Fault> {
     stage.join(1)?;
     let attributes = stage.numbers(ATTRIBUTES)?;
     let class = 1;
@@ -224,7 +224,7 @@ fn join_for_updates(stage: &mut Stage, federates: u32) -> Result<(), Fault> {
 
 /// The first federate updates so many objects for all others in each round, and all advance. `OutOfMemory` where a growth was
 /// refused; why a step is refused goes into the digest.
-pub fn by_updates(stage: &mut Stage, sizes: Sizes) -> Result<(), Fault> {
+pub fn by_updates(stage: &mut Arena, sizes: Sizes) -> Result<(), Fault> {
     let Sizes {
         federates,
         amount,

@@ -14,7 +14,7 @@ use std::mem;
 
 /// A federation execution, the digest of what its steps answered, and its records, if they are kept.
 #[derive(Drop)]
-pub struct Stage {
+pub struct Arena {
     pub alloc: Global,
     federation: Federation,
     pub random: Random,
@@ -50,7 +50,7 @@ fn history_of(alloc: Global, catalogue: &Catalogue) -> Result<List<Record>, Faul
     Ok(records)
 }
 
-impl Stage {
+impl Arena {
     /// A federation that no federate has joined yet. `ErrorReadingFED` where the FED text was not read, and `OutOfMemory`
     /// where a growth was refused.
     pub fn new(
@@ -58,7 +58,7 @@ impl Stage {
         fed: &[u8],
         random: Random,
         is_recorded: bool,
-    ) -> Result<Stage, Fault> {
+    ) -> Result<Arena, Fault> {
         let catalogue = catalogue(alloc, fed)?;
         let history = if is_recorded {
             match history_of(alloc, &catalogue) {
@@ -71,7 +71,7 @@ impl Stage {
         } else {
             None
         };
-        Ok(Stage {
+        Ok(Arena {
             alloc,
             federation: Federation::new(alloc, catalogue),
             random,

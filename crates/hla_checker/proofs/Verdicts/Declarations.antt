@@ -24,8 +24,8 @@ use Rattle.hla_machine.specs.Machine.{MayAnswer, after_call, central_seen}
 use Rattle.hla_machine.proofs.Tests.{all_clear, not-is-false}
 use Rattle.hla_accounts.specs.declared.account.Account.{Account}
 use Rattle.hla_accounts.specs.Accounts.{account_at, central_with}
-use Rattle.hla_checker.specs.declared.declaring.Declaration.{Declaration}
-use Rattle.hla_checker.specs.declared.declaring.Declaration.TheVariants.{UnpublishObject, UnsubscribeObject, PublishInteraction, UnpublishInteraction, SubscribeInteraction, UnsubscribeInteraction}
+use Rattle.hla_checker.specs.declared.declaring.ClassDeclaration.{ClassDeclaration}
+use Rattle.hla_checker.specs.declared.declaring.ClassDeclaration.TheVariants.{UnpublishObject, UnsubscribeObject, PublishInteraction, UnpublishInteraction, SubscribeInteraction, UnsubscribeInteraction}
 use Rattle.hla_verdicts.specs.declared.verdict.Verdict.TheVariants as verdict
 use Rattle.hla_verdicts.specs.Calls.{AnswersDone, ChoosesNothing}
 use Rattle.hla_checker.specs.Declaring.{declaration_of, declaration_tests, with_declaration, IsOfClass}
@@ -73,7 +73,7 @@ class_within v w class rest found same kept is none =
     subst (λ (y : KeptValue). (0 < class) × (class ≤ (declarations_of y.declarations).object_classes)) (sym same)
     (object_numbered w class kept (not-is-false (is_object_class w.catalogue class) (all_clear (no_object_class (directory_of w) class ∷ rest ∷ []) (sym is ∙ none)).0))
 
-of_class : (v : KeptValue) (f : ℕ) (p : Declaration) → IsConsistent v → first_fault (declaration_tests (directory_of v) f p) ≡ None → IsOfClass (declarations_of v.declarations) p
+of_class : (v : KeptValue) (f : ℕ) (p : ClassDeclaration) → IsConsistent v → first_fault (declaration_tests (directory_of v) f p) ≡ None → IsOfClass (declarations_of v.declarations) p
 of_class v f (UnpublishObject class) kept none = object_numbered v class kept (not-is-false (is_object_class v.catalogue class) (all_clear (declaration_tests (directory_of v) f (UnpublishObject class)) none).0)
 of_class v f (UnsubscribeObject class) kept none = object_numbered v class kept (not-is-false (is_object_class v.catalogue class) (all_clear (declaration_tests (directory_of v) f (UnsubscribeObject class)) none).0)
 of_class v f (PublishInteraction class) kept none = interaction_numbered v class kept (not-is-false (is_interaction_class v.catalogue class) (all_clear (declaration_tests (directory_of v) f (PublishInteraction class)) none).0)
@@ -81,7 +81,7 @@ of_class v f (UnpublishInteraction class) kept none = interaction_numbered v cla
 of_class v f (SubscribeInteraction class) kept none = interaction_numbered v class kept (not-is-false (is_interaction_class v.catalogue class) (all_clear (declaration_tests (directory_of v) f (SubscribeInteraction class)) none).0)
 of_class v f (UnsubscribeInteraction class) kept none = interaction_numbered v class kept (not-is-false (is_interaction_class v.catalogue class) (all_clear (declaration_tests (directory_of v) f (UnsubscribeInteraction class)) none).0)
 
-pub declared_class : (v w : KeptValue) (f : ℕ) (p : Declaration) (found : Option Fault) → v ≡ w → IsConsistent w → found ≡ first_fault (declaration_tests (directory_of w) f p) → found ≡ None → IsOfClass (declarations_of v.declarations) p
+pub declared_class : (v w : KeptValue) (f : ℕ) (p : ClassDeclaration) (found : Option Fault) → v ≡ w → IsConsistent w → found ≡ first_fault (declaration_tests (directory_of w) f p) → found ≡ None → IsOfClass (declarations_of v.declarations) p
 declared_class v w f p found same kept is none = subst (λ (y : KeptValue). IsOfClass (declarations_of y.declarations) p) (sym same) (of_class w f p kept (sym is ∙ none))
 
 -- ---- other declarations for as many federates and classes
@@ -97,7 +97,7 @@ declared_consistent v w dd t same kept is counts =
     }
 
 -- ---- declarations of a class by its number alone
-pub record IsDeclaration (x : Service) (p : Declaration) : Type 0 where
+pub record IsDeclaration (x : Service) (p : ClassDeclaration) : Type 0 where
   pub tests : (s : Seen) (f : ℕ) → call_tests s f x ≡ declaration_tests s.directory f p
   pub plain : ChoosesNothing x
   pub only : AnswersDone x
@@ -105,7 +105,7 @@ pub record IsDeclaration (x : Service) (p : Declaration) : Type 0 where
   pub follows : (c : CatalogueValue) (t : DeclarationsValue) (r : RegistryValue) (accounts : List Account) (f : ℕ)
       → central_with (directory_kept c (with_declaration t f p) r) accounts ≡ after_call (central_with (directory_kept c t r) accounts) f x choice.None
 
-done_only : (x : Service) (p : Declaration) → declaration_of x ≡ Some p → AnswersDone x
+done_only : (x : Service) (p : ClassDeclaration) → declaration_of x ≡ Some p → AnswersDone x
 done_only (service.UnpublishObjectClass class) p is c f answer.Done o may = refl
 done_only (service.UnpublishObjectClass class) p is c f a o may = absurd may
 done_only (service.UnsubscribeObjectClass class) p is c f answer.Done o may = refl
@@ -120,28 +120,28 @@ done_only (service.UnsubscribeInteractionClass class) p is c f answer.Done o may
 done_only (service.UnsubscribeInteractionClass class) p is c f a o may = absurd may
 done_only x p is c f a o may = cc
 
-pub declaration_is : (x : Service) (p : Declaration) → declaration_of x ≡ Some p → IsDeclaration x p
+pub declaration_is : (x : Service) (p : ClassDeclaration) → declaration_of x ≡ Some p → IsDeclaration x p
 declaration_is (service.UnpublishObjectClass class) p is =
     let same : UnpublishObject class ≡ p = cc in
-    subst (λ (y : Declaration). IsDeclaration (service.UnpublishObjectClass class) y) same (record { tests = λ s f. refl; plain = λ o. (λ e. e, λ e. e); only = done_only (service.UnpublishObjectClass class) (UnpublishObject class) refl; answers = λ c f. tt; follows = λ c t r accounts f. refl })
+    subst (λ (y : ClassDeclaration). IsDeclaration (service.UnpublishObjectClass class) y) same (record { tests = λ s f. refl; plain = λ o. (λ e. e, λ e. e); only = done_only (service.UnpublishObjectClass class) (UnpublishObject class) refl; answers = λ c f. tt; follows = λ c t r accounts f. refl })
 declaration_is (service.UnsubscribeObjectClass class) p is =
     let same : UnsubscribeObject class ≡ p = cc in
-    subst (λ (y : Declaration). IsDeclaration (service.UnsubscribeObjectClass class) y) same (record { tests = λ s f. refl; plain = λ o. (λ e. e, λ e. e); only = done_only (service.UnsubscribeObjectClass class) (UnsubscribeObject class) refl; answers = λ c f. tt; follows = λ c t r accounts f. refl })
+    subst (λ (y : ClassDeclaration). IsDeclaration (service.UnsubscribeObjectClass class) y) same (record { tests = λ s f. refl; plain = λ o. (λ e. e, λ e. e); only = done_only (service.UnsubscribeObjectClass class) (UnsubscribeObject class) refl; answers = λ c f. tt; follows = λ c t r accounts f. refl })
 declaration_is (service.PublishInteractionClass class) p is =
     let same : PublishInteraction class ≡ p = cc in
-    subst (λ (y : Declaration). IsDeclaration (service.PublishInteractionClass class) y) same (record { tests = λ s f. refl; plain = λ o. (λ e. e, λ e. e); only = done_only (service.PublishInteractionClass class) (PublishInteraction class) refl; answers = λ c f. tt; follows = λ c t r accounts f. refl })
+    subst (λ (y : ClassDeclaration). IsDeclaration (service.PublishInteractionClass class) y) same (record { tests = λ s f. refl; plain = λ o. (λ e. e, λ e. e); only = done_only (service.PublishInteractionClass class) (PublishInteraction class) refl; answers = λ c f. tt; follows = λ c t r accounts f. refl })
 declaration_is (service.UnpublishInteractionClass class) p is =
     let same : UnpublishInteraction class ≡ p = cc in
-    subst (λ (y : Declaration). IsDeclaration (service.UnpublishInteractionClass class) y) same (record { tests = λ s f. refl; plain = λ o. (λ e. e, λ e. e); only = done_only (service.UnpublishInteractionClass class) (UnpublishInteraction class) refl; answers = λ c f. tt; follows = λ c t r accounts f. refl })
+    subst (λ (y : ClassDeclaration). IsDeclaration (service.UnpublishInteractionClass class) y) same (record { tests = λ s f. refl; plain = λ o. (λ e. e, λ e. e); only = done_only (service.UnpublishInteractionClass class) (UnpublishInteraction class) refl; answers = λ c f. tt; follows = λ c t r accounts f. refl })
 declaration_is (service.SubscribeInteractionClass class) p is =
     let same : SubscribeInteraction class ≡ p = cc in
-    subst (λ (y : Declaration). IsDeclaration (service.SubscribeInteractionClass class) y) same (record { tests = λ s f. refl; plain = λ o. (λ e. e, λ e. e); only = done_only (service.SubscribeInteractionClass class) (SubscribeInteraction class) refl; answers = λ c f. tt; follows = λ c t r accounts f. refl })
+    subst (λ (y : ClassDeclaration). IsDeclaration (service.SubscribeInteractionClass class) y) same (record { tests = λ s f. refl; plain = λ o. (λ e. e, λ e. e); only = done_only (service.SubscribeInteractionClass class) (SubscribeInteraction class) refl; answers = λ c f. tt; follows = λ c t r accounts f. refl })
 declaration_is (service.UnsubscribeInteractionClass class) p is =
     let same : UnsubscribeInteraction class ≡ p = cc in
-    subst (λ (y : Declaration). IsDeclaration (service.UnsubscribeInteractionClass class) y) same (record { tests = λ s f. refl; plain = λ o. (λ e. e, λ e. e); only = done_only (service.UnsubscribeInteractionClass class) (UnsubscribeInteraction class) refl; answers = λ c f. tt; follows = λ c t r accounts f. refl })
+    subst (λ (y : ClassDeclaration). IsDeclaration (service.UnsubscribeInteractionClass class) y) same (record { tests = λ s f. refl; plain = λ o. (λ e. e, λ e. e); only = done_only (service.UnsubscribeInteractionClass class) (UnsubscribeInteraction class) refl; answers = λ c f. tt; follows = λ c t r accounts f. refl })
 declaration_is x p is = cc
 
-same_counts : (t : DeclarationsValue) (f : ℕ) (p : Declaration)
+same_counts : (t : DeclarationsValue) (f : ℕ) (p : ClassDeclaration)
     → ((with_declaration t f p).federates ≡ t.federates) × ((with_declaration t f p).object_classes ≡ t.object_classes) × ((with_declaration t f p).interaction_classes ≡ t.interaction_classes)
 same_counts t f (UnpublishObject class) = (refl, refl, refl)
 same_counts t f (UnsubscribeObject class) = (refl, refl, refl)
@@ -150,7 +150,7 @@ same_counts t f (UnpublishInteraction class) = (refl, refl, refl)
 same_counts t f (SubscribeInteraction class) = (refl, refl, refl)
 same_counts t f (UnsubscribeInteraction class) = (refl, refl, refl)
 
-module _ (v w : KeptValue) (f : ℕ) (x : Service) (p : Declaration) (found : Option Fault) (out : Outcome) (o : Choice) (same : v ≡ w) (kept : IsConsistent w) (joined : (account_at w.accounts f).is_joined ≡ true)
+module _ (v w : KeptValue) (f : ℕ) (x : Service) (p : ClassDeclaration) (found : Option Fault) (out : Outcome) (o : Choice) (same : v ≡ w) (kept : IsConsistent w) (joined : (account_at w.accounts f).is_joined ≡ true)
     (of : IsDeclaration x p) (is : found ≡ first_fault (declaration_tests (directory_of w) f p)) where
   pub declaration_fault_is : found ≡ first_fault (call_tests (central_seen (central_of w)) f x)
   declaration_fault_is = is ∙ sym (ap first_fault (of.tests (central_seen (central_of w)) f))

@@ -24,7 +24,7 @@ use Rattle.hla_machine.specs.Machine.{IsServiceChoice, MayAnswer, after_call, ce
 use Rattle.hla_accounts.specs.declared.account.Account.{Account}
 use Rattle.hla_accounts.specs.Accounts.{account_at, central_with}
 use Rattle.hla_accounts.specs.Sendings.{item_for, IsCutTo}
-use Rattle.hla_checker.specs.declared.contents.Message.{Message}
+use Rattle.hla_checker.specs.declared.contents.ServiceMessage.{ServiceMessage}
 use Rattle.hla_verdicts.specs.declared.verdict.Verdict.TheVariants as verdict
 use Rattle.hla_verdicts.specs.Answers.{sent_in}
 use Rattle.hla_verdicts.specs.Kept.{KeptValue, IsConsistent, central_of, directory_of}
@@ -38,7 +38,7 @@ content_same v (AnInteraction class values) f = refl
 content_same v (AnUpdate object values) f = refl
 content_same v (ADeletion object) f = refl
 
-module _ (v : KeptValue) (sender : ℕ) (m : Message) (deletes : Bool) (contents : List (Option Content)) (are : AreContents (directory_of v) (body_said m.body) (length v.accounts) contents) where
+module _ (v : KeptValue) (sender : ℕ) (m : ServiceMessage) (deletes : Bool) (contents : List (Option Content)) (are : AreContents (directory_of v) (body_said m.body) (length v.accounts) contents) where
   said_to : (f : ℕ) → 0 < f → f ≤ length v.accounts → item_for contents f ≡ content_for (directory_of v) (body_said m.body) f
   said_to zero some within = absurd (omega arith)
   said_to (suc k) some within = are.each k (omega arith)

@@ -3,7 +3,7 @@ use Rattle.std.proofs.Common.{◌≡◌, ◌≤◌, ◌+◌, List, length, drop,
 use Rattle.std.specs.List.{remove}
 use Rattle.hla_accounts.specs.declared.bag.Waiting.{Waiting}
 use Rattle.hla_accounts.proofs.Bags.Lines.{drop-remove, last_alone}
-use Rattle.hla_accounts.proofs.line.Line.remove_or_cut.Goals as goal
+use Rattle.hla_accounts.proofs.line.WaitingLine.remove_or_cut.Goals as goal
 
 pub returns-then-place-len : goal.returns-then-place-len
 returns-then-place-len c =

@@ -2,7 +2,7 @@
 use Rattle.std.proofs.Common.{◌<◌, List, length, drop, set, get_or, subst, sym, ap, ◌∙◌, arith, length-drop}
 use Rattle.hla_accounts.specs.declared.bag.Waiting.{Waiting}
 use Rattle.hla_accounts.proofs.Bags.Lines.{set_behind}
-use Rattle.hla_accounts.proofs.line.Line.set_delivery.Goals as goal
+use Rattle.hla_accounts.proofs.line.WaitingLine.set_delivery.Goals as goal
 
 pub returns : goal.returns
 returns c d =
