@@ -1,4 +1,4 @@
--- Each object is discovered first, and once: after each step, and over lists of steps
+-- Each object is discovered first, and once: after each step
 use Rattle.std.proofs.Common.{◌≡◌, ◌⊎◌, ⊎_elim, ℕ, refl, sym, inl, inr, List, None, Some}
 use Rattle.hla_base.specs.declared.number.EventHandle.{EventHandle}
 use Rattle.hla_callbacks.specs.declared.callback.Callback.{Callback}

@@ -1,4 +1,4 @@
--- Steps of time management: requests, roles, announcements and queries
+-- Steps of time management: requests, roles and announcements
 use Rattle.std.proofs.Common.{◌≡◌, ℕ, ◌+◌, ◌≤◌, max, ltb, not, ◌&&◌, ◌||◌, Bool, true, false, refl, sym, le_trans, ap, subst, arith, List, ◌++◌, Option, Some, None}
 use Rattle.std.proofs.lemmas.Bool.{cond_both, and_parts, ltb-true, ltb-false}
 use Rattle.hla_base.specs.declared.content.Event.{Event}
