@@ -532,10 +532,10 @@ impl Reader {
         }
     }
 
-    /// Takes the next token, or tells what is wrong with it where it stands: `BadByte` and `UnexpectedEnd` of a token that is
-    /// cut wrongly and of the end; `ExpectedOpen`, `ExpectedClose`, `ExpectedName`, `UnknownKeyword` and `TrailingText` where
-    /// another token must stand; `TooLarge` past a limit; `OutOfMemory` where a growth was refused. What was read so far is
-    /// left open then.
+    /// Takes the next token, or tells what is wrong with it where it stands: `BadByte` of a token that is cut wrongly, and
+    /// `UnexpectedEnd` of one that is not closed and of the end; `ExpectedOpen`, `ExpectedClose`, `ExpectedName`,
+    /// `UnknownKeyword` or `TrailingText` where another token must stand; `TooLarge` past a limit; `OutOfMemory` where a
+    /// growth was refused. What was read so far is left open then.
     pub fn take(&mut self, alloc: Global, token: Token<'_>) -> Result<(), FedFaultKind>
         ensures { Moves result (after_token self.old (view token.entry)) self.new }
     {
