@@ -1,4 +1,4 @@
--- The limits of this profile. src/limits.rt names each alike, in capitals, and says whose it is and what comes past it
+-- The limits of this profile. src/limits.rt names each but the last alike, in capitals, and says what comes past it
 use Rattle.std.specs.Prelude.{ℕ}
 
 abbrev pub max_joins : ℕ

@@ -44,7 +44,8 @@ pub const MAX_SCRIPT: usize = 1_048_576;
 /// The most bytes of a line of a script; a script with a longer one is refused.
 pub const MAX_SCRIPT_LINE: usize = 4_096;
 
-/// The most records of a history; then every act is refused with `HistoryFull`.
+/// The most records of a script's history, on the bare federation and behind the lock; then every act is refused with
+/// `HistoryFull`. A history behind the lock may be opened for more: for `MAX_HISTORY_LIMIT` of `hla_rti` at most.
 pub const MAX_HISTORY: usize = 32_768;
 
 /// The most executions that are there at once; a further Create Federation Execution is refused with `LimitReached`.
@@ -54,7 +55,8 @@ pub const MAX_EXECUTIONS: usize = 16;
 pub const MAX_CREATES: u32 = 64;
 
 /// The largest logical time, time stamp and lookahead, in ticks. A larger time or stamp is refused with
-/// `InvalidFederationTime`, a larger lookahead with `InvalidLookahead`.
+/// `InvalidFederationTime`, and so is Enable Time Regulation where a federate that is not constrained would get a larger
+/// time by it; a larger lookahead is refused with `InvalidLookahead`. Floors reach twice as far.
 pub const MAX_TIME: Ticks = 1_000_000_000_000_000_000;
 
 /// The largest serial of a message; a federate that would send one more is refused with `LimitReached`.

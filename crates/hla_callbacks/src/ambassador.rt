@@ -11,10 +11,11 @@ use hla_base::{ClassNo, EventHandle, Fault, HandleValuePair, ObjectNo, SharedLis
 #[derive(Clone, Copy, Debug, PartialEq, Eq)]
 pub struct FederateFault;
 
-/// The federate ambassador of HLA 1.3: one function for each callback, with what it tells as in `Callback`. A tick of the
-/// federate calls `make_room` and then at most one of the others. Contracts see what it has heard, and whether it has room
-/// for one callback more. A callback counts as heard also where the ambassador fails in it. A function of it is called while
-/// the lock of the run-time infrastructure is held, so it must return soon and call no service itself.
+/// The federate ambassador of HLA 1.3: one function for each callback, with what it tells as in `Callback`. A tick of
+/// the federate calls `make_room` and then at most one of the others. Contracts see what it has heard, and whether it
+/// has room for one callback more. Where it fails in a callback it answers `FederateFault`, and the callback counts as
+/// heard all the same. A function of it is called while the lock of the run-time infrastructure is held, so it must
+/// return soon and call no service itself.
 pub trait FederateAmbassador: Drop {
     // The callbacks so far, in order.
     ghost heard: { Self → List Callback };
@@ -22,14 +23,14 @@ pub trait FederateAmbassador: Drop {
     // Whether there is room for one more.
     ghost room: { Self → Bool };
 
-    /// Takes the room that the next callback needs; `OutOfMemory` where a growth was refused.
+    /// Takes the room that the next callback needs; `OutOfMemory` where a growth was refused. Nothing is heard.
     fn make_room(&mut self) -> Result<(), Fault>
         ensures heard { heard self.new ≡ heard self.old }
         ensures room { OnOk result (room self.new ≡ true) }
         ensures err { IfErr result (λ e. e ≡ Fault.OutOfMemory) };
 
     /// Discover Object Instance (HLA 1.3, object management): from now on the federate knows this object, at this class and
-    /// under this name.
+    /// under this name. `FederateFault` where it fails in it.
     fn discover_object_instance(
         &mut self,
         object: ObjectNo,
@@ -40,6 +41,7 @@ pub trait FederateAmbassador: Drop {
         ensures { heard self.new ≡ heard self.old ++ callback.DiscoverObjectInstance object class name ∷ [] };
 
     /// Reflect Attribute Values (HLA 1.3, object management): new values of attributes of an object that the federate knows.
+    /// `FederateFault` where it fails in it.
     fn reflect_attribute_values(
         &mut self,
         object: ObjectNo,
@@ -52,6 +54,7 @@ pub trait FederateAmbassador: Drop {
             ++ callback.ReflectAttributeValues object values event delivery ∷ [] };
 
     /// Receive Interaction (HLA 1.3, object management): an interaction, at the class at which the federate receives it.
+    /// `FederateFault` where it fails in it.
     fn receive_interaction(
         &mut self,
         class: ClassNo,
@@ -64,6 +67,7 @@ pub trait FederateAmbassador: Drop {
             ++ callback.ReceiveInteraction class values event delivery ∷ [] };
 
     /// Remove Object Instance (HLA 1.3, object management): an object that the federate knows was deleted.
+    /// `FederateFault` where it fails in it.
     fn remove_object_instance(
         &mut self,
         object: ObjectNo,
@@ -74,21 +78,25 @@ pub trait FederateAmbassador: Drop {
         ensures { heard self.new ≡ heard self.old ++ callback.RemoveObjectInstance object event delivery ∷ [] };
 
     /// Time Regulation Enabled (HLA 1.3, time management): the federate regulates, with this time, in ticks, from now on.
+    /// `FederateFault` where it fails in it.
     fn time_regulation_enabled(&mut self, time: Ticks) -> Result<(), FederateFault>
         requires { room self.old ≡ true }
         ensures { heard self.new ≡ heard self.old ++ callback.TimeRegulationEnabled time ∷ [] };
 
     /// Time Constrained Enabled (HLA 1.3, time management): the federate is constrained, with this time, in ticks.
+    /// `FederateFault` where it fails in it.
     fn time_constrained_enabled(&mut self, time: Ticks) -> Result<(), FederateFault>
         requires { room self.old ≡ true }
         ensures { heard self.new ≡ heard self.old ++ callback.TimeConstrainedEnabled time ∷ [] };
 
-    /// Time Advance Grant (HLA 1.3, time management): the federate's time, in ticks, from now on.
+    /// Time Advance Grant (HLA 1.3, time management): the federate's time, in ticks, from now on. `FederateFault` where it
+    /// fails in it.
     fn time_advance_grant(&mut self, time: Ticks) -> Result<(), FederateFault>
         requires { room self.old ≡ true }
         ensures { heard self.new ≡ heard self.old ++ callback.TimeAdvanceGrant time ∷ [] };
 
     /// Request Retraction (HLA 1.3, time management): this message was given, and its sender has retracted it.
+    /// `FederateFault` where it fails in it.
     fn request_retraction(&mut self, event: EventHandle) -> Result<(), FederateFault>
         requires { room self.old ≡ true }
         ensures { heard self.new ≡ heard self.old ++ callback.RequestRetraction event ∷ [] };

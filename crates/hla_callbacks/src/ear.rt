@@ -48,7 +48,8 @@ impl<B: FederateAmbassador> Ear<B> {
         self.ambassador.make_room()
     }
 
-    /// Gives the callback: calls the ambassador's function of its name, and answers what that answers.
+    /// Gives the callback: calls the ambassador's function of its name, and answers what that answers; `FederateFault` where
+    /// the ambassador failed in it. The callback counts as heard either way.
     pub fn give(&mut self, callback: Callback) -> Result<(), FederateFault>
         requires { self.old.room ≡ true }
         ensures { self.new.heard ≡ self.old.heard ++ callback ∷ [] }

@@ -1,4 +1,4 @@
--- Names and their numbers.
+-- Names and their numbers
 pub mod NameLemmas
--- Where names are declared.
+-- Where names are declared
 pub mod GroupLemmas

@@ -187,7 +187,7 @@ impl Groups {
         }
     }
 
-    /// Notes one more declaration of a name of a hash.
+    /// Notes one more declaration of a name of a hash; `OutOfMemory`, and all as it was, where a growth was refused.
     pub(crate) fn note(&mut self, hash: u64, place: Declared) -> Result<(), Fault>
         ensures ok { OnOk result (IsNoted self.old self.new hash place) }
         ensures err { IfErr result (λ e. e ≡ Fault.OutOfMemory) }

@@ -52,7 +52,7 @@ impl FirstNumbers {
         self.numbers.get(name).copied()
     }
 
-    /// Notes the number of a name, unless the name has one.
+    /// Notes the number of a name, unless the name has one; `OutOfMemory`, and all as it was, where a growth was refused.
     pub(crate) fn note(&mut self, name: Vec<u8>, number: u32) -> Result<(), Fault>
         ensures ok { OnOk result (self.new ≡ with_number self.old name.items number) }
         ensures err { IfErr result (λ e. e ≡ Fault.OutOfMemory) }

@@ -1,6 +1,6 @@
--- The examples of the same name, each by computation
+-- Declarations, objects and receive order
 pub mod Objects
--- The examples of the same name, each by computation
+-- Bounds, advances and queues
 pub mod Time
--- The examples of the same name, each by computation
+-- Roles that change, the floor, and retraction
 pub mod Roles

@@ -5,7 +5,7 @@ use Rattle.hla_base.specs.Limits.{max_classes, max_joins}
 use Rattle.hla_declaration.specs.declared.member.Member.{Member}
 use Rattle.hla_declaration.specs.Members.{IsMember}
 
--- `tables_of` reads them as tables
+-- `declarations_of` reads them as tables
 pub record DeclarationLists : Type 0 where
   pub object_classes : ℕ
   pub interaction_classes : ℕ

@@ -16,8 +16,8 @@ use std::alloc::Global;
 use std::marker::Model;
 
 /// What each federate of an execution publishes and subscribes (HLA 1.3, declaration management). Federates and classes
-/// are numbered from 1. Contracts see lists; `tables_of` reads them as tables by federate and class, which say for a
-/// number of no federate or of no class that nothing is declared. The room for declarations is taken when a federate
+/// are numbered from 1. Contracts see lists; `declarations_of` reads them as tables by federate and class, which say for
+/// a number of no federate or of no class that nothing is declared. The room for declarations is taken when a federate
 /// joins, so that none takes memory later. Beside them stands who subscribes each class, so that a send need not look at
 /// each federate's declarations.
 #[derive(Debug, Drop)]

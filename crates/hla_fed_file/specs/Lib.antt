@@ -2,7 +2,7 @@
 pub mod Fault
 -- The tokens of a FED text, each with its line
 pub mod Lexical
--- Tokens of the code as tokens of the text.
+-- Tokens of the code as tokens of the text
 pub mod Tokens
 -- Bytes in front that pass a test, several at a time
 pub mod Spans

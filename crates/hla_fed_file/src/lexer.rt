@@ -33,7 +33,7 @@ impl Token<'_> {
 }
 
 /// The bytes of a word in front, and what follows them.
-#[tactic(auto, using(crate::proofs::Lexing::lexing))]
+#[tactic(auto, using(crate::proofs::Lexical::Lexing::lexing))]
 fn split_word(text: &[u8]) -> (&[u8], &[u8])
     ensures front { result.0.now ≡ take_while is_word text.now }
     ensures rest { result.1.now ≡ drop_while is_word text.now }
@@ -43,7 +43,7 @@ fn split_word(text: &[u8]) -> (&[u8], &[u8])
 }
 
 /// The bytes of a quoted name in front, and what follows them.
-#[tactic(auto, using(crate::proofs::Lexing::lexing))]
+#[tactic(auto, using(crate::proofs::Lexical::Lexing::lexing))]
 fn split_quoted(text: &[u8]) -> (&[u8], &[u8])
     ensures front { result.0.now ≡ take_while is_quoted text.now }
     ensures rest { result.1.now ≡ drop_while is_quoted text.now }
@@ -62,7 +62,7 @@ fn after_comment(text: &[u8]) -> &[u8]
 
 /// What follows the blanks in front.
 #[inline(always)]
-#[tactic(auto, using(crate::proofs::Lexing::lexing))]
+#[tactic(auto, using(crate::proofs::Lexical::Lexing::lexing))]
 fn after_blanks(text: &[u8]) -> &[u8]
     ensures rest { result.now ≡ drop_while is_blank text.now }
     ensures shorter { length result.now ≤ length text.now }
@@ -80,7 +80,7 @@ pub struct Lexed<'a> {
 }
 
 /// What is left behind white space and comments, and its line.
-#[tactic(auto, using(crate::proofs::Lexing::fronts))]
+#[tactic(auto, using(crate::proofs::Lexical::Lexing::fronts))]
 fn skip(text: &[u8], line: usize) -> (&[u8], usize)
     requires { line + length text.now < 2 ^ 64 }
     ensures same { tokens_from Between result.1 result.0.now ≡ tokens_from Between line text.now }
@@ -112,7 +112,7 @@ fn skip(text: &[u8], line: usize) -> (&[u8], usize)
 }
 
 /// The quoted name whose first quote stands before the text.
-#[tactic(auto, using(crate::proofs::Lexing::fronts))]
+#[tactic(auto, using(crate::proofs::Lexical::Lexing::fronts))]
 fn quoted_name_at(text: &[u8]) -> (Token<'_>, &[u8])
     ensures stream { (line : ℕ) → stream line (view result.0) result.1.now ≡ tokens_from Between line
         (34 ∷ text.now) }
@@ -137,7 +137,7 @@ fn has_bad_front(text: &[u8]) -> bool
 }
 
 /// The word in front.
-#[tactic(auto, using(crate::proofs::Lexing::fronts))]
+#[tactic(auto, using(crate::proofs::Lexical::Lexing::fronts))]
 fn word_at(text: &[u8]) -> (Token<'_>, &[u8])
     requires { StartsWord text.now }
     ensures stream { (line : ℕ) → stream line (view result.0) result.1.now ≡ tokens_from Between line
@@ -153,7 +153,7 @@ fn word_at(text: &[u8]) -> (Token<'_>, &[u8])
 }
 
 /// The token in front, and what follows it.
-#[tactic(auto, using(crate::proofs::Lexing::fronts))]
+#[tactic(auto, using(crate::proofs::Lexical::Lexing::fronts))]
 fn token_at(text: &[u8], line: usize) -> (Token<'_>, &[u8])
     requires { IsFront text.now }
     ensures stream { tokens_from Between line text.now ≡ stream line (view result.0) result.1.now }

@@ -99,7 +99,7 @@ pub enum Place {
 /// Whether a word is a keyword, whatever its case. Texts spell most keywords in small letters, as here, and then one comparison
 /// tells.
 #[inline(always)]
-#[tactic(auto, using(crate::proofs::SpellingLemmas::same_spelling))]
+#[tactic(auto, using(crate::proofs::Lexical::SpellingLemmas::same_spelling))]
 fn is_spelling_of(word: &[u8], keyword: &[u8]) -> bool
     ensures { result ≡ is_spelling_of word.now keyword.now }
 {

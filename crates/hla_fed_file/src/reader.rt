@@ -532,7 +532,10 @@ impl Reader {
         }
     }
 
-    /// Takes the next token.
+    /// Takes the next token, or tells what is wrong with it where it stands: `BadByte` of a token that is cut wrongly, and
+    /// `UnexpectedEnd` of one that is not closed and of the end; `ExpectedOpen`, `ExpectedClose`, `ExpectedName`,
+    /// `UnknownKeyword` or `TrailingText` where another token must stand; `TooLarge` past a limit; `OutOfMemory` where a
+    /// growth was refused. What was read so far is left open then.
     pub fn take(&mut self, alloc: Global, token: Token<'_>) -> Result<(), FedFaultKind>
         ensures { Moves result (after_token self.old (view token.entry)) self.new }
     {
@@ -546,7 +549,7 @@ impl Reader {
         }
     }
 
-    /// Ends where the text ends, on a line.
+    /// What was read, where the text ends on a line; `UnexpectedEnd` on that line where the FED list is not closed.
     pub(crate) fn finish(self, line: usize) -> Result<Draft, FedFault>
         ensures { result ≡ ending_of line self }
     {

@@ -15,7 +15,7 @@ use hla_catalogue::Catalogue;
 use std::alloc::Global;
 
 /// Takes all tokens of a text, and gives the line of its end.
-#[tactic(auto, using(crate::proofs::ReadingLemmas::steps))]
+#[tactic(auto, using(crate::proofs::Lexical::ReadingLemmas::steps))]
 fn take_all(reader: &mut Reader, alloc: Global, text: &[u8]) -> Result<usize, FedFault>
     requires { length text.now ≤ max_fed_file }
     ensures { Takes result (reading reader.old (tokens text.now)) reader.new }
@@ -72,7 +72,7 @@ fn read_tokens(alloc: Global, text: &[u8]) -> Result<Catalogue, FedFault>
 /// `TooLarge` where the text is longer than 1,048,576 bytes, more than 64 parentheses are open, a name that is not
 /// ignored has more than 255 bytes, or a declaration is one too many of 512 classes of its kind, 4,096 attributes or
 /// 4,096 parameters (limits of this profile); the other faults are those of the HLA 1.3 FED format.
-#[tactic(auto, using(crate::proofs::Sound::sound))]
+#[tactic(auto, using(crate::proofs::Backward::Sound::sound))]
 pub fn read(alloc: Global, text: &[u8]) -> Result<Catalogue, FedFault>
     // The catalogue, or the first fault: tokens are tested in their order.
     ensures exact { ReadsAs result (reading_of text.now) }

@@ -131,7 +131,8 @@ impl Block {
         Some(EventKey::of(middle))
     }
 
-    /// Keeps the lesser half of the events, and gives the greater; nothing changes where memory for it was refused.
+    /// Keeps the lesser half of the events, and gives the greater; `AllocError`, and the block as it was, where memory for
+    /// it was refused.
     pub fn split(&mut self) -> Result<Block, AllocError>
         requires { 2 ≤ length self.old }
         ensures ok { IfOk result (λ b. self.new ++ b ≡ self.old) }

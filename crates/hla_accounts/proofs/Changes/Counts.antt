@@ -9,7 +9,7 @@ use Rattle.hla_retraction.specs.SentRows.{sent_of}
 use Rattle.hla_machine.specs.Directory.{Directory, new_directory}
 use Rattle.hla_machine.specs.Central.{Central, Copy, at_key, at3, is_key}
 use Rattle.hla_machine.specs.Machine.{after_retraction_arrival}
-use Rattle.hla_machine.proofs.Bags.{key_parts}
+use Rattle.hla_machine.proofs.Basics.Bags.{key_parts}
 use Rattle.hla_accounts.specs.declared.account.Account.{Account}
 use Rattle.hla_accounts.specs.Accounts.{AreKept, account_at, central_with, copy_at, offers_from, times_listed}
 use Rattle.hla_accounts.proofs.Changes.OneAccount.{field, field_same, kept_changed, due_changed}

@@ -18,7 +18,7 @@ use Rattle.hla_machine.specs.Central.{Central, Copy, at_key, at3, is_key, demote
 use Rattle.hla_base.specs.Rows.{is_disabled}
 use Rattle.hla_machine.specs.Machine.{after_arrival}
 use Rattle.hla_machine.specs.Callbacks.{with_central_row, with_demoted}
-use Rattle.hla_machine.proofs.Bags.{bag_ext, key_parts}
+use Rattle.hla_machine.proofs.Basics.Bags.{bag_ext, key_parts}
 use Rattle.hla_accounts.specs.declared.account.Account.{Account}
 use Rattle.hla_accounts.specs.declared.bag.Waiting.{Waiting}
 use Rattle.hla_accounts.specs.Bags.{waiting_at, AreApart, is_listed, demoted_delivery, demoted_waiting, with_listed_demoted}

@@ -19,7 +19,7 @@ use Rattle.hla_retraction.specs.SentEvents.{SentEvent, no_event}
 use Rattle.hla_machine.specs.Directory.{Directory, Outgoing, new_directory, content_for, is_of_order}
 use Rattle.hla_machine.specs.Central.{Central, Copy, Ro, Tso, at_key, with_copies, is_key}
 use Rattle.hla_machine.specs.Sends.{is_ordered, kept_stamp, is_deletion, copy_for, sent_event, after_message}
-use Rattle.hla_machine.proofs.Bags.{bag_ext, key_parts, or_else-none, at_key_self}
+use Rattle.hla_machine.proofs.Basics.Bags.{bag_ext, key_parts, or_else-none, at_key_self}
 use Rattle.hla_accounts.specs.declared.account.Account.{Account}
 use Rattle.hla_accounts.specs.Accounts.{account_at, central_with, copy_at, copy_given}
 use Rattle.hla_accounts.specs.Sendings.{item_for, copy_sent, sent_delivery, stamp_in_order, noted_stamp, kept_event, IsCutTo}

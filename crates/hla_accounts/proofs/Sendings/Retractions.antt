@@ -9,7 +9,7 @@ use Rattle.hla_catalogue.specs.CatalogueValue.{empty_catalogue}
 use Rattle.hla_machine.specs.Directory.{Directory, new_directory}
 use Rattle.hla_machine.specs.Central.{Central, at3, is_key}
 use Rattle.hla_machine.specs.Sends.{owed_to_receivers, is_told}
-use Rattle.hla_machine.proofs.Bags.{key_parts}
+use Rattle.hla_machine.proofs.Basics.Bags.{key_parts}
 use Rattle.hla_accounts.specs.declared.account.Account.{Account}
 use Rattle.hla_accounts.specs.Accounts.{account_at, no_account, central_with, times_listed}
 use Rattle.hla_accounts.specs.Calls.{is_told_of}

@@ -10,7 +10,7 @@ use Rattle.hla_base.specs.RowRefusals.{first_fault, regulation_tests}
 use Rattle.hla_base.specs.Rows.{bar_of, is_constrained}
 use Rattle.hla_base.specs.Tables.{greatest}
 use Rattle.hla_base.proofs.Tables.{greatest_ge}
-use Rattle.hla_machine.proofs.Tests.{all_clear}
+use Rattle.hla_machine.proofs.Basics.Tests.{all_clear}
 use Rattle.hla_accounts.specs.declared.account.Account.{Account}
 use Rattle.hla_accounts.specs.Accounts.{account_at}
 use Rattle.hla_accounts.specs.Calls.{is_below_wake_of, is_below_some_wake, IsEntryWithin}

@@ -16,7 +16,7 @@ use Rattle.hla_machine.specs.Directory.{Directory, Outgoing, by_handle, is_of_or
 use Rattle.hla_machine.specs.Central.{Central}
 use Rattle.hla_machine.specs.Refusals.{Seen, call_tests, is_out_of_serials}
 use Rattle.hla_machine.specs.Sends.{after_message, after_messages, sent_handle}
-use Rattle.hla_machine.proofs.Tests.{all_clear}
+use Rattle.hla_machine.proofs.Basics.Tests.{all_clear}
 use Rattle.hla_accounts.specs.Sendings.{is_sent_in_order}
 use Rattle.hla_checker.proofs.Sends.SendingTests.{any-by_handle, length-part}
 

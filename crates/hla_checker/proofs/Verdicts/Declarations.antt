@@ -21,7 +21,7 @@ use Rattle.hla_machine.specs.declared.step.Choice.TheVariants as choice
 use Rattle.hla_machine.specs.Central.{Central}
 use Rattle.hla_machine.specs.Refusals.{Seen, call_tests, no_object_class}
 use Rattle.hla_machine.specs.Machine.{MayAnswer, after_call, central_seen}
-use Rattle.hla_machine.proofs.Tests.{all_clear, not-is-false}
+use Rattle.hla_machine.proofs.Basics.Tests.{all_clear, not-is-false}
 use Rattle.hla_accounts.specs.declared.account.Account.{Account}
 use Rattle.hla_accounts.specs.Accounts.{account_at, central_with}
 use Rattle.hla_checker.specs.declared.declaring.ClassDeclaration.{ClassDeclaration}

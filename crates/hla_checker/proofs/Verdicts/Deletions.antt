@@ -24,7 +24,7 @@ use Rattle.hla_machine.specs.Central.{Central}
 use Rattle.hla_machine.specs.Refusals.{Seen, call_tests, is_known}
 use Rattle.hla_machine.specs.Sends.{after_message, after_messages}
 use Rattle.hla_machine.specs.Machine.{MayAnswer, after_leaving, after_resign, central_seen}
-use Rattle.hla_machine.proofs.Tests.{all_clear, not-is-false}
+use Rattle.hla_machine.proofs.Basics.Tests.{all_clear, not-is-false}
 use Rattle.hla_accounts.specs.declared.account.Account.{Account}
 use Rattle.hla_accounts.specs.Accounts.{central_with}
 use Rattle.hla_verdicts.specs.Kept.{KeptValue, IsConsistent, central_of, directory_kept, directory_of}

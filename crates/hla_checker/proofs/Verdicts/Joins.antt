@@ -17,7 +17,7 @@ use Rattle.hla_machine.specs.Directory.{Directory}
 use Rattle.hla_machine.specs.Central.{Central}
 use Rattle.hla_machine.specs.Refusals.{refusal, tests}
 use Rattle.hla_machine.specs.Machine.{MayDo, after_join, central_seen}
-use Rattle.hla_machine.proofs.Tests.{all_clear}
+use Rattle.hla_machine.proofs.Basics.Tests.{all_clear}
 use Rattle.hla_accounts.specs.declared.account.Account.{Account}
 use Rattle.hla_accounts.specs.Accounts.{central_with}
 use Rattle.hla_verdicts.specs.declared.verdict.Verdict.TheVariants as verdict

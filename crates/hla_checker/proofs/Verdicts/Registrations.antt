@@ -21,7 +21,7 @@ use Rattle.hla_machine.specs.declared.step.Outcome.{Outcome}
 use Rattle.hla_machine.specs.declared.step.Outcome.TheVariants as outcome
 use Rattle.hla_machine.specs.declared.step.Choice.{Choice}
 use Rattle.hla_machine.specs.declared.step.Choice.TheVariants as choice
-use Rattle.hla_machine.proofs.Tests.{all_clear}
+use Rattle.hla_machine.proofs.Basics.Tests.{all_clear}
 use Rattle.hla_accounts.specs.declared.account.Account.{Account}
 use Rattle.hla_accounts.specs.Accounts.{account_at, central_with}
 use Rattle.hla_accounts.proofs.Changes.Counts.{same_size}

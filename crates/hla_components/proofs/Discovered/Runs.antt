@@ -16,9 +16,9 @@ use Rattle.hla_machine.specs.Callbacks.{MayDeliver, MayPickUp, IsNextDiscovery}
 use Rattle.hla_machine.specs.Runs.{Happening, IsRun}
 use Rattle.hla_machine.specs.History.{GivesCallback, SpeaksOf, Names, next_state, central_after, Happens, HasHistory}
 use Rattle.hla_machine.specs.Discovered.{Discovers, IsDiscoveredAmong, HasDiscovered, IsDiscoveredInTurn}
-use Rattle.hla_machine.proofs.Ahead.{given_of}
-use Rattle.hla_machine.proofs.Deliveries.{heard_from_another, discovered_before}
-use Rattle.hla_machine.proofs.Lawful.{first_run, occurs_happens}
+use Rattle.hla_machine.proofs.Upkeep.Ahead.{given_of}
+use Rattle.hla_machine.proofs.Copies.Deliveries.{heard_from_another, discovered_before}
+use Rattle.hla_machine.proofs.Histories.Lawful.{first_run, occurs_happens}
 use Rattle.hla_components.specs.Components.{Components, new_components}
 use Rattle.hla_components.specs.CentralOf.{central}
 use Rattle.hla_components.specs.Invariant.{IsKnownOf, IsTold, Inv}

@@ -1,4 +1,4 @@
--- Each object is discovered first, and once: after each step, and over lists of steps
+-- Each object is discovered first, and once: after each step
 use Rattle.std.proofs.Common.{◌≡◌, ◌⊎◌, ⊎_elim, ℕ, refl, sym, inl, inr, List, None, Some}
 use Rattle.hla_base.specs.declared.number.EventHandle.{EventHandle}
 use Rattle.hla_callbacks.specs.declared.callback.Callback.{Callback}
@@ -27,7 +27,7 @@ use Rattle.hla_machine.specs.Machine.{central_seen, MayEnd, MayDo, after_enter, 
 use Rattle.hla_machine.specs.Runs.{Happening}
 use Rattle.hla_machine.specs.History.{GivesCallback}
 use Rattle.hla_machine.specs.Discovered.{Discovers}
-use Rattle.hla_machine.proofs.Tests.{caller_joined}
+use Rattle.hla_machine.proofs.Basics.Tests.{caller_joined}
 use Rattle.hla_components.proofs.Discovered.Told.{Informed}
 use Rattle.hla_components.proofs.Discovered.Changes.{Discovering, in_other_words, IsQuiet, quiet_same, quiet_sent, quiet_left, quiet_deleted, quiet_discovers, join_discovers, discover_discovers, subscribe_discovers, register_discovers}
 

@@ -16,7 +16,7 @@ use Rattle.hla_machine.specs.Central.{Central, Copy}
 use Rattle.hla_components.specs.Components.{Components}
 use Rattle.hla_components.specs.CentralOf.{central, wire_copy, tso_copy, ro_copy, bag_of}
 use Rattle.hla_components.specs.Invariant.{EachOf, DirectoryInv, IsKnownOf, IsTold, Tells, IsWaiting, IsControl, Kept}
-use Rattle.hla_machine.proofs.Bags.{or_else-cases, option_map-some}
+use Rattle.hla_machine.proofs.Basics.Bags.{or_else-cases, option_map-some}
 use Rattle.hla_components.proofs.Basics.Each.{EachOf-append, EachOf-find}
 use Rattle.hla_components.proofs.Wiring.Queues.{find-key}
 

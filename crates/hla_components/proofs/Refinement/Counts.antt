@@ -17,7 +17,7 @@ use Rattle.hla_machine.specs.declared.step.Step.TheVariants.{Join, Call, Carry, 
 use Rattle.hla_machine.specs.declared.step.Answer.TheVariants as answer
 use Rattle.hla_machine.specs.Directory.{Outgoing, deletion_sent, deletions_sent, objects_of, update_sent, interaction_sent}
 use Rattle.hla_machine.specs.Refusals.{refusal}
-use Rattle.hla_machine.proofs.Tests.{caller_joined}
+use Rattle.hla_machine.proofs.Basics.Tests.{caller_joined}
 use Rattle.hla_components.specs.Components.{Components, new_components}
 use Rattle.hla_components.specs.Component.{promise, regulation_entry, local_bound}
 use Rattle.hla_local.specs.Picking.{pick, Pick, NoPick, PickControl, PickRo, PickRegulates, PickConstrains, PickTso, PickGrant}

@@ -4,7 +4,7 @@ use Rattle.hla_catalogue.specs.CatalogueValue.{CatalogueValue}
 use Rattle.hla_machine.specs.declared.step.Step.{Step}
 use Rattle.hla_machine.specs.History.{HasHistory}
 use Rattle.hla_machine.specs.Lawful.{IsLawful}
-use Rattle.hla_machine.proofs.Lawful.{each_lawful}
+use Rattle.hla_machine.proofs.Histories.Lawful.{each_lawful}
 use Rattle.hla_components.specs.Components.{Components, new_components}
 use Rattle.hla_components.specs.CentralOf.{central}
 use Rattle.hla_components.specs.Invariant.{Inv}

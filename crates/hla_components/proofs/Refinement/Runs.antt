@@ -12,11 +12,11 @@ use Rattle.hla_machine.specs.Refusals.{refusal}
 use Rattle.hla_machine.specs.Central.{Central, new_central}
 use Rattle.hla_machine.specs.Laws.{IsSafe, IsAhead}
 use Rattle.hla_machine.specs.History.{Happens, HappenAfter, HappensLater}
-use Rattle.hla_machine.proofs.Ahead.{run_ahead}
-use Rattle.hla_machine.proofs.Numbers.{AllNumbers, numbers_new, numbers_after}
+use Rattle.hla_machine.proofs.Upkeep.Ahead.{run_ahead}
+use Rattle.hla_machine.proofs.Upkeep.Numbers.{AllNumbers, numbers_new, numbers_after}
 use Rattle.hla_machine.specs.Runs.{IsRun}
 use Rattle.hla_machine.specs.Machine.{IsChoice}
-use Rattle.hla_machine.proofs.Runs.{run_safe}
+use Rattle.hla_machine.proofs.Upkeep.Runs.{run_safe}
 use Rattle.hla_order_queues.specs.declared.control.Control.TheVariants.{ToDiscover, ToRetract}
 use Rattle.hla_null_message.specs.Wires.{discoveries, events, retractions}
 use Rattle.hla_order_queues.specs.Controls.{discoveries_from, dues}
@@ -30,15 +30,15 @@ use Rattle.hla_components.specs.Invariant.{Kept, Inv, CountsEnablings, EpochInv}
 use Rattle.hla_machine.specs.CentralInvariant.{CentralInv}
 use Rattle.hla_components.specs.Headline.{IsStep, IsKeptStep, happening, happenings, state_after}
 use Rattle.hla_components.proofs.Upkeep.Directories.{directory_start}
-use Rattle.hla_machine.proofs.Bags.{bag_ext, central_ext}
-use Rattle.hla_machine.proofs.CentralInvariant.{laws_after}
+use Rattle.hla_machine.proofs.Basics.Bags.{bag_ext, central_ext}
+use Rattle.hla_machine.proofs.Upkeep.CentralInvariant.{laws_after}
 use Rattle.hla_components.proofs.Refinement.Counts.{done_counts, counts_start}
 use Rattle.hla_components.proofs.Refinement.Choices.{step_choice, refused_choice}
 use Rattle.hla_components.proofs.Refinement.Picks.{PickFacts, pick_tells}
 use Rattle.hla_components.proofs.Services.Steps.{step_publish_class, step_unpublish_class, step_unsubscribe_class, step_publish_interaction, step_unpublish_interaction, step_subscribe_interaction, step_unsubscribe_interaction, step_send_interaction, step_event, step_null, step_nothing}
 use Rattle.hla_components.proofs.Services.Ticks.{step_no_pick, step_ro}
 use Rattle.hla_components.proofs.Services.Joins.{row_start, step_join}
-use Rattle.hla_machine.proofs.Tests.{ticker_joined}
+use Rattle.hla_machine.proofs.Basics.Tests.{ticker_joined}
 use Rattle.hla_components.proofs.Services.TimeSteps.{step_advance, step_advance_available, step_next, step_next_available, step_flush, step_constrain, step_lookahead, step_asynchronous, step_synchronous, step_announce, step_stop}
 use Rattle.hla_components.proofs.Services.Entries.{step_regulate}
 use Rattle.hla_components.proofs.Upkeep.Demotions.{step_cease, step_constrains}

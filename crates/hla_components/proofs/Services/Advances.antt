@@ -29,7 +29,7 @@ use Rattle.hla_components.specs.Invariant.{EachOf, Above, IsTsoQueue, IsInKeyOrd
 use Rattle.hla_machine.specs.CentralInvariant.{CentralInv}
 use Rattle.hla_components.specs.Headline.{IsKeptStep}
 use Rattle.hla_base.proofs.Tables.{upd_self, least_le, least_le-forever}
-use Rattle.hla_machine.proofs.GrantCases.{may_grant}
+use Rattle.hla_machine.proofs.Basics.GrantCases.{may_grant}
 use Rattle.hla_components.proofs.Wiring.Keys.{find-key_order}
 use Rattle.hla_components.proofs.Wiring.Queues.{Above-weaker, find-cons, occurs-cons, first_rest}
 use Rattle.hla_components.proofs.Wiring.Wires.{retractions-nil}
@@ -38,7 +38,7 @@ use Rattle.hla_components.proofs.Upkeep.Times.{KeepsRow, time_local, time_le_bou
 use Rattle.hla_components.proofs.Wiring.Copies.{copies_local}
 use Rattle.hla_components.proofs.Upkeep.Objects.{objects_queues}
 use Rattle.hla_components.proofs.Upkeep.Bounds.{below_all, below_bound, copy_cases, wire_above, wire_from, tso_of_copy, not_ro_copy}
-use Rattle.hla_machine.proofs.Bags.{central_ext}
+use Rattle.hla_machine.proofs.Basics.Bags.{central_ext}
 use Rattle.hla_components.proofs.Wiring.Bags.{copy_tso, find_first, bag_tso_picked}
 use Rattle.hla_components.proofs.Refinement.Picks.{TsoFacts, GrantFacts}
 use Rattle.hla_components.proofs.Services.Ticks.{discovered, may_give, after_give}

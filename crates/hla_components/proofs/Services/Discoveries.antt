@@ -34,10 +34,10 @@ use Rattle.hla_components.proofs.Upkeep.Times.{CarriesIn, time_wires, time_disco
 use Rattle.hla_components.proofs.Wiring.Copies.{copies_wires}
 use Rattle.hla_components.proofs.Upkeep.Objects.{AreNew, objects_shift, objects_controls, objects_discovery_came, behind_put, tells_discover, tells_grows}
 use Rattle.hla_components.proofs.Upkeep.Directories.{directory_subscribed, grows_subscribed}
-use Rattle.hla_machine.proofs.Bags.{option_map-some, by_key, at3_here, at3_else, central_ext}
+use Rattle.hla_machine.proofs.Basics.Bags.{option_map-some, by_key, at3_here, at3_else, central_ext}
 use Rattle.hla_components.proofs.Wiring.Bags.{bag_same_wires}
 use Rattle.hla_components.proofs.Services.Retractions.{same_key_one, key_turned, dues-retract, dues-discover, dues-append, dues-nil, from-retract, from-discover, from-append, from-nil}
-use Rattle.hla_machine.proofs.Tests.{caller_joined}
+use Rattle.hla_machine.proofs.Basics.Tests.{caller_joined}
 use Rattle.hla_components.proofs.Services.Steps.{wired_taken}
 
 -- ---- what waits among the controls is given

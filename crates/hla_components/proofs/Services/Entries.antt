@@ -23,7 +23,7 @@ use Rattle.hla_components.specs.Headline.{IsKeptStep}
 use Rattle.hla_base.proofs.Tables.{le_greatest, greatest_ge, greatest_le, greatest_is}
 use Rattle.hla_components.proofs.Upkeep.Epochs.{IsEntry, time_enters}
 use Rattle.hla_components.proofs.Upkeep.Bounds.{below_wake}
-use Rattle.hla_machine.proofs.Tests.{clear_call, caller_joined}
+use Rattle.hla_machine.proofs.Basics.Tests.{clear_call, caller_joined}
 use Rattle.hla_components.proofs.Services.Steps.{wired_row, regulator_from}
 use Rattle.hla_components.proofs.Services.TimeSteps.{at_rest, null_copies, null_objects, null_central}
 

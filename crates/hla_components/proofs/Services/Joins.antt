@@ -18,7 +18,7 @@ use Rattle.hla_components.proofs.Upkeep.Times.{fresh_in-mono}
 use Rattle.hla_components.proofs.Wiring.Copies.{copies_wires}
 use Rattle.hla_components.proofs.Upkeep.Objects.{objects_shift, tells_grows}
 use Rattle.hla_components.proofs.Upkeep.Directories.{directory_joined, grows_joined}
-use Rattle.hla_machine.proofs.Bags.{central_ext}
+use Rattle.hla_machine.proofs.Basics.Bags.{central_ext}
 use Rattle.hla_components.proofs.Wiring.Bags.{bag_same_wires}
 
 -- the row of a federate that has just joined

@@ -23,7 +23,7 @@ use Rattle.hla_components.specs.Headline.{IsKeptStep}
 use Rattle.hla_base.proofs.Tables.{least_le-forever}
 use Rattle.hla_components.proofs.Upkeep.Times.{time_le_bound}
 use Rattle.hla_components.proofs.Upkeep.Bounds.{below_all, below_bound, copy_cases}
-use Rattle.hla_machine.proofs.Tests.{clear_call, caller_joined, not-is-false}
+use Rattle.hla_machine.proofs.Basics.Tests.{clear_call, caller_joined, not-is-false}
 
 -- ---- time
 least_ordered_le : (g m : ℕ) (e : Event) (xs : List Event) → find_event g m xs ≡ Some e → e.ordered ≡ true → least_ordered xs ≤ e.stamp

@@ -25,10 +25,10 @@ use Rattle.hla_components.proofs.Upkeep.Times.{CarriesIn, time_wires}
 use Rattle.hla_components.proofs.Wiring.Copies.{copies_wires}
 use Rattle.hla_components.proofs.Upkeep.Objects.{AreNew, objects_shift, behind_put, tells_discover, tells_grows}
 use Rattle.hla_components.proofs.Upkeep.Directories.{directory_registered, grows_registered}
-use Rattle.hla_machine.proofs.Bags.{central_ext}
+use Rattle.hla_machine.proofs.Basics.Bags.{central_ext}
 use Rattle.hla_components.proofs.Wiring.Bags.{bag_same_wires}
 use Rattle.hla_components.proofs.Services.Discoveries.{discovery_tells, each_discovery}
-use Rattle.hla_machine.proofs.Tests.{caller_joined}
+use Rattle.hla_machine.proofs.Basics.Tests.{caller_joined}
 use Rattle.hla_components.proofs.Services.Steps.{wired_row}
 
 -- what is known stays known

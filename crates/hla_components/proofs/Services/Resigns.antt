@@ -27,10 +27,10 @@ use Rattle.hla_components.proofs.Wiring.Wires.{events-put_null, events-nil, disc
 use Rattle.hla_components.proofs.Upkeep.Epochs.{silent, silent_null}
 use Rattle.hla_components.proofs.Upkeep.Objects.{objects_shift, objects_queues, objects_controls, behind_nil, tells_null, tells_grows}
 use Rattle.hla_components.proofs.Upkeep.Directories.{directory_left, grows_left}
-use Rattle.hla_machine.proofs.Bags.{bag_ext, central_ext}
+use Rattle.hla_machine.proofs.Basics.Bags.{bag_ext, central_ext}
 use Rattle.hla_components.proofs.Services.Retractions.{dues-nil, from-nil}
 use Rattle.hla_components.proofs.Services.Joins.{row_start}
-use Rattle.hla_machine.proofs.Tests.{clear_call, caller_joined}
+use Rattle.hla_machine.proofs.Basics.Tests.{clear_call, caller_joined}
 use Rattle.hla_components.proofs.Services.Steps.{IsSendable, wired_row, kept_sent_all, central_sent_all}
 use Rattle.hla_components.proofs.Services.Updates.{Told, deletion_told, sendable}
 

@@ -33,9 +33,9 @@ use Rattle.hla_components.proofs.Upkeep.Times.{CarriesIn}
 use Rattle.hla_components.proofs.Upkeep.Epochs.{time_retracts, time_retraction_came}
 use Rattle.hla_components.proofs.Wiring.Copies.{copies_wires, copies_retraction_came}
 use Rattle.hla_components.proofs.Upkeep.Objects.{objects_wires, objects_retraction_came, tells_retraction}
-use Rattle.hla_machine.proofs.Bags.{by_key, at3_here, at3_else, central_ext}
+use Rattle.hla_machine.proofs.Basics.Bags.{by_key, at3_here, at3_else, central_ext}
 use Rattle.hla_components.proofs.Wiring.Bags.{bag_same_wires, bag_removed}
-use Rattle.hla_machine.proofs.Tests.{clear_call, caller_joined, not-is-false}
+use Rattle.hla_machine.proofs.Basics.Tests.{clear_call, caller_joined, not-is-false}
 use Rattle.hla_components.proofs.Services.Steps.{wired_row, wired_taken, regulator_from, last_le_least}
 
 -- ---- a retraction is put on the wires

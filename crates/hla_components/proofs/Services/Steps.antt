@@ -23,7 +23,7 @@ use Rattle.hla_machine.specs.Directory.{Directory, Outgoing, AnInteraction, cont
 use Rattle.hla_machine.specs.Sends.{is_ordered, kept_stamp, is_some_ordered, copy_for}
 use Rattle.hla_machine.specs.Sends as machine
 use Rattle.hla_machine.specs.Refusals.{refusal, is_bad_stamp}
-use Rattle.hla_machine.proofs.Tests.{caller_joined, clear_call}
+use Rattle.hla_machine.proofs.Basics.Tests.{caller_joined, clear_call}
 use Rattle.hla_null_message.specs.Wires.{events, discoveries, retractions, put_behind}
 use Rattle.hla_order_queues.specs.Controls.{discoveries_from}
 use Rattle.hla_order_queues.specs.Queues.{handle_of}
@@ -40,7 +40,7 @@ use Rattle.hla_components.proofs.Wiring.Copies.{copies_sent, copies_wires, copie
 use Rattle.hla_components.proofs.Upkeep.Objects.{Grows, objects_grow, objects_wires, objects_event_came, objects_null_taken, tells_send}
 use Rattle.hla_components.proofs.Upkeep.Directories.{directory_published, directory_published_interaction, directory_subscribed_interaction, directory_unsubscribed}
 use Rattle.hla_components.proofs.Upkeep.Bounds.{wire_from}
-use Rattle.hla_machine.proofs.Bags.{option_map-some, central_ext}
+use Rattle.hla_machine.proofs.Basics.Bags.{option_map-some, central_ext}
 use Rattle.hla_components.proofs.Basics.Each.{EachOf-weaker}
 use Rattle.hla_components.proofs.Wiring.Bags.{bag_sent, bag_same_wires, bag_event, copy_came}
 

@@ -38,7 +38,7 @@ use Rattle.hla_components.proofs.Basics.Each.{EachOf-find, EachOf-parts, EachOf-
 use Rattle.hla_components.proofs.Wiring.Copies.{copies_local}
 use Rattle.hla_components.proofs.Upkeep.Objects.{objects_queues}
 use Rattle.hla_components.proofs.Upkeep.Bounds.{copy_cases}
-use Rattle.hla_machine.proofs.Bags.{central_ext}
+use Rattle.hla_machine.proofs.Basics.Bags.{central_ext}
 use Rattle.hla_components.proofs.Wiring.Bags.{copy_ro, find_first, bag_ro_picked}
 
 pub each_all : {X : Type 0} (P : X → Type 0) (xs : List X) → EachOf P xs → All P xs

@@ -1,4 +1,4 @@
--- Steps of time management: requests, roles, announcements and queries
+-- Steps of time management: requests, roles and announcements
 use Rattle.std.proofs.Common.{◌≡◌, ℕ, ◌+◌, ◌≤◌, max, ltb, not, ◌&&◌, ◌||◌, Bool, true, false, refl, sym, le_trans, ap, subst, arith, List, ◌++◌, Option, Some, None}
 use Rattle.std.proofs.lemmas.Bool.{cond_both, and_parts, ltb-true, ltb-false}
 use Rattle.hla_base.specs.declared.content.Event.{Event}
@@ -32,9 +32,9 @@ use Rattle.hla_components.proofs.Upkeep.Epochs.{next_none, time_stops}
 use Rattle.hla_components.proofs.Wiring.Copies.{copies_wires}
 use Rattle.hla_components.proofs.Upkeep.Objects.{objects_wires, tells_null}
 use Rattle.hla_components.proofs.Upkeep.Bounds.{below_out}
-use Rattle.hla_machine.proofs.Bags.{central_ext}
+use Rattle.hla_machine.proofs.Basics.Bags.{central_ext}
 use Rattle.hla_components.proofs.Wiring.Bags.{bag_same_wires}
-use Rattle.hla_machine.proofs.Tests.{AllClear, clear_call, caller_joined, announcer_joined}
+use Rattle.hla_machine.proofs.Basics.Tests.{AllClear, clear_call, caller_joined, announcer_joined}
 use Rattle.hla_components.proofs.Services.Steps.{wired_row}
 
 -- ---- a change of one row alone

@@ -24,7 +24,7 @@ use Rattle.hla_components.specs.Headline.{IsKeptStep}
 use Rattle.hla_components.proofs.Basics.Each.{EachOf-append}
 use Rattle.hla_components.proofs.Upkeep.Directories.{directory_deleted, grows_deleted}
 use Rattle.hla_components.proofs.Services.Discoveries.{when_some}
-use Rattle.hla_machine.proofs.Tests.{clear_call, caller_joined, not-is-false}
+use Rattle.hla_machine.proofs.Basics.Tests.{clear_call, caller_joined, not-is-false}
 use Rattle.hla_components.proofs.Services.Steps.{IsSendable, kept_directory, kept_sent_all, central_sent_all, high_stamps}
 
 and_then_some : {X Y : Type 0} (h : X → Option Y) (o : Option X) (y : Y) → option_and_then h o ≡ Some y → (x : X) × (o ≡ Some x) × (h x ≡ Some y)

@@ -15,7 +15,7 @@ use Rattle.hla_null_message.specs.Promise.{promise_in, least_wake}
 use Rattle.hla_components.specs.Component.{promise, local_bound}
 use Rattle.hla_components.specs.CentralOf.{wire_copy, tso_copy, ro_copy, copy_among, central}
 use Rattle.hla_components.specs.Invariant.{stamps, Kept, IsWired, is_wire}
-use Rattle.hla_machine.proofs.Bags.{or_else-cases, option_map-some}
+use Rattle.hla_machine.proofs.Basics.Bags.{or_else-cases, option_map-some}
 use Rattle.hla_base.proofs.Tables.{least_le, least_le-forever}
 use Rattle.hla_components.proofs.Wiring.Carries.{Carries-find, Carries-bound}
 use Rattle.hla_components.proofs.Wiring.Queues.{find-first_stamp, not_in_nil}

@@ -29,9 +29,9 @@ use Rattle.hla_components.proofs.Upkeep.Times.{time_local}
 use Rattle.hla_components.proofs.Wiring.Copies.{copies_local}
 use Rattle.hla_components.proofs.Upkeep.Objects.{objects_queues}
 use Rattle.hla_components.proofs.Upkeep.Bounds.{copy_cases, wire_above, below_bound, tso_of_copy, not_ro_copy}
-use Rattle.hla_machine.proofs.Bags.{bag_ext, central_ext, or_else-none}
+use Rattle.hla_machine.proofs.Basics.Bags.{bag_ext, central_ext, or_else-none}
 use Rattle.hla_components.proofs.Wiring.Bags.{alone_tso, copy_tso, event_self}
-use Rattle.hla_machine.proofs.Tests.{clear_call}
+use Rattle.hla_machine.proofs.Basics.Tests.{clear_call}
 use Rattle.hla_components.proofs.Services.TimeSteps.{at_rest, idle_last, idle_fresh}
 
 -- ---- what is found after a choice

@@ -18,7 +18,7 @@ use Rattle.hla_components.specs.Components.{Components}
 use Rattle.hla_components.specs.Next.{put_event, event_of, with_message_sent, with_event_accepted}
 use Rattle.hla_local.specs.Arriving.{is_kept_in_order}
 use Rattle.hla_components.specs.CentralOf.{wire_copy, tso_copy, ro_copy, bag_of}
-use Rattle.hla_machine.proofs.Bags.{bag_ext, central_ext, or_else-none, key_parts, by_key, copies_here, copies_else, at_key_here, at_key_else, at3_here, at3_else, at_key_self, key_other_number, key_other_sender}
+use Rattle.hla_machine.proofs.Basics.Bags.{bag_ext, central_ext, or_else-none, key_parts, by_key, copies_here, copies_else, at_key_here, at_key_else, at3_here, at3_else, at_key_self, key_other_number, key_other_sender}
 use Rattle.hla_base.proofs.Tables.{by_number, upd_same, upd_other, upd_row_here, upd_row_self, upd_row_other, upd2_same, upd2_other}
 use Rattle.hla_components.proofs.Wiring.Queues.{find-none, find-append, find-insert, find-cons, occurs-cons, find-occurs}
 use Rattle.hla_components.proofs.Wiring.Wires.{events-put_event, find-front, occurs-event}

@@ -18,7 +18,7 @@ use Rattle.hla_machine.specs.declared.step.Outcome.{Outcome}
 use Rattle.hla_machine.specs.declared.step.Outcome.TheVariants as outcome
 use Rattle.hla_machine.specs.Directory.{Directory, with_member, deletions_sent, deletion_sent, interaction_sent, update_sent, objects_of}
 use Rattle.hla_machine.specs.Refusals.{refusal}
-use Rattle.hla_machine.proofs.Tests.{caller_joined, clear_call, ticker_joined}
+use Rattle.hla_machine.proofs.Basics.Tests.{caller_joined, clear_call, ticker_joined}
 use Rattle.hla_components.specs.Components.{Components}
 use Rattle.hla_components.specs.Next.{Outcomes, next, components_seen, answer_outcome, with_null_announced, step_outcome, call_outcome, carry_outcome, pick_outcome, announce_outcome, unless_refused, with_federate_resigned}
 use Rattle.hla_components.proofs.Services.Resigns.{sent_directory}

@@ -12,7 +12,7 @@ use Rattle.hla_order_queues.specs.Queues.{first_stamp}
 use Rattle.hla_local.specs.Picking.{Pick, NoPick, PickControl, PickRo, PickRegulates, PickConstrains, PickTso, PickGrant, is_first_fit}
 use Rattle.hla_machine.specs.declared.step.Step.{Step}
 use Rattle.hla_machine.specs.Central.{BelowAllTso, BelowWake}
-use Rattle.hla_machine.proofs.Rows.{le_reach}
+use Rattle.hla_machine.proofs.Basics.Rows.{le_reach}
 use Rattle.hla_components.specs.Components.{Components}
 use Rattle.hla_components.specs.Component.{local_bound}
 use Rattle.hla_components.specs.CentralOf.{central}

@@ -7,7 +7,7 @@ use Rattle.hla_base.specs.Rows.{is_next, next_request, reach}
 use Rattle.hla_callbacks.specs.declared.callback.Callback.{Callback}
 use Rattle.hla_machine.specs.declared.step.Step.{Step}
 use Rattle.hla_machine.specs.Central.{BelowAllTso, BelowOut, BelowBound}
-use Rattle.hla_machine.proofs.Rows.{reach_width}
+use Rattle.hla_machine.proofs.Basics.Rows.{reach_width}
 use Rattle.hla_components.specs.Components.{Components}
 use Rattle.hla_components.specs.Component.{promise}
 use Rattle.hla_components.specs.CentralOf.{central}

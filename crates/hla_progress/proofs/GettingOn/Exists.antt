@@ -8,7 +8,7 @@ use Rattle.hla_order_queues.specs.Queues.{first_stamp}
 use Rattle.hla_machine.specs.declared.step.Step.{Step}
 use Rattle.hla_machine.specs.declared.step.Step.TheVariants.{Join, Call, Carry, Announce, Tick}
 use Rattle.hla_machine.specs.Central.{BelowAllTso}
-use Rattle.hla_machine.proofs.Keeps.{LowIn, low_fewer}
+use Rattle.hla_machine.proofs.Upkeep.Keeps.{LowIn, low_fewer}
 use Rattle.hla_components.specs.Components.{Components}
 use Rattle.hla_components.specs.CentralOf.{central}
 use Rattle.hla_components.specs.Invariant.{EachOf}

@@ -15,7 +15,7 @@ use Rattle.hla_machine.specs.declared.step.Step.{Step}
 use Rattle.hla_machine.specs.declared.step.Step.TheVariants.{Join, Call, Carry, Announce, Tick}
 use Rattle.hla_machine.specs.declared.step.Answer.TheVariants as answer
 use Rattle.hla_machine.specs.Refusals.{refusal}
-use Rattle.hla_machine.proofs.Rows.{next_not_flush, le_reach}
+use Rattle.hla_machine.proofs.Basics.Rows.{next_not_flush, le_reach}
 use Rattle.hla_components.specs.Components.{Components}
 use Rattle.hla_components.specs.Component.{local_bound, promise}
 use Rattle.hla_components.specs.Invariant.{Inv, stamps}

@@ -24,7 +24,7 @@ use Rattle.hla_machine.specs.declared.step.Step.TheVariants.{Join, Call, Carry, 
 use Rattle.hla_machine.specs.declared.step.Answer.TheVariants as answer
 use Rattle.hla_machine.specs.Directory.{Outgoing, objects_of, interaction_sent, update_sent, deletion_sent, deletions_sent}
 use Rattle.hla_machine.specs.Refusals.{refusal}
-use Rattle.hla_machine.proofs.Rows.{le_reach}
+use Rattle.hla_machine.proofs.Basics.Rows.{le_reach}
 use Rattle.hla_components.specs.Components.{Components, new_components}
 use Rattle.hla_components.specs.Component.{local_bound, promise, regulation_entry}
 use Rattle.hla_components.specs.Next.{Outcomes, answer_outcome, next, step_outcome, call_outcome, carry_outcome, pick_outcome, announce_outcome, unless_refused, components_seen, with_null_announced, with_messages_sent, with_message_sent, with_federate_gone}

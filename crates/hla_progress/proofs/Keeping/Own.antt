@@ -19,7 +19,7 @@ use Rattle.hla_machine.specs.declared.step.Step.TheVariants.{Join, Call, Carry, 
 use Rattle.hla_machine.specs.declared.step.Answer.TheVariants as answer
 use Rattle.hla_machine.specs.Directory.{Outgoing, objects_of, update_sent, interaction_sent, deletion_sent, deletions_sent}
 use Rattle.hla_machine.specs.Refusals.{refusal, tests}
-use Rattle.hla_machine.proofs.Tests.{caller_joined, all_clear}
+use Rattle.hla_machine.proofs.Basics.Tests.{caller_joined, all_clear}
 use Rattle.hla_components.specs.Components.{Components, new_components}
 use Rattle.hla_components.specs.Component.{promise, regulation_entry}
 use Rattle.hla_components.specs.Invariant.{Inv}

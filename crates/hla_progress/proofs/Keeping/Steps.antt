@@ -20,7 +20,7 @@ use Rattle.hla_machine.specs.declared.step.Answer.TheVariants as answer
 use Rattle.hla_machine.specs.Directory.{Outgoing, name_or_default, objects_of, interaction_sent, update_sent, deletion_sent, deletions_sent, with_subscribed, with_object}
 use Rattle.hla_machine.specs.Refusals.{refusal}
 use Rattle.hla_machine.specs.Sends.{is_told}
-use Rattle.hla_machine.proofs.Tests.{clear_call}
+use Rattle.hla_machine.proofs.Basics.Tests.{clear_call}
 use Rattle.hla_components.specs.Components.{Components, new_components}
 use Rattle.hla_components.specs.Component.{local_bound, promise, regulation_entry}
 use Rattle.hla_null_message.specs.Wires.{put_behind}

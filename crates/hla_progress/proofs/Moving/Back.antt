@@ -8,9 +8,9 @@ use Rattle.hla_base.specs.Rows.{is_next, is_flush, is_constrained, next_request,
 use Rattle.hla_base.proofs.Tables.{upd_same, upd_other}
 use Rattle.hla_machine.specs.Central.{Central, BelowWake, BelowOut, BelowRequest}
 use Rattle.hla_machine.specs.Callbacks.{MayGrant}
-use Rattle.hla_machine.proofs.GrantCases.{grant_free, grant_plain}
-use Rattle.hla_machine.proofs.Rows.{le_reach, next_none}
-use Rattle.hla_machine.proofs.Keeps.{Bag, IsKept, LowIn, low_weaker}
+use Rattle.hla_machine.proofs.Basics.GrantCases.{grant_free, grant_plain}
+use Rattle.hla_machine.proofs.Basics.Rows.{le_reach, next_none}
+use Rattle.hla_machine.proofs.Upkeep.Keeps.{Bag, IsKept, LowIn, low_weaker}
 use Rattle.hla_progress.specs.Promises.{is_raised_late, IsRaised}
 use Rattle.hla_progress.proofs.Keeping.Changes.{next_asked}
 use Rattle.hla_progress.proofs.Creep.Promising.{next_constrained}

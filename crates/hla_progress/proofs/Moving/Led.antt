@@ -6,9 +6,9 @@ use Rattle.hla_machine.specs.declared.step.Step.{Step}
 use Rattle.hla_machine.specs.Central.{Central, BelowAllTso, BelowOut, new_central}
 use Rattle.hla_machine.specs.Runs.{Happening, IsRun}
 use Rattle.hla_machine.specs.History.{next_state}
-use Rattle.hla_machine.proofs.Keeps.{IsKept}
-use Rattle.hla_machine.proofs.Runs.{step_keeps, start_keeps}
-use Rattle.hla_machine.proofs.Retractions.{IsSound, step_onward, sound_start}
+use Rattle.hla_machine.proofs.Upkeep.Keeps.{IsKept}
+use Rattle.hla_machine.proofs.Upkeep.Runs.{step_keeps, start_keeps}
+use Rattle.hla_machine.proofs.Copies.Retractions.{IsSound, step_onward, sound_start}
 use Rattle.hla_components.specs.Components.{Components}
 use Rattle.hla_components.specs.CentralOf.{central}
 use Rattle.hla_components.specs.Invariant.{EachOf}

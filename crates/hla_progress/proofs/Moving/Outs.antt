@@ -8,9 +8,9 @@ use Rattle.hla_base.specs.Rows.{is_next, is_constrained, is_regulator, is_disabl
 use Rattle.hla_base.proofs.Tables.{upd_each}
 use Rattle.hla_machine.specs.Central.{Central, Tso, BelowOut}
 use Rattle.hla_machine.specs.Callbacks.{MayGrant}
-use Rattle.hla_machine.proofs.GrantCases.{grant_plain}
-use Rattle.hla_machine.proofs.Rows.{next_not_flush, next_none, out_low, out_idle, out_picked, out_granted}
-use Rattle.hla_machine.proofs.Keeps.{Bag, IsKept, NoMore, LowIn, low_weaker, low_fewer}
+use Rattle.hla_machine.proofs.Basics.GrantCases.{grant_plain}
+use Rattle.hla_machine.proofs.Basics.Rows.{next_not_flush, next_none, out_low, out_idle, out_picked, out_granted}
+use Rattle.hla_machine.proofs.Upkeep.Keeps.{Bag, IsKept, NoMore, LowIn, low_weaker, low_fewer}
 use Rattle.hla_progress.proofs.Moving.Rounds.{Move, Regulates, Constrains, TakesEvent, TakesGrant, Moves, NoRow, OneRow, RoundStep}
 
 -- a next-event request is no other than before

@@ -27,9 +27,9 @@ use Rattle.hla_machine.specs.declared.step.Choice.TheVariants as choice
 use Rattle.hla_machine.specs.Central.{Central, Copy, Ro, Tso, Demoted, at_key, demoted_copy}
 use Rattle.hla_machine.specs.Callbacks.{IsCopy, MayPickIn, MayDeliver, MayPickUp, MayGrant, MayConstrain, with_demoted, row_after, after_delivery, after_constraint, after_pick}
 use Rattle.hla_machine.specs.Machine.{MayCarry, MayDo, MayEnd, after_carry, after_done, after}
-use Rattle.hla_machine.proofs.Keeps.{Bag, NoMore, fewer_removed, fewer_demoted, fewer_moved}
-use Rattle.hla_machine.proofs.Runs.{row_after_is}
-use Rattle.hla_machine.proofs.Fates.{Owing, at_cases}
+use Rattle.hla_machine.proofs.Upkeep.Keeps.{Bag, NoMore, fewer_removed, fewer_demoted, fewer_moved}
+use Rattle.hla_machine.proofs.Upkeep.Runs.{row_after_is}
+use Rattle.hla_machine.proofs.Copies.Fates.{Owing, at_cases}
 use Rattle.hla_progress.specs.Rounds.{IsOfRounds}
 
 -- how a row comes out of its federate's tick

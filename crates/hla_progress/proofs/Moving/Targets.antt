@@ -10,7 +10,7 @@ use Rattle.hla_base.specs.Rows.{is_next, is_flush, is_constrained, row_after_pic
 use Rattle.hla_base.proofs.Tables.{upd_same, upd_other}
 use Rattle.hla_machine.specs.Central.{Central, Tso, BelowWake}
 use Rattle.hla_machine.specs.Callbacks.{IsCopy, MayPickIn}
-use Rattle.hla_machine.proofs.Keeps.{Bag, IsKept, NoMore, LowIn, low_fewer}
+use Rattle.hla_machine.proofs.Upkeep.Keeps.{Bag, IsKept, NoMore, LowIn, low_fewer}
 use Rattle.hla_progress.specs.CatchingUp.{IsTarget}
 use Rattle.hla_progress.proofs.Moving.Rounds.{Move, Regulates, Constrains, TakesEvent, TakesGrant, NoneGoes, Moves, NoRow, OneRow, RoundStep}
 

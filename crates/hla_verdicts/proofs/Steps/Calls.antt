@@ -7,7 +7,7 @@ use Rattle.hla_base.specs.declared.fault.Fault.{Fault}
 use Rattle.hla_base.specs.declared.fault.Fault.TheVariants as fault
 use Rattle.hla_base.specs.RowRefusals.{first_fault, request_tests, lookahead_tests}
 use Rattle.hla_base.specs.declared.row.AdvanceKind.TheVariants as kind
-use Rattle.hla_machine.proofs.Tests.{all_clear}
+use Rattle.hla_machine.proofs.Basics.Tests.{all_clear}
 use Rattle.std.proofs.lemmas.Bool.Decides.{nat_tests}
 use Rattle.hla_base.specs.declared.number.EventHandle.{EventHandle}
 use Rattle.hla_base.specs.declared.row.TimeRow.{TimeRow}

@@ -1,4 +1,4 @@
-use Rattle.hla_machine.proofs.Deliveries.{discovered_before}
+use Rattle.hla_machine.proofs.Copies.Deliveries.{discovered_before}
 use Rattle.hla_components.specs.Components.{new_components}
 use Rattle.hla_components.specs.CentralOf.{central}
 use Rattle.hla_components.specs.Next.{next}

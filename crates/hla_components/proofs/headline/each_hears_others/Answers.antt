@@ -1,4 +1,4 @@
-use Rattle.hla_machine.proofs.Deliveries.{heard_from_another}
+use Rattle.hla_machine.proofs.Copies.Deliveries.{heard_from_another}
 use Rattle.hla_components.specs.Components.{new_components}
 use Rattle.hla_components.specs.CentralOf.{central}
 use Rattle.hla_components.specs.Next.{next}

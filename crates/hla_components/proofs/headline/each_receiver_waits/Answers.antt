@@ -4,7 +4,7 @@ use Rattle.hla_machine.specs.declared.step.Outcome.{Outcome}
 use Rattle.hla_machine.specs.Central.{Central}
 use Rattle.hla_machine.specs.Machine.{MayEnd, after}
 use Rattle.hla_machine.specs.History.{WaitsInOrder}
-use Rattle.hla_machine.proofs.Sending.{sent_waits}
+use Rattle.hla_machine.proofs.Copies.Sending.{sent_waits}
 use Rattle.hla_components.specs.Components.{new_components}
 use Rattle.hla_components.specs.CentralOf.{central}
 use Rattle.hla_components.specs.Next.{next}

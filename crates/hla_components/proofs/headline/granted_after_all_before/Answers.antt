@@ -1,4 +1,4 @@
-use Rattle.hla_machine.proofs.Grants.{grant_after_all}
+use Rattle.hla_machine.proofs.Histories.Grants.{grant_after_all}
 use Rattle.hla_components.specs.Components.{new_components}
 use Rattle.hla_components.specs.CentralOf.{central}
 use Rattle.hla_components.specs.Next.{next}

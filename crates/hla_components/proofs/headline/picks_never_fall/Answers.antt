@@ -1,4 +1,4 @@
-use Rattle.hla_machine.proofs.Orders.{stamps_never_fall}
+use Rattle.hla_machine.proofs.Histories.Orders.{stamps_never_fall}
 use Rattle.hla_components.specs.Components.{new_components}
 use Rattle.hla_components.specs.CentralOf.{central}
 use Rattle.hla_components.specs.Next.{next}

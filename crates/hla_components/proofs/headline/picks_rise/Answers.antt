@@ -1,6 +1,6 @@
 use Rattle.std.proofs.Common.{subst}
 use Rattle.hla_machine.specs.History.{IsInOneAdvance}
-use Rattle.hla_machine.proofs.Orders.{keys_rise}
+use Rattle.hla_machine.proofs.Histories.Orders.{keys_rise}
 use Rattle.hla_components.specs.Components.{new_components}
 use Rattle.hla_components.specs.CentralOf.{central}
 use Rattle.hla_components.specs.Next.{next}

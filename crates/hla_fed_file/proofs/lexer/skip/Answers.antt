@@ -1,5 +1,5 @@
 use Rattle.std.proofs.Common.{sym, arith}
-use Rattle.hla_fed_file.proofs.Lexing.{at_front, front_at, front_at_end, above_blank}
+use Rattle.hla_fed_file.proofs.Lexical.Lexing.{at_front, front_at, front_at_end, above_blank}
 use Rattle.hla_fed_file.proofs.lexer.skip.Goals.{in-Some+else-byte-eq32+then-byte-gt32+then-byte-ne59, in-Some+else-byte-eq32+else-byte-gt32+else-byte-eq10+else-is_blank, in_default}
 use Rattle.hla_fed_file.proofs.lexer.skip.Goals as goal
 

@@ -1,4 +1,4 @@
-use Rattle.hla_fed_file.proofs.Described.{described_read}
+use Rattle.hla_fed_file.proofs.Forward.Described.{described_read}
 use Rattle.hla_fed_file.proofs.reading.read.Goals as goal
 
 pub returns-clause-only : goal.returns-clause-only

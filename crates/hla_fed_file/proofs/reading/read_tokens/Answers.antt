@@ -1,4 +1,4 @@
-use Rattle.hla_fed_file.proofs.ReadingLemmas.{too_long, ends_whole, fails_whole}
+use Rattle.hla_fed_file.proofs.Lexical.ReadingLemmas.{too_long, ends_whole, fails_whole}
 use Rattle.hla_fed_file.proofs.reading.read_tokens.Goals as goal
 
 pub returns-then-text-gt-MAX_FED_FILE : goal.returns-then-text-gt-MAX_FED_FILE

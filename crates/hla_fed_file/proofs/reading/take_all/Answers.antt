@@ -1,5 +1,5 @@
 use Rattle.std.proofs.Common.{sym, ◌∙◌}
-use Rattle.hla_fed_file.proofs.ReadingLemmas.{fails_with}
+use Rattle.hla_fed_file.proofs.Lexical.ReadingLemmas.{fails_with}
 use Rattle.hla_fed_file.proofs.reading.take_all.Goals as goal
 
 pub returns-in-Err : goal.returns-in-Err

@@ -2,7 +2,7 @@
 use Rattle.std.proofs.Common.{refl, arith}
 use lib.Lanes.{chunk}
 use Rattle.hla_fed_file.specs.Lexical.{is_blank}
-use Rattle.hla_fed_file.proofs.SpanLemmas.{turned, with_lanes, run_in}
+use Rattle.hla_fed_file.proofs.Lexical.SpanLemmas.{turned, with_lanes, run_in}
 use Rattle.hla_fed_file.proofs.spans.blank_run.Goals as goal
 
 pub returns : goal.returns

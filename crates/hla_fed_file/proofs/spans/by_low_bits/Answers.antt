@@ -1,6 +1,6 @@
 use Rattle.std.proofs.Common.{bit_and}
 use Rattle.std.proofs.lemmas.Simd.{zip2_splat}
-use Rattle.hla_fed_file.proofs.SpanLemmas.{low_bits_within, looked_up}
+use Rattle.hla_fed_file.proofs.Lexical.SpanLemmas.{low_bits_within, looked_up}
 use Rattle.hla_fed_file.proofs.spans.by_low_bits.Goals as goal
 
 pub swizzle : goal.swizzle

@@ -3,7 +3,7 @@ use Rattle.std.proofs.Common.{refl, arith}
 use Rattle.std.proofs.lemmas.Simd.{zip2_splat, length-chunk}
 use lib.Lanes.{chunk}
 use Rattle.hla_fed_file.specs.Lexical.{is_quoted, is_blank, is_bad}
-use Rattle.hla_fed_file.proofs.SpanLemmas.{joined, turned, with_lanes, run_in}
+use Rattle.hla_fed_file.proofs.Lexical.SpanLemmas.{joined, turned, with_lanes, run_in}
 use Rattle.hla_fed_file.proofs.spans.quoted_run.Goals as goal
 
 pub returns : goal.returns

@@ -1,6 +1,6 @@
 use Rattle.std.proofs.Common.{◌+◌, ℕ, ap, ◌∙◌, arith}
 use Rattle.hla_fed_file.specs.Lexical.{is_word}
-use Rattle.hla_fed_file.proofs.SpanLemmas.{counted_behind, counted_run}
+use Rattle.hla_fed_file.proofs.Lexical.SpanLemmas.{counted_behind, counted_run}
 use Rattle.hla_fed_file.proofs.spans.word_loads.Goals as goal
 
 pub returns-then-run-lt-LANES-clause-count : goal.returns-then-run-lt-LANES-clause-count

@@ -1,4 +1,4 @@
-use Rattle.hla_machine.proofs.Deliveries.{discovered_before}
+use Rattle.hla_machine.proofs.Copies.Deliveries.{discovered_before}
 use Rattle.hla_machine.proofs.laws.discovered_before.Goals as goal
 
 pub returns : goal.returns

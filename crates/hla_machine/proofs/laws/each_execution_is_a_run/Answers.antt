@@ -1,4 +1,4 @@
-use Rattle.hla_machine.proofs.Projections.{cut_to_one}
+use Rattle.hla_machine.proofs.Histories.Projections.{cut_to_one}
 use Rattle.hla_machine.proofs.laws.each_execution_is_a_run.Goals as goal
 
 pub returns : goal.returns

@@ -1,4 +1,4 @@
-use Rattle.hla_machine.proofs.Deliveries.{heard_once}
+use Rattle.hla_machine.proofs.Copies.Deliveries.{heard_once}
 use Rattle.hla_machine.proofs.laws.each_message_once.Goals as goal
 
 pub returns : goal.returns

@@ -1,4 +1,4 @@
-use Rattle.hla_machine.proofs.Lawful.{each_lawful}
+use Rattle.hla_machine.proofs.Histories.Lawful.{each_lawful}
 use Rattle.hla_machine.proofs.laws.each_run_is_lawful.Goals as goal
 
 pub returns : goal.returns

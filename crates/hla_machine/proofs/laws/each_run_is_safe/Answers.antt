@@ -1,4 +1,4 @@
-use Rattle.hla_machine.proofs.Runs.{run_safe}
+use Rattle.hla_machine.proofs.Upkeep.Runs.{run_safe}
 use Rattle.hla_machine.proofs.laws.each_run_is_safe.Goals as goal
 
 pub returns : goal.returns

@@ -1,4 +1,4 @@
-use Rattle.hla_machine.proofs.Deliveries.{given_to_a_member}
+use Rattle.hla_machine.proofs.Copies.Deliveries.{given_to_a_member}
 use Rattle.hla_machine.proofs.laws.given_to_the_joined.Goals as goal
 
 pub returns : goal.returns

@@ -1,4 +1,4 @@
-use Rattle.hla_machine.proofs.Grants.{grant_after_all}
+use Rattle.hla_machine.proofs.Histories.Grants.{grant_after_all}
 use Rattle.hla_machine.proofs.laws.granted_after_all_before.Goals as goal
 
 pub returns : goal.returns

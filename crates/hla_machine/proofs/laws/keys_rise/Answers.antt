@@ -1,4 +1,4 @@
-use Rattle.hla_machine.proofs.Orders.{keys_rise}
+use Rattle.hla_machine.proofs.Histories.Orders.{keys_rise}
 use Rattle.hla_machine.proofs.laws.keys_rise.Goals as goal
 
 pub returns : goal.returns

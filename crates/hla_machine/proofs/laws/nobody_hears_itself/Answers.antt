@@ -1,4 +1,4 @@
-use Rattle.hla_machine.proofs.Deliveries.{heard_from_another}
+use Rattle.hla_machine.proofs.Copies.Deliveries.{heard_from_another}
 use Rattle.hla_machine.proofs.laws.nobody_hears_itself.Goals as goal
 
 pub returns : goal.returns

@@ -1,4 +1,4 @@
-use Rattle.hla_machine.proofs.Ahead.{run_ahead}
+use Rattle.hla_machine.proofs.Upkeep.Ahead.{run_ahead}
 use Rattle.hla_machine.proofs.laws.nothing_is_in_the_past.Goals as goal
 
 pub returns : goal.returns

@@ -1,4 +1,4 @@
-use Rattle.hla_machine.proofs.Sending.{sent_waits}
+use Rattle.hla_machine.proofs.Copies.Sending.{sent_waits}
 use Rattle.hla_machine.proofs.laws.receivers_wait.Goals as goal
 
 pub returns : goal.returns

@@ -1,4 +1,4 @@
-use Rattle.hla_machine.proofs.Registrations.{registered_apart}
+use Rattle.hla_machine.proofs.Histories.Registrations.{registered_apart}
 use Rattle.hla_machine.proofs.laws.registrations_differ.Goals as goal
 
 pub returns : goal.returns

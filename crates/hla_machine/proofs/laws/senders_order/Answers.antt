@@ -1,4 +1,4 @@
-use Rattle.hla_machine.proofs.Deliveries.{heard_in_order}
+use Rattle.hla_machine.proofs.Copies.Deliveries.{heard_in_order}
 use Rattle.hla_machine.proofs.laws.senders_order.Goals as goal
 
 pub returns : goal.returns

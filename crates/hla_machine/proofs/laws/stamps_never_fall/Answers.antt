@@ -1,4 +1,4 @@
-use Rattle.hla_machine.proofs.Orders.{stamps_never_fall}
+use Rattle.hla_machine.proofs.Histories.Orders.{stamps_never_fall}
 use Rattle.hla_machine.proofs.laws.stamps_never_fall.Goals as goal
 
 pub returns : goal.returns

@@ -1,6 +1,6 @@
 -- A block goes if it is empty, and else none is.
 use Rattle.std.proofs.Common.{arith}
-use Rattle.hla_order_queues.proofs.PutLemmas.{IsDropped, dropped, still_filled}
+use Rattle.hla_order_queues.proofs.UnderFloors.PutLemmas.{IsDropped, dropped, still_filled}
 use Rattle.hla_order_queues.proofs.blocks.drop_empty.Goals as goal
 use Rattle.hla_order_queues.proofs.blocks.drop_empty.Goals.{After-remove}
 

@@ -1,6 +1,6 @@
 -- A long block is there, and is split.
 use Rattle.std.proofs.Common.{arith}
-use Rattle.hla_order_queues.proofs.PutLemmas.{many_there}
+use Rattle.hla_order_queues.proofs.UnderFloors.PutLemmas.{many_there}
 use Rattle.hla_order_queues.proofs.blocks.roomy_floor.Goals as goal
 
 pub split_at-requires-clause-many : goal.split_at-requires-clause-many

@@ -2,7 +2,7 @@
 use Rattle.std.proofs.Common.{◌≡◌, ap, subst, sym, ◌∙◌}
 use Rattle.std.specs.BTreeMap.{insert_entry}
 use Rattle.hla_order_queues.specs.Kept.{key_cmp, events_of, without_block, AreBelowBlocks, AreBlocks}
-use Rattle.hla_order_queues.proofs.SplitLemmas.{IsMiddle, IsSplit, middle_known, new_middle, still_many, closed, split_done}
+use Rattle.hla_order_queues.proofs.UnderFloors.SplitLemmas.{IsMiddle, IsSplit, middle_known, new_middle, still_many, closed, split_done}
 use Rattle.hla_order_queues.proofs.blocks.split_at.Goals as goal
 use Rattle.hla_order_queues.proofs.blocks.split_at.Goals.{In-Some, After-replace, After-remove}
 

@@ -2,7 +2,7 @@
 use Rattle.std.proofs.Common.{◌≡◌, ◌++◌, ap, subst, sym, ◌∙◌}
 use Rattle.std.specs.BTreeMap.{insert_entry}
 use Rattle.hla_order_queues.specs.Kept.{key_cmp, events_of, AreBelowBlocks, AreBlocks}
-use Rattle.hla_order_queues.proofs.SplitLemmas.{IsBetween, between_known, new_first, closed_first, IsFrontSplit, front_done}
+use Rattle.hla_order_queues.proofs.UnderFloors.SplitLemmas.{IsBetween, between_known, new_first, closed_first, IsFrontSplit, front_done}
 use Rattle.hla_order_queues.proofs.blocks.split_before.Goals as goal
 use Rattle.hla_order_queues.proofs.blocks.split_before.Goals.{In-Some, After-replace, After-remove}
 

@@ -4,8 +4,8 @@ use Rattle.std.specs.List.{prefix_len}
 use Rattle.hla_order_queues.specs.Moving.{is_moved}
 use Rattle.hla_order_queues.specs.Kept.{joined, events_of}
 use Rattle.hla_order_queues.specs.Places.{block_in, blocks_at}
-use Rattle.hla_order_queues.proofs.PlacesLemmas.{values_in}
-use Rattle.hla_order_queues.proofs.StepLemmas.{Counted, counted_block, prefix_len-le, next_in, next_none, nothing_in, none_left}
+use Rattle.hla_order_queues.proofs.UnderFloors.PlacesLemmas.{values_in}
+use Rattle.hla_order_queues.proofs.UnderFloors.StepLemmas.{Counted, counted_block, prefix_len-le, next_in, next_none, nothing_in, none_left}
 use Rattle.hla_order_queues.proofs.floors.count_of.Goals as goal
 use Rattle.hla_order_queues.proofs.floors.count_of.Goals.{After-count_below-here}
 

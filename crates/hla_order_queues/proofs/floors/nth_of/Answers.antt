@@ -3,8 +3,8 @@ use Rattle.std.proofs.Common.{◌≤◌, map, sym, ap, ◌∙◌, arith}
 use Rattle.std.specs.List.{slice_get}
 use Rattle.hla_order_queues.specs.Kept.{joined, events_of}
 use Rattle.hla_order_queues.specs.Places.{block_in, blocks_at}
-use Rattle.hla_order_queues.proofs.PlacesLemmas.{values_in}
-use Rattle.hla_order_queues.proofs.StepLemmas.{next_in, next_none, nothing_in, within_block, passed_block, nothing_at}
+use Rattle.hla_order_queues.proofs.UnderFloors.PlacesLemmas.{values_in}
+use Rattle.hla_order_queues.proofs.UnderFloors.StepLemmas.{next_in, next_none, nothing_in, within_block, passed_block, nothing_at}
 use Rattle.hla_order_queues.proofs.floors.nth_of.Goals as goal
 
 pub loop-place-init : goal.loop-place-init

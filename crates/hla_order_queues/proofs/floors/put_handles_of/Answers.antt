@@ -3,8 +3,8 @@ use Rattle.std.proofs.Common.{◌≡◌, ◌++◌, ◌-◌, min, map, length, ta
 use Rattle.hla_order_queues.specs.Queues.{handles_of}
 use Rattle.hla_order_queues.specs.Kept.{joined, events_of}
 use Rattle.hla_order_queues.specs.Places.{block_in, blocks_at}
-use Rattle.hla_order_queues.proofs.PlacesLemmas.{values_in}
-use Rattle.hla_order_queues.proofs.StepLemmas.{next_in, next_none, nothing_in, more_handles, handles_done, handles_ended}
+use Rattle.hla_order_queues.proofs.UnderFloors.PlacesLemmas.{values_in}
+use Rattle.hla_order_queues.proofs.UnderFloors.StepLemmas.{next_in, next_none, nothing_in, more_handles, handles_done, handles_ended}
 use Rattle.hla_order_queues.proofs.floors.put_handles_of.Goals as goal
 use Rattle.hla_order_queues.proofs.floors.put_handles_of.Goals.{After-put_handles}
 

@@ -1,6 +1,6 @@
 -- The map tells the names apart as their parts do.
 use Rattle.std.proofs.Common.{sym, ◌∙◌}
-use Rattle.hla_order_queues.proofs.NamesLemmas.{updated, where_true, where_ok}
+use Rattle.hla_order_queues.proofs.ByName.NamesLemmas.{updated, where_true, where_ok}
 use Rattle.hla_order_queues.proofs.names.insert.Goals as goal
 
 pub returns-clause-put : goal.returns-clause-put

@@ -1,5 +1,5 @@
 -- Past the end nothing is noted.
-use Rattle.hla_order_queues.proofs.NamesLemmas.{noted_past, untouched}
+use Rattle.hla_order_queues.proofs.ByName.NamesLemmas.{noted_past, untouched}
 use Rattle.hla_order_queues.proofs.names.take_noted.Goals as goal
 
 pub returns-in-None-clause-found : goal.returns-in-None-clause-found

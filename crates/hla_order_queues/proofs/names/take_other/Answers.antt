@@ -1,5 +1,5 @@
 -- The map tells the names apart as their parts do.
-use Rattle.hla_order_queues.proofs.NamesLemmas.{updated}
+use Rattle.hla_order_queues.proofs.ByName.NamesLemmas.{updated}
 use Rattle.hla_order_queues.proofs.names.take_other.Goals as goal
 
 pub returns-clause-rest : goal.returns-clause-rest

@@ -2,11 +2,11 @@
 use Rattle.std.proofs.Common.{◌≡◌, ◌++◌, None, Some, sym, ap, subst, ◌∙◌}
 use Rattle.hla_order_queues.specs.Queues.{find_event}
 use Rattle.hla_order_queues.specs.Kept.{key_of, events_of, AreAfter, AreBelowBlocks}
-use Rattle.hla_order_queues.proofs.OrderLemmas.{parts_of}
-use Rattle.hla_order_queues.proofs.RemovalLemmas.{find_event_behind, remove_event_before, remove_event_behind, All-remove_event}
-use Rattle.hla_order_queues.proofs.StampLemmas.{HasKey, has_key}
-use Rattle.hla_order_queues.proofs.KeyLemmas.{in_front, key_behind, stamp_behind}
-use Rattle.hla_order_queues.proofs.PutLemmas.{missed_in_front}
+use Rattle.hla_order_queues.proofs.Events.OrderLemmas.{parts_of}
+use Rattle.hla_order_queues.proofs.Events.RemovalLemmas.{find_event_behind, remove_event_before, remove_event_behind, All-remove_event}
+use Rattle.hla_order_queues.proofs.ByName.StampLemmas.{HasKey, has_key}
+use Rattle.hla_order_queues.proofs.UnderFloors.KeyLemmas.{in_front, key_behind, stamp_behind}
+use Rattle.hla_order_queues.proofs.UnderFloors.PutLemmas.{missed_in_front}
 use Rattle.hla_order_queues.proofs.ordered.take_key.Goals as goal
 use Rattle.hla_order_queues.proofs.ordered.take_key.Goals.{Start, Then-is_after, Else-is_after}
 

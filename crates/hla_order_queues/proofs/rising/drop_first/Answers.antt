@@ -1,6 +1,6 @@
 -- The first note had no stamp.
 use Rattle.std.proofs.Common.{sym, ◌∙◌}
-use Rattle.hla_order_queues.proofs.RisingLemmas.{first_swept_at}
+use Rattle.hla_order_queues.proofs.ByName.RisingLemmas.{first_swept_at}
 use Rattle.hla_order_queues.proofs.rising.drop_first.Goals as goal
 
 pub loop-notes-preserved : goal.loop-notes-preserved

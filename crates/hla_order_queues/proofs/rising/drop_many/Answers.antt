@@ -1,7 +1,7 @@
 -- What is kept are the notes with a stamp.
 use Rattle.std.proofs.Common.{rules}
 use Rattle.std.proofs.lemmas.Fn.{filter_same}
-use Rattle.hla_order_queues.proofs.RisingLemmas.{is_there, swept_at}
+use Rattle.hla_order_queues.proofs.ByName.RisingLemmas.{is_there, swept_at}
 use Rattle.hla_order_queues.proofs.rising.drop_many.Goals as goal
 
 pub returns-then-saturating_sub : goal.returns-then-saturating_sub

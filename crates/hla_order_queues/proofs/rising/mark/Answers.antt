@@ -1,6 +1,6 @@
 -- The stamp that was found is in the note at the place.
 use Rattle.std.proofs.Common.{◌≡◌, true, is_some, sym, ◌∙◌, arith}
-use Rattle.hla_order_queues.proofs.RisingLemmas.{place_within, marked_at}
+use Rattle.hla_order_queues.proofs.ByName.RisingLemmas.{place_within, marked_at}
 use Rattle.hla_order_queues.proofs.rising.mark.Goals as goal
 
 pub index_mut-requires : goal.index_mut-requires

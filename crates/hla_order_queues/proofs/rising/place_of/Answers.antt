@@ -2,8 +2,8 @@
 use Rattle.std.proofs.Common.{rules, arith}
 use Rattle.std.proofs.lemmas.List.Sorted.{IsPartitionPoint-from_clause}
 use Rattle.hla_order_queues.specs.Names.{is_note_before}
-use Rattle.hla_order_queues.proofs.PlaceLemmas.{partitioned, point_is}
-use Rattle.hla_order_queues.proofs.RisingLemmas.{falls_rising}
+use Rattle.hla_order_queues.proofs.Events.PlaceLemmas.{partitioned, point_is}
+use Rattle.hla_order_queues.proofs.ByName.RisingLemmas.{falls_rising}
 use Rattle.hla_order_queues.proofs.rising.place_of.Goals as goal
 
 pub returns : goal.returns

@@ -1,5 +1,5 @@
 -- The note at the place has the serial, or none has.
-use Rattle.hla_order_queues.proofs.RisingLemmas.{stamp_found, stamp_missed, no_stamp}
+use Rattle.hla_order_queues.proofs.ByName.RisingLemmas.{stamp_found, stamp_missed, no_stamp}
 use Rattle.hla_order_queues.proofs.rising.stamp_at.Goals as goal
 
 pub returns-then-note-serial : goal.returns-then-note-serial

@@ -1,5 +1,5 @@
 -- The first note has the serial, and goes.
-use Rattle.hla_order_queues.proofs.RisingLemmas.{took_first}
+use Rattle.hla_order_queues.proofs.ByName.RisingLemmas.{took_first}
 use Rattle.hla_order_queues.proofs.rising.take_first.Goals as goal
 
 pub returns-in-Some : goal.returns-in-Some

@@ -9,7 +9,7 @@ use Rattle.hla_machine.specs.declared.step.Step.TheVariants.{Call}
 use Rattle.hla_machine.specs.Directory.{update_sent}
 use Rattle.hla_machine.specs.Refusals.{refusal}
 use Rattle.hla_machine.specs.Sends.{sent_handle}
-use Rattle.hla_machine.proofs.Tests.{clear_call}
+use Rattle.hla_machine.proofs.Basics.Tests.{clear_call}
 use Rattle.hla_components.specs.Next.{call_outcome, components_seen}
 use Rattle.hla_federation.specs.Steps.State.{state_of}
 use Rattle.hla_federation.proofs.Steps.Foreseeing.{few_serials}

@@ -29,7 +29,7 @@ use Rattle.hla_federation.specs.Steps.Sending.{messages_among}
 use Rattle.hla_federation.specs.Steps.Soundness.{IsSound}
 use Rattle.hla_federation.proofs.Steps.Resigning.{joined_below}
 use Rattle.hla_federation.proofs.Steps.Registering.{registered_state}
-use Rattle.hla_machine.proofs.Tests.{clear_call}
+use Rattle.hla_machine.proofs.Basics.Tests.{clear_call}
 use Rattle.hla_federation.proofs.parts.Parts.register_object_instance.Goals as goal
 use Rattle.hla_federation.proofs.parts.Parts.register_object_instance.Goals.{in-Some-name+in_ok-given-in-Some-name, in-None+in_ok-given-in-None}
 

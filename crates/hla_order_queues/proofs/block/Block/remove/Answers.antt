@@ -1,6 +1,6 @@
 -- The place that was found is that of the event, and none was found where there is none.
 use Rattle.std.proofs.Common.{length, sym, ap, ◌∙◌}
-use Rattle.hla_order_queues.proofs.QueueLemmas.{found_at, removed_at, not_found}
+use Rattle.hla_order_queues.proofs.Events.QueueLemmas.{found_at, removed_at, not_found}
 use Rattle.hla_order_queues.proofs.block.Block.remove.Goals as goal
 
 pub returns-in-Some-clause-found : goal.returns-in-Some-clause-found

@@ -5,7 +5,7 @@ use Rattle.hla_base.specs.declared.content.Event.{Event}
 use Rattle.hla_order_queues.specs.Queues.{insert_event}
 use Rattle.hla_order_queues.specs.declared.key.EventKey.{EventKey}
 use Rattle.hla_order_queues.specs.Kept.{events_of, AreBelowBlocks, IsPlace}
-use Rattle.hla_order_queues.proofs.PutLemmas.{IsPut, put_under, ordered_under}
+use Rattle.hla_order_queues.proofs.UnderFloors.PutLemmas.{IsPut, put_under, ordered_under}
 use Rattle.hla_order_queues.proofs.blocks.Blocks.insert.Goals as goal
 use Rattle.hla_order_queues.proofs.blocks.Blocks.insert.Goals.{After-insert_event}
 

@@ -1,8 +1,8 @@
 -- The first floor tells of all.
 use Rattle.std.proofs.Common.{true, subst, sym, ◌∙◌, ap}
 use Rattle.std.specs.Ordering.{is_lt}
-use Rattle.hla_order_queues.proofs.FloorLemmas.{less_is}
-use Rattle.hla_order_queues.proofs.JoinedLemmas.{IsTold, told_first, told_none, no_first}
+use Rattle.hla_order_queues.proofs.UnderFloors.FloorLemmas.{less_is}
+use Rattle.hla_order_queues.proofs.UnderFloors.JoinedLemmas.{IsTold, told_first, told_none, no_first}
 use Rattle.hla_order_queues.proofs.blocks.Blocks.is_after.Goals as goal
 use Rattle.hla_order_queues.proofs.blocks.Blocks.is_after.Goals.{After-is_lt, In-None}
 

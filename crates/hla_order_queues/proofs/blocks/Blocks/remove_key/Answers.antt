@@ -3,10 +3,10 @@ use Rattle.std.proofs.Common.{List, ap, subst, sym, ◌∙◌}
 use Rattle.hla_base.specs.declared.content.Event.{Event}
 use Rattle.hla_order_queues.specs.declared.key.EventKey.{EventKey}
 use Rattle.hla_order_queues.specs.Queues.{find_event, remove_event}
-use Rattle.hla_order_queues.proofs.RemovalLemmas.{IsInOrder-remove_event}
+use Rattle.hla_order_queues.proofs.Events.RemovalLemmas.{IsInOrder-remove_event}
 use Rattle.hla_order_queues.specs.Kept.{events_of, AreAfter, AreBelowBlocks, IsInOrder}
-use Rattle.hla_order_queues.proofs.StampLemmas.{HasKey, has_key}
-use Rattle.hla_order_queues.proofs.PutLemmas.{IsTaken, taken_out, not_before}
+use Rattle.hla_order_queues.proofs.ByName.StampLemmas.{HasKey, has_key}
+use Rattle.hla_order_queues.proofs.UnderFloors.PutLemmas.{IsTaken, taken_out, not_before}
 use Rattle.hla_order_queues.proofs.blocks.Blocks.remove_key.Goals as goal
 use Rattle.hla_order_queues.proofs.blocks.Blocks.remove_key.Goals.{After-take_event-event, In_err-floor}
 

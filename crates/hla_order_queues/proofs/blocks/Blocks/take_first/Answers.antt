@@ -2,7 +2,7 @@
 use Rattle.std.proofs.Common.{List, subst}
 use Rattle.hla_base.specs.declared.content.Event.{Event}
 use Rattle.hla_order_queues.specs.declared.key.EventKey.{EventKey}
-use Rattle.hla_order_queues.proofs.JoinedLemmas.{IsTakenOut, taken_front}
+use Rattle.hla_order_queues.proofs.UnderFloors.JoinedLemmas.{IsTakenOut, taken_front}
 use Rattle.hla_order_queues.proofs.blocks.Blocks.take_first.Goals as goal
 use Rattle.hla_order_queues.proofs.blocks.Blocks.take_first.Goals.{After-take_first}
 

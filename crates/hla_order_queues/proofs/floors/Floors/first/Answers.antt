@@ -2,7 +2,7 @@
 use Rattle.std.proofs.Common.{ap, ◌∙◌}
 use Rattle.std.specs.List.{slice_get}
 use Rattle.std.specs.Option.{option_map}
-use Rattle.hla_order_queues.proofs.PlacesLemmas.{first_floor}
+use Rattle.hla_order_queues.proofs.UnderFloors.PlacesLemmas.{first_floor}
 use Rattle.hla_order_queues.proofs.floors.Floors.first.Goals as goal
 
 pub returns-in-Some : goal.returns-in-Some

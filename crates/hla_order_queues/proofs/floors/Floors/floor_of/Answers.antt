@@ -1,7 +1,7 @@
 -- The last of the blocks whose floors do not come after the key.
 use Rattle.std.proofs.Common.{subst, sym, ◌∙◌}
 use Rattle.hla_order_queues.specs.Kept.{AreAfter, IsPlace}
-use Rattle.hla_order_queues.proofs.PlacesLemmas.{placed_in, none_placed}
+use Rattle.hla_order_queues.proofs.UnderFloors.PlacesLemmas.{placed_in, none_placed}
 use Rattle.hla_order_queues.proofs.floors.Floors.floor_of.Goals as goal
 
 pub returns-in-Some : goal.returns-in-Some

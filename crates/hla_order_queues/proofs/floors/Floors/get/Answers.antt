@@ -1,6 +1,6 @@
 -- The block at the place of the floor.
 use Rattle.std.proofs.Common.{◌∙◌}
-use Rattle.hla_order_queues.proofs.PlacesLemmas.{there_is, none_there}
+use Rattle.hla_order_queues.proofs.UnderFloors.PlacesLemmas.{there_is, none_there}
 use Rattle.hla_order_queues.proofs.floors.Floors.get.Goals as goal
 
 pub returns-in-Some : goal.returns-in-Some

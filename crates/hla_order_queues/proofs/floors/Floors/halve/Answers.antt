@@ -3,7 +3,7 @@ use Rattle.std.proofs.Common.{◌≡◌, Some, sym, ap, ◌∙◌}
 use Rattle.std.specs.BTreeMap.{is_at}
 use Rattle.std.proofs.lemmas.Map.Steps.{set_value_same}
 use Rattle.hla_order_queues.specs.Kept.{key_cmp, block_at, set_block}
-use Rattle.hla_order_queues.proofs.PlacesLemmas.{there_is, now_is}
+use Rattle.hla_order_queues.proofs.UnderFloors.PlacesLemmas.{there_is, now_is}
 use Rattle.hla_order_queues.proofs.floors.Floors.halve.Goals as goal
 use Rattle.hla_order_queues.proofs.floors.Floors.halve.Goals.{in-Ok, in-Err}
 

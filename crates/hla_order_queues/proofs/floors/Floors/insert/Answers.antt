@@ -2,7 +2,7 @@
 use Rattle.std.proofs.Common.{ap, sym, ◌∙◌}
 use Rattle.std.specs.BTreeMap.{insert_entry}
 use Rattle.hla_order_queues.specs.Kept.{key_cmp}
-use Rattle.hla_order_queues.proofs.PlacesLemmas.{IsHeldWith, held_with}
+use Rattle.hla_order_queues.proofs.UnderFloors.PlacesLemmas.{IsHeldWith, held_with}
 use Rattle.hla_order_queues.proofs.floors.Floors.insert.Goals as goal
 use Rattle.hla_order_queues.proofs.floors.Floors.insert.Goals.{After-insert_reserved}
 

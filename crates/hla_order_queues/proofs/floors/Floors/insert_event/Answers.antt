@@ -1,7 +1,7 @@
 -- The event goes into the block at the place of the floor.
 use Rattle.std.proofs.Common.{◌≡◌, Some, None, ◌∙◌}
 use Rattle.hla_order_queues.specs.Kept.{block_at}
-use Rattle.hla_order_queues.proofs.PlacesLemmas.{there_is, none_there, now_is}
+use Rattle.hla_order_queues.proofs.UnderFloors.PlacesLemmas.{there_is, none_there, now_is}
 use Rattle.hla_order_queues.proofs.floors.Floors.insert_event.Goals as goal
 
 pub returns-in_default-clause-put : goal.returns-in_default-clause-put

@@ -2,7 +2,7 @@
 use Rattle.std.proofs.Common.{ap, ◌∙◌}
 use Rattle.hla_order_queues.specs.Kept.{without_block}
 use Rattle.hla_order_queues.specs.Places.{blocks_at}
-use Rattle.hla_order_queues.proofs.PlacesLemmas.{there_is, none_there, removed_nothing, IsHeldWith, held_without}
+use Rattle.hla_order_queues.proofs.UnderFloors.PlacesLemmas.{there_is, none_there, removed_nothing, IsHeldWith, held_without}
 use Rattle.hla_order_queues.proofs.floors.Floors.remove.Goals as goal
 use Rattle.hla_order_queues.proofs.floors.Floors.remove.Goals.{After-try_remove}
 

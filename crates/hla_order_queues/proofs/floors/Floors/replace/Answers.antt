@@ -1,7 +1,7 @@
 -- The block at the place of the floor is another.
 use Rattle.std.proofs.Common.{◌≡◌, None, ◌∙◌}
 use Rattle.hla_order_queues.specs.Kept.{block_at}
-use Rattle.hla_order_queues.proofs.PlacesLemmas.{there_is, none_there, now_is, set_nothing}
+use Rattle.hla_order_queues.proofs.UnderFloors.PlacesLemmas.{there_is, none_there, now_is, set_nothing}
 use Rattle.hla_order_queues.proofs.floors.Floors.replace.Goals as goal
 
 pub returns-in_default : goal.returns-in_default

@@ -1,7 +1,7 @@
 -- The event goes from the block at the place of the floor.
 use Rattle.std.proofs.Common.{◌≡◌, Some, None, refl, ap, ◌∙◌}
 use Rattle.hla_order_queues.specs.Kept.{block_at, set_block}
-use Rattle.hla_order_queues.proofs.PlacesLemmas.{there_is, none_there, now_is}
+use Rattle.hla_order_queues.proofs.UnderFloors.PlacesLemmas.{there_is, none_there, now_is}
 use Rattle.hla_order_queues.proofs.floors.Floors.take_event.Goals as goal
 
 pub returns-in_err-place : goal.returns-in_err-place

@@ -1,6 +1,6 @@
 -- The first place has the block.
 use Rattle.std.proofs.Common.{sym, ◌∙◌}
-use Rattle.hla_order_queues.proofs.PlacesLemmas.{taken_first, first_there}
+use Rattle.hla_order_queues.proofs.UnderFloors.PlacesLemmas.{taken_first, first_there}
 use Rattle.hla_order_queues.proofs.floors.Floors.take_first.Goals as goal
 
 pub invariant_of-self : goal.invariant_of-self

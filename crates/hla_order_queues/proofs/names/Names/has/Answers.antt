@@ -1,5 +1,5 @@
 -- The name is among what is noted, or among the others.
-use Rattle.hla_order_queues.proofs.NamesLemmas.{has_noted, has_other}
+use Rattle.hla_order_queues.proofs.ByName.NamesLemmas.{has_noted, has_other}
 use Rattle.hla_order_queues.proofs.names.Names.has.Goals as goal
 
 pub returns-then-is_some : goal.returns-then-is_some

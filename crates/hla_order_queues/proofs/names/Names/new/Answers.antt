@@ -1,5 +1,5 @@
 -- There are no lists and no others.
-use Rattle.hla_order_queues.proofs.NamesLemmas.{nothing_there}
+use Rattle.hla_order_queues.proofs.ByName.NamesLemmas.{nothing_there}
 use Rattle.hla_order_queues.proofs.names.Names.new.Goals as goal
 
 pub returns : goal.returns

@@ -1,6 +1,6 @@
 -- The stamp is noted, or put among the others; a list that was made before has nothing.
 use Rattle.std.proofs.Common.{refl, ◌∙◌}
-use Rattle.hla_order_queues.proofs.NamesLemmas.{when_true, when_false, put_noted, put_other, put_none}
+use Rattle.hla_order_queues.proofs.ByName.NamesLemmas.{when_true, when_false, put_noted, put_other, put_none}
 use Rattle.hla_order_queues.proofs.names.Names.put.Goals as goal
 
 pub returns-then-not-reach-clause-refused : goal.returns-then-not-reach-clause-refused

@@ -1,6 +1,6 @@
 -- The stamp is taken out of what is noted, or of the others.
 use Rattle.std.proofs.Common.{◌∙◌}
-use Rattle.hla_order_queues.proofs.NamesLemmas.{taken, found_either}
+use Rattle.hla_order_queues.proofs.ByName.NamesLemmas.{taken, found_either}
 use Rattle.hla_order_queues.proofs.names.Names.take.Goals as goal
 
 pub returns-clause-found : goal.returns-clause-found

@@ -1,5 +1,5 @@
 -- What is greater than all is not noted.
-use Rattle.hla_order_queues.proofs.RisingLemmas.{none_less}
+use Rattle.hla_order_queues.proofs.ByName.RisingLemmas.{none_less}
 use Rattle.hla_order_queues.proofs.rising.Rising.get.Goals as goal
 
 pub returns-then-is_below : goal.returns-then-is_below

@@ -1,6 +1,6 @@
 -- The last serial is the greatest.
 use Rattle.std.proofs.Common.{arith}
-use Rattle.hla_order_queues.proofs.RisingLemmas.{below_says}
+use Rattle.hla_order_queues.proofs.ByName.RisingLemmas.{below_says}
 use Rattle.hla_order_queues.proofs.rising.Rising.is_below.Goals as goal
 
 pub returns-in-Some : goal.returns-in-Some

@@ -1,5 +1,5 @@
 -- No notes rise.
-use Rattle.hla_order_queues.proofs.RisingLemmas.{none_rise}
+use Rattle.hla_order_queues.proofs.ByName.RisingLemmas.{none_rise}
 use Rattle.hla_order_queues.proofs.rising.Rising.new.Goals as goal
 
 pub invariant_of-result : goal.invariant_of-result

@@ -1,6 +1,6 @@
 -- The new note is behind all lesser ones, or nothing changes.
 use Rattle.std.proofs.Common.{is_ok}
-use Rattle.hla_order_queues.proofs.RisingLemmas.{pushed, push_says}
+use Rattle.hla_order_queues.proofs.ByName.RisingLemmas.{pushed, push_says}
 use Rattle.hla_order_queues.proofs.rising.Rising.push.Goals as goal
 
 pub invariant_of-self : goal.invariant_of-self

@@ -1,5 +1,5 @@
 -- No events, and no names.
-use Rattle.hla_order_queues.proofs.StampLemmas.{no_names}
+use Rattle.hla_order_queues.proofs.ByName.StampLemmas.{no_names}
 use Rattle.hla_order_queues.proofs.tso.TsoQueue.clear.Goals as goal
 
 pub invariant_of-self : goal.invariant_of-self

@@ -1,7 +1,7 @@
 -- One after another goes, and in the end all that were counted, which is what is below the bound.
 use Rattle.std.proofs.Common.{◌≡◌, ◌++◌, ◌∷◌, [], take, drop, sym, ap, ◌∙◌, append_assoc, arith}
 use Rattle.std.specs.List.{slice_get}
-use Rattle.hla_order_queues.proofs.MovingLemmas.{one_more, no_more, drop-one, below_moved, all_moved}
+use Rattle.hla_order_queues.proofs.Events.MovingLemmas.{one_more, no_more, drop-one, below_moved, all_moved}
 use Rattle.hla_order_queues.proofs.tso.TsoQueue.move_below.Goals as goal
 use Rattle.hla_order_queues.proofs.tso.TsoQueue.move_below.Goals.{in-Some, in_default}
 

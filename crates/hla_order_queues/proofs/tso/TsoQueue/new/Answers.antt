@@ -1,5 +1,5 @@
 -- No events, and no names.
-use Rattle.hla_order_queues.proofs.StampLemmas.{no_names}
+use Rattle.hla_order_queues.proofs.ByName.StampLemmas.{no_names}
 use Rattle.hla_order_queues.proofs.tso.TsoQueue.new.Goals as goal
 
 pub invariant_of-result : goal.invariant_of-result

@@ -1,5 +1,5 @@
 -- The first event goes, with its name.
-use Rattle.hla_order_queues.proofs.StampLemmas.{named_removed, first_gone}
+use Rattle.hla_order_queues.proofs.ByName.StampLemmas.{named_removed, first_gone}
 use Rattle.hla_order_queues.proofs.tso.TsoQueue.take_least.Goals as goal
 
 pub invariant_of-self : goal.invariant_of-self

@@ -1,0 +1,12 @@
+-- Who is told of an event waits for it
+pub mod Sending
+-- What becomes of a copy in time-stamp order
+pub mod Fates
+-- What is known of retractions
+pub mod Retractions
+-- Each message of a call is sent to each federate that receives it, and to no other
+pub mod Addressing
+-- What is on its way to a federate stays so until it is settled
+pub mod Reaching
+-- Who is given a message, and how often
+pub mod Deliveries

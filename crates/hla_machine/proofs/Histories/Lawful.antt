@@ -1,0 +1,104 @@
+-- The happenings of each run keep all laws
+use Rattle.std.proofs.Common.{◌≡◌, ℕ, true, Some, List, [], ◌∷◌, ◌++◌, refl, sym, subst}
+use Rattle.hla_base.specs.declared.number.EventHandle.{EventHandle}
+use Rattle.hla_machine.specs.declared.service.Service.{Service}
+use Rattle.hla_machine.specs.declared.step.Step.{Step}
+use Rattle.hla_machine.specs.declared.step.Step.TheVariants.{Call}
+use Rattle.hla_machine.specs.declared.step.Answer.TheVariants as answer
+use Rattle.hla_machine.specs.declared.step.Outcome.{Outcome}
+use Rattle.hla_machine.specs.declared.step.Outcome.TheVariants as outcome
+use Rattle.hla_machine.specs.declared.step.Choice.{Choice}
+use Rattle.hla_machine.specs.Central.{Central, new_central}
+use Rattle.hla_machine.specs.Machine.{MayEnd, after}
+use Rattle.hla_machine.specs.Runs.{Happening, IsRun}
+use Rattle.hla_machine.specs.History.{Happens, HappenAfter, HappensLater, next_state, WaitsInOrder, HasHistory, central_after, Occurs, OccurAfter, OccursLater}
+use Rattle.hla_machine.specs.Lawful.{IsLawful}
+use Rattle.hla_machine.proofs.Upkeep.Runs.{run_safe}
+use Rattle.hla_machine.proofs.Upkeep.Ahead.{run_ahead}
+use Rattle.hla_machine.proofs.Histories.Orders.{stamps_never_fall, keys_rise}
+use Rattle.hla_machine.proofs.Copies.Sending.{sent_waits}
+use Rattle.hla_machine.proofs.Histories.Grants.{grant_after_all}
+use Rattle.hla_machine.proofs.Copies.Deliveries.{heard_from_another, heard_once, heard_on_its_way, given_to_a_member, heard_in_order, discovered_before}
+use Rattle.hla_machine.proofs.Copies.Addressing.{sent_by_call}
+use Rattle.hla_machine.proofs.Copies.Reaching.{settled_or_on_its_way, reliable_at}
+use Rattle.hla_machine.proofs.Histories.Registrations.{registered_apart}
+
+-- ---- parts of a run
+pub first_run : (c : Central) (xs ys : List Happening) (d : Central) → IsRun c (xs ++ ys) d → IsRun c xs (central_after c xs)
+first_run c [] ys d run = refl
+first_run c (h ∷ xs) ys d run = (run.0, first_run (next_state c h) xs ys d run.1)
+
+pub rest_run : (c : Central) (xs ys : List Happening) (d : Central) → IsRun c (xs ++ ys) d → IsRun (central_after c xs) ys d
+rest_run c [] ys d run = run
+rest_run c (h ∷ xs) ys d run = rest_run (next_state c h) xs ys d run.1
+
+pub joined_run : (c : Central) (xs : List Happening) (d : Central) (ys : List Happening) (e : Central) → IsRun c xs d → IsRun d ys e → IsRun c (xs ++ ys) e
+joined_run c [] d ys e first rest = subst (λ (x : Central). IsRun x ys e) (sym first) rest
+joined_run c (h ∷ xs) d ys e first rest = (first.0, joined_run (next_state c h) xs d ys e first.1 rest)
+
+-- what is led to from a state with a history has a history
+pub later_history : (c : Central) (hs : List Happening) (d : Central) → HasHistory c → IsRun c hs d → HasHistory d
+later_history c hs d is run = record { catalogue = is.catalogue; before = is.before ++ hs; run = joined_run (new_central is.catalogue) is.before c hs d is.run run }
+
+-- what was sent by a call waits
+sent_at : (c : Central) (step : Step) (out : Outcome) (o : Choice) (f : ℕ) (service : Service) (e : EventHandle) (g : ℕ) → step ≡ Call f service → out ≡ outcome.Done (answer.Sent (Some e)) → MayEnd c step out o
+    → (let d = after c step out o in (d.sent e.sender e.serial).receivers g ≡ true → WaitsInOrder d g e (d.sent e.sender e.serial).stamp)
+sent_at c step out o f service e g is_call is_sent =
+    subst (λ (step : Step). MayEnd c step out o → (let d = after c step out o in (d.sent e.sender e.serial).receivers g ≡ true → WaitsInOrder d g e (d.sent e.sender e.serial).stamp)) (sym is_call)
+    (subst (λ (out : Outcome). MayEnd c (Call f service) out o → (let d = after c (Call f service) out o in (d.sent e.sender e.serial).receivers g ≡ true → WaitsInOrder d g e (d.sent e.sender e.serial).stamp)) (sym is_sent)
+    (λ may told. sent_waits c f service e o g may.1 told))
+
+module _ (c : Central) (happenings : List Happening) (end : Central) (is : HasHistory c) (run : IsRun c happenings end) where
+  pub occurs_happens : (now : Central) (h : Happening) → Occurs c happenings now h → Happens now h
+  occurs_happens now h o =
+      let all = subst (λ (hs : List Happening). IsRun c hs end) o.whole run in
+      let rest = rest_run c o.before (h ∷ o.rest) end all in
+      let start = later_history c o.before (central_after c o.before) is (first_run c o.before (h ∷ o.rest) end all) in
+      subst (λ (d : Central). Happens d h) (sym o.state) (record { catalogue = start.catalogue; before = start.before; run = start.run; allowed = rest.0 })
+
+  occur_after : (now : Central) (h : Happening) (between : List Happening) (then : Central) (i : Happening) → OccurAfter c happenings now h between then i → HappenAfter now h between then i
+  occur_after now h between then i o =
+      let first = occurs_happens now h (record { before = o.before; rest = between ++ (i ∷ o.rest); whole = o.whole; state = o.state }) in
+      let all = subst (λ (hs : List Happening). IsRun c hs end) o.whole run in
+      let rest = subst (λ (d : Central). IsRun d (h ∷ (between ++ (i ∷ o.rest))) end) (sym o.state) (rest_run c o.before (h ∷ (between ++ (i ∷ o.rest))) end all) in
+      let then_is = sym o.later in
+      record {
+        first = first;
+        run = subst (λ (d : Central). IsRun (next_state now h) between d) then_is (first_run (next_state now h) between (i ∷ o.rest) end rest.1);
+        allowed = (subst (λ (d : Central). IsRun d (i ∷ o.rest) end) then_is (rest_run (next_state now h) between (i ∷ o.rest) end rest.1)).0;
+      }
+
+  occurs_later : (now : Central) (between : List Happening) (then : Central) (h : Happening) → OccursLater c happenings now between then h → HappensLater now between then h
+  occurs_later now between then h o =
+      let all = subst (λ (hs : List Happening). IsRun c hs end) o.whole run in
+      let start = subst HasHistory (sym o.state) (later_history c o.before (central_after c o.before) is (first_run c o.before (between ++ (h ∷ o.rest)) end all)) in
+      let rest = subst (λ (d : Central). IsRun d (between ++ (h ∷ o.rest)) end) (sym o.state) (rest_run c o.before (between ++ (h ∷ o.rest)) end all) in
+      let then_is = sym o.later in
+      record {
+        catalogue = start.catalogue;
+        before = start.before;
+        start = start.run;
+        run = subst (λ (d : Central). IsRun now between d) then_is (first_run now between (h ∷ o.rest) end rest);
+        allowed = (subst (λ (d : Central). IsRun d (h ∷ o.rest) end) then_is (rest_run now between (h ∷ o.rest) end rest)).0;
+      }
+
+  pub each_lawful : IsLawful c happenings
+  each_lawful = record {
+    others = λ now h f e o hears. heard_from_another now h f e (occurs_happens now h o) hears;
+    once = λ now h between then i f e o first second. heard_once now h between then i f e (occur_after now h between then i o) first second;
+    joined = λ now h f k o gives. given_to_a_member now h f k (occurs_happens now h o) gives;
+    in_order = λ now h between then i f e x o first second same. heard_in_order now h between then i f e x (occur_after now h between then i o) first second same;
+    sent = λ now h f service a o is_call is_done. sent_by_call now h.step h.outcome h.choice f service a (reliable_at now h (occurs_happens now h o)) is_call is_done;
+    reaches = λ now between then h f e o way. let l = occurs_later now between then h o in settled_or_on_its_way now between then f e (record { catalogue = l.catalogue; before = l.before; run = l.start }) l.run way;
+    from = λ now h f e o hears. heard_on_its_way now h f e (occurs_happens now h o) hears;
+    differ = λ now h between then i a b n p o first second. registered_apart now h between then i a b n p (occur_after now h between then i o) first second;
+    discovered = λ now h f k object o gives speaks g. discovered_before now h f k object (occurs_happens now h o) gives speaks g;
+    safe = λ before rest whole.
+        let start = later_history c before (central_after c before) is (first_run c before rest end (subst (λ (hs : List Happening). IsRun c hs end) whole run)) in
+        run_safe start.catalogue start.before (central_after c before) start.run;
+    ahead = λ now h f o. run_ahead now h f (occurs_happens now h o);
+    stamps = λ now h between then i f e x s t o calm first second. stamps_never_fall now h between then i f e x s t (occur_after now h between then i o) calm first second;
+    keys = λ now h between then i f e x s t o strict one first second. keys_rise now h between then i f e x s t (occur_after now h between then i o) strict one first second;
+    waits = λ now h f service e g o is_call is_sent told. sent_at now h.step h.outcome h.choice f service e g is_call is_sent (occurs_happens now h o).allowed.0 told;
+    granted = λ now between then h f t q e s o grants con asks waits low. grant_after_all now between then h f t q e s (occurs_later now between then h o) grants con asks waits low;
+  }
