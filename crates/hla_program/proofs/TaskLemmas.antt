@@ -6,11 +6,11 @@ use Rattle.hla_program.specs.declared.script_task.ScriptTask.{ScriptTask}
 use Rattle.hla_transcript.specs.Watching.{Stream}
 use Rattle.hla_program.specs.Program.{opened_stream, EndsShared, EndsFiles, EndsListingFile, EndsNamed, EndsTask}
 
-abbrev pub stream_of : Option (List ℕ) → Bool → Stream
-stream_of bytes has_failed = record { bytes = bytes; has_failed = has_failed }
+abbrev pub stream_with : Option (List ℕ) → Bool → Stream
+stream_with bytes has_failed = record { bytes = bytes; has_failed = has_failed }
 
 is_opened : (s : Stream) (bytes : Option (List ℕ)) → s.bytes ≡ bytes → s.has_failed ≡ false → s ≡ opened_stream bytes
-is_opened s bytes known sound = ap (λ b. stream_of b s.has_failed) known ∙ ap (λ f. stream_of bytes f) sound
+is_opened s bytes known sound = ap (λ b. stream_with b s.has_failed) known ∙ ap (λ f. stream_with bytes f) sound
 
 pub shared_task : (bytes_of : List ℕ → Option (List ℕ)) (task : ScriptTask) (fed script : List ℕ) (input input' out out' err err' : Stream) (status : ℕ) → (bytes_eq fed (codes "-") && bytes_eq script (codes "-")) ≡ true → input.bytes ≡ bytes_of (codes "-") → input.has_failed ≡ false → EndsShared task input input' out out' err err' status → EndsNamed bytes_of task fed script out out' err err' status
 shared_task bytes_of task fed script input input' out out' err err' status both known sound ends =

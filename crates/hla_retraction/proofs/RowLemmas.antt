@@ -10,13 +10,13 @@ use Rattle.hla_retraction.specs.SentEvents.{SentEvent, no_event}
 use Rattle.hla_retraction.specs.SentRows.{sent_of, row_event, no_row, serial_at, AreRising, IsRowAt}
 
 -- all rows have serials below this one
-abbrev pub AreBelow : List SentRow → ℕ → Type 0
-AreBelow rows serial = (i : ℕ) → i < length rows → serial_at rows i < serial
+abbrev pub HaveLesserSerials : List SentRow → ℕ → Type 0
+HaveLesserSerials rows serial = (i : ℕ) → i < length rows → serial_at rows i < serial
 
 rising_tail : (row : SentRow) (rows : List SentRow) → AreRising (row ∷ rows) → AreRising rows
 rising_tail row rows rising i j less within = rising (suc i) (suc j) (omega arith) (omega arith)
 
-below_tail : (row : SentRow) (rows : List SentRow) (serial : ℕ) → AreBelow (row ∷ rows) serial → AreBelow rows serial
+below_tail : (row : SentRow) (rows : List SentRow) (serial : ℕ) → HaveLesserSerials (row ∷ rows) serial → HaveLesserSerials rows serial
 below_tail row rows serial below i within = below (suc i) (omega arith)
 
 -- ---- what the table has at a serial
@@ -42,7 +42,7 @@ sent_of-at (row ∷ rows) serial (suc i) rising at =
     rw apart (sent_of-at rows serial i (rising_tail row rows rising) (record { in_range = omega (arith, at.in_range); has_serial = at.has_serial }))
 
 -- where the table has nothing from a serial on, all rows are below it
-pub below_from_absent : (rows : List SentRow) (serial : ℕ) → AreRising rows → ((m : ℕ) → serial ≤ m → sent_of rows m ≡ no_event) → AreBelow rows serial
+pub below_from_absent : (rows : List SentRow) (serial : ℕ) → AreRising rows → ((m : ℕ) → serial ≤ m → sent_of rows m ≡ no_event) → HaveLesserSerials rows serial
 below_from_absent rows serial rising free i within = elim (cases_lt (serial_at rows i) serial) [
   | inl low ↦ low
   | inr high ↦
@@ -51,7 +51,7 @@ below_from_absent rows serial rising free i within = elim (cases_lt (serial_at r
 ]
 
 -- ---- a row behind the others
-pub rising_push : (rows : List SentRow) (row : SentRow) → AreRising rows → AreBelow rows row.serial → AreRising (rows ++ row ∷ [])
+pub rising_push : (rows : List SentRow) (row : SentRow) → AreRising rows → HaveLesserSerials rows row.serial → AreRising (rows ++ row ∷ [])
 rising_push rows row rising below i j less within =
     let size = length_push rows row in
     let serial : SentRow → ℕ = λ r. r.serial in
@@ -62,7 +62,7 @@ rising_push rows row rising below i j less within =
       | inr high ↦ omega (arith, old i (omega arith), new j (omega arith), below i (omega arith))
     ]
 
-push_at : (rows : List SentRow) (row : SentRow) (m : ℕ) → AreBelow rows row.serial → sent_of (rows ++ row ∷ []) m ≡ cond (eqb row.serial m) (row_event row) (sent_of rows m)
+push_at : (rows : List SentRow) (row : SentRow) (m : ℕ) → HaveLesserSerials rows row.serial → sent_of (rows ++ row ∷ []) m ≡ cond (eqb row.serial m) (row_event row) (sent_of rows m)
 unfolding sent_of
 push_at [] row m below = refl
 push_at (first ∷ rows) row m below = elim (cases_eq row.serial m) [
@@ -75,7 +75,7 @@ push_at (first ∷ rows) row m below = elim (cases_eq row.serial m) [
       rw no (ap (cond (eqb first.serial m) (row_event first)) (push_at rows row m (below_tail first rows row.serial below) ∙ rw no refl))
 ]
 
-pub sent_of-push : (rows : List SentRow) (row : SentRow) → AreBelow rows row.serial → sent_of (rows ++ row ∷ []) ≡ upd (sent_of rows) row.serial (row_event row)
+pub sent_of-push : (rows : List SentRow) (row : SentRow) → HaveLesserSerials rows row.serial → sent_of (rows ++ row ∷ []) ≡ upd (sent_of rows) row.serial (row_event row)
 unfolding upd
 sent_of-push rows row below = fun_ext (λ m. push_at rows row m below)
 

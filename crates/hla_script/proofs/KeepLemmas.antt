@@ -216,8 +216,8 @@ steps_refused old new s e chosen same chooses h some =
     }
 
 -- ---- the record of a step
-abbrev pub step_record : Step → Outcome → Choice → Record
-step_record s out chosen = record { actor = 0; execution = codes "play"; act = act.Step s; outcome = out; choice = chosen }
+abbrev pub record_of_step : Step → Outcome → Choice → Record
+record_of_step s out chosen = record { actor = 0; execution = codes "play"; act = act.Step s; outcome = out; choice = chosen }
 
 stepped_next : (here : Option Components) (x : Federations) (s : Step) (out : Outcome) (chosen : Choice) (new : Option Components) → DoesNext here s out chosen new → (out ≡ (step_in x (codes "play") here s).outcome) × (chosen ≡ (step_in x (codes "play") here s).choice)
 stepped_next None x s out chosen new does = (does.0, does.1)
@@ -228,10 +228,10 @@ stepped_holds : (n : ℕ) (here : Option Components) (x : Federations) (s : Step
 stepped_holds n None x s out chosen new does h = rw does.2 h
 stepped_holds n (Some c) x s out chosen new does h = rw does.2 (record { creates = h.creates; present = h.present; execution = refl })
 
-pub step_acts : (n : ℕ) (old new : Option Components) (ms after : List NamedFederate) (s : Step) (out : Outcome) (chosen : Choice) (r : Record) → IsStepped old s out chosen new → r ≡ step_record s out chosen → after ≡ member_after ms (act.Step s) out
+pub step_acts : (n : ℕ) (old new : Option Components) (ms after : List NamedFederate) (s : Step) (out : Outcome) (chosen : Choice) (r : Record) → IsStepped old s out chosen new → r ≡ record_of_step s out chosen → after ≡ member_after ms (act.Step s) out
     → IsActed (act.Step s) (record { creates = n; here = old }) ms r (record { creates = n; here = new }) after
 step_acts n old new ms after s out chosen r is same joined =
-    let main : IsActed (act.Step s) (record { creates = n; here = old }) ms (step_record s out chosen) (record { creates = n; here = new }) after =
+    let main : IsActed (act.Step s) (record { creates = n; here = old }) ms (record_of_step s out chosen) (record { creates = n; here = new }) after =
     record {
       same = refl;
       remembered = is.remembered;

@@ -28,7 +28,7 @@ use Rattle.hla_machine.proofs.Basics.Tests.{all_clear, not-is-false}
 use Rattle.hla_accounts.specs.declared.account.Account.{Account}
 use Rattle.hla_accounts.specs.Accounts.{central_with}
 use Rattle.hla_verdicts.specs.Kept.{KeptValue, IsConsistent, central_of, directory_kept, directory_of}
-use Rattle.hla_verdicts.proofs.Steps.Services.{IsPlain}
+use Rattle.hla_verdicts.proofs.Steps.Services.{IsPlainService}
 use Rattle.hla_checker.proofs.Sends.SendingTests.{count_deletions}
 use Rattle.hla_checker.proofs.Sends.Updates.{after_append, after_directory, after_serial, serials_left}
 
@@ -37,14 +37,14 @@ deletion_done : (object : ℕ) (stamp : Option ℕ) (c : Central) (f : ℕ) (a :
 deletion_done object stamp c f answer.Done o may = refl
 deletion_done object stamp c f a o may = absurd may
 
-pub deletion_plain : (object : ℕ) (stamp : Option ℕ) → IsPlain (service.DeleteObjectInstance object stamp)
+pub deletion_plain : (object : ℕ) (stamp : Option ℕ) → IsPlainService (service.DeleteObjectInstance object stamp)
 deletion_plain object stamp = record { answers = λ c f o. tt; only = deletion_done object stamp; plain = λ o is. is; chooses = λ o is. is }
 
 resign_done : (way : ResignAction) (c : Central) (f : ℕ) (a : Answer) (o : Choice) → MayAnswer c f (service.Resign way) a o → a ≡ answer.Done
 resign_done way c f answer.Done o may = refl
 resign_done way c f a o may = absurd may
 
-pub resign_plain : (way : ResignAction) → IsPlain (service.Resign way)
+pub resign_plain : (way : ResignAction) → IsPlainService (service.Resign way)
 resign_plain way = record { answers = λ c f o. tt; only = resign_done way; plain = λ o is. is; chooses = λ o is. is }
 
 -- ---- an object that exists was registered

@@ -14,7 +14,7 @@ use Rattle.hla_components.proofs.Basics.Each.{EachOf-append, EachOf-weaker}
 use Rattle.hla_components.proofs.Upkeep.Directories.{grows_subscribed, grows_registered}
 use Rattle.hla_components.proofs.Services.Discoveries.{discovery_tells, each_discovery, when_some}
 use Rattle.hla_components.proofs.Services.Registrations.{still_known}
-use Rattle.hla_components.proofs.Discovered.Lists.{Among, NotAmong, AreApart, among_front, among_back, each_drop, apart_drop, apart_append, made_apart, made_among}
+use Rattle.hla_components.proofs.Discovered.Lists.{Among, NotAmong, IsEachOnce, among_front, among_back, each_drop, apart_drop, apart_append, made_apart, made_among}
 use Rattle.hla_components.proofs.Discovered.Told.{Informed}
 
 -- P says which discoveries were given: each that was to be made was given or waits, and never both, nor twice
@@ -22,7 +22,7 @@ pub record Discovering (P : ℕ → ℕ → Type 0) (c : Central) : Type 0 where
   pub heard : (f o : ℕ) → c.directory.joined f ≡ true → c.directory.known o f ≡ true → (c.directory.object o).owner ≢ f → ((g : ℕ) × Among o (c.discoveries g f)) ⊎ P f o
   pub fresh : (f o : ℕ) → P f o → c.directory.known o f ≡ true
   pub gone : (f o g : ℕ) → P f o → NotAmong o (c.discoveries g f)
-  pub apart : (g f : ℕ) → AreApart (c.discoveries g f)
+  pub apart : (g f : ℕ) → IsEachOnce (c.discoveries g f)
   -- who has not joined knows nothing, and nobody knows what is not registered
   pub unknown : (f o : ℕ) → (c.directory.next_federate ≤ f) ⊎ (c.directory.next_object ≤ o) → c.directory.known o f ≡ false
 
@@ -87,7 +87,7 @@ module _ (P : ℕ → ℕ → Type 0) (c : Central) (k : Discovering P c) where
         (k.heard f o (q.joined f j) (ap (λ (t : ℕ → ℕ → Bool). t o f) (sym q.known) ∙ known) (λ e. other (q.owner o ∙ e)));
     fresh = λ f o p. ap (λ (t : ℕ → ℕ → Bool). t o f) q.known ∙ k.fresh f o p;
     gone = λ f o g p. fewer (NotAmong o) g f (k.gone f o g p) tt;
-    apart = λ g f. fewer AreApart g f (k.apart g f) tt;
+    apart = λ g f. fewer IsEachOnce g f (k.apart g f) tt;
     unknown = λ f o high. ap (λ (t : ℕ → ℕ → Bool). t o f) q.known ∙ k.unknown f o (⊎_elim
         (λ (l : d.directory.next_federate ≤ f). inl (omega (arith, l, q.next)))
         (λ (l : d.directory.next_object ≤ o). inr (omega (arith, l, q.objects)))
@@ -136,7 +136,7 @@ module _ (P : ℕ → ℕ → Type 0) (c : Central) (k : Discovering P c) where
         (λ (s : (l ≡ f) × (o ≡ object)). subst (λ (l : ℕ). NotAmong o (upd2 c.discoveries g f (drop 1 (c.discoveries g f)) h l)) (sym s.0)
         (subst (λ (o : ℕ). NotAmong o (upd2 c.discoveries g f (drop 1 (c.discoveries g f)) h f)) (sym s.1) (no_more h)))
         (back l o q);
-    apart = upd2_each c.discoveries g f (drop 1 (c.discoveries g f)) (λ h l ds. AreApart ds) (apart_drop (c.discoveries g f) (k.apart g f)) k.apart;
+    apart = upd2_each c.discoveries g f (drop 1 (c.discoveries g f)) (λ h l ds. IsEachOnce ds) (apart_drop (c.discoveries g f) (k.apart g f)) k.apart;
     unknown = k.unknown;
   }
     where
@@ -160,7 +160,7 @@ module _ (P : ℕ → ℕ → Type 0) (c : Central) (k : Discovering P c) where
       known_now : c.directory.known object f ≡ true
       known_now = front_known (c.discoveries g f) first (told.waits g f)
 
-      rest_apart : (ds : List Discovery) → IsNextDiscovery ds d → AreApart ds → NotAmong object (drop 1 ds)
+      rest_apart : (ds : List Discovery) → IsNextDiscovery ds d → IsEachOnce ds → NotAmong object (drop 1 ds)
       rest_apart [] next a = tt
       rest_apart (x ∷ xs) next a = subst (λ (o : ℕ). NotAmong o xs) (ap (λ (d : Discovery). d.object) next ∙ is) a.0
 
@@ -180,7 +180,7 @@ module _ (d : Directory) (g f : ℕ) where
   made_names : (n : ℕ) (x : Discovery) → when (eqb (d.object n).owner g) (discovery_of d f n) ≡ Some x → x.object ≡ n
   made_names n x is = (discovery_tells d f n x (when_some (eqb (d.object n).owner g) (discovery_of d f n) x is).1).0
 
-  all_apart : AreApart (discoveries_of d g f)
+  all_apart : IsEachOnce (discoveries_of d g f)
   all_apart = made_apart (λ h. when (eqb (d.object h).owner g) (discovery_of d f h)) made_names d.next_object
 
   made_now : (h : ℕ) → (d.object h).owner ≡ g → h < d.next_object → is_some (discovery_of d f h) ≡ true → Among h (discoveries_of d g f)
@@ -202,7 +202,7 @@ module _ (P : ℕ → ℕ → Type 0) (c : Central) (k : Discovering P c) (told 
       let t = discovery_tells d l h x is in
       never_both (c.directory.known o l) (k.fresh l o p) (subst (λ (i : ℕ). c.directory.known i l ≡ false) (sym t.0 ∙ same) (new h t.3)))
 
-  more_apart : (d : Directory) (g l : ℕ) → ((h : ℕ) → d.known h l ≡ false → c.directory.known h l ≡ false) → AreApart (c.discoveries g l ++ discoveries_of d g l)
+  more_apart : (d : Directory) (g l : ℕ) → ((h : ℕ) → d.known h l ≡ false → c.directory.known h l ≡ false) → IsEachOnce (c.discoveries g l ++ discoveries_of d g l)
   more_apart d g l new = apart_append (λ o. c.directory.known o l ≡ true) (λ o. c.directory.known o l ≡ false) (c.discoveries g l) (discoveries_of d g l) (λ o y n. never_both (c.directory.known o l) y n)
       (known_waits c told g l)
       (each_discovery d g l (λ (x : Discovery). c.directory.known x.object l ≡ false) (λ h x owner is. let t = discovery_tells d l h x is in subst (λ (i : ℕ). c.directory.known i l ≡ false) (sym t.0) (new h t.3)))
@@ -252,7 +252,7 @@ module _ (P : ℕ → ℕ → Type 0) (c : Central) (k : Discovering P c) (told 
       fresh = λ l o p. (grows_subscribed c.directory f class attributes).same_known o l (k.fresh l o p);
       gone = λ l o g p. upd_each (c.discoveries g) f (c.discoveries g f ++ discoveries_of subscribed g f) (λ l ds. P l o → NotAmong o ds)
           (λ p. EachOf-append _ (c.discoveries g f) (discoveries_of subscribed g f) (k.gone f o g p) (not_made subscribed g f o (λ h n. n) p)) (λ l _ p. k.gone l o g p) l p;
-      apart = λ g. upd_each (c.discoveries g) f (c.discoveries g f ++ discoveries_of subscribed g f) (λ l ds. AreApart ds) (more_apart subscribed g f (λ h n. n)) (λ l _. k.apart g l);
+      apart = λ g. upd_each (c.discoveries g) f (c.discoveries g f ++ discoveries_of subscribed g f) (λ l ds. IsEachOnce ds) (more_apart subscribed g f (λ h n. n)) (λ l _. k.apart g l);
       unknown = λ l o high. cond_both (eqb f l && is_some (discovery_of subscribed f o)) true (c.directory.known o l) (λ v. v ≡ false)
           (λ y. absurd (let p = and_parts _ _ y in too_high l o (eqb-true f l p.0) (exists_low o p.1) high)) (λ _. k.unknown l o high);
     }
@@ -310,7 +310,7 @@ module _ (P : ℕ → ℕ → Type 0) (c : Central) (k : Discovering P c) (told 
       gone = λ l o g p. upd_row_each c.discoveries c.directory.joined f (λ g ds. ds ++ discoveries_of registered f g) (λ g l ds. P l o → NotAmong o ds)
           (λ l _ p. EachOf-append _ (c.discoveries f l) (discoveries_of registered f l) (k.gone l o f p) (not_made registered f l o (λ h n. still_known c.directory f class name h l n) p))
           (λ g l p. k.gone l o g p) g l p;
-      apart = upd_row_each c.discoveries c.directory.joined f (λ g ds. ds ++ discoveries_of registered f g) (λ g l ds. AreApart ds)
+      apart = upd_row_each c.discoveries c.directory.joined f (λ g ds. ds ++ discoveries_of registered f g) (λ g l ds. IsEachOnce ds)
           (λ l _. more_apart registered f l (λ h n. still_known c.directory f class name h l n)) k.apart;
       unknown = λ l o high. cond_both (eqb next o && c.directory.joined l && is_some (discovery_of registered l next)) true (registered.known o l) (λ v. v ≡ false)
           (λ y. absurd (let p = and_parts _ _ y in let q = and_parts _ _ p.0 in too_high l o (eqb-true next o q.0) (told.directory.members l q.1) high))

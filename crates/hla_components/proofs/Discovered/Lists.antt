@@ -17,9 +17,9 @@ abbrev pub NotAmong : ℕ → List Discovery → Type 0
 NotAmong o ds = EachOf (λ (d : Discovery). d.object ≢ o) ds
 
 -- no object is among them twice
-abbrev pub AreApart : List Discovery → Type 0
-AreApart [] = Unit {0}
-AreApart (d ∷ ds) = NotAmong d.object ds × AreApart ds
+abbrev pub IsEachOnce : List Discovery → Type 0
+IsEachOnce [] = Unit {0}
+IsEachOnce (d ∷ ds) = NotAmong d.object ds × IsEachOnce ds
 
 pub not_both : (o : ℕ) (ds : List Discovery) → Among o ds → NotAmong o ds → ⊥
 not_both o [] a n = a
@@ -39,7 +39,7 @@ pub each_drop : (P : Discovery → Type 0) (ds : List Discovery) → EachOf P ds
 each_drop P [] e = tt
 each_drop P (d ∷ ds) e = e.1
 
-pub apart_drop : (ds : List Discovery) → AreApart ds → AreApart (drop 1 ds)
+pub apart_drop : (ds : List Discovery) → IsEachOnce ds → IsEachOnce (drop 1 ds)
 apart_drop [] a = tt
 apart_drop (d ∷ ds) a = a.1
 
@@ -53,7 +53,7 @@ all_from_each P (d ∷ ds) e = All-cons P d ds e.0 (all_from_each P ds e.1)
 
 -- those of which P holds are other objects than those of which Q holds
 pub apart_append : (P Q : ℕ → Type 0) (xs ys : List Discovery) → ((o : ℕ) → P o → Q o → ⊥) → EachOf (λ (d : Discovery). P d.object) xs → EachOf (λ (d : Discovery). Q d.object) ys
-    → AreApart xs → AreApart ys → AreApart (xs ++ ys)
+    → IsEachOnce xs → IsEachOnce ys → IsEachOnce (xs ++ ys)
 apart_append P Q [] ys never p q a b = b
 apart_append P Q (d ∷ ds) ys never p q a b = (
   EachOf-append _ ds ys a.0 (EachOf-weaker _ _ ys (λ (x : Discovery) (r : Q x.object) (same : x.object ≡ d.object). never d.object p.0 (subst Q same r)) q),
@@ -66,7 +66,7 @@ module _ (made : ℕ → Option Discovery) (names : (n : ℕ) (d : Discovery) �
   one_below n m None is l = tt
   one_below n m (Some d) is l = (subst (λ (k : ℕ). k < n) (sym (names m d is)) l, tt)
 
-  one_apart : (o : Option Discovery) → AreApart (cons_option o [])
+  one_apart : (o : Option Discovery) → IsEachOnce (cons_option o [])
   one_apart None = tt
   one_apart (Some d) = (tt, tt)
 
@@ -85,10 +85,10 @@ module _ (made : ℕ → Option Discovery) (names : (n : ℕ) (d : Discovery) �
       (EachOf-append _ (filter_map made (numbers_below n)) (cons_option (made n) []) (EachOf-weaker _ _ (filter_map made (numbers_below n)) (λ (d : Discovery) (l : d.object < n). omega (arith, l)) (made_below n))
       (one_below (suc n) n (made n) refl (omega arith)))
 
-  pub made_apart : (n : ℕ) → AreApart (filter_map made (numbers_below n))
+  pub made_apart : (n : ℕ) → IsEachOnce (filter_map made (numbers_below n))
   unfolding numbers_below
   made_apart zero = tt
-  made_apart (suc n) = subst AreApart (sym (last n))
+  made_apart (suc n) = subst IsEachOnce (sym (last n))
       (apart_append (λ o. o < n) (λ o. o ≡ n) (filter_map made (numbers_below n)) (cons_option (made n) []) (λ o l e. absurd (omega (arith, l, e))) (made_below n) (one_is n (made n) refl) (made_apart n) (one_apart (made n)))
 
   made_here : (m : ℕ) (o : Option Discovery) (d : Discovery) → made m ≡ o → o ≡ Some d → Among m (cons_option o [])

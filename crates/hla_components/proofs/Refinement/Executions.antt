@@ -24,7 +24,7 @@ use Rattle.hla_components.proofs.Refinement.Runs.{each_step, inv_start, central_
 use Rattle.hla_components.specs.Executions.{Federations, no_federations, central_executions, set_federation, with_created, with_destroyed, Ending, ending_unless, step_in, next_act, after_record, IsNext, AreNext}
 
 -- what is there keeps what always holds
-record IsKept (x : Federations) : Type 0 where
+record AreAllKept (x : Federations) : Type 0 where
   pub each : (name : List ℕ) (s : Components) → x.execution name ≡ Some s → Inv s
 
 either_kept : (b : Bool) (o p : Option Components) (s : Components) → ((t : Components) → o ≡ Some t → Inv t) → ((t : Components) → p ≡ Some t → Inv t) → cond b o p ≡ Some s → Inv s
@@ -36,8 +36,8 @@ option_map_cond : (b : Bool) (o p : Option Components) → option_map central (c
 option_map_cond true o p = refl
 option_map_cond false o p = refl
 
-module _ (x : Federations) (name : List ℕ) (kept : IsKept x) where
-  set_kept : (creates present : ℕ) (o : Option Components) → ((t : Components) → o ≡ Some t → Inv t) → IsKept (record { creates = creates; present = present; execution = set_federation x name o })
+module _ (x : Federations) (name : List ℕ) (kept : AreAllKept x) where
+  set_kept : (creates present : ℕ) (o : Option Components) → ((t : Components) → o ≡ Some t → Inv t) → AreAllKept (record { creates = creates; present = present; execution = set_federation x name o })
   set_kept creates present o here = record { each = λ other s e. either_kept (bytes_eq name other) o (x.execution other) s here (kept.each other) e }
 
   set_central : (creates present : ℕ) (o : Option Components) (c : Option Central) → option_map central o ≡ c
@@ -51,25 +51,25 @@ module _ (x : Federations) (name : List ℕ) (kept : IsKept x) where
 record IsActStep (x : Federations) (name : List ℕ) (a : Act) (e : Ending) : Type 0 where
   pub allowed : AllowedAct (central_executions x) name a e.outcome e.choice
   pub follows : central_executions e.executions ≡ after_act (central_executions x) name a e.outcome e.choice
-  pub kept : IsKept e.executions
+  pub kept : AreAllKept e.executions
 
-created_central : (x : Federations) (name : List ℕ) (catalogue : Option CatalogueValue) → IsKept x → central_executions (with_created x name catalogue) ≡ machine.after_create (central_executions x) name catalogue
+created_central : (x : Federations) (name : List ℕ) (catalogue : Option CatalogueValue) → AreAllKept x → central_executions (with_created x name catalogue) ≡ machine.after_create (central_executions x) name catalogue
 created_central x name None kept = refl
 created_central x name (Some c) kept = set_central x name kept (x.creates + 1) (x.present + 1) (Some (new_components c)) (Some (new_central c)) (ap (λ (d : Central). Some d) (central_start c))
 
 some_is : (s t : Components) → Inv s → Some s ≡ Some t → Inv t
 some_is s t inv e = let same : s ≡ t = cc in subst Inv same inv
 
-created_kept : (x : Federations) (name : List ℕ) (catalogue : Option CatalogueValue) → IsKept x → IsKept (with_created x name catalogue)
+created_kept : (x : Federations) (name : List ℕ) (catalogue : Option CatalogueValue) → AreAllKept x → AreAllKept (with_created x name catalogue)
 created_kept x name None kept = kept
 created_kept x name (Some c) kept = set_kept x name kept _ _ (Some (new_components c)) (λ t e. some_is (new_components c) t (inv_start c) e)
 
-create_step : (x : Federations) (name : List ℕ) (catalogue : Option CatalogueValue) (f : Option Fault) → create_fault (central_executions x) name catalogue ≡ f → IsKept x
+create_step : (x : Federations) (name : List ℕ) (catalogue : Option CatalogueValue) (f : Option Fault) → create_fault (central_executions x) name catalogue ≡ f → AreAllKept x
     → IsActStep x name (act.Create catalogue) (ending_unless f x (with_created x name catalogue))
 create_step x name catalogue None is kept = record { allowed = (rw is refl, refl); follows = created_central x name catalogue kept; kept = created_kept x name catalogue kept }
 create_step x name catalogue (Some e) is kept = record { allowed = (rw is refl, refl); follows = refl; kept = kept }
 
-destroy_step : (x : Federations) (name : List ℕ) (f : Option Fault) → destroy_fault (option_map central (x.execution name)) ≡ f → IsKept x → IsActStep x name act.Destroy (ending_unless f x (with_destroyed x name))
+destroy_step : (x : Federations) (name : List ℕ) (f : Option Fault) → destroy_fault (option_map central (x.execution name)) ≡ f → AreAllKept x → IsActStep x name act.Destroy (ending_unless f x (with_destroyed x name))
 destroy_step x name None is kept = record {
   allowed = (rw is refl, refl);
   follows = set_central x name kept x.creates _ None None refl;
@@ -81,9 +81,9 @@ destroy_step x name (Some e) is kept = record { allowed = (rw is refl, refl); fo
 record IsStepIn (x : Federations) (name : List ℕ) (here : Option Components) (step : Step) : Type 0 where
   pub allowed : AllowedIn (option_map central here) step (step_in x name here step).outcome (step_in x name here step).choice
   pub follows : central_executions (step_in x name here step).executions ≡ after_step_in (central_executions x) name (option_map central here) step (step_in x name here step).outcome (step_in x name here step).choice
-  pub kept : IsKept (step_in x name here step).executions
+  pub kept : AreAllKept (step_in x name here step).executions
 
-steps_in : (x : Federations) (name : List ℕ) (here : Option Components) (step : Step) → ((t : Components) → here ≡ Some t → Inv t) → IsKept x → IsStepIn x name here step
+steps_in : (x : Federations) (name : List ℕ) (here : Option Components) (step : Step) → ((t : Components) → here ≡ Some t → Inv t) → AreAllKept x → IsStepIn x name here step
 steps_in x name None step there kept = record { allowed = (refl, refl); follows = refl; kept = kept }
 steps_in x name (Some s) step there kept =
     let one = each_step s step (there s refl) in
@@ -93,14 +93,14 @@ steps_in x name (Some s) step there kept =
       kept = set_kept x name kept x.creates x.present (Some (next s step).state) (λ t e. some_is (next s step).state t one.kept e);
     }
 
-act_step : (x : Federations) (name : List ℕ) (a : Act) → IsKept x → IsActStep x name a (next_act x name a)
+act_step : (x : Federations) (name : List ℕ) (a : Act) → AreAllKept x → IsActStep x name a (next_act x name a)
 act_step x name (act.Create catalogue) kept = create_step x name catalogue _ refl kept
 act_step x name act.Destroy kept = destroy_step x name _ refl kept
 act_step x name (act.Step step) kept =
     let one = steps_in x name (x.execution name) step (kept.each name) kept in
     record { allowed = one.allowed; follows = one.follows; kept = one.kept }
 
-next_run : (rs : List Record) (x y : Federations) → IsKept x → AreNext x rs y → AreRun (central_executions x) rs (central_executions y)
+next_run : (rs : List Record) (x y : Federations) → AreAllKept x → AreNext x rs y → AreRun (central_executions x) rs (central_executions y)
 next_run [] x y kept e = ap central_executions e
 next_run (r ∷ rs) x y kept given =
     let one = act_step x r.execution r.act kept in

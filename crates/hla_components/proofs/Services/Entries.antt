@@ -21,7 +21,7 @@ use Rattle.hla_components.specs.CentralOf.{central}
 use Rattle.hla_components.specs.Invariant.{Kept}
 use Rattle.hla_components.specs.Headline.{IsKeptStep}
 use Rattle.hla_base.proofs.Tables.{le_greatest, greatest_ge, greatest_le, greatest_is}
-use Rattle.hla_components.proofs.Upkeep.Epochs.{IsEntry, time_enters}
+use Rattle.hla_components.proofs.Upkeep.Epochs.{IsEntryKept, time_enters}
 use Rattle.hla_components.proofs.Upkeep.Bounds.{below_wake}
 use Rattle.hla_machine.proofs.Basics.Tests.{clear_call, caller_joined}
 use Rattle.hla_components.proofs.Services.Steps.{wired_row, regulator_from}
@@ -64,7 +64,7 @@ module _ (s : Components) (f earliest : ℕ) where
     regulator_below : (g : ℕ) → is_enabled (s.row g).regulating ≡ true → g < s.directory.next_federate
     regulator_below g y = kept.directory.members g (kept.time.regulators g (regulator_from (s.row g).regulating y))
 
-    entry_keeps : IsEntry s f (regulation_entry s f earliest)
+    entry_keeps : IsEntryKept s f (regulation_entry s f earliest)
     entry_keeps = record {
       above_bars = λ k j c. let h : cond (is_constrained (s.row k)) (s.row k).bar 0 ≤ regulation_entry s f earliest = entry_bar k (kept.directory.members k j) in rw c at h;
       above_held = λ g ne y q is high.

@@ -37,7 +37,7 @@ use Rattle.hla_base.proofs.Tables.{upd_row_each, upd2_each}
 use Rattle.hla_components.proofs.Wiring.Wires.{discoveries-put_event, discoveries-event, retractions-put_event, retractions-event, retractions-null, discoveries-null, events-null}
 use Rattle.hla_components.proofs.Upkeep.Times.{CarriesIn, time_sent, time_event_came, time_null_came}
 use Rattle.hla_components.proofs.Wiring.Copies.{copies_sent, copies_wires, copies_event_came}
-use Rattle.hla_components.proofs.Upkeep.Objects.{Grows, objects_grow, objects_wires, objects_event_came, objects_null_taken, tells_send}
+use Rattle.hla_components.proofs.Upkeep.Objects.{KeepsOwners, objects_grow, objects_wires, objects_event_came, objects_null_taken, tells_send}
 use Rattle.hla_components.proofs.Upkeep.Directories.{directory_published, directory_published_interaction, directory_subscribed_interaction, directory_unsubscribed}
 use Rattle.hla_components.proofs.Upkeep.Bounds.{wire_from}
 use Rattle.hla_machine.proofs.Basics.Bags.{option_map-some, central_ext}
@@ -45,7 +45,7 @@ use Rattle.hla_components.proofs.Basics.Each.{EachOf-weaker}
 use Rattle.hla_components.proofs.Wiring.Bags.{bag_sent, bag_same_wires, bag_event, copy_came}
 
 -- ---- the directory alone
-pub kept_directory : (s : Components) (d : Directory) → Kept s → DirectoryInv d → Grows s.directory d → d.joined ≡ s.directory.joined → d.next_federate ≡ s.directory.next_federate → Kept (with_directory s d)
+pub kept_directory : (s : Components) (d : Directory) → Kept s → DirectoryInv d → KeepsOwners s.directory d → d.joined ≡ s.directory.joined → d.next_federate ≡ s.directory.next_federate → Kept (with_directory s d)
 kept_directory s d kept inv up joined numbers = record {
   directory = inv;
   wired = subst (λ (n : ℕ). (g f : ℕ) → (ltb g n && is_other d.joined g f) ≡ false → s.wire g f ≡ []) (sym numbers)
@@ -57,7 +57,7 @@ kept_directory s d kept inv up joined numbers = record {
 }
 
 -- the same members, objects and subscriptions of object classes
-steady : (s : Components) (d : Directory) → (h : (g : ℕ) → (d.object g).owner ≡ (s.directory.object g).owner) → ((h f : ℕ) → s.directory.known h f ≡ true → d.known h f ≡ true) → s.directory.next_object ≤ d.next_object → Grows s.directory d
+steady : (s : Components) (d : Directory) → (h : (g : ℕ) → (d.object g).owner ≡ (s.directory.object g).owner) → ((h f : ℕ) → s.directory.known h f ≡ true → d.known h f ≡ true) → s.directory.next_object ≤ d.next_object → KeepsOwners s.directory d
 steady s d owner known more = record { same_owner = λ h _. owner h; same_known = known; more = more }
 
 module _ (s : Components) (f class : ℕ) (kept : Kept s) where

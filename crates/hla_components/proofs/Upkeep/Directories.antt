@@ -8,7 +8,7 @@ use Rattle.hla_catalogue.specs.Lookup.{object_lineage}
 use Rattle.hla_machine.specs.Directory.{Directory, Object, new_directory, served_object, discovery_at, discovery_of, with_discoveries_made, with_object_discovered, with_member, without_member, with_published, with_subscribed, with_published_interaction, with_subscribed_interaction, with_object, without_object}
 use Rattle.hla_components.specs.Invariant.{DirectoryInv}
 use Rattle.hla_base.proofs.Tables.{upd_each, by_number, upd_same, upd_other, upd2_other, upd2_each}
-use Rattle.hla_components.proofs.Upkeep.Objects.{Grows}
+use Rattle.hla_components.proofs.Upkeep.Objects.{KeepsOwners}
 
 -- a laxer test finds as much
 find_more : (p q : ℕ → Bool) (xs : List ℕ) → ((k : ℕ) → p k ≡ true → q k ≡ true) → is_some (find p xs) ≡ true → is_some (find q xs) ≡ true
@@ -86,7 +86,7 @@ directory_subscribed d f class o inv member = record {
     there g ne h j x other s = rw (ne_eqb f g ne) (inv.served g h j x other (served_more (with_subscribed d f class o) d g (d.object h).class refl
         (λ k i. let w : (f ≢ g) ⊎ (class ≢ k) = inl ne in rw upd2_other at i) s))
 
-pub grows_subscribed : (d : Directory) (f class : ℕ) (o : Option (List ℕ)) → Grows d (with_discoveries_made (with_subscribed d f class o) f)
+pub grows_subscribed : (d : Directory) (f class : ℕ) (o : Option (List ℕ)) → KeepsOwners d (with_discoveries_made (with_subscribed d f class o) f)
 grows_subscribed d f class o = record {
   same_owner = λ _ _. refl;
   same_known = λ h g k. cond_both (eqb f g && is_some (discovery_of (with_subscribed d f class o) f h)) true (d.known h g) (λ b. b ≡ true) (λ _. refl) (λ _. k);
@@ -102,7 +102,7 @@ directory_deleted d h inv = record {
   declared = inv.declared;
 }
 
-pub grows_deleted : (d : Directory) (h : ℕ) → Grows d (without_object d h)
+pub grows_deleted : (d : Directory) (h : ℕ) → KeepsOwners d (without_object d h)
 grows_deleted d h = record {
   same_owner = λ k _. upd_each d.object h (record (d.object h) { exists = false }) (λ k (x : Object). x.owner ≡ (d.object k).owner) refl (λ _ _. refl) k;
   same_known = λ _ _ k. k;
@@ -135,7 +135,7 @@ directory_registered d f class name inv member = record {
         → cond (eqb d.next_object h && d.joined g && is_some (discovery_of (with_object d f class name) g d.next_object)) true ((with_object d f class name).known h g) ≡ true
     there g h ne = rw upd_other (λ j x other s. told g h (inl (let w : (d.next_object ≢ h) ⊎ (f ≢ g) = inl ne in rw upd2_other (inv.served g h j x other s))))
 
-pub grows_registered : (d : Directory) (f class : ℕ) (name : List ℕ) → Grows d (with_object_discovered (with_object d f class name) d.next_object)
+pub grows_registered : (d : Directory) (f class : ℕ) (name : List ℕ) → KeepsOwners d (with_object_discovered (with_object d f class name) d.next_object)
 grows_registered d f class name = record {
   same_owner = λ h l. let ne : d.next_object ≢ h = λ (e : d.next_object ≡ h). omega arith in rw upd_other refl;
   same_known = λ h g k. cond_both (eqb d.next_object h && d.joined g && is_some (discovery_of (with_object d f class name) g d.next_object)) true (upd2 d.known d.next_object f true h g) (λ b. b ≡ true) (λ _. refl)
@@ -155,7 +155,7 @@ directory_joined d name inv = record {
   declared = λ f class l. inv.declared f class (omega arith);
 }
 
-pub grows_joined : (d : Directory) (name : List ℕ) → Grows d (with_member d name)
+pub grows_joined : (d : Directory) (name : List ℕ) → KeepsOwners d (with_member d name)
 grows_joined d name = record { same_owner = λ _ _. refl; same_known = λ _ _ k. k; more = omega arith }
 
 pub directory_left : (d : Directory) (f : ℕ) → DirectoryInv d → DirectoryInv (without_member d f)
@@ -168,5 +168,5 @@ directory_left d f inv = record {
   declared = λ g class l. upd_each d.subscribed f (λ _. None) (λ g (t : ℕ → Option (List ℕ)). d.next_federate ≤ g → t class ≡ None) (λ _. refl) (λ g _ l. inv.declared g class l) g l;
 }
 
-pub grows_left : (d : Directory) (f : ℕ) → Grows d (without_member d f)
+pub grows_left : (d : Directory) (f : ℕ) → KeepsOwners d (without_member d f)
 grows_left d f = record { same_owner = λ _ _. refl; same_known = λ _ _ k. k; more = omega arith }

@@ -49,7 +49,7 @@ pub waits_enabled : (r : TimeRow) (q : AdvanceRequest) → RowInv r → is_regul
 waits_enabled r q inv reg is = enabled_from r.regulating reg (λ (p : is_pending r.regulating ≡ true). let n : next_request r ≡ None = next_none r (inv.idle p) in cc)
 
 -- what the entry keeps
-pub record IsEntry (s : Components) (f e : ℕ) : Type 0 where
+pub record IsEntryKept (s : Components) (f e : ℕ) : Type 0 where
   pub above_bars : (k : ℕ) → s.directory.joined k ≡ true → is_constrained (s.row k) ≡ true → (s.row k).bar ≤ e
   pub above_held : (g : ℕ) → f ≢ g → is_enabled (s.row g).regulating ≡ true → (q : AdvanceRequest) → next_request (s.row g) ≡ Some q → (s.row g).floor < s.last_announced g → s.last_announced g - width (s.row g).lookahead q.kind ≤ e
 
@@ -76,13 +76,13 @@ module _ (s : Components) (f l e : ℕ) (t : IsTimed s) where
   same_bound k off = le_least s.directory.next_federate _ _ (least_le-forever s.directory.next_federate (s.bound k))
       (by_number f _ (λ b. rw upd_column_self (least_le s.directory.next_federate (s.bound k) f b)) (λ g ne b. rw upd_column_other (least_le s.directory.next_federate (s.bound k) g b)))
 
-  enter_bars : IsEntry s f e → s.directory.joined f ≡ true → (k : ℕ) → is_constrained (s.row k) ≡ true → (s.row k).bar ≤ least s.directory.next_federate (upd_column s.bound s.directory.joined f (λ b. min b e) k)
+  enter_bars : IsEntryKept s f e → s.directory.joined f ≡ true → (k : ℕ) → is_constrained (s.row k) ≡ true → (s.row k).bar ≤ least s.directory.next_federate (upd_column s.bound s.directory.joined f (λ b. min b e) k)
   enter_bars entry member k c = ⊎_elim
       (λ (other : is_other s.directory.joined f k ≡ true). omega (arith, t.bars k c, entry.above_bars k (and_parts _ _ other).1 c, lower_bound k))
       (λ (off : is_other s.directory.joined f k ≡ false). le_trans (t.bars k c) (same_bound k off))
       (cases_Bool (is_other s.directory.joined f k))
 
-  pub time_enters : s.directory.joined f ≡ true → (s.row f).advance ≡ None → is_disabled (s.row f).regulating ≡ true → IsEntry s f e → IsTimed (with_regulation_enabled s f l e)
+  pub time_enters : s.directory.joined f ≡ true → (s.row f).advance ≡ None → is_disabled (s.row f).regulating ≡ true → IsEntryKept s f e → IsTimed (with_regulation_enabled s f l e)
   time_enters member idle was entry = record {
     queues = t.queues;
     ordered = t.ordered;

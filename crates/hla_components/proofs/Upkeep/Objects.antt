@@ -26,30 +26,30 @@ AreObjects s = ObjectInv s.directory s.wire s.tso s.ro s.controls
 
 -- ---- later directories
 -- objects keep their owners, and what is known stays known
-pub record Grows (d e : Directory) : Type 0 where
+pub record KeepsOwners (d e : Directory) : Type 0 where
   pub same_owner : (h : ℕ) → h < d.next_object → (e.object h).owner ≡ (d.object h).owner
   pub same_known : (h f : ℕ) → d.known h f ≡ true → e.known h f ≡ true
   pub more : d.next_object ≤ e.next_object
 
-pub grows_same : (d : Directory) → Grows d d
+pub grows_same : (d : Directory) → KeepsOwners d d
 grows_same d = record { same_owner = λ _ _. refl; same_known = λ _ _ k. k; more = omega arith }
 
-known_grows : (d e : Directory) (g f h : ℕ) → Grows d e → IsKnownOf d g f h → IsKnownOf e g f h
+known_grows : (d e : Directory) (g f h : ℕ) → KeepsOwners d e → IsKnownOf d g f h → IsKnownOf e g f h
 known_grows d e g f h up k = record { owner = up.same_owner h k.registered ∙ k.owner; known = up.same_known h f k.known; registered = le_trans k.registered up.more }
 
-pub told_grows : (d e : Directory) (g f : ℕ) (x : Content) → Grows d e → IsTold d g f x → IsTold e g f x
+pub told_grows : (d e : Directory) (g f : ℕ) (x : Content) → KeepsOwners d e → IsTold d g f x → IsTold e g f x
 told_grows d e g f (content.Interaction class values) up k = tt
 told_grows d e g f (content.Reflection object values) up k = known_grows d e g f object up k
 told_grows d e g f (content.Removal object) up k = known_grows d e g f object up k
 
-pub tells_grows : (d e : Directory) (g f : ℕ) (ms : List Message) → Grows d e → Tells d g f ms → Tells e g f ms
+pub tells_grows : (d e : Directory) (g f : ℕ) (ms : List Message) → KeepsOwners d e → Tells d g f ms → Tells e g f ms
 tells_grows d e g f [] up t = tt
 tells_grows d e g f (message.Event x ∷ ms) up t = (told_grows d e g f x.content up t.0, t.1, tells_grows d e g f ms up t.2)
 tells_grows d e g f (message.Null k v ∷ ms) up t = tells_grows d e g f ms up t
 tells_grows d e g f (message.Retraction m ∷ ms) up t = tells_grows d e g f ms up t
 tells_grows d e g f (message.Discovery x ∷ ms) up t = (known_grows d e g f x.object up t.0, tells_grows d e g f ms up t.1)
 
-control_grows : (d e : Directory) (f : ℕ) (k : Control) → Grows d e → IsControl d f k → IsControl e f k
+control_grows : (d e : Directory) (f : ℕ) (k : Control) → KeepsOwners d e → IsControl d f k → IsControl e f k
 control_grows d e f (ToDiscover from x) up k = known_grows d e from f x.object up k
 control_grows d e f (ToRetract x) up k = tt
 
@@ -114,7 +114,7 @@ tells_all : (e : Directory) (g f : ℕ) (ds : List Discovery) → EachOf (λ (x 
 tells_all e g f [] k = tt
 tells_all e g f (d ∷ ds) k = (k.0, tells_all e g f ds k.1)
 
-pub tells_discover : (d e : Directory) (g f : ℕ) (ms : List Message) (ds : List Discovery) → Grows d e → EachOf (λ (x : Discovery). IsKnownOf e g f x.object) ds → AreNew d f ds
+pub tells_discover : (d e : Directory) (g f : ℕ) (ms : List Message) (ds : List Discovery) → KeepsOwners d e → EachOf (λ (x : Discovery). IsKnownOf e g f x.object) ds → AreNew d f ds
     → Tells d g f ms → Tells e g f (put_discoveries ds ms)
 tells_discover d e g f [] ds up known new t = tells_all e g f ds known
 tells_discover d e g f (message.Event x ∷ ms) ds up known new t =
@@ -125,7 +125,7 @@ tells_discover d e g f (message.Discovery x ∷ ms) ds up known new t = (known_g
 
 -- ---- changes of the tables
 -- of the directory and the wires
-pub objects_shift : (d e : Directory) (wire to : ℕ → ℕ → List Message) (tso ro : ℕ → List Event) (controls : ℕ → List Control) → Grows d e
+pub objects_shift : (d e : Directory) (wire to : ℕ → ℕ → List Message) (tso ro : ℕ → List Event) (controls : ℕ → List Control) → KeepsOwners d e
     → ((g f : ℕ) → Tells e g f (to g f)) → ((g f : ℕ) (x : Content) → IsTold d g f x → IsBehind x (discoveries (wire g f)) → IsBehind x (discoveries (to g f)))
     → ObjectInv d wire tso ro controls → ObjectInv e to tso ro controls
 objects_shift d e wire to tso ro controls up tells behind o = record {
@@ -139,7 +139,7 @@ objects_shift d e wire to tso ro controls up tells behind o = record {
     moved f x w = (told_grows d e x.sender f x.content up w.0, behind x.sender f x.content w.0 w.1)
 
 -- of the directory alone
-pub objects_grow : (d e : Directory) (wire : ℕ → ℕ → List Message) (tso ro : ℕ → List Event) (controls : ℕ → List Control) → Grows d e
+pub objects_grow : (d e : Directory) (wire : ℕ → ℕ → List Message) (tso ro : ℕ → List Event) (controls : ℕ → List Control) → KeepsOwners d e
     → ObjectInv d wire tso ro controls → ObjectInv e wire tso ro controls
 objects_grow d e wire tso ro controls up o = objects_shift d e wire wire tso ro controls up (λ g f. tells_grows d e g f (wire g f) up (o.tells g f)) (λ g f x _ b. b) o
 

@@ -12,12 +12,12 @@ use Rattle.hla_fed_file.specs.declared.place.Naming.TheVariants as name
 use Rattle.hla_fed_file.specs.declared.place.Lists.TheVariants as lists
 use Rattle.hla_fed_file.specs.declared.place.Within.TheVariants as within
 use Rattle.hla_fed_file.specs.declared.place.Place.TheVariants as at
-use Rattle.hla_fed_file.proofs.Forward.ReadSteps.{Reads, keyword_read, left_read, list_read, name_read, reader, right_read}
+use Rattle.hla_fed_file.proofs.Forward.ReadSteps.{ReadsSymbols, keyword_read, left_read, list_read, name_read, reader, right_read}
 use Rattle.hla_fed_file.proofs.Forward.ReadObjects.{begin_read, item_opens, object_classes_read}
 use Rattle.hla_fed_file.proofs.Forward.ReadInteractions.{interaction_classes_read}
 
 -- Parts and files.
-parts_read : (p : Parts) (c : CatalogueValue) (ts : List Lexed) (ss : List Symbol) → parts_fit p c → Spells ts (parts_then p ss) → Reads (reader (at.Between lists.Parts) 1 [] c) (reader (at.Between lists.Parts) 1 [] (parts_declare p c)) ts ss
+parts_read : (p : Parts) (c : CatalogueValue) (ts : List Lexed) (ss : List Symbol) → parts_fit p c → Spells ts (parts_then p ss) → ReadsSymbols (reader (at.Between lists.Parts) 1 [] c) (reader (at.Between lists.Parts) 1 [] (parts_declare p c)) ts ss
 unfolding after_close
 parts_read NoPart c ts ss fit sp = record { rest = ts; spelled = sp; same = refl }
 parts_read (ALabel n others) c ts ss fit sp =

@@ -21,7 +21,7 @@ use Rattle.hla_fed_file.specs.declared.place.Stage.TheVariants as stage
 use Rattle.hla_fed_file.specs.declared.place.Within.TheVariants as within
 use Rattle.hla_fed_file.specs.declared.place.Place.TheVariants as at
 use Rattle.hla_fed_file.specs.declared.reader.Reader.{Reader}
-use Rattle.hla_fed_file.proofs.Forward.ReadSteps.{Reads, above_zero, alike, any_read, below_limit, paren_opened, down, fits_left, fits_right, keyword_read, list_read, name_read, pending, reader, right_read}
+use Rattle.hla_fed_file.proofs.Forward.ReadSteps.{ReadsSymbols, above_zero, alike, any_read, below_limit, paren_opened, down, fits_left, fits_right, keyword_read, list_read, name_read, pending, reader, right_read}
 use Rattle.hla_fed_file.proofs.Forward.ReadObjects.{begin_read, item_opens, stage_of}
 
 -- Interaction classes.
@@ -61,16 +61,16 @@ behind_closes k d l c s Declared = refl
 record ClassOptionsRead (s : Reader) (k : InteractionClass) (d : ℕ) (l : List ℕ) (c : CatalogueValue) (ts : List Lexed) (ss : List Symbol) : Type 0 where
   after : Reader
   behind : BehindOptions k d l c after
-  reads : Reads s after ts ss
+  reads : ReadsSymbols s after ts ss
 
 class_transport_read : (t : Option Transport) (d : ℕ) (l : List ℕ) (k : InteractionClass) (c : CatalogueValue) (ts : List Lexed) (ss : List Symbol) → Spells ts (transport_then t ss)
-    → Reads (pending (at.ClassOptions stage.Named) d l k c) (pending (at.ClassOptions (stage_of t)) d l (class_carried t k) c) ts ss
+    → ReadsSymbols (pending (at.ClassOptions stage.Named) d l k c) (pending (at.ClassOptions (stage_of t)) d l (class_carried t k) c) ts ss
 unfolding after_word
 class_transport_read None d l k c ts ss sp = record { rest = ts; spelled = sp; same = refl }
 class_transport_read (Some t) d l k c ts ss sp = keyword_read (word.Carried t) _ (pending (at.ClassOptions stage.Carried) d l (class_carried (Some t) k) c) ts ss (λ w h. rw h refl) sp
 
 class_order_read : (t : Option Transport) (o : Order) (d : ℕ) (l : List ℕ) (k : InteractionClass) (c : CatalogueValue) (ts : List Lexed) (ss : List Symbol) → Spells ts (Means (word.Ordered o) ∷ ss)
-    → Reads (pending (at.ClassOptions (stage_of t)) d l k c) (pending (at.ClassOptions stage.Ordered) d l (record k { order = o }) c) ts ss
+    → ReadsSymbols (pending (at.ClassOptions (stage_of t)) d l k c) (pending (at.ClassOptions stage.Ordered) d l (record k { order = o }) c) ts ss
 unfolding after_word
 class_order_read None o d l k c ts ss sp = keyword_read (word.Ordered o) _ (pending (at.ClassOptions stage.Ordered) d l (record k { order = o }) c) ts ss (λ w h. rw h refl) sp
 class_order_read (Some t) o d l k c ts ss sp = keyword_read (word.Ordered o) _ (pending (at.ClassOptions stage.Ordered) d l (record k { order = o }) c) ts ss (λ w h. rw h refl) sp
@@ -130,7 +130,7 @@ amended_class (Ordered (Some t) o space) l n c = refl
 -- a class with its options, up to what stands in it
 class_head_read : (n : List ℕ) (o : Options) (i : InteractionItems) (d : ℕ) (l : List ℕ) (c : CatalogueValue) (ts : List Lexed) (ss : List Symbol) → IsShort n → length c.interaction_classes < max_classes
     → Spells ts (Named n ∷ options_then o (interaction_items_then i (RightParen ∷ ss)))
-    → Reads (reader (at.Name name.InteractionClass) d l c) (reader (at.Between lists.InteractionItems) d ((length c.interaction_classes + 1) ∷ l) (with_interaction_class l n (transport_of o) (order_of o) c)) ts (interaction_items_then i (RightParen ∷ ss))
+    → ReadsSymbols (reader (at.Name name.InteractionClass) d l c) (reader (at.Between lists.InteractionItems) d ((length c.interaction_classes + 1) ∷ l) (with_interaction_class l n (transport_of o) (order_of o) c)) ts (interaction_items_then i (RightParen ∷ ss))
 class_head_read n o i d l c ts ss short room sp =
     let first = first_of_class c l n in
     let a = name_read name.InteractionClass n d l c (pending (at.ClassOptions stage.Named) d l first c) ts _ short (interaction_named n d l c room) sp in
@@ -154,7 +154,7 @@ unfolding after_close
 parameter_closes d l c = ap (λ (n : ℕ). Ok (reader (at.Between lists.InteractionItems) n l c)) (down d)
 
 parameter_levels_read : (v : SecLevels) (d : ℕ) (l : List ℕ) (c : CatalogueValue) (ts : List Lexed) (ss : List Symbol) → levels_fit (d + 1) v → Spells ts (levels_then v (RightParen ∷ ss))
-    → Reads (reader at.ParameterEnd (d + 1) l c) (reader (at.Between lists.InteractionItems) d l c) ts ss
+    → ReadsSymbols (reader at.ParameterEnd (d + 1) l c) (reader (at.Between lists.InteractionItems) d l c) ts ss
 parameter_levels_read NoLevel d l c ts ss fit sp = right_read _ _ ts ss (parameter_closes d l c) sp
 parameter_levels_read (ALevel inner others) d l c ts ss fit sp =
     let a = list_read word.SecLevel head.ParameterItem within.Parameter inner at.ParameterEnd (reader at.ParameterEnd (d + 1) l c) (d + 1) ts _ (parameter_end_opens (d + 1) l c fit.0) refl fit.1 sp in
@@ -167,7 +167,7 @@ parameter_kept true d l c more room = refl
 parameter_kept false d l c more room = let e : nat_le max_parameters (length c.parameters) ≡ false = below_limit _ _ (room refl) in rw e refl
 
 parameter_read : (n : List ℕ) (v : SecLevels) (d : ℕ) (l : List ℕ) (c : CatalogueValue) (ts : List Lexed) (ss : List Symbol) → d < 64 → IsShort n → ParameterFits l n c → levels_fit (d + 1) v
-    → Spells ts (LeftParen ∷ Means word.Parameter ∷ Named n ∷ levels_then v (RightParen ∷ ss)) → Reads (reader (at.Between lists.InteractionItems) d l c) (reader (at.Between lists.InteractionItems) d l (with_parameter l n c)) ts ss
+    → Spells ts (LeftParen ∷ Means word.Parameter ∷ Named n ∷ levels_then v (RightParen ∷ ss)) → ReadsSymbols (reader (at.Between lists.InteractionItems) d l c) (reader (at.Between lists.InteractionItems) d l (with_parameter l n c)) ts ss
 parameter_read n v d l c ts ss h short room fit sp =
     let a = begin_read word.Parameter lists.InteractionItems (at.Name name.Parameter) d l c ts _ h refl sp in
     let b = name_read name.Parameter n (d + 1) l c (reader at.ParameterEnd (d + 1) l (with_parameter l n c)) a.rest _ short (parameter_kept (has_parameter_named c l n) (d + 1) l c _ room) a.spelled in
@@ -175,7 +175,7 @@ parameter_read n v d l c ts ss h short room fit sp =
     record { rest = r.rest; spelled = r.spelled; same = a.same ∙ b.same ∙ r.same }
 
 pub interaction_items_read : (i : InteractionItems) (d : ℕ) (l : List ℕ) (c : CatalogueValue) (ts : List Lexed) (ss : List Symbol) → 0 < length l → interaction_items_fit d l i c → Spells ts (interaction_items_then i ss)
-    → Reads (reader (at.Between lists.InteractionItems) d l c) (reader (at.Between lists.InteractionItems) d l (interaction_items_declare l i c)) ts ss
+    → ReadsSymbols (reader (at.Between lists.InteractionItems) d l c) (reader (at.Between lists.InteractionItems) d l (interaction_items_declare l i c)) ts ss
 interaction_items_read NoEntry d l c ts ss h fit sp = record { rest = ts; spelled = sp; same = refl }
 interaction_items_read (AParameter n levels others) d l c ts ss h fit sp =
     let a = parameter_read n levels d l c ts _ fit.0 fit.1 fit.2 fit.3 sp in
@@ -197,7 +197,7 @@ interaction_items_read (ASubclass n options body others) d l c ts ss h fit sp =
     record { rest = r.rest; spelled = r.spelled; same = a.same ∙ b.same ∙ i.same ∙ e.same ∙ r.same }
 
 pub interaction_classes_read : (k : InteractionClasses) (c : CatalogueValue) (ts : List Lexed) (ss : List Symbol) → interaction_classes_fit k c → Spells ts (interaction_classes_then k ss)
-    → Reads (reader (at.Between lists.InteractionClasses) 2 [] c) (reader (at.Between lists.InteractionClasses) 2 [] (interaction_classes_declare k c)) ts ss
+    → ReadsSymbols (reader (at.Between lists.InteractionClasses) 2 [] c) (reader (at.Between lists.InteractionClasses) 2 [] (interaction_classes_declare k c)) ts ss
 unfolding after_close
 interaction_classes_read NoTop c ts ss fit sp = record { rest = ts; spelled = sp; same = refl }
 interaction_classes_read (ATop n options body others) c ts ss fit sp =

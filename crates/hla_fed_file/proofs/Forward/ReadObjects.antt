@@ -25,7 +25,7 @@ use Rattle.hla_fed_file.specs.declared.place.Within.TheVariants as within
 use Rattle.hla_fed_file.specs.declared.place.Place.{Place}
 use Rattle.hla_fed_file.specs.declared.place.Place.TheVariants as at
 use Rattle.hla_fed_file.specs.declared.reader.Reader.{Reader}
-use Rattle.hla_fed_file.proofs.Forward.ReadSteps.{Reads, above_zero, any_read, below_limit, paren_opened, down, half, keyword_read, left_read, list_read, name_read, reader, right_read}
+use Rattle.hla_fed_file.proofs.Forward.ReadSteps.{ReadsSymbols, above_zero, any_read, below_limit, paren_opened, down, half, keyword_read, left_read, list_read, name_read, reader, right_read}
 
 -- Options.
 abbrev pub stage_of : Option Transport → Stage
@@ -53,25 +53,25 @@ options_place (Bare t) = at.AttributeOptions (stage_of t)
 options_place (Ordered t o space) = space_place space
 
 transport_read : (t : Option Transport) (d : ℕ) (l : List ℕ) (kept : Option Attribute) (c : CatalogueValue) (ts : List Lexed) (ss : List Symbol) → Spells ts (transport_then t ss)
-    → Reads (half (at.AttributeOptions stage.Named) d l kept c) (half (at.AttributeOptions (stage_of t)) d l (with_transport_option t kept) c) ts ss
+    → ReadsSymbols (half (at.AttributeOptions stage.Named) d l kept c) (half (at.AttributeOptions (stage_of t)) d l (with_transport_option t kept) c) ts ss
 unfolding after_word
 transport_read None d l kept c ts ss sp = record { rest = ts; spelled = sp; same = refl }
 transport_read (Some t) d l kept c ts ss sp = keyword_read (word.Carried t) _ (half (at.AttributeOptions stage.Carried) d l (with_transport_option (Some t) kept) c) ts ss (λ w h. rw h refl) sp
 
 order_read : (t : Option Transport) (o : Order) (d : ℕ) (l : List ℕ) (kept : Option Attribute) (c : CatalogueValue) (ts : List Lexed) (ss : List Symbol) → Spells ts (Means (word.Ordered o) ∷ ss)
-    → Reads (half (at.AttributeOptions (stage_of t)) d l kept c) (half (at.AttributeOptions stage.Ordered) d l (with_order_option o kept) c) ts ss
+    → ReadsSymbols (half (at.AttributeOptions (stage_of t)) d l kept c) (half (at.AttributeOptions stage.Ordered) d l (with_order_option o kept) c) ts ss
 unfolding after_word
 order_read None o d l kept c ts ss sp = keyword_read (word.Ordered o) _ (half (at.AttributeOptions stage.Ordered) d l (with_order_option o kept) c) ts ss (λ w h. rw h refl) sp
 order_read (Some t) o d l kept c ts ss sp = keyword_read (word.Ordered o) _ (half (at.AttributeOptions stage.Ordered) d l (with_order_option o kept) c) ts ss (λ w h. rw h refl) sp
 
 space_read : (space : Bool) (d : ℕ) (l : List ℕ) (kept : Option Attribute) (c : CatalogueValue) (ts : List Lexed) (ss : List Symbol) → Spells ts (space_then space ss)
-    → Reads (half (at.AttributeOptions stage.Ordered) d l kept c) (half (space_place space) d l kept c) ts ss
+    → ReadsSymbols (half (at.AttributeOptions stage.Ordered) d l kept c) (half (space_place space) d l kept c) ts ss
 unfolding after_word after_quoted
 space_read false d l kept c ts ss sp = record { rest = ts; spelled = sp; same = refl }
 space_read true d l kept c ts ss sp = any_read _ (half at.AttributeEnd d l kept c) ts ss (λ w. refl) (λ w. refl) sp
 
 options_read : (o : Options) (d : ℕ) (l : List ℕ) (kept : Option Attribute) (c : CatalogueValue) (ts : List Lexed) (ss : List Symbol) → Spells ts (options_then o ss)
-    → Reads (half (at.AttributeOptions stage.Named) d l kept c) (half (options_place o) d l (with_options o kept) c) ts ss
+    → ReadsSymbols (half (at.AttributeOptions stage.Named) d l kept c) (half (options_place o) d l (with_options o kept) c) ts ss
 options_read (Bare t) d l kept c ts ss sp = transport_read t d l kept c ts ss sp
 options_read (Ordered t o space) d l kept c ts ss sp =
     let a = transport_read t d l kept c ts _ sp in
@@ -109,7 +109,7 @@ attribute_opens p d l kept c e h = e.opens (half p d l kept c) ∙ paren_opened 
 
 -- the security levels of an attribute, and its end
 levels_read : (v : SecLevels) (p : Place) (d : ℕ) (l : List ℕ) (kept : Option Attribute) (c : CatalogueValue) (ts : List Lexed) (ss : List Symbol) → EndsAttribute p → levels_fit (d + 1) v → Spells ts (levels_then v (RightParen ∷ ss))
-    → Reads (half p (d + 1) l kept c) (reader (at.Between lists.ObjectItems) d l (with_kept kept c)) ts ss
+    → ReadsSymbols (half p (d + 1) l kept c) (reader (at.Between lists.ObjectItems) d l (with_kept kept c)) ts ss
 levels_read NoLevel p d l kept c ts ss e fit sp = right_read _ _ ts ss (attribute_ends p d l kept c e) sp
 levels_read (ALevel inside others) p d l kept c ts ss e fit sp =
     let a = list_read word.SecLevel head.AttributeItem within.Attribute inside p (half p (d + 1) l kept c) (d + 1) ts _ (attribute_opens p (d + 1) l kept c e fit.0) refl fit.1 sp in
@@ -145,7 +145,7 @@ item_opens d l c i h = paren_opened (at.Head (head_in i)) (reader (at.Between i)
 
 -- a parenthesis and a keyword
 pub begin_read : (k : Keyword) (i : Lists) (place : Place) (d : ℕ) (l : List ℕ) (c : CatalogueValue) (ts : List Lexed) (ss : List Symbol) → d < 64 → place_behind_keyword (head_in i) (d + 1) (Some k) ≡ Some place
-    → Spells ts (LeftParen ∷ Means k ∷ ss) → Reads (reader (at.Between i) d l c) (reader place (d + 1) l c) ts ss
+    → Spells ts (LeftParen ∷ Means k ∷ ss) → ReadsSymbols (reader (at.Between i) d l c) (reader place (d + 1) l c) ts ss
 unfolding after_word
 begin_read k i place d l c ts ss h begins sp =
     let a = left_read _ _ ts _ (item_opens d l c i h) sp in
@@ -153,7 +153,7 @@ begin_read k i place d l c ts ss h begins sp =
     record { rest = b.rest; spelled = b.spelled; same = a.same ∙ b.same }
 
 attribute_read : (n : List ℕ) (o : Options) (v : SecLevels) (d : ℕ) (l : List ℕ) (c : CatalogueValue) (ts : List Lexed) (ss : List Symbol) → d < 64 → IsShort n → AttributeFits l n c → levels_fit (d + 1) v
-    → Spells ts (LeftParen ∷ Means word.Attribute ∷ Named n ∷ options_then o (levels_then v (RightParen ∷ ss))) → Reads (reader (at.Between lists.ObjectItems) d l c) (reader (at.Between lists.ObjectItems) d l (with_attribute l n (transport_of o) (order_of o) c)) ts ss
+    → Spells ts (LeftParen ∷ Means word.Attribute ∷ Named n ∷ options_then o (levels_then v (RightParen ∷ ss))) → ReadsSymbols (reader (at.Between lists.ObjectItems) d l c) (reader (at.Between lists.ObjectItems) d l (with_attribute l n (transport_of o) (order_of o) c)) ts ss
 attribute_read n o v d l c ts ss h short room fit sp =
     let a = begin_read word.Attribute lists.ObjectItems (at.Name name.Attribute) d l c ts _ h refl sp in
     let b = name_read name.Attribute n (d + 1) l c (half (at.AttributeOptions stage.Named) (d + 1) l (kept_of l n c) c) a.rest _ short (attribute_kept (has_attribute_named c l n) (d + 1) l n c room) a.spelled in
@@ -173,7 +173,7 @@ unfolding after_close
 class_closes d n l c h = let e : (length l == 0) ≡ false = above_zero _ h in rw (e, down d) refl
 
 pub object_items_read : (i : ObjectItems) (d : ℕ) (l : List ℕ) (c : CatalogueValue) (ts : List Lexed) (ss : List Symbol) → 0 < length l → object_items_fit d l i c → Spells ts (object_items_then i ss)
-    → Reads (reader (at.Between lists.ObjectItems) d l c) (reader (at.Between lists.ObjectItems) d l (object_items_declare l i c)) ts ss
+    → ReadsSymbols (reader (at.Between lists.ObjectItems) d l c) (reader (at.Between lists.ObjectItems) d l (object_items_declare l i c)) ts ss
 object_items_read NoItem d l c ts ss h fit sp = record { rest = ts; spelled = sp; same = refl }
 object_items_read (AnAttribute n options levels others) d l c ts ss h fit sp =
     let a = attribute_read n options levels d l c ts _ fit.0 fit.1 fit.2 fit.3 sp in
@@ -195,7 +195,7 @@ object_items_read (AClass n body others) d l c ts ss h fit sp =
     record { rest = r.rest; spelled = r.spelled; same = a.same ∙ b.same ∙ i.same ∙ e.same ∙ r.same }
 
 pub object_classes_read : (k : ObjectClasses) (c : CatalogueValue) (ts : List Lexed) (ss : List Symbol) → object_classes_fit k c → Spells ts (object_classes_then k ss)
-    → Reads (reader (at.Between lists.ObjectClasses) 2 [] c) (reader (at.Between lists.ObjectClasses) 2 [] (object_classes_declare k c)) ts ss
+    → ReadsSymbols (reader (at.Between lists.ObjectClasses) 2 [] c) (reader (at.Between lists.ObjectClasses) 2 [] (object_classes_declare k c)) ts ss
 unfolding after_close
 object_classes_read NoClass c ts ss fit sp = record { rest = ts; spelled = sp; same = refl }
 object_classes_read (TopClass n body others) c ts ss fit sp =

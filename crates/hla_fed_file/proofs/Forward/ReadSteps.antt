@@ -89,25 +89,25 @@ fits_any text.Unclosed s s' h f g = absurd h
 fits_any text.End s s' h f g = absurd h
 
 -- What is read of some symbols: the reader after them, and the tokens that are left.
-pub record Reads (s s' : Reader) (ts : List Lexed) (ss : List Symbol) : Type 0 where
+pub record ReadsSymbols (s s' : Reader) (ts : List Lexed) (ss : List Symbol) : Type 0 where
   pub rest : List Lexed
   pub spelled : Spells rest ss
   pub same : reading s ts ≡ reading s' rest
 
 -- one symbol and its token
-pub left_read : (s s' : Reader) (ts : List Lexed) (ss : List Symbol) → after_open s ≡ Ok s' → Spells ts (LeftParen ∷ ss) → Reads s s' ts ss
+pub left_read : (s s' : Reader) (ts : List Lexed) (ss : List Symbol) → after_open s ≡ Ok s' → Spells ts (LeftParen ∷ ss) → ReadsSymbols s s' ts ss
 left_read s s' [] ss h sp = absurd sp
 left_read s s' (t ∷ ts) ss h sp = let f = fits_left t.token s sp.0 in record { rest = ts; spelled = sp.1; same = one _ _ t ts f.0 (f.1 ∙ h) }
 
-pub right_read : (s s' : Reader) (ts : List Lexed) (ss : List Symbol) → after_close s ≡ Ok s' → Spells ts (RightParen ∷ ss) → Reads s s' ts ss
+pub right_read : (s s' : Reader) (ts : List Lexed) (ss : List Symbol) → after_close s ≡ Ok s' → Spells ts (RightParen ∷ ss) → ReadsSymbols s s' ts ss
 right_read s s' [] ss h sp = absurd sp
 right_read s s' (t ∷ ts) ss h sp = let f = fits_right t.token s sp.0 in record { rest = ts; spelled = sp.1; same = one _ _ t ts f.0 (f.1 ∙ h) }
 
-pub keyword_read : (k : Keyword) (s s' : Reader) (ts : List Lexed) (ss : List Symbol) → ((w : List ℕ) → keyword_of w ≡ Some k → after_word s w ≡ Ok s') → Spells ts (Means k ∷ ss) → Reads s s' ts ss
+pub keyword_read : (k : Keyword) (s s' : Reader) (ts : List Lexed) (ss : List Symbol) → ((w : List ℕ) → keyword_of w ≡ Some k → after_word s w ≡ Ok s') → Spells ts (Means k ∷ ss) → ReadsSymbols s s' ts ss
 keyword_read k s s' [] ss h sp = absurd sp
 keyword_read k s s' (t ∷ ts) ss h sp = let f = fits_keyword t.token k s s' sp.0 h in record { rest = ts; spelled = sp.1; same = one _ _ t ts f.0 f.1 }
 
-pub any_read : (s s' : Reader) (ts : List Lexed) (ss : List Symbol) → ((w : List ℕ) → after_word s w ≡ Ok s') → ((w : List ℕ) → after_quoted s w ≡ Ok s') → Spells ts (AnyName ∷ ss) → Reads s s' ts ss
+pub any_read : (s s' : Reader) (ts : List Lexed) (ss : List Symbol) → ((w : List ℕ) → after_word s w ≡ Ok s') → ((w : List ℕ) → after_quoted s w ≡ Ok s') → Spells ts (AnyName ∷ ss) → ReadsSymbols s s' ts ss
 any_read s s' [] ss f g sp = absurd sp
 any_read s s' (t ∷ ts) ss f g sp = let e = fits_any t.token s s' sp.0 f g in record { rest = ts; spelled = sp.1; same = one _ _ t ts e.0 e.1 }
 
@@ -135,7 +135,7 @@ short_named what s n short =
     rw (a, b) refl
 
 pub name_read : (what : Naming) (n : List ℕ) (d : ℕ) (l : List ℕ) (c : CatalogueValue) (s' : Reader) (ts : List Lexed) (ss : List Symbol) → IsShort n → after_name_at what (reader (at.Name what) d l c) n ≡ Ok s'
-    → Spells ts (Named n ∷ ss) → Reads (reader (at.Name what) d l c) s' ts ss
+    → Spells ts (Named n ∷ ss) → ReadsSymbols (reader (at.Name what) d l c) s' ts ss
 unfolding after_word after_quoted
 name_read what n d l c s' [] ss short h sp = absurd sp
 name_read what n d l c s' (t ∷ ts) ss short h sp =
@@ -163,7 +163,7 @@ pub ignored_ends : (s : Reader) (w : Within) (d : ℕ) → after_close (ignoring
 unfolding after_close
 ignored_ends s w d = let e : (d + 1 == d + 1) ≡ true = same_number (d + 1) in rw (e, down d) refl
 
-ignored_read : (i : Ignored) (s : Reader) (w : Within) (base d : ℕ) (ts : List Lexed) (ss : List Symbol) → base ≤ d → ignored_fit d i → Spells ts (ignored_then i ss) → Reads (ignoring_reader s w base d) (ignoring_reader s w base d) ts ss
+ignored_read : (i : Ignored) (s : Reader) (w : Within) (base d : ℕ) (ts : List Lexed) (ss : List Symbol) → base ≤ d → ignored_fit d i → Spells ts (ignored_then i ss) → ReadsSymbols (ignoring_reader s w base d) (ignoring_reader s w base d) ts ss
 unfolding after_word after_quoted
 ignored_read NoMore s w base d ts ss le fit sp = record { rest = ts; spelled = sp; same = refl }
 ignored_read (AName others) s w base d ts ss le fit sp =
@@ -181,7 +181,7 @@ ignored_read (AList inside others) s w base d ts ss le fit sp =
 -- an ignored list with its parentheses and its keyword
 pub list_read : (k : Keyword) (h : Head) (w : Within) (i : Ignored) (p : Place) (s : Reader) (d : ℕ) (ts : List Lexed) (ss : List Symbol) → after_open (reader_at s p d) ≡ Ok (reader_at s (at.Head h) (d + 1))
     → place_behind_keyword h (d + 1) (Some k) ≡ Some (at.Ignored w (d + 1)) → ignored_fit (d + 1) i → Spells ts (LeftParen ∷ Means k ∷ ignored_then i (RightParen ∷ ss))
-    → Reads (reader_at s p d) (reader_at s (place_behind w) d) ts ss
+    → ReadsSymbols (reader_at s p d) (reader_at s (place_behind w) d) ts ss
 unfolding after_word
 list_read k h w i p s d ts ss opens begins fit sp =
     let a = left_read (reader_at s p d) (reader_at s (at.Head h) (d + 1)) ts _ opens sp in

@@ -123,19 +123,19 @@ some_mapped : {X Y : Type 0} (f : X → Y) (o : Option X) → is_some (option_ma
 some_mapped f None = refl
 some_mapped f (Some x) = refl
 
-abbrev creation_tests : Bool → Bool → ℕ → ℕ → Option Fault
-creation_tests there read creates present = first_fault
+abbrev creation_fault_of : Bool → Bool → ℕ → ℕ → Option Fault
+creation_fault_of there read creates present = first_fault
     (test_for fault.FederationExecutionAlreadyExists there
     ∷ test_for fault.ErrorReadingFED (not read)
     ∷ test_for fault.LimitReached (not (ltb present max_executions) || not (ltb creates max_creates))
     ∷ [])
 
 pub creation_is : (x : Hosts) (name : List ℕ) (catalogue : Option CatalogueValue) (there read : Bool) → there ≡ is_some (x.host name) → read ≡ is_some catalogue
-    → creation_fault x name catalogue ≡ creation_tests there read x.creates x.present
+    → creation_fault x name catalogue ≡ creation_fault_of there read x.creates x.present
 unfolding creation_fault
 creation_is x name catalogue there read found reads =
-    ap (λ (b : Bool). creation_tests b (is_some catalogue) x.creates x.present) (some_mapped central (option_map (λ (h : Host). h.components) (x.host name)) ∙ some_mapped (λ (h : Host). h.components) (x.host name) ∙ sym found)
-    ∙ ap (λ (b : Bool). creation_tests there b x.creates x.present) (sym reads)
+    ap (λ (b : Bool). creation_fault_of b (is_some catalogue) x.creates x.present) (some_mapped central (option_map (λ (h : Host). h.components) (x.host name)) ∙ some_mapped (λ (h : Host). h.components) (x.host name) ∙ sym found)
+    ∙ ap (λ (b : Bool). creation_fault_of there b x.creates x.present) (sym reads)
 
 pub destruction_nowhere : (o : Option Host) → o ≡ None → destruction_fault o ≡ Some fault.FederationExecutionDoesNotExist
 unfolding destruction_fault

@@ -38,42 +38,42 @@ given_refused (outcome.Failed k) e is = cc
 
 -- ---- what is heard
 -- what the ambassadors have heard is what the table says
-abbrev pub Fits : HeardTable → (ℕ → List Callback) → Type 0
-Fits t old = (f : ℕ) (ks : List Callback) → t f ≡ Some ks → ks ≡ old f
+abbrev pub AgreesWithTable : HeardTable → (ℕ → List Callback) → Type 0
+AgreesWithTable t old = (f : ℕ) (ks : List Callback) → t f ≡ Some ks → ks ≡ old f
 
 cond_same : {X : Type 0} (b : Bool) (x : X) → cond b x x ≡ x
 cond_same true x = refl
 cond_same false x = refl
 
-number_joins : (t : HeardTable) (old : ℕ → List Callback) (f : ℕ) (ks : List Callback) (b : Bool) → Fits t old → cond b (Some []) (t f) ≡ Some ks → ks ≡ cond b [] (old f)
+number_joins : (t : HeardTable) (old : ℕ → List Callback) (f : ℕ) (ks : List Callback) (b : Bool) → AgreesWithTable t old → cond b (Some []) (t f) ≡ Some ks → ks ≡ cond b [] (old f)
 number_joins t old f ks true fits is = cc
 number_joins t old f ks false fits is = fits f ks is
 
-leaves : (t : HeardTable) (old : ℕ → List Callback) (f : ℕ) (ks : List Callback) (b : Bool) → Fits t old → cond b None (t f) ≡ Some ks → ks ≡ old f
+leaves : (t : HeardTable) (old : ℕ → List Callback) (f : ℕ) (ks : List Callback) (b : Bool) → AgreesWithTable t old → cond b None (t f) ≡ Some ks → ks ≡ old f
 leaves t old f ks true fits is = cc
 leaves t old f ks false fits is = fits f ks is
 
-told_at : (t : HeardTable) (old : ℕ → List Callback) (f : ℕ) (k : Callback) (ks : List Callback) (o : Option (List Callback)) → t f ≡ o → Fits t old
+told_at : (t : HeardTable) (old : ℕ → List Callback) (f : ℕ) (k : Callback) (ks : List Callback) (o : Option (List Callback)) → t f ≡ o → AgreesWithTable t old
     → option_map (λ (xs : List Callback). xs ++ k ∷ []) o ≡ Some ks → ks ≡ old f ++ k ∷ []
 told_at t old f k ks None at fits is = cc
 told_at t old f k ks (Some xs) at fits is =
     let new : ks ≡ xs ++ k ∷ [] = cc in
     new ∙ ap (λ (ys : List Callback). ys ++ k ∷ []) (fits f xs at)
 
-tells : (t : HeardTable) (old : ℕ → List Callback) (g f : ℕ) (k : Callback) (ks : List Callback) (b : Bool) → eqb g f ≡ b → Fits t old
+tells : (t : HeardTable) (old : ℕ → List Callback) (g f : ℕ) (k : Callback) (ks : List Callback) (b : Bool) → eqb g f ≡ b → AgreesWithTable t old
     → cond b (option_map (λ (xs : List Callback). xs ++ k ∷ []) (t g)) (t f) ≡ Some ks → ks ≡ cond b (old f ++ k ∷ []) (old f)
 tells t old g f k ks true test fits is =
     let same : g ≡ f = grind (arith, nat_tests) in
     told_at t old f k ks (t f) refl fits (ap (λ n. option_map (λ (xs : List Callback). xs ++ k ∷ []) (t n)) (sym same) ∙ is)
 tells t old g f k ks false test fits is = fits f ks is
 
-tick_tells : (t : HeardTable) (old : ℕ → List Callback) (g f : ℕ) (o : Option Callback) (ks : List Callback) → Fits t old
+tick_tells : (t : HeardTable) (old : ℕ → List Callback) (g f : ℕ) (o : Option Callback) (ks : List Callback) → AgreesWithTable t old
     → with_callback t g o f ≡ Some ks → ks ≡ cond (eqb g f) (with_heard (old f) o) (old f)
 unfolding upd
 tick_tells t old g f None ks fits is = fits f ks is ∙ sym (cond_same (eqb g f) (old f))
 tick_tells t old g f (Some k) ks fits is = tells t old g f k ks (eqb g f) refl fits is
 
-join_heard : (t : HeardTable) (old : ℕ → List Callback) (name : List ℕ) (out : Outcome) (f : ℕ) (ks : List Callback) → Fits t old
+join_heard : (t : HeardTable) (old : ℕ → List Callback) (name : List ℕ) (out : Outcome) (f : ℕ) (ks : List Callback) → AgreesWithTable t old
     → table_after t (Join name) out f ≡ Some ks → ks ≡ heard_then f (old f) (Join name) out
 unfolding upd
 join_heard t old name (outcome.Done (answer.Federate n)) f ks fits is = number_joins t old f ks (eqb n f) fits is
@@ -89,7 +89,7 @@ join_heard t old name (outcome.Done (answer.Announced bound)) f ks fits is = fit
 join_heard t old name (outcome.Refused e) f ks fits is = fits f ks is
 join_heard t old name (outcome.Failed k) f ks fits is = fits f ks is
 
-call_heard : (t : HeardTable) (old : ℕ → List Callback) (g : ℕ) (x : Service) (out : Outcome) (f : ℕ) (ks : List Callback) → Fits t old
+call_heard : (t : HeardTable) (old : ℕ → List Callback) (g : ℕ) (x : Service) (out : Outcome) (f : ℕ) (ks : List Callback) → AgreesWithTable t old
     → table_after t (Call g x) out f ≡ Some ks → ks ≡ old f
 unfolding upd
 call_heard t old g (service.Resign way) (outcome.Done a) f ks fits is = leaves t old f ks (eqb g f) fits is
@@ -132,7 +132,7 @@ call_heard t old g (service.GetObjectInstanceHandle name) out f ks fits is = fit
 call_heard t old g (service.GetObjectInstanceName object) out f ks fits is = fits f ks is
 
 -- after a step the ambassadors have heard what its record says
-pub hears_then : (t : HeardTable) (old : ℕ → List Callback) (step : Step) (out : Outcome) → Fits t old → Fits (table_after t step out) (λ f. heard_then f (old f) step out)
+pub hears_then : (t : HeardTable) (old : ℕ → List Callback) (step : Step) (out : Outcome) → AgreesWithTable t old → AgreesWithTable (table_after t step out) (λ f. heard_then f (old f) step out)
 hears_then t old (Join name) out fits f ks is = join_heard t old name out f ks fits is
 hears_then t old (Call g x) out fits f ks is = call_heard t old g x out f ks fits is
 hears_then t old (Carry g h) out fits f ks is = fits f ks is

@@ -91,8 +91,8 @@ same_cond true x = refl
 same_cond false x = refl
 
 -- what each execution's ambassadors are to each other and to the history
-abbrev pub Hears : List Record → (List ℕ → Option Host) → Type 0
-Hears rs host = (name : List ℕ) (h : Host) → host name ≡ Some h → HearsAll rs name h
+abbrev pub HearsThroughout : List Record → (List ℕ → Option Host) → Type 0
+HearsThroughout rs host = (name : List ℕ) (h : Host) → host name ≡ Some h → HearsAll rs name h
 
 abbrev pub Have : (List ℕ → Option Host) → Type 0
 Have host = (name : List ℕ) (h : Host) → host name ≡ Some h → HasAmbassadors h
@@ -130,17 +130,17 @@ each_set P x name o here there other h = go (bytes_eq name other) refl
     go true test is = subst (λ (n : List ℕ). P n h) ((bytes_eq-Decides name other).0 test) (here h is)
     go false test is = there other h test is
 
-module _ (rs : List Record) (x : Hosts) (by : ℕ) (name : List ℕ) (chosen : Choice) (hears : Hears rs x.host) where
+module _ (rs : List Record) (x : Hosts) (by : ℕ) (name : List ℕ) (chosen : Choice) (hears : HearsThroughout rs x.host) where
   abbrev recorded : Act → Outcome → List Record
   recorded a out = rs ++ record { actor = by; execution = name; act = a; outcome = out; choice = chosen } ∷ []
 
-  silent_hears : (a : Act) (out : Outcome) → ((f : ℕ) (ks : List Callback) → heard_after_act f ks a out ≡ ks) → Hears (recorded a out) x.host
+  silent_hears : (a : Act) (out : Outcome) → ((f : ℕ) (ks : List Callback) → heard_after_act f ks a out ≡ ks) → HearsThroughout (recorded a out) x.host
   silent_hears a out silent other h is = still_hears rs (record { actor = by; execution = name; act = a; outcome = out; choice = chosen }) other h silent (hears other h is)
 
   new_hears : (a : Act) (out : Outcome) (c : CatalogueValue) → HearsAll (recorded a out) name (new_host c)
   new_hears a out c f ks is = cc
 
-  create_hears : (catalogue : Option CatalogueValue) (out : Outcome) → Hears (recorded (act.Create catalogue) out) (hosts_after x name (act.Create catalogue) out).host
+  create_hears : (catalogue : Option CatalogueValue) (out : Outcome) → HearsThroughout (recorded (act.Create catalogue) out) (hosts_after x name (act.Create catalogue) out).host
   create_hears None (outcome.Done a) = silent_hears (act.Create None) (outcome.Done a) (λ f ks. refl)
   create_hears None (outcome.Refused e) = silent_hears (act.Create None) (outcome.Refused e) (λ f ks. refl)
   create_hears None (outcome.Failed k) = silent_hears (act.Create None) (outcome.Failed k) (λ f ks. refl)
@@ -150,7 +150,7 @@ module _ (rs : List Record) (x : Hosts) (by : ℕ) (name : List ℕ) (chosen : C
   create_hears (Some c) (outcome.Refused e) = silent_hears (act.Create (Some c)) (outcome.Refused e) (λ f ks. refl)
   create_hears (Some c) (outcome.Failed k) = silent_hears (act.Create (Some c)) (outcome.Failed k) (λ f ks. refl)
 
-  destroy_hears : (out : Outcome) → Hears (recorded act.Destroy out) (hosts_after x name act.Destroy out).host
+  destroy_hears : (out : Outcome) → HearsThroughout (recorded act.Destroy out) (hosts_after x name act.Destroy out).host
   destroy_hears (outcome.Done a) = each_set (HearsAll (recorded act.Destroy (outcome.Done a))) x name None (λ h is. cc)
       (λ other h apart is. silent_hears act.Destroy (outcome.Done a) (λ f ks. refl) other h is)
   destroy_hears (outcome.Refused e) = silent_hears act.Destroy (outcome.Refused e) (λ f ks. refl)
@@ -159,20 +159,20 @@ module _ (rs : List Record) (x : Hosts) (by : ℕ) (name : List ℕ) (chosen : C
   abbrev step_record_of : Step → Outcome → Record
   step_record_of step out = record { actor = by; execution = name; act = act.Step step; outcome = out; choice = chosen }
 
-  absent_hears : (step : Step) (out : Outcome) → x.host name ≡ None → Hears (recorded (act.Step step) out) x.host
+  absent_hears : (step : Step) (out : Outcome) → x.host name ≡ None → HearsThroughout (recorded (act.Step step) out) x.host
   absent_hears step out none other h is = go (bytes_eq name other) refl
     where
       go : (b : Bool) → bytes_eq name other ≡ b → HearsAll (recorded (act.Step step) out) other h
       go true test = absurd (let same : name ≡ other = (bytes_eq-Decides name other).0 test in let clash : Option.None ≡ Some h = sym none ∙ ap x.host same ∙ is in cc)
       go false test = other_hears rs (step_record_of step out) other h test (hears other h is)
 
-  present_hears : (step : Step) (out : Outcome) (o : Option Host) → x.host name ≡ o → Hears (recorded (act.Step step) out) (hosts_after_step x.host name o step out)
+  present_hears : (step : Step) (out : Outcome) (o : Option Host) → x.host name ≡ o → HearsThroughout (recorded (act.Step step) out) (hosts_after_step x.host name o step out)
   present_hears step out None is = absent_hears step out is
   present_hears step out (Some g) is = each_set (HearsAll (recorded (act.Step step) out)) x name (Some (host_after g step out))
       (λ h there. let new : host_after g step out ≡ h = cc in subst (λ (k : Host). HearsAll (recorded (act.Step step) out) name k) new (step_hears rs by name step out chosen g (hears name g is)))
       (λ other h apart there. other_hears rs (step_record_of step out) other h apart (hears other h there))
 
-  act_hears : (a : Act) (out : Outcome) → Hears (recorded a out) (hosts_after x name a out).host
+  act_hears : (a : Act) (out : Outcome) → HearsThroughout (recorded a out) (hosts_after x name a out).host
   act_hears (act.Create catalogue) out = create_hears catalogue out
   act_hears act.Destroy out = destroy_hears out
   act_hears (act.Step step) out = present_hears step out (x.host name) refl

@@ -34,8 +34,8 @@ pub record Stays (d e : Directory) : Type 0 where
   pub next : e.next_federate ≡ d.next_federate
 
 -- the outcome tells nobody anything, and is no failure
-abbrev IsSilent : Outcome → Type 0
-IsSilent out = (callback_in out ≡ None) × (given_outcome out ≡ out)
+abbrev SaysNothing : Outcome → Type 0
+SaysNothing out = (callback_in out ≡ None) × (given_outcome out ≡ out)
 
 stays_same : (d e : Directory) → e ≡ d → Stays d e
 stays_same d e same = record { joined = ap (λ (x : Directory). x.joined) same; next = ap (λ (x : Directory). x.next_federate) same }
@@ -84,7 +84,7 @@ call_stays s f (service.GetObjectInstanceHandle name) other = record { joined = 
 call_stays s f (service.GetObjectInstanceName object) other = record { joined = refl; next = refl }
 
 -- no service tells anything
-call_silent : (s : Components) (f : ℕ) (x : Service) → IsSilent (call_outcome s f x).outcome
+call_silent : (s : Components) (f : ℕ) (x : Service) → SaysNothing (call_outcome s f x).outcome
 call_silent s f (service.Resign way) = (refl, refl)
 call_silent s f (service.PublishObjectClass class attributes) = (refl, refl)
 call_silent s f (service.UnpublishObjectClass class) = (refl, refl)
@@ -129,7 +129,7 @@ carry_stays s g f (message.Retraction m ∷ ms) = record { joined = refl; next =
 carry_stays s g f (message.Discovery d ∷ ms) = record { joined = refl; next = refl }
 carry_stays s g f (message.Event e ∷ ms) = record { joined = refl; next = refl }
 
-carry_silent : (s : Components) (g f : ℕ) (ms : List Message) → IsSilent (carry_outcome s g f ms).outcome
+carry_silent : (s : Components) (g f : ℕ) (ms : List Message) → SaysNothing (carry_outcome s g f ms).outcome
 carry_silent s g f [] = (refl, refl)
 carry_silent s g f (message.Null k v ∷ ms) = (refl, refl)
 carry_silent s g f (message.Retraction m ∷ ms) = (refl, refl)
@@ -160,7 +160,7 @@ announce_stays : (s : Components) (f v : ℕ) (b : Bool) → Stays s.directory (
 announce_stays s f v true = record { joined = refl; next = refl }
 announce_stays s f v false = record { joined = refl; next = refl }
 
-announce_silent : (s : Components) (f v : ℕ) (b : Bool) → IsSilent (cond b (answer_outcome (answer.Announced (Some v)) (with_null_announced s f v)) (answer_outcome (answer.Announced None) s)).outcome
+announce_silent : (s : Components) (f v : ℕ) (b : Bool) → SaysNothing (cond b (answer_outcome (answer.Announced (Some v)) (with_null_announced s f v)) (answer_outcome (answer.Announced None) s)).outcome
 announce_silent s f v true = (refl, refl)
 announce_silent s f v false = (refl, refl)
 

@@ -33,7 +33,7 @@ use Rattle.hla_machine.specs.History.{GivesCallback, Brings}
 use Rattle.hla_base.proofs.Tables.{by_number, upd_same, upd_other}
 use Rattle.hla_retraction.specs.SentEvents.{SentEvent}
 use Rattle.hla_machine.proofs.Basics.Tests.{caller_joined}
-use Rattle.hla_machine.proofs.Upkeep.Keeps.{IsKept}
+use Rattle.hla_machine.proofs.Upkeep.Keeps.{IsCentralKept}
 
 -- a retraction that is owed is of an event that is retracted
 abbrev pub Owing : (ℕ → ℕ → SentEvent) → (ℕ → ℕ → ℕ → ℕ) → Type 0
@@ -71,7 +71,7 @@ module _ (g m f : ℕ) (k : Copy) (tso : k.order ≡ Tso) where
       (copies_stay c.directory.joined c.bag a (c.serial a) (copy_for c.directory (c.row a) stamp out) g m f (λ e e2. let l : m < c.serial a = subst (λ g. m < c.serial g) (sym e) low in omega arith) ∙ is)
 
   -- what a step does to the copy; G says of a callback that f is given it
-  module _ (c : Central) (kept : IsKept c) (owing : Owing c.sent c.owed) (is : c.bag g m f ≡ Some k) (G : Callback → Type 0) where
+  module _ (c : Central) (kept : IsCentralKept c) (owing : Owing c.sent c.owed) (is : c.bag g m f ≡ Some k) (G : Callback → Type 0) where
     pub data Fate (d : Central) : Type 0 where
       Stays : d.bag g m f ≡ Some k → Fate d
       Moves : d.bag g m f ≡ Some (demoted_copy k) → Fate d
@@ -171,7 +171,7 @@ module _ (g m f : ℕ) (k : Copy) (tso : k.order ≡ Tso) where
       pick_fate (callback.TimeConstrainedEnabled time) o may gives = constrain_fate o
       pick_fate x o may gives = Stays is
 
-  module _ (c : Central) (kept : IsKept c) (owing : Owing c.sent c.owed) (is : c.bag g m f ≡ Some k) where
+  module _ (c : Central) (kept : IsCentralKept c) (owing : Owing c.sent c.owed) (is : c.bag g m f ≡ Some k) where
     done_fate : (step : Step) (a : Answer) (o : Choice) → refusal (central_seen c) step ≡ None → MayDo c step a o → Fate c kept owing is (GivesCallback step (outcome.Done a) f) (after_done c step a o)
     done_fate (Call b s) a o none may = call_fate c kept owing is (GivesCallback (Call b s) (outcome.Done a) f) b s o (caller_joined (central_seen c) b s none)
     done_fate (Carry from to) (answer.Carried x) o none may = carry_fate c kept owing is (GivesCallback (Carry from to) (outcome.Done (answer.Carried x)) f) from to x may

@@ -38,7 +38,7 @@ use Rattle.hla_retraction.specs.SentEvents.{SentEvent}
 use Rattle.hla_machine.proofs.Basics.Tests.{caller_joined}
 use Rattle.hla_machine.proofs.Upkeep.CentralInvariant.{laws_after, laws_start}
 use Rattle.hla_machine.proofs.Copies.Fates.{Owing, at_cases, copies_stay, demoted_cases, handle_is}
-use Rattle.hla_machine.proofs.Copies.Retractions.{IsSound, step_onward, sound_start}
+use Rattle.hla_machine.proofs.Copies.Retractions.{AreRetractionsSound, step_onward, sound_start}
 use Rattle.hla_machine.proofs.Upkeep.Ahead.{given_of}
 
 -- a copy lies in the bag
@@ -154,7 +154,7 @@ module _ (g m f : ℕ) where
 -- ---- runs
 pub record Reliable (c : Central) : Type 0 where
   pub laws : CentralInv c
-  pub sound : IsSound c
+  pub sound : AreRetractionsSound c
 
 reliable_step : (c : Central) (h : Happening) → MayEnd c h.step h.outcome h.choice → Reliable c → Reliable (next_state c h)
 reliable_step c h may w = record { laws = laws_after c h.step h.outcome h.choice may w.laws; sound = (step_onward c h.step h.outcome h.choice may w.sound).kept }

@@ -34,24 +34,24 @@ use Rattle.hla_retraction.specs.SentEvents.{SentEvent, no_event, may_retract}
 use Rattle.hla_machine.proofs.Basics.Tests.{clear_call, not-is-false}
 
 -- what is retracted or may be was sent, and what is owed is retracted
-pub record Kept (serial : ℕ → ℕ) (sent : ℕ → ℕ → SentEvent) (owed : ℕ → ℕ → ℕ → ℕ) : Type 0 where
+pub record KeptRetractions (serial : ℕ → ℕ) (sent : ℕ → ℕ → SentEvent) (owed : ℕ → ℕ → ℕ → ℕ) : Type 0 where
   pub used : (g m : ℕ) → (sent g m).retracted ≡ true → m < serial g
   pub able : (g m : ℕ) → (sent g m).retractable ≡ true → m < serial g
   pub owes : (g m f : ℕ) → 1 ≤ owed g m f → (sent g m).retracted ≡ true
 
-abbrev pub IsSound : Central → Type 0
-IsSound c = Kept c.serial c.sent c.owed
+abbrev pub AreRetractionsSound : Central → Type 0
+AreRetractionsSound c = KeptRetractions c.serial c.sent c.owed
 
 -- what is retracted stays so
 pub record Onward (c d : Central) : Type 0 where
-  pub kept : IsSound d
+  pub kept : AreRetractionsSound d
   pub stays : (g m : ℕ) → (c.sent g m).retracted ≡ true → (d.sent g m).retracted ≡ true
 
-onward_same : (c : Central) → IsSound c → Onward c c
+onward_same : (c : Central) → AreRetractionsSound c → Onward c c
 onward_same c k = record { kept = k; stays = λ g m e. e }
 
 -- a step that changes none of it
-level : (c d : Central) → IsSound c → d.serial ≡ c.serial → d.sent ≡ c.sent → d.owed ≡ c.owed → Onward c d
+level : (c d : Central) → AreRetractionsSound c → d.serial ≡ c.serial → d.sent ≡ c.sent → d.owed ≡ c.owed → Onward c d
 level c d k e1 e2 e3 = record {
   kept = rw (e1, e2, e3) k;
   stays = λ g m e. rw e2 e;
@@ -74,7 +74,7 @@ older c a g m event low = upd2_other c.sent a (c.serial a) event g m (⊎_elim
 abbrev new_event : Central → ℕ → Option ℕ → Outgoing → SentEvent
 new_event c a stamp out = sent_event c.directory (c.row a) a stamp out
 
-one_onward : (c : Central) (a : ℕ) (stamp : Option ℕ) (out : Outgoing) → IsSound c → Onward c (after_message c a stamp out)
+one_onward : (c : Central) (a : ℕ) (stamp : Option ℕ) (out : Outgoing) → AreRetractionsSound c → Onward c (after_message c a stamp out)
 one_onward c a stamp out k = record {
   kept = record {
     used = upd2_each c.sent a (c.serial a) (new_event c a stamp out) (λ g m e. e.retracted ≡ true → m < upd c.serial a (c.serial a + 1) g)
@@ -88,7 +88,7 @@ one_onward c a stamp out k = record {
   stays = λ g m e. rw (older c a g m (new_event c a stamp out) (k.used g m e)) e;
 }
 
-sends_onward : (c : Central) (a : ℕ) (stamp : Option ℕ) (outs : List Outgoing) → IsSound c → Onward c (after_messages c a stamp outs)
+sends_onward : (c : Central) (a : ℕ) (stamp : Option ℕ) (outs : List Outgoing) → AreRetractionsSound c → Onward c (after_messages c a stamp outs)
 sends_onward c a stamp [] k = onward_same c k
 sends_onward c a stamp (out ∷ outs) k =
     let one = one_onward c a stamp out k in
@@ -114,7 +114,7 @@ told_key t a n told g m f l = ⊎_elim
 abbrev retracted_event : Central → ℕ → ℕ → SentEvent
 retracted_event c a n = record (c.sent a n) { retracted = true }
 
-retract_onward : (c : Central) (a n : ℕ) → IsSound c → (c.sent a n).retractable ≡ true → Onward c (after_retract c a n)
+retract_onward : (c : Central) (a n : ℕ) → AreRetractionsSound c → (c.sent a n).retractable ≡ true → Onward c (after_retract c a n)
 retract_onward c a n k able = record {
   kept = record {
     used = upd2_each c.sent a n (retracted_event c a n) (λ g m e. e.retracted ≡ true → m < c.serial g) (λ _. k.able a n able) k.used;
@@ -140,18 +140,18 @@ less_owed t a n b g m f l = ⊎_elim
     (λ (e : (is_key a n g m && eqb b f) ≡ false). rw e at l)
     (cases_Bool (is_key a n g m && eqb b f))
 
-enter_onward : (c : Central) (a lookahead : ℕ) (o : Choice) → IsSound c → Onward c (after_enter c a lookahead o)
+enter_onward : (c : Central) (a lookahead : ℕ) (o : Choice) → AreRetractionsSound c → Onward c (after_enter c a lookahead o)
 enter_onward c a lookahead (choice.Entry e) k = level c _ k refl refl refl
 enter_onward c a lookahead o k = onward_same c k
 
-cease_onward : (c : Central) (a : ℕ) (o : Choice) → IsSound c → Onward c (after_cease c a o)
+cease_onward : (c : Central) (a : ℕ) (o : Choice) → AreRetractionsSound c → Onward c (after_cease c a o)
 cease_onward c a (choice.Moved events) k = level c _ k refl refl refl
 cease_onward c a o k = onward_same c k
 
 is_able : (r : TimeRow) (e : SentEvent) → may_retract r e ≡ true → e.retractable ≡ true
 is_able r e h = let p = and_parts (is_enabled r.regulating && e.retractable && not e.retracted) _ h in let q = and_parts (is_enabled r.regulating && e.retractable) _ p.0 in (and_parts (is_enabled r.regulating) e.retractable q.0).1
 
-call_onward : (c : Central) (a : ℕ) (s : Service) (o : Choice) → refusal (central_seen c) (Call a s) ≡ None → IsSound c → Onward c (after_call c a s o)
+call_onward : (c : Central) (a : ℕ) (s : Service) (o : Choice) → refusal (central_seen c) (Call a s) ≡ None → AreRetractionsSound c → Onward c (after_call c a s o)
 call_onward c a (service.Resign DeleteObjects) o none k = let outs = deletions_sent (objects_of c.directory a) in left_onward c (after_messages c a None outs) a (sends_onward c a None outs k)
 call_onward c a (service.Resign NoAction) o none k = left_onward c c a (onward_same c k)
 call_onward c a (service.UpdateAttributeValues object values stamp) o none k = sends_onward c a stamp (update_sent c.directory object values) k
@@ -163,7 +163,7 @@ call_onward c a (service.EnableTimeRegulation time lookahead) o none k = enter_o
 call_onward c a service.DisableTimeConstrained o none k = cease_onward c a o k
 call_onward c a s o none k = level c _ k refl refl refl
 
-carry_onward : (c : Central) (a b : ℕ) (x : Carried) → IsSound c → Onward c (after_carry c a b x)
+carry_onward : (c : Central) (a b : ℕ) (x : Carried) → AreRetractionsSound c → Onward c (after_carry c a b x)
 carry_onward c a b (carried.Event e) k = level c _ k refl refl refl
 carry_onward c a b (carried.Removal e) k = level c _ k refl refl refl
 carry_onward c a b (carried.Retraction e) k = record {
@@ -172,33 +172,33 @@ carry_onward c a b (carried.Retraction e) k = record {
 }
 carry_onward c a b x k = onward_same c k
 
-deliver_onward : (c : Central) (a : ℕ) (e : EventHandle) (d : Delivery) → IsSound c → Onward c (after_delivery c a e d)
+deliver_onward : (c : Central) (a : ℕ) (e : EventHandle) (d : Delivery) → AreRetractionsSound c → Onward c (after_delivery c a e d)
 deliver_onward c a e delivery.Receive k = level c _ k refl refl refl
 deliver_onward c a e (delivery.Demoted s) k = level c _ k refl refl refl
 deliver_onward c a e (delivery.TimeStamp s) k = level c _ k refl refl refl
 
-constrain_onward : (c : Central) (a : ℕ) (o : Choice) → IsSound c → Onward c (after_constraint c a o)
+constrain_onward : (c : Central) (a : ℕ) (o : Choice) → AreRetractionsSound c → Onward c (after_constraint c a o)
 constrain_onward c a (choice.Moved events) k = level c _ k refl refl refl
 constrain_onward c a o k = onward_same c k
 
-pick_onward : (c : Central) (a : ℕ) (x : Callback) (o : Choice) → IsSound c → Onward c (after_pick c a x o)
+pick_onward : (c : Central) (a : ℕ) (x : Callback) (o : Choice) → AreRetractionsSound c → Onward c (after_pick c a x o)
 pick_onward c a (callback.ReflectAttributeValues object values event d) o k = deliver_onward c a event d k
 pick_onward c a (callback.ReceiveInteraction class values event d) o k = deliver_onward c a event d k
 pick_onward c a (callback.RemoveObjectInstance object event d) o k = deliver_onward c a event d k
 pick_onward c a (callback.TimeConstrainedEnabled time) o k = constrain_onward c a o k
 pick_onward c a x o k = level c _ k refl refl refl
 
-done_onward : (c : Central) (step : Step) (a : Answer) (o : Choice) → refusal (central_seen c) step ≡ None → IsSound c → Onward c (after_done c step a o)
+done_onward : (c : Central) (step : Step) (a : Answer) (o : Choice) → refusal (central_seen c) step ≡ None → AreRetractionsSound c → Onward c (after_done c step a o)
 done_onward c (Join name) a o none k = level c _ k refl refl refl
 done_onward c (Call f s) a o none k = call_onward c f s o none k
 done_onward c (Carry from to) (answer.Carried x) o none k = carry_onward c from to x k
 done_onward c (Tick f) (answer.Ticked (Some x)) o none k = pick_onward c f x o k
 done_onward c step a o none k = onward_same c k
 
-pub step_onward : (c : Central) (step : Step) (out : Outcome) (o : Choice) → MayEnd c step out o → IsSound c → Onward c (after c step out o)
+pub step_onward : (c : Central) (step : Step) (out : Outcome) (o : Choice) → MayEnd c step out o → AreRetractionsSound c → Onward c (after c step out o)
 step_onward c step (outcome.Done a) o may k = done_onward c step a o may.0 k
 step_onward c (Tick f) (outcome.Failed x) o may k = pick_onward c f x o k
 step_onward c step out o may k = onward_same c k
 
-pub sound_start : (catalogue : CatalogueValue) → IsSound (new_central catalogue)
+pub sound_start : (catalogue : CatalogueValue) → AreRetractionsSound (new_central catalogue)
 sound_start catalogue = record { used = λ g m e. absurd (cc); able = λ g m e. absurd (cc); owes = λ g m f l. absurd (omega arith) }

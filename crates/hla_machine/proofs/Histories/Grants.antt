@@ -12,16 +12,16 @@ use Rattle.hla_machine.specs.Runs.{Happening, IsRun}
 use Rattle.hla_machine.specs.History.{GivesCallback, IsGranted, IsPickedOrMoved, WaitsInOrder, HappensLater, next_state}
 use Rattle.hla_machine.proofs.Basics.GrantCases.{grant_flush, grant_plain}
 use Rattle.hla_machine.proofs.Basics.Rows.{flush_not_strict}
-use Rattle.hla_machine.proofs.Upkeep.Keeps.{IsKept}
+use Rattle.hla_machine.proofs.Upkeep.Keeps.{IsCentralKept}
 use Rattle.hla_machine.proofs.Upkeep.Runs.{step_keeps, start_keeps}
 use Rattle.hla_machine.proofs.Upkeep.News.{step_change}
 use Rattle.hla_machine.proofs.Upkeep.Ahead.{given_of}
 use Rattle.hla_machine.proofs.Copies.Fates.{Fate, Stays, Moves, Back, Out, Taken, step_fate}
-use Rattle.hla_machine.proofs.Copies.Retractions.{IsSound, step_onward, sound_start}
+use Rattle.hla_machine.proofs.Copies.Retractions.{AreRetractionsSound, step_onward, sound_start}
 
 pub record Whole (c : Central) : Type 0 where
-  pub kept : IsKept c
-  pub sound : IsSound c
+  pub kept : IsCentralKept c
+  pub sound : AreRetractionsSound c
 
 whole_step : (c : Central) (h : Happening) → MayEnd c h.step h.outcome h.choice → Whole c → Whole (next_state c h)
 whole_step c h may w = record { kept = step_keeps c h.step h.outcome h.choice may w.kept; sound = (step_onward c h.step h.outcome h.choice may w.sound).kept }

@@ -15,7 +15,7 @@ use Rattle.hla_machine.specs.History.{Picks, HappenAfter, IsInNoFlush, IsInStric
 use Rattle.hla_base.proofs.Tables.{upd_same}
 use Rattle.hla_machine.proofs.Basics.GrantCases.{grant_plain}
 use Rattle.hla_machine.proofs.Basics.Rows.{le_reach}
-use Rattle.hla_machine.proofs.Upkeep.Keeps.{IsKept, fewer_removed}
+use Rattle.hla_machine.proofs.Upkeep.Keeps.{IsCentralKept, fewer_removed}
 use Rattle.hla_machine.proofs.Upkeep.Runs.{row_after_is}
 use Rattle.hla_machine.proofs.Upkeep.Turns.{Turn, Fresh, Calm, Asked, Entered, Regulated, Rested, Picked, Granted, step_turn}
 use Rattle.hla_machine.proofs.Upkeep.News.{Change, step_change}
@@ -51,7 +51,7 @@ module _ (f s v : ℕ) (P : ℕ → ℕ → ℕ → Type 0) (from : (g m x : ℕ
     Stays : Within c → Later c
 
   -- a step within the advance
-  within_turn : (c d : Central) → IsKept c → Change c d → (w : Within c) → c.directory.joined f ≡ true → Turn c f (d.row f) (d.directory.joined f) → Later d
+  within_turn : (c d : Central) → IsCentralKept c → Change c d → (w : Within c) → c.directory.joined f ≡ true → Turn c f (d.row f) (d.directory.joined f) → Later d
   within_turn c d k ch w member (Fresh is left) = Left (left member) (le_trans (k.members f member) ch.joins.up)
   within_turn c d k ch w member (Calm same) = Stays (record {
     request = w.request;
@@ -109,7 +109,7 @@ module _ (f s v : ℕ) (P : ℕ → ℕ → ℕ → Type 0) (from : (g m x : ℕ
           and_first true b h = refl
           and_first false b h = absurd (cc)
 
-  pub within_step : (c : Central) (h : Happening) → MayEnd c h.step h.outcome h.choice → IsKept c → Within c → Later (next_state c h)
+  pub within_step : (c : Central) (h : Happening) → MayEnd c h.step h.outcome h.choice → IsCentralKept c → Within c → Later (next_state c h)
   within_step c h may k w = within_turn c (next_state c h) k (step_change c h.step h.outcome h.choice may k) w (k.constrained f w.constrained) (step_turn c h.step h.outcome h.choice may k f)
 
   phase_later : (c : Central) → Later c → Phase c
@@ -163,14 +163,14 @@ module _ (f s v : ℕ) (P : ℕ → ℕ → ℕ → Type 0) (from : (g m x : ℕ
       after_one later (Done l idle) = absurd (not_idle ((next_state c h).row f).advance (advancing_now (next_state c h) hs one.1) idle)
       after_one later (Stays w) = later w
 
-  pub later_pick : (c d : Central) (x : EventHandle) (t : ℕ) → IsKept c → (Within c) ⊎ (c.directory.joined f ≡ false) → Taken c d f x t → P x.sender x.serial t
+  pub later_pick : (c d : Central) (x : EventHandle) (t : ℕ) → IsCentralKept c → (Within c) ⊎ (c.directory.joined f ≡ false) → Taken c d f x t → P x.sender x.serial t
   later_pick c d x t k (inr out) y = absurd (let j = k.constrained f y.constrained in cc)
   later_pick c d x t k (inl w) y =
       let same : w.request ≡ y.request = (let e : Some w.request ≡ Some y.request = sym w.asks ∙ y.asks in cc) in
       let m = y.may.1 (subst (λ (q : AdvanceRequest). is_flush q.kind ≡ false) same w.unflushed) in
       w.waiting x.sender x.serial (record { order = Tso; stamp = t; content = y.body }) y.copy m.unretracted refl
 
-  pub phase_pick : (c d : Central) (x : EventHandle) (t : ℕ) → IsKept c → Phase c → Taken c d f x t → s ≤ t
+  pub phase_pick : (c d : Central) (x : EventHandle) (t : ℕ) → IsCentralKept c → Phase c → Taken c d f x t → s ≤ t
   phase_pick c d x t k (Gone out low) y = absurd (let j = k.constrained f y.constrained in cc)
   phase_pick c d x t k (Past l) y = le_trans l (pick_ahead c d f x t k y)
   phase_pick c d x t k (Still w) y = least x.sender x.serial t (later_pick c d x t k (inl w) y)
@@ -197,7 +197,7 @@ module _ (f s v : ℕ) (P : ℕ → ℕ → ℕ → Type 0) (from : (g m x : ℕ
       or_first (Some p) h = (p, refl, omega (arith, h))
 
 -- ---- stamps
-next_low : (c : Central) (h : Happening) (f : ℕ) → MayEnd c h.step h.outcome h.choice → IsKept c → is_constrained (c.row f) ≡ true → f < (next_state c h).directory.next_federate
+next_low : (c : Central) (h : Happening) (f : ℕ) → MayEnd c h.step h.outcome h.choice → IsCentralKept c → is_constrained (c.row f) ≡ true → f < (next_state c h).directory.next_federate
 next_low c h f may k con = le_trans (k.members f (k.constrained f con)) (step_change c h.step h.outcome h.choice may k).joins.up
 
 pub stamps_never_fall : (c : Central) (h : Happening) (between : List Happening) (d : Central) (i : Happening) (f : ℕ) (e x : EventHandle) (s t : ℕ)

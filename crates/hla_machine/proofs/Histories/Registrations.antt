@@ -141,14 +141,14 @@ run_registers c (h ∷ hs) d run =
 
 -- ---- a registration
 -- the object takes the next number, and a name that no object before it has
-pub record Registered (c : Central) (h : Happening) (a : ℕ) (n : List ℕ) : Type 0 where
+pub record RegisteredOnce (c : Central) (h : Happening) (a : ℕ) (n : List ℕ) : Type 0 where
   pub number : a ≡ c.directory.next_object
   pub unused : is_name_used c.directory n ≡ false
   pub next : (next_state c h).directory.next_object ≡ a + 1
   pub named : ((next_state c h).directory.object a).name ≡ n
 
 registered_call : (c : Central) (f : ℕ) (s : Service) (o : Choice) (number : ℕ) (name : List ℕ) → refusal (central_seen c) (Call f s) ≡ None → MayAnswer c f s (answer.Registered number name) o
-    → Registered c (record { step = Call f s; outcome = outcome.Done (answer.Registered number name); choice = o }) number name
+    → RegisteredOnce c (record { step = Call f s; outcome = outcome.Done (answer.Registered number name); choice = o }) number name
 registered_call c f (service.RegisterObjectInstance class given) o number name none may =
     let clear = clear_call (central_seen c) f (service.RegisterObjectInstance class given) none in
     record {
@@ -161,14 +161,14 @@ registered_call c f (service.RegisterObjectInstance class given) o number name n
 registered_call c f s o number name none may = absurd may
 
 registered_of : (c : Central) (step : Step) (o : Choice) (number : ℕ) (name : List ℕ) → MayEnd c step (outcome.Done (answer.Registered number name)) o
-    → Registered c (record { step = step; outcome = outcome.Done (answer.Registered number name); choice = o }) number name
+    → RegisteredOnce c (record { step = step; outcome = outcome.Done (answer.Registered number name); choice = o }) number name
 registered_of c (Call f s) o number name may = registered_call c f s o number name may.0 may.1
 registered_of c step o number name may = absurd may.1
 
-registered_at : (c : Central) (h : Happening) (number : ℕ) (name : List ℕ) → MayEnd c h.step h.outcome h.choice → h.outcome ≡ outcome.Done (answer.Registered number name) → Registered c h number name
+registered_at : (c : Central) (h : Happening) (number : ℕ) (name : List ℕ) → MayEnd c h.step h.outcome h.choice → h.outcome ≡ outcome.Done (answer.Registered number name) → RegisteredOnce c h number name
 registered_at c h number name may is =
     let m = subst (λ (out : Outcome). MayEnd c h.step out h.choice) is may in
-    subst (λ (out : Outcome). Registered c (record { step = h.step; outcome = out; choice = h.choice }) number name) (sym is) (registered_of c h.step h.choice number name m)
+    subst (λ (out : Outcome). RegisteredOnce c (record { step = h.step; outcome = out; choice = h.choice }) number name) (sym is) (registered_of c h.step h.choice number name m)
 
 -- a name that no object has is not that of an object with a number below
 other_name : (d : Directory) (name : List ℕ) (n h : ℕ) → list_any (λ h. not (eqb h 0) && bytes_eq (d.object h).name name) (numbers_below n) ≡ false → 0 < h → h < n → (d.object h).name ≢ name

@@ -26,7 +26,7 @@ use Rattle.hla_machine.specs.History.{GivesCallback, Brings, Picks, Happens, nex
 use Rattle.hla_machine.specs.Laws.{IsAhead}
 use Rattle.hla_machine.proofs.Basics.Tests.{ticker_joined}
 use Rattle.hla_machine.proofs.Basics.GrantCases.{grant_free, grant_flush, grant_plain}
-use Rattle.hla_machine.proofs.Upkeep.Keeps.{IsKept}
+use Rattle.hla_machine.proofs.Upkeep.Keeps.{IsCentralKept}
 use Rattle.hla_machine.proofs.Upkeep.Runs.{step_keeps, start_keeps}
 use Rattle.hla_machine.proofs.Upkeep.Turns.{Same, Turn, Fresh, Calm, Asked, Entered, Regulated, Rested, Picked, Granted, step_turn}
 
@@ -74,7 +74,7 @@ taken_pick c f k e s o may is = absurd is
 pub taken_of : (c : Central) (h : Happening) (f : ℕ) (e : EventHandle) (s : ℕ) → MayEnd c h.step h.outcome h.choice → Picks h f e s → Taken c (next_state c h) f e s
 taken_of c h f e s may p = let g = given_of c h f p.given may p.gives in subst (λ d. Taken c d f e s) (sym g.follows) (taken_pick c f p.given e s h.choice g.may p.brings)
 
-pub pick_ahead : (c d : Central) (f : ℕ) (e : EventHandle) (s : ℕ) → IsKept c → Taken c d f e s → (c.row f).time ≤ s
+pub pick_ahead : (c d : Central) (f : ℕ) (e : EventHandle) (s : ℕ) → IsCentralKept c → Taken c d f e s → (c.row f).time ≤ s
 pick_ahead c d f e s k t = ⊎_elim
     (λ (y : is_flush t.request.kind ≡ true). t.may.0 y)
     (λ (n : is_flush t.request.kind ≡ false). let m = t.may.1 n in k.ahead f t.constrained e.sender e.serial (record { order = Tso; stamp = s; content = t.body }) t.copy m.unretracted refl)
@@ -107,7 +107,7 @@ asked_first : (o : Option ℕ) (b : Bool) (s x : ℕ) → ((p : ℕ) → o ≡ S
 asked_first (Some y) b s x old new p is = cond_both b (Some y) (Some y) (λ o. o ≡ Some p → x ≤ p) (λ _ i. old p i) (λ _ i. old p i) is
 asked_first None b s x old new p is = cond_both b None (Some s) (λ o. o ≡ Some p → x ≤ p) (λ _ i. absurd (cc)) (λ _ i. let e : s ≡ p = cc in omega arith) is
 
-module _ (c : Central) (k : IsKept c) (f : ℕ) (t : Timely (c.row f)) where
+module _ (c : Central) (k : IsCentralKept c) (f : ℕ) (t : Timely (c.row f)) where
   grant_ahead : (q : AdvanceRequest) (v : ℕ) → (c.row f).advance ≡ Some q → MayGrant c f v q → (c.row f).time ≤ v
   grant_ahead q v asks may = ⊎_elim
       (λ (con : is_constrained (c.row f) ≡ true). ⊎_elim
@@ -168,7 +168,7 @@ module _ (c : Central) (k : IsKept c) (f : ℕ) (t : Timely (c.row f)) where
 
 -- ---- runs
 pub record Reachable (c : Central) : Type 0 where
-  pub kept : IsKept c
+  pub kept : IsCentralKept c
   pub timely : (f : ℕ) → Timely (c.row f)
 
 pub reachable_step : (c : Central) (h : Happening) → MayEnd c h.step h.outcome h.choice → Reachable c → Reachable (next_state c h)

@@ -26,7 +26,7 @@ LowIn bag sent f x = (g m : ℕ) (k : Copy) → bag g m f ≡ Some k → (sent g
 abbrev pub BoundIn : (ℕ → Bool) → (ℕ → TimeRow) → Bag → (ℕ → ℕ → SentEvent) → ℕ → ℕ → Type 0
 BoundIn joined row bag sent f v = (v ≤ forever) × ((g : ℕ) → joined g ≡ true → g ≢ f → is_regulator (row g) ≡ true → BelowOut (LowIn bag sent g) (row g) v)
 
-pub record Keeps (next : ℕ) (joined : ℕ → Bool) (row : ℕ → TimeRow) (serial : ℕ → ℕ) (bag : Bag) (sent : ℕ → ℕ → SentEvent) : Type 0 where
+pub record KeepsCentral (next : ℕ) (joined : ℕ → Bool) (row : ℕ → TimeRow) (serial : ℕ → ℕ) (bag : Bag) (sent : ℕ → ℕ → SentEvent) : Type 0 where
   pub members : (f : ℕ) → joined f ≡ true → f < next
   pub regulators : (g : ℕ) → is_regulator (row g) ≡ true → joined g ≡ true
   pub constrained : (f : ℕ) → is_constrained (row f) ≡ true → joined f ≡ true
@@ -35,8 +35,8 @@ pub record Keeps (next : ℕ) (joined : ℕ → Bool) (row : ℕ → TimeRow) (s
   pub ahead : (f : ℕ) → is_constrained (row f) ≡ true → LowIn bag sent f (row f).time
   pub unused : (g m f : ℕ) (k : Copy) → bag g m f ≡ Some k → k.order ≡ Tso → m < serial g
 
-abbrev pub IsKept : Central → Type 0
-IsKept c = Keeps c.directory.next_federate c.directory.joined c.row c.serial c.bag c.sent
+abbrev pub IsCentralKept : Central → Type 0
+IsCentralKept c = KeepsCentral c.directory.next_federate c.directory.joined c.row c.serial c.bag c.sent
 
 pub low_weaker : (bag : Bag) (sent : ℕ → ℕ → SentEvent) (f x y : ℕ) → y ≤ x → LowIn bag sent f x → LowIn bag sent f y
 low_weaker bag sent f x y l h g m k is live tso = le_trans l (h g m k is live tso)
@@ -88,7 +88,7 @@ moved_else bag f events g m k is tso = ⊎_elim
 
 -- ---- a change of copies alone
 pub keeps_low : (next : ℕ) (joined : ℕ → Bool) (row : ℕ → TimeRow) (serial : ℕ → ℕ) (bag to : Bag) (sent tells : ℕ → ℕ → SentEvent) → NoMore to bag → ((f x : ℕ) → LowIn bag sent f x → LowIn to tells f x)
-    → Keeps next joined row serial bag sent → Keeps next joined row serial to tells
+    → KeepsCentral next joined row serial bag sent → KeepsCentral next joined row serial to tells
 keeps_low next joined row serial bag to sent tells fewer low k = record {
   members = k.members;
   regulators = k.regulators;
@@ -109,7 +109,7 @@ module _ (next : ℕ) (joined : ℕ → Bool) (row : ℕ → TimeRow) (serial : 
     pub bar : is_constrained r ≡ true → BoundIn joined row to sent f r.bar
     pub ahead : is_constrained r ≡ true → LowIn to sent f r.time
 
-  pub keeps_row : Keeps next joined row serial bag sent → Changes → Keeps next joined (upd row f r) serial to sent
+  pub keeps_row : KeepsCentral next joined row serial bag sent → Changes → KeepsCentral next joined (upd row f r) serial to sent
   keeps_row k ch = record {
     members = k.members;
     regulators = by_number f _ (λ _. ch.member) (λ g ne. rw upd_other (k.regulators g));
@@ -128,16 +128,16 @@ module _ (next : ℕ) (joined : ℕ → Bool) (row : ℕ → TimeRow) (serial : 
   }
 
   -- the old bound, with the new copies
-  pub old_bound : Keeps next joined row serial bag sent → NoMore to bag → is_constrained (row f) ≡ true → BoundIn joined row to sent f (row f).bar
+  pub old_bound : KeepsCentral next joined row serial bag sent → NoMore to bag → is_constrained (row f) ≡ true → BoundIn joined row to sent f (row f).bar
   old_bound k fewer c = let b = k.bounded f c in (b.0, λ g j ne reg. out_low _ _ (row g) (row f).bar (low_weaker bag sent g) (λ x _. low_fewer to bag sent fewer g x) (b.1 g j ne reg))
 
   -- what others count on
-  pub old_out : Keeps next joined row serial bag sent → is_regulator (row f) ≡ true → (v l : ℕ) → l ≢ f → is_constrained (row l) ≡ true → v ≡ (row l).bar → BelowOut (LowIn bag sent f) (row f) v
+  pub old_out : KeepsCentral next joined row serial bag sent → is_regulator (row f) ≡ true → (v l : ℕ) → l ≢ f → is_constrained (row l) ≡ true → v ≡ (row l).bar → BelowOut (LowIn bag sent f) (row f) v
   old_out k reg v l ne c same = subst (λ v. BelowOut (LowIn bag sent f) (row f) v) (sym same) ((k.bounded l c).1 f (k.regulators f reg) (λ e. ne (sym e)) reg)
 
   -- a federate at rest, whose floor, bar and time stay
-  pub keeps_rest : Keeps next joined row serial bag sent → NoMore to bag → joined f ≡ true → RowLaw r → (row f).advance ≡ None → (row f).floor ≤ r.floor → (is_regulator r ≡ true → is_regulator (row f) ≡ true)
-      → (is_constrained r ≡ true → (is_constrained (row f) ≡ true) × (r.bar ≡ (row f).bar) × (r.time ≡ (row f).time)) → Keeps next joined (upd row f r) serial to sent
+  pub keeps_rest : KeepsCentral next joined row serial bag sent → NoMore to bag → joined f ≡ true → RowLaw r → (row f).advance ≡ None → (row f).floor ≤ r.floor → (is_regulator r ≡ true → is_regulator (row f) ≡ true)
+      → (is_constrained r ≡ true → (is_constrained (row f) ≡ true) × (r.bar ≡ (row f).bar) × (r.time ≡ (row f).time)) → KeepsCentral next joined (upd row f r) serial to sent
   keeps_rest k fewer member law idle up role con = keeps_row k (record {
     fewer = fewer;
     member = member;
@@ -188,7 +188,7 @@ copy_high c f stamp out g k high is tso = by_content (content_for c.directory ou
         let o : is_ordered (c.row f) stamp out ≡ true = tso_when (is_ordered (c.row f) stamp out) (subst (λ (k : Copy). k.order ≡ Tso) (sym same) tso) in
         (o, subst (λ (k : Copy). least_stamp (c.row f) ≤ k.stamp) same (rw o (high o)))
 
-module _ (c : Central) (f : ℕ) (stamp : Option ℕ) (out : Outgoing) (k : IsKept c) (high : is_ordered (c.row f) stamp out ≡ true → least_stamp (c.row f) ≤ unwrap_or stamp 0) where
+module _ (c : Central) (f : ℕ) (stamp : Option ℕ) (out : Outgoing) (k : IsCentralKept c) (high : is_ordered (c.row f) stamp out ≡ true → least_stamp (c.row f) ≤ unwrap_or stamp 0) where
   abbrev d : Central
   d = after_message c f stamp out
 
@@ -219,7 +219,7 @@ module _ (c : Central) (f : ℕ) (stamp : Option ℕ) (out : Outgoing) (k : IsKe
   sent_low l g x con low old h m y is live tso = ⊎_elim (λ (above : (l : ℕ) → is_constrained (c.row l) ≡ true → (c.row l).bar ≤ y.stamp). le_trans low (above l con))
       (λ (w : (c.bag h m g ≡ Some y) × ((c.sent h m).retracted ≡ false)). old h m y w.0 w.1 tso) (new_or_old g h m y is live tso)
 
-  pub keeps_sent : IsKept d
+  pub keeps_sent : IsCentralKept d
   keeps_sent = record {
     members = k.members;
     regulators = k.regulators;

@@ -29,7 +29,7 @@ use Rattle.hla_machine.specs.Machine.{central_seen, MayAnswer, MayDo, MayEnd, af
 use Rattle.hla_base.proofs.Tables.{upd_each, upd2_each}
 use Rattle.hla_retraction.specs.SentEvents.{SentEvent}
 use Rattle.hla_machine.proofs.Basics.Tests.{clear_call}
-use Rattle.hla_machine.proofs.Upkeep.Keeps.{IsKept, NoMore, fewer_removed, fewer_demoted, fewer_moved, keeps_sent, new_or_old}
+use Rattle.hla_machine.proofs.Upkeep.Keeps.{IsCentralKept, NoMore, fewer_removed, fewer_demoted, fewer_moved, keeps_sent, new_or_old}
 use Rattle.hla_machine.proofs.Upkeep.Services.{EachHigh, each_high_unstamped, high_stamps, left_fewer, same_bag}
 
 -- each unretracted copy in time-stamp order is at or above its constrained receiver's bar, or was there before
@@ -61,7 +61,7 @@ calm c d n e = record { news = n; joins = same_joins c d e }
 fewer_change : (c : Central) (to : ℕ → ℕ → ℕ → Option Copy) → NoMore to c.bag → News c (record c { bag = to })
 fewer_change c to fewer f g m k is live tso = inr (fewer g m f k is tso, live)
 
-sends_news : (c : Central) (f : ℕ) (stamp : Option ℕ) (outs : List Outgoing) → EachHigh (c.row f) stamp outs → IsKept c → News c (after_messages c f stamp outs)
+sends_news : (c : Central) (f : ℕ) (stamp : Option ℕ) (outs : List Outgoing) → EachHigh (c.row f) stamp outs → IsCentralKept c → News c (after_messages c f stamp outs)
 sends_news c f stamp [] high k = no_news c
 sends_news c f stamp (out ∷ outs) high k = λ l g m x is live tso. ⊎_elim
     (λ (new : is_constrained (c.row l) ≡ true → (c.row l).bar ≤ x.stamp). inl new)
@@ -79,7 +79,7 @@ sent_joined : (c : Central) (f : ℕ) (stamp : Option ℕ) (outs : List Outgoing
 sent_joined c f stamp [] = refl
 sent_joined c f stamp (out ∷ outs) = sent_joined (after_message c f stamp out) f stamp outs
 
-sends_change : (c : Central) (f : ℕ) (stamp : Option ℕ) (outs : List Outgoing) → EachHigh (c.row f) stamp outs → IsKept c → Change c (after_messages c f stamp outs)
+sends_change : (c : Central) (f : ℕ) (stamp : Option ℕ) (outs : List Outgoing) → EachHigh (c.row f) stamp outs → IsCentralKept c → Change c (after_messages c f stamp outs)
 sends_change c f stamp outs high k = calm c (after_messages c f stamp outs) (sends_news c f stamp outs high k) (sent_next c f stamp outs, sent_joined c f stamp outs)
 
 left_change : (c b : Central) (f : ℕ) → Change c b → Change c (after_leaving b f)
@@ -105,7 +105,7 @@ cease_change : (c : Central) (f : ℕ) (o : Choice) → Change c (after_cease c 
 cease_change c f (choice.Moved events) = calm c _ (fewer_change c (with_demoted c.bag f events) (fewer_moved c.bag f events)) (refl, refl)
 cease_change c f o = calm c _ (no_news c) (refl, refl)
 
-call_change : (c : Central) (f : ℕ) (s : Service) (a : Answer) (o : Choice) → refusal (central_seen c) (Call f s) ≡ None → MayAnswer c f s a o → IsKept c → Change c (after_call c f s o)
+call_change : (c : Central) (f : ℕ) (s : Service) (a : Answer) (o : Choice) → refusal (central_seen c) (Call f s) ≡ None → MayAnswer c f s a o → IsCentralKept c → Change c (after_call c f s o)
 call_change c f (service.Resign DeleteObjects) a o none may k = let outs = deletions_sent (objects_of c.directory f) in left_change c (after_messages c f None outs) f (sends_change c f None outs (each_high_unstamped (c.row f) outs) k)
 call_change c f (service.Resign NoAction) a o none may k = left_change c c f (calm c c (no_news c) (refl, refl))
 call_change c f (service.UpdateAttributeValues object values stamp) a o none may k = let x = clear_call (central_seen c) f (service.UpdateAttributeValues object values stamp) none in let outs = update_sent c.directory object values in
@@ -144,14 +144,14 @@ pick_change c f (callback.RemoveObjectInstance object event d) o = deliver_chang
 pick_change c f (callback.TimeConstrainedEnabled time) o = constrain_change c f o
 pick_change c f x o = calm c _ (no_news c) (refl, refl)
 
-done_change : (c : Central) (step : Step) (a : Answer) (o : Choice) → refusal (central_seen c) step ≡ None → MayDo c step a o → IsKept c → Change c (after_done c step a o)
+done_change : (c : Central) (step : Step) (a : Answer) (o : Choice) → refusal (central_seen c) step ≡ None → MayDo c step a o → IsCentralKept c → Change c (after_done c step a o)
 done_change c (Join name) a o none may k = join_change c name
 done_change c (Call f s) a o none may k = call_change c f s a o none may k
 done_change c (Carry from to) (answer.Carried x) o none may k = carry_change c from to x
 done_change c (Tick f) (answer.Ticked (Some x)) o none may k = pick_change c f x o
 done_change c step a o none may k = calm c c (no_news c) (refl, refl)
 
-pub step_change : (c : Central) (step : Step) (out : Outcome) (o : Choice) → MayEnd c step out o → IsKept c → Change c (after c step out o)
+pub step_change : (c : Central) (step : Step) (out : Outcome) (o : Choice) → MayEnd c step out o → IsCentralKept c → Change c (after c step out o)
 step_change c step (outcome.Done a) o may k = done_change c step a o may.0 may.1 k
 step_change c (Tick f) (outcome.Failed x) o may k = pick_change c f x o
 step_change c step out o may k = calm c c (no_news c) (refl, refl)

@@ -39,14 +39,14 @@ use Rattle.hla_machine.specs.Laws.{IsSafe}
 use Rattle.hla_machine.proofs.Basics.Tests.{clear_call, caller_joined, ticker_joined}
 use Rattle.hla_machine.proofs.Basics.GrantCases.{grant_flush, grant_plain}
 use Rattle.hla_machine.proofs.Basics.Rows.{law_new, law_constrained, law_lookahead, law_regulates, law_constrains, law_picked, law_granted, next_not_flush, le_reach, flush_not_strict, out_low, out_idle, out_picked, out_granted}
-use Rattle.hla_machine.proofs.Upkeep.Keeps.{LowIn, BoundIn, IsKept, NoMore, low_fewer, low_weaker, fewer_removed, fewer_demoted, fewer_moved, moved_else, keeps_low, keeps_row, old_bound, old_out, bound_max}
+use Rattle.hla_machine.proofs.Upkeep.Keeps.{LowIn, BoundIn, IsCentralKept, NoMore, low_fewer, low_weaker, fewer_removed, fewer_demoted, fewer_moved, moved_else, keeps_low, keeps_row, old_bound, old_out, bound_max}
 use Rattle.hla_machine.proofs.Upkeep.Services.{none_from, same_bag, join_keeps, sends_keep, high_stamps, resign_keeps, rest, ask_keeps, stop_keeps, asynchronous_keeps, entry_may, not_early, enter_after, cease_after, retract_keeps}
 
 pub row_after_is : (r : TimeRow) (o : Option AdvanceRequest) (q : AdvanceRequest) (step : AdvanceRequest → TimeRow) → o ≡ Some q → row_after r o step ≡ step q
 row_after_is r o q step e = rw e refl
 
 -- ---- services
-call_keeps : (c : Central) (f : ℕ) (s : Service) (a : Answer) (o : Choice) → refusal (central_seen c) (Call f s) ≡ None → MayAnswer c f s a o → IsKept c → IsKept (after_call c f s o)
+call_keeps : (c : Central) (f : ℕ) (s : Service) (a : Answer) (o : Choice) → refusal (central_seen c) (Call f s) ≡ None → MayAnswer c f s a o → IsCentralKept c → IsCentralKept (after_call c f s o)
 call_keeps c f (service.Resign way) a o none may k = resign_keeps c f way k
 call_keeps c f (service.UpdateAttributeValues object values stamp) a o none may k = let x = clear_call (central_seen c) f (service.UpdateAttributeValues object values stamp) none in let outs = update_sent c.directory object values in
     let x1 = x.1 in let x2 = x1.1 in let x3 = x2.1 in let x4 = x3.1 in sends_keep c f stamp outs (high_stamps (c.row f) stamp outs x4.0) k
@@ -80,14 +80,14 @@ call_keeps c f service.DisableAsynchronousDelivery a o none may k = asynchronous
 call_keeps c f s a o none may k = k
 
 -- ---- what arrives
-module _ (c : Central) (k : IsKept c) where
-  fewer_keeps : (to : ℕ → ℕ → ℕ → Option Copy) → NoMore to c.bag → IsKept (record c { bag = to })
+module _ (c : Central) (k : IsCentralKept c) where
+  fewer_keeps : (to : ℕ → ℕ → ℕ → Option Copy) → NoMore to c.bag → IsCentralKept (record c { bag = to })
   fewer_keeps to fewer = keeps_low c.directory.next_federate c.directory.joined c.row c.serial c.bag to c.sent c.sent fewer (low_fewer to c.bag c.sent fewer) k
 
-  arrived_keeps : (g f m : ℕ) → IsKept (after_arrival c g f m)
+  arrived_keeps : (g f m : ℕ) → IsCentralKept (after_arrival c g f m)
   arrived_keeps g f m = fewer_keeps _ (cond_both (is_disabled (c.row f).constrained) (at_key c.bag g m f (option_map demoted_copy (c.bag g m f))) c.bag (λ b. NoMore b c.bag) (λ _. fewer_demoted c.bag g m f) (λ _. same_bag c.bag))
 
-  carry_keeps : (g f : ℕ) (x : Carried) → IsKept (after_carry c g f x)
+  carry_keeps : (g f : ℕ) (x : Carried) → IsCentralKept (after_carry c g f x)
   carry_keeps g f carried.Nothing = k
   carry_keeps g f (carried.Null bound) = k
   carry_keeps g f (carried.Event e) = arrived_keeps g f e.serial
@@ -98,7 +98,7 @@ module _ (c : Central) (k : IsKept c) where
   -- ---- ticks
   module _ (f : ℕ) (member : c.directory.joined f ≡ true) where
     tso_keeps : (q : AdvanceRequest) (e : EventHandle) (s : ℕ) (x : Content) → (c.row f).advance ≡ Some q → is_constrained (c.row f) ≡ true → IsCopy c f e (record { order = Tso; stamp = s; content = x }) → MayPickIn c f q e s
-        → IsKept (record c { row = upd c.row f (row_after_pick (c.row f) q s); bag = at_key c.bag e.sender e.serial f None })
+        → IsCentralKept (record c { row = upd c.row f (row_after_pick (c.row f) q s); bag = at_key c.bag e.sender e.serial f None })
     tso_keeps q e s x asks con copy may =
         let to = at_key c.bag e.sender e.serial f None in
         let fewer = fewer_removed c.bag e.sender e.serial f in
@@ -118,14 +118,14 @@ module _ (c : Central) (k : IsKept c) where
         bound_fewer : (to : ℕ → ℕ → ℕ → Option Copy) → NoMore to c.bag → (f v : ℕ) → BoundIn c.directory.joined c.row c.bag c.sent f v → BoundIn c.directory.joined c.row to c.sent f v
         bound_fewer to fewer f v b = (b.0, λ g j ne reg. out_low _ _ (c.row g) v (low_weaker c.bag c.sent g) (λ y _. low_fewer to c.bag c.sent fewer g y) (b.1 g j ne reg))
 
-    deliver_keeps : (x : Content) (e : EventHandle) (d : Delivery) → MayDeliver c f x e d → IsKept (after_delivery c f e d)
+    deliver_keeps : (x : Content) (e : EventHandle) (d : Delivery) → MayDeliver c f x e d → IsCentralKept (after_delivery c f e d)
     deliver_keeps x e delivery.Receive may = fewer_keeps (at_key c.bag e.sender e.serial f None) (fewer_removed c.bag e.sender e.serial f)
     deliver_keeps x e (delivery.Demoted s) may = fewer_keeps (at_key c.bag e.sender e.serial f None) (fewer_removed c.bag e.sender e.serial f)
     deliver_keeps x e (delivery.TimeStamp s) may =
         let w = may.3 in
-        subst (λ (r : TimeRow). IsKept (record c { row = upd c.row f r; bag = at_key c.bag e.sender e.serial f None })) (sym (row_after_is (c.row f) (c.row f).advance w.0 (λ q. row_after_pick (c.row f) q s) w.1)) (tso_keeps w.0 e s x w.1 may.0 may.2 w.2)
+        subst (λ (r : TimeRow). IsCentralKept (record c { row = upd c.row f r; bag = at_key c.bag e.sender e.serial f None })) (sym (row_after_is (c.row f) (c.row f).advance w.0 (λ q. row_after_pick (c.row f) q s) w.1)) (tso_keeps w.0 e s x w.1 may.0 may.2 w.2)
 
-    regulate_keeps : is_pending (c.row f).regulating ≡ true → IsKept (with_central_row c f (row_after_regulation_enabled (c.row f)))
+    regulate_keeps : is_pending (c.row f).regulating ≡ true → IsCentralKept (with_central_row c f (row_after_regulation_enabled (c.row f)))
     regulate_keeps was =
         let reg = pending_regulator (c.row f).regulating was in
         keeps_row c.directory.next_federate c.directory.joined c.row c.serial c.bag c.bag c.sent f (row_after_regulation_enabled (c.row f)) k (record {
@@ -142,7 +142,7 @@ module _ (c : Central) (k : IsKept c) where
         pending_regulator Pending e = refl
         pending_regulator Enabled e = absurd (cc)
 
-    constrain_keeps : (t : ℕ) (o : Choice) → MayConstrain c f t o → IsKept (after_constraint c f o)
+    constrain_keeps : (t : ℕ) (o : Choice) → MayConstrain c f t o → IsCentralKept (after_constraint c f o)
     constrain_keeps t (choice.Moved events) may =
         let to = with_demoted c.bag f events in
         let fewer = fewer_moved c.bag f events in
@@ -163,7 +163,7 @@ module _ (c : Central) (k : IsKept c) where
         })
     constrain_keeps t o may = absurd may
 
-    grant_keeps : (q : AdvanceRequest) (t : ℕ) → (c.row f).advance ≡ Some q → MayGrant c f t q → IsKept (with_central_row c f (row_after_grant (c.row f) q t))
+    grant_keeps : (q : AdvanceRequest) (t : ℕ) → (c.row f).advance ≡ Some q → MayGrant c f t q → IsCentralKept (with_central_row c f (row_after_grant (c.row f) q t))
     grant_keeps q t asks may =
         keeps_row c.directory.next_federate c.directory.joined c.row c.serial c.bag c.bag c.sent f (row_after_grant (c.row f) q t) k (record {
           fewer = same_bag c.bag;
@@ -185,34 +185,34 @@ module _ (c : Central) (k : IsKept c) where
             (λ (n : is_flush q.kind ≡ false). let w = (grant_plain c f q t may con n).1 in (w.0, low_weaker c.bag c.sent f (reach q.kind t) t (le_reach q.kind t) w.1))
             (cases_Bool (is_flush q.kind))
 
-    pick_keeps : (x : Callback) (o : Choice) → MayPickUp c f x o → IsKept (after_pick c f x o)
+    pick_keeps : (x : Callback) (o : Choice) → MayPickUp c f x o → IsCentralKept (after_pick c f x o)
     pick_keeps (callback.DiscoverObjectInstance object class name) o may = k
     pick_keeps (callback.ReflectAttributeValues object values event d) o may = deliver_keeps (content.Reflection object values) event d may
     pick_keeps (callback.ReceiveInteraction class values event d) o may = deliver_keeps (content.Interaction class values) event d may
     pick_keeps (callback.RemoveObjectInstance object event d) o may = deliver_keeps (content.Removal object) event d may
     pick_keeps (callback.TimeRegulationEnabled time) o may = regulate_keeps may.0
     pick_keeps (callback.TimeConstrainedEnabled time) o may = constrain_keeps time o may
-    pick_keeps (callback.TimeAdvanceGrant time) o may = subst (λ (r : TimeRow). IsKept (with_central_row c f r)) (sym (row_after_is (c.row f) (c.row f).advance may.0 (λ q. row_after_grant (c.row f) q time) may.1)) (grant_keeps may.0 time may.1 may.2)
+    pick_keeps (callback.TimeAdvanceGrant time) o may = subst (λ (r : TimeRow). IsCentralKept (with_central_row c f r)) (sym (row_after_is (c.row f) (c.row f).advance may.0 (λ q. row_after_grant (c.row f) q time) may.1)) (grant_keeps may.0 time may.1 may.2)
     pick_keeps (callback.RequestRetraction event) o may = k
 
 -- ---- any step
-done_keeps : (c : Central) (step : Step) (a : Answer) (o : Choice) → refusal (central_seen c) step ≡ None → MayDo c step a o → IsKept c → IsKept (after_done c step a o)
+done_keeps : (c : Central) (step : Step) (a : Answer) (o : Choice) → refusal (central_seen c) step ≡ None → MayDo c step a o → IsCentralKept c → IsCentralKept (after_done c step a o)
 done_keeps c (Join name) a o none may k = join_keeps c name k
 done_keeps c (Call f s) a o none may k = call_keeps c f s a o none may k
 done_keeps c (Carry from to) (answer.Carried x) o none may k = carry_keeps c k from to x
 done_keeps c (Tick f) (answer.Ticked (Some x)) o none may k = pick_keeps c k f (ticker_joined (central_seen c) f none) x o may
 done_keeps c step a o none may k = k
 
-pub step_keeps : (c : Central) (step : Step) (out : Outcome) (o : Choice) → MayEnd c step out o → IsKept c → IsKept (after c step out o)
+pub step_keeps : (c : Central) (step : Step) (out : Outcome) (o : Choice) → MayEnd c step out o → IsCentralKept c → IsCentralKept (after c step out o)
 step_keeps c step (outcome.Done a) o may k = done_keeps c step a o may.0 may.1 k
 step_keeps c (Tick f) (outcome.Failed x) o may k = pick_keeps c k f (ticker_joined (central_seen c) f may.0) x o may.1
 step_keeps c step out o may k = k
 
-run_keeps : (c : Central) (hs : List Happening) (d : Central) → IsRun c hs d → IsKept c → IsKept d
-run_keeps c [] d run k = subst IsKept run k
+run_keeps : (c : Central) (hs : List Happening) (d : Central) → IsRun c hs d → IsCentralKept c → IsCentralKept d
+run_keeps c [] d run k = subst IsCentralKept run k
 run_keeps c (h ∷ hs) d run k = run_keeps (after c h.step h.outcome h.choice) hs d run.1 (step_keeps c h.step h.outcome h.choice run.0.0 k)
 
-pub start_keeps : (catalogue : CatalogueValue) → IsKept (new_central catalogue)
+pub start_keeps : (catalogue : CatalogueValue) → IsCentralKept (new_central catalogue)
 start_keeps catalogue = record {
   members = λ f e. absurd (cc);
   regulators = λ g e. absurd (cc);

@@ -26,7 +26,7 @@ use Rattle.hla_base.proofs.Tables.{by_number, upd_same, upd_other, upd_each, upd
 use Rattle.hla_retraction.specs.SentEvents.{SentEvent}
 use Rattle.hla_machine.proofs.Basics.Tests.{AllClear, not-is-false}
 use Rattle.hla_machine.proofs.Basics.Rows.{RowLaw, law_new, law_requested, law_free, law_stopped, law_asynchronous, law_entered, out_low}
-use Rattle.hla_machine.proofs.Upkeep.Keeps.{IsKept, NoMore, low_fewer, low_weaker, fewer_moved, keeps_low, keeps_row, keeps_rest, old_out, keeps_sent}
+use Rattle.hla_machine.proofs.Upkeep.Keeps.{IsCentralKept, NoMore, low_fewer, low_weaker, fewer_moved, keeps_low, keeps_row, keeps_rest, old_out, keeps_sent}
 
 pub none_from : (o : Option AdvanceRequest) → not (is_none_of o) ≡ false → o ≡ None
 none_from None h = refl
@@ -36,7 +36,7 @@ pub same_bag : (bag : ℕ → ℕ → ℕ → Option Copy) → NoMore bag bag
 same_bag bag g m f k is tso = is
 
 -- ---- members
-pub join_keeps : (c : Central) (name : List ℕ) → IsKept c → IsKept (after_join c name)
+pub join_keeps : (c : Central) (name : List ℕ) → IsCentralKept c → IsCentralKept (after_join c name)
 join_keeps c name k =
     let n = c.directory.next_federate in
     record {
@@ -56,7 +56,7 @@ join_keeps c name k =
 pub left_fewer : (c : Central) (f : ℕ) → NoMore (λ g m. upd (c.bag g m) f None) c.bag
 left_fewer c f g m = by_number f _ (λ k is tso. absurd (let e : None ≡ Some k = rw upd_same at is in cc)) (λ l ne k is tso. rw upd_other at is)
 
-pub left_keeps : (c : Central) (f : ℕ) → IsKept c → IsKept (after_leaving c f)
+pub left_keeps : (c : Central) (f : ℕ) → IsCentralKept c → IsCentralKept (after_leaving c f)
 left_keeps c f k = record {
   members = upd_each c.directory.joined f false (λ g x. x ≡ true → g < c.directory.next_federate) (λ e. absurd (cc)) (λ g _. k.members g);
   regulators = by_number f _ (rw upd_same (λ e. absurd (cc))) (λ g ne. rw (upd_other, upd_other) (k.regulators g));
@@ -94,29 +94,29 @@ pub each_high_unstamped : (r : TimeRow) (outs : List Outgoing) → EachHigh r No
 each_high_unstamped r [] = tt
 each_high_unstamped r (out ∷ outs) = ((λ o. let p : false ≡ true = (and_parts (is_of_order Timestamp out.order) false (and_parts _ _ o).0).1 in absurd (cc)), each_high_unstamped r outs)
 
-pub sends_keep : (c : Central) (f : ℕ) (stamp : Option ℕ) (outs : List Outgoing) → EachHigh (c.row f) stamp outs → IsKept c → IsKept (after_messages c f stamp outs)
+pub sends_keep : (c : Central) (f : ℕ) (stamp : Option ℕ) (outs : List Outgoing) → EachHigh (c.row f) stamp outs → IsCentralKept c → IsCentralKept (after_messages c f stamp outs)
 sends_keep c f stamp [] high k = k
 sends_keep c f stamp (out ∷ outs) high k = sends_keep (after_message c f stamp out) f stamp outs high.1 (keeps_sent c f stamp out k high.0)
 
-pub resign_keeps : (c : Central) (f : ℕ) (way : ResignAction) → IsKept c → IsKept (after_resign c f way)
+pub resign_keeps : (c : Central) (f : ℕ) (way : ResignAction) → IsCentralKept c → IsCentralKept (after_resign c f way)
 resign_keeps c f DeleteObjects k = let outs = deletions_sent (objects_of c.directory f) in left_keeps (after_messages c f None outs) f (sends_keep c f None outs (each_high_unstamped (c.row f) outs) k)
 resign_keeps c f NoAction k = left_keeps c f k
 resign_keeps c f ReleaseAttributes k = k
 resign_keeps c f DeleteObjectsAndReleaseAttributes k = k
 
 -- ---- rows of federates at rest
-module _ (c : Central) (f : ℕ) (k : IsKept c) (member : c.directory.joined f ≡ true) where
+module _ (c : Central) (f : ℕ) (k : IsCentralKept c) (member : c.directory.joined f ≡ true) where
   pub rest : (r : TimeRow) → RowLaw r → (c.row f).advance ≡ None → (c.row f).floor ≤ r.floor → (is_regulator r ≡ true → is_regulator (c.row f) ≡ true)
-      → (is_constrained r ≡ true → (is_constrained (c.row f) ≡ true) × (r.bar ≡ (c.row f).bar) × (r.time ≡ (c.row f).time)) → IsKept (with_central_row c f r)
+      → (is_constrained r ≡ true → (is_constrained (c.row f) ≡ true) × (r.bar ≡ (c.row f).bar) × (r.time ≡ (c.row f).time)) → IsCentralKept (with_central_row c f r)
   rest r law idle up role con = keeps_rest c.directory.next_federate c.directory.joined c.row c.serial c.bag c.bag c.sent f r k (same_bag c.bag) member law idle up role con
 
-  pub ask_keeps : (x : AdvanceKind) (a : ℕ) → AllClear (request_tests (c.row f) a) → IsKept (with_central_row c f (row_after_request (c.row f) x a))
+  pub ask_keeps : (x : AdvanceKind) (a : ℕ) → AllClear (request_tests (c.row f) a) → IsCentralKept (with_central_row c f (row_after_request (c.row f) x a))
   ask_keeps x a clear =
       let idle = none_from (c.row f).advance clear.0 in let c1 = clear.1 in let c2 = c1.1 in
       rest (row_after_request (c.row f) x a) (law_requested (c.row f) x a (k.rows f) idle c1.0 c2.0) idle
       (cond_both ((is_next x || is_flush x) && is_constrained (c.row f)) (c.row f).floor _ (λ y. (c.row f).floor ≤ y) (λ _. omega arith) (λ _. omega arith)) (λ e. e) (λ e. (e, refl, refl))
 
-  pub stop_keeps : IsKept (with_central_row c f (record (c.row f) { regulating = Disabled }))
+  pub stop_keeps : IsCentralKept (with_central_row c f (record (c.row f) { regulating = Disabled }))
   stop_keeps = keeps_row c.directory.next_federate c.directory.joined c.row c.serial c.bag c.bag c.sent f _ k (record {
     fewer = same_bag c.bag;
     member = member;
@@ -126,7 +126,7 @@ module _ (c : Central) (f : ℕ) (k : IsKept c) (member : c.directory.joined f �
     ahead = k.ahead f;
   })
 
-  pub asynchronous_keeps : (b : Bool) → IsKept (with_central_row c f (record (c.row f) { asynchronous = b }))
+  pub asynchronous_keeps : (b : Bool) → IsCentralKept (with_central_row c f (record (c.row f) { asynchronous = b }))
   asynchronous_keeps b = keeps_row c.directory.next_federate c.directory.joined c.row c.serial c.bag c.bag c.sent f _ k (record {
     fewer = same_bag c.bag;
     member = member;
@@ -137,7 +137,7 @@ module _ (c : Central) (f : ℕ) (k : IsKept c) (member : c.directory.joined f �
   })
 
   -- all that others count on lies below the entry
-  pub enter_keeps : (lookahead e earliest : ℕ) → (c.row f).advance ≡ None → (c.row f).time ≤ earliest → low_entry c.directory c.row earliest ≤ e → IsKept (with_central_row c f (row_with_entry (c.row f) lookahead e))
+  pub enter_keeps : (lookahead e earliest : ℕ) → (c.row f).advance ≡ None → (c.row f).time ≤ earliest → low_entry c.directory c.row earliest ≤ e → IsCentralKept (with_central_row c f (row_with_entry (c.row f) lookahead e))
   unfolding low_entry
   enter_keeps lookahead e earliest idle late low =
       let base : earliest ≤ e = le_trans (greatest_ge c.directory.next_federate earliest (λ g. bar_of (c.row g))) low in
@@ -160,15 +160,15 @@ pub not_early : (r : TimeRow) (b : Bool) (t limit : ℕ) → (ltb limit t || con
 not_early r true t limit h = let e = eqb-true t r.time (not-is-false _ (or_parts _ _ h).1) in omega arith
 not_early r false t limit h = ltb-false t r.time (or_parts _ _ h).1
 
-pub enter_after : (c : Central) (f lookahead earliest : ℕ) (o : Choice) → IsKept c → c.directory.joined f ≡ true → (c.row f).advance ≡ None → (c.row f).time ≤ earliest → MayEnter c f earliest o → IsKept (after_enter c f lookahead o)
+pub enter_after : (c : Central) (f lookahead earliest : ℕ) (o : Choice) → IsCentralKept c → c.directory.joined f ≡ true → (c.row f).advance ≡ None → (c.row f).time ≤ earliest → MayEnter c f earliest o → IsCentralKept (after_enter c f lookahead o)
 enter_after c f lookahead earliest (choice.Entry e) k member idle late may = enter_keeps c f k member lookahead e earliest idle late may.0
 enter_after c f lookahead earliest o k member idle late may = absurd may
 
-pub cease_after : (c : Central) (f : ℕ) (o : Choice) → IsKept c → c.directory.joined f ≡ true → (c.row f).advance ≡ None → IsKept (after_cease c f o)
+pub cease_after : (c : Central) (f : ℕ) (o : Choice) → IsCentralKept c → c.directory.joined f ≡ true → (c.row f).advance ≡ None → IsCentralKept (after_cease c f o)
 cease_after c f (choice.Moved events) k member idle = keeps_rest c.directory.next_federate c.directory.joined c.row c.serial c.bag (with_demoted c.bag f events) c.sent f (record (c.row f) { constrained = Disabled }) k (fewer_moved c.bag f events) member
     (law_free (c.row f) (k.rows f)) idle (omega arith) (λ e. e) (λ e. absurd (cc))
 cease_after c f o k member idle = k
 
-pub retract_keeps : (c : Central) (f m : ℕ) → IsKept c → IsKept (after_retract c f m)
+pub retract_keeps : (c : Central) (f m : ℕ) → IsCentralKept c → IsCentralKept (after_retract c f m)
 retract_keeps c f m k = keeps_low c.directory.next_federate c.directory.joined c.row c.serial c.bag c.bag c.sent _ (same_bag c.bag)
     (λ l x low h n y is live tso. low h n y is (upd2_each c.sent f m (record (c.sent f m) { retracted = true }) (λ h n (e : SentEvent). e.retracted ≡ false → (c.sent h n).retracted ≡ false) (λ e. absurd (cc)) (λ _ _ e. e) h n live) tso) k

@@ -37,7 +37,7 @@ use Rattle.hla_machine.specs.Refusals.{refusal}
 use Rattle.hla_machine.specs.Machine.{central_seen, MayEnter, MayAnswer, MayDo, MayEnd, after_join, after_enter, after_cease, after_call, after_carry, after_done, after}
 use Rattle.hla_base.proofs.Tables.{by_number, upd_same, upd_other, upd_each, greatest_ge}
 use Rattle.hla_machine.proofs.Basics.Tests.{AllClear, clear_call}
-use Rattle.hla_machine.proofs.Upkeep.Keeps.{IsKept}
+use Rattle.hla_machine.proofs.Upkeep.Keeps.{IsCentralKept}
 use Rattle.hla_machine.proofs.Upkeep.Runs.{row_after_is}
 use Rattle.hla_machine.proofs.Upkeep.Services.{none_from, entry_may, not_early}
 
@@ -79,7 +79,7 @@ left_turn c b e g = by_number g _
     (Fresh (upd_same b.row g new_row) (λ _. upd_same b.directory.joined g false))
     (λ f ne. Calm (rw upd_other (subst (λ (row : ℕ → TimeRow). Same (c.row f) (row f)) (sym e) (same (c.row f)))))
 
-join_turn : (c : Central) (name : List ℕ) → IsKept c → (f : ℕ) → Turn c f ((after_join c name).row f) ((after_join c name).directory.joined f)
+join_turn : (c : Central) (name : List ℕ) → IsCentralKept c → (f : ℕ) → Turn c f ((after_join c name).row f) ((after_join c name).directory.joined f)
 join_turn c name k = by_number c.directory.next_federate _
     (Fresh (upd_same c.row c.directory.next_federate new_row) (λ j. absurd (let l = k.members c.directory.next_federate j in omega arith)))
     (λ f ne. Calm (rw upd_other (same (c.row f))))
@@ -136,7 +136,7 @@ carry_turn c g f x i = Calm (calm x)
     calm (carried.Retraction e) = same (c.row i)
     calm x = same (c.row i)
 
-module _ (c : Central) (k : IsKept c) (f : ℕ) where
+module _ (c : Central) (k : IsCentralKept c) (f : ℕ) where
   deliver_turn : (x : Content) (e : EventHandle) (d : Delivery) → MayDeliver c f x e d → (i : ℕ) → Turn c i ((after_delivery c f e d).row i) ((after_delivery c f e d).directory.joined i)
   deliver_turn x e delivery.Receive may = λ i. Calm (same (c.row i))
   deliver_turn x e (delivery.Demoted s) may = λ i. Calm (same (c.row i))
@@ -156,14 +156,14 @@ module _ (c : Central) (k : IsKept c) (f : ℕ) where
   pick_turn (callback.TimeAdvanceGrant time) o may = row_turn c f _ (Granted may.0 time may.1 may.2 (row_after_is (c.row f) (c.row f).advance may.0 (λ q. row_after_grant (c.row f) q time) may.1))
   pick_turn (callback.RequestRetraction event) o may = λ i. Calm (same (c.row i))
 
-done_turn : (c : Central) (step : Step) (a : Answer) (o : Choice) → refusal (central_seen c) step ≡ None → MayDo c step a o → IsKept c → (i : ℕ) → Turn c i ((after_done c step a o).row i) ((after_done c step a o).directory.joined i)
+done_turn : (c : Central) (step : Step) (a : Answer) (o : Choice) → refusal (central_seen c) step ≡ None → MayDo c step a o → IsCentralKept c → (i : ℕ) → Turn c i ((after_done c step a o).row i) ((after_done c step a o).directory.joined i)
 done_turn c (Join name) a o none may k = join_turn c name k
 done_turn c (Call f s) a o none may k = call_turn c f s a o none may
 done_turn c (Carry from to) (answer.Carried x) o none may k = carry_turn c from to x
 done_turn c (Tick f) (answer.Ticked (Some x)) o none may k = pick_turn c k f x o may
 done_turn c step a o none may k = λ i. Calm (same (c.row i))
 
-pub step_turn : (c : Central) (step : Step) (out : Outcome) (o : Choice) → MayEnd c step out o → IsKept c → (i : ℕ) → Turn c i ((after c step out o).row i) ((after c step out o).directory.joined i)
+pub step_turn : (c : Central) (step : Step) (out : Outcome) (o : Choice) → MayEnd c step out o → IsCentralKept c → (i : ℕ) → Turn c i ((after c step out o).row i) ((after c step out o).directory.joined i)
 step_turn c step (outcome.Done a) o may k = done_turn c step a o may.0 may.1 k
 step_turn c (Tick f) (outcome.Failed x) o may k = pick_turn c k f x o may.1
 step_turn c step out o may k = λ i. Calm (same (c.row i))

@@ -165,7 +165,7 @@ floor_if : (f : EventKey) (es : List (EventKey × List Event)) (k : EventKey) (b
 floor_if f [] k b at is = absurd (cc)
 floor_if f (e ∷ es) k b at is = let same : f ≡ e.0 = cc in is ∙ ap (is_less k) same
 
-pub record IsTold (k : EventKey) (es : List (EventKey × List Event)) (b : Bool) : Type 0 where
+pub record TellsWhether (k : EventKey) (es : List (EventKey × List Event)) (b : Bool) : Type 0 where
   pub after : b ≡ true → AreAfter k es
   pub events : b ≡ true → first_after k (events_of es) ≡ true
   pub within : b ≡ false → floor_after k es ≡ false
@@ -180,7 +180,7 @@ unfolding joined
 some_events k [] h e = absurd (cc)
 some_events k (x ∷ es) h e = some_first x.1 (events_of es) h.0
 
-pub told_first : (k f : EventKey) (es : List (EventKey × List Event)) (b : Bool) → AreBlocks es → Some f ≡ option_map (λ e. e.0) (slice_get es 0) → b ≡ is_less k f → IsTold k es b
+pub told_first : (k f : EventKey) (es : List (EventKey × List Event)) (b : Bool) → AreBlocks es → Some f ≡ option_map (λ e. e.0) (slice_get es 0) → b ≡ is_less k f → TellsWhether k es b
 told_first k f es b h at is =
     let whole = floor_if f es k b at is in
     record {
@@ -190,7 +190,7 @@ told_first k f es b h at is =
       some = λ p. some_events k es h.filled (sym whole ∙ p);
     }
 
-pub told_none : (k : EventKey) (es : List (EventKey × List Event)) → es ≡ [] → IsTold k es true
+pub told_none : (k : EventKey) (es : List (EventKey × List Event)) → es ≡ [] → TellsWhether k es true
 unfolding joined
 told_none k es e = rw e (record { after = λ p. tt; events = λ p. refl; within = λ p. absurd (cc); some = λ p. absurd (cc) })
 

@@ -71,7 +71,7 @@ many_there None n e h = absurd (omega (arith, e))
 many_there (Some b) n e h = omega (arith, e)
 
 -- an event is taken out of the block of its place
-pub record IsTaken (k f : EventKey) (es new : List (EventKey × List Event)) (r : Option Event) : Type 0 where
+pub record IsTakenFromBlock (k f : EventKey) (es new : List (EventKey × List Event)) (r : Option Event) : Type 0 where
   pub found : r ≡ find_event k.sender k.serial (events_of es)
   pub rest : events_of new ≡ remove_event k.sender k.serial (events_of es)
   pub at : At f new
@@ -104,7 +104,7 @@ unfolding AreFloored
 floored_less [] e fs h = h.2
 floored_less (g ∷ es) e fs h = (h.0, below_less g.1 es e fs h.1, floored_less es e fs h.2)
 
-pub taken_out : (k f : EventKey) (es new : List (EventKey × List Event)) (r : Option Event) → IsPlace k f es → AreBlocks es → HasKey k (events_of es) → MatchOption (block_at f es) ((r ≡ None) × (new ≡ es)) (λ b. (r ≡ find_event k.sender k.serial b) × (new ≡ set_block f es (remove_event k.sender k.serial b))) → IsTaken k f es new r
+pub taken_out : (k f : EventKey) (es new : List (EventKey × List Event)) (r : Option Event) → IsPlace k f es → AreBlocks es → HasKey k (events_of es) → MatchOption (block_at f es) ((r ≡ None) × (new ≡ es)) (λ b. (r ≡ find_event k.sender k.serial b) × (new ≡ set_block f es (remove_event k.sender k.serial b))) → IsTakenFromBlock k f es new r
 taken_out k f es new r p blocks h told =
     let a = p.at in
     let b = a.block in

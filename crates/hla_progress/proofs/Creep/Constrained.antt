@@ -15,7 +15,7 @@ use Rattle.hla_progress.specs.Creeping.{EachIsConstrained}
 use Rattle.hla_progress.proofs.Moving.Led.{led_sound}
 use Rattle.hla_progress.proofs.Waiting.Lists.{rounds_of}
 use Rattle.hla_progress.proofs.CatchUp.Constraining.{IsConstrainedAt, ToConstrain, due_first, list_goes_on, constrained_in}
-use Rattle.hla_progress.proofs.Creep.OneRound.{Stands}
+use Rattle.hla_progress.proofs.Creep.OneRound.{StandsAbove}
 use Rattle.hla_progress.proofs.Creep.TwoRounds.{says_promised, many_rounds}
 use Rattle.hla_progress.proofs.Creep.Granted.{given_in_front, given_behind, given_at_last, rounds_append}
 
@@ -26,7 +26,7 @@ floor_comes s f is reg = let law = (led_sound s is).kept.rows f in ⊎_elim
     (λ (n : is_pending (s.row f).regulating ≡ false). rw n (law.floored reg))
     (cases_Bool (is_pending (s.row f).regulating))
 
-stands_for : (s : Components) (f n m : ℕ) → IsLedTo s → s.directory.next_federate ≤ n + 1 → ((g h : ℕ) → length (s.wire g h) ≤ m) → BelowBound (central s) f (coming_time (s.row f)) → Stands (coming_time (s.row f)) n m s
+stands_for : (s : Components) (f n m : ℕ) → IsLedTo s → s.directory.next_federate ≤ n + 1 → ((g h : ℕ) → length (s.wire g h) ≤ m) → BelowBound (central s) f (coming_time (s.row f)) → StandsAbove (coming_time (s.row f)) n m s
 stands_for s f n m is few short below = record {
   led = is;
   few = few;
@@ -38,7 +38,7 @@ stands_for s f n m is few short below = record {
       (cases_eq g f);
 }
 
-module _ (s : Components) (f n m i limit u : ℕ) (c : ToConstrain f u s) (is : IsLedTo s) (on : Stands u n m (state_after s (rounds i n m))) (quick : NobodyIsSlow (state_after s (rounds i n m)) f u) where
+module _ (s : Components) (f n m i limit u : ℕ) (c : ToConstrain f u s) (is : IsLedTo s) (on : StandsAbove u n m (state_after s (rounds i n m))) (quick : NobodyIsSlow (state_after s (rounds i n m)) f u) where
   abbrev later : Components
   later = state_after s (rounds i n m)
 

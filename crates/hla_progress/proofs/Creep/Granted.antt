@@ -25,7 +25,7 @@ use Rattle.hla_progress.proofs.Waiting.Steps.{WaitsOn, step_goes}
 use Rattle.hla_progress.proofs.Waiting.Lists.{rounds_of}
 use Rattle.hla_progress.proofs.CatchUp.Aims.{IsGrantOf, waiting_next, due_or_none}
 use Rattle.hla_progress.proofs.CatchUp.FirstRound.{catches_up_in}
-use Rattle.hla_progress.proofs.Creep.OneRound.{Stands, round_after, stands_on, slow_since}
+use Rattle.hla_progress.proofs.Creep.OneRound.{StandsAbove, round_after, stands_on, slow_since}
 use Rattle.hla_progress.proofs.Creep.TwoRounds.{by_slowness, says_promised, one_round, many_rounds}
 
 -- ---- while it waits
@@ -77,7 +77,7 @@ own_out s f q t is w = ⊎_elim
     inl (omega (arith, (led_keeps s is).raised f q w.asks late, w.target.0 n, reach_width q.kind t (s.row f).lookahead)))
     (cases_Bool (is_next q.kind))
 
-stands_at : (s : Components) (f n m : ℕ) (q : AdvanceRequest) (t : ℕ) → IsLedTo s → s.directory.next_federate ≤ n + 1 → ((g h : ℕ) → length (s.wire g h) ≤ m) → IsWaitingFor s f q t → BelowBound (central s) f (reach q.kind t) → Stands (reach q.kind t) n m s
+stands_at : (s : Components) (f n m : ℕ) (q : AdvanceRequest) (t : ℕ) → IsLedTo s → s.directory.next_federate ≤ n + 1 → ((g h : ℕ) → length (s.wire g h) ≤ m) → IsWaitingFor s f q t → BelowBound (central s) f (reach q.kind t) → StandsAbove (reach q.kind t) n m s
 stands_at s f n m q t is few short w below = record {
   led = is;
   few = few;
@@ -90,8 +90,8 @@ stands_at s f n m q t is few short w below = record {
 }
 
 -- ---- after rounds that leave nobody slow
-module _ (s : Components) (f n m i : ℕ) (q : AdvanceRequest) (t : ℕ) (w : IsWaitingFor s f q t) (st : Stands (reach q.kind t) n m s)
-    (on : Stands (reach q.kind t) n m (state_after s (rounds i n m))) (quick : NobodyIsSlow (state_after s (rounds i n m)) f (reach q.kind t)) where
+module _ (s : Components) (f n m i : ℕ) (q : AdvanceRequest) (t : ℕ) (w : IsWaitingFor s f q t) (st : StandsAbove (reach q.kind t) n m s)
+    (on : StandsAbove (reach q.kind t) n m (state_after s (rounds i n m))) (quick : NobodyIsSlow (state_after s (rounds i n m)) f (reach q.kind t)) where
   abbrev later : Components
   later = state_after s (rounds i n m)
 
@@ -125,11 +125,11 @@ follows_one s f n m q t is few short waits below one =
     same_after : state_after s (rounds 1 n m) ≡ round_after n m s
     same_after = ap (λ (steps : List Step). state_after s steps) (append-nil (round n m))
 
-    after_one : Stands (reach q.kind t) n m s → Stands (reach q.kind t) n m (state_after s (rounds 1 n m))
-    after_one st = subst (λ (u : Components). Stands (reach q.kind t) n m u) (sym same_after) (stands_on (reach q.kind t) n m s st)
+    after_one : StandsAbove (reach q.kind t) n m s → StandsAbove (reach q.kind t) n m (state_after s (rounds 1 n m))
+    after_one st = subst (λ (u : Components). StandsAbove (reach q.kind t) n m u) (sym same_after) (stands_on (reach q.kind t) n m s st)
 
     -- what all others said lets the one that was slow say it too
-    nobody : (st : Stands (reach q.kind t) n m s) (g : ℕ) → IsSlow (state_after s (rounds 1 n m)) (reach q.kind t) g → ⊥
+    nobody : (st : StandsAbove (reach q.kind t) n m s) (g : ℕ) → IsSlow (state_after s (rounds 1 n m)) (reach q.kind t) g → ⊥
     nobody st g a =
         let x = reach q.kind t in
         let b : IsSlow (round_after n m s) x g = subst (λ (u : Components). IsSlow u x g) same_after a in

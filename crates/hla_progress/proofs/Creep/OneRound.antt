@@ -57,7 +57,7 @@ all_ticked t (suc n) = let u = state_after t (ticks n) in let a = all_ticked t n
 
 -- ---- the round
 -- nobody who regulates may send anything below x, and no wire is longer than m
-pub record Stands (x n m : ℕ) (s : Components) : Type 0 where
+pub record StandsAbove (x n m : ℕ) (s : Components) : Type 0 where
   pub led : IsLedTo s
   pub few : s.directory.next_federate ≤ n + 1
   pub short : (g h : ℕ) → g ≢ 0 → length (s.wire g h) ≤ m
@@ -70,7 +70,7 @@ round_after n m s = state_after s (round n m)
 not_a_wire : (joined : Bool) (g f next : ℕ) → joined ≡ false → (ltb g next && (not (eqb g f) && joined)) ≡ false
 not_a_wire joined g f next e = grind (arith, nat_tests)
 
-module _ (x n m : ℕ) (s : Components) (st : Stands x n m s) where
+module _ (x n m : ℕ) (s : Components) (st : StandsAbove x n m s) where
   abbrev t : Components
   t = round_after n m s
 
@@ -108,7 +108,7 @@ module _ (x n m : ℕ) (s : Components) (st : Stands x n m s) where
       let e : t.wire g h ≡ [] = (led_inv t led_round_after).kept.wired g h (not_a_wire (t.directory.joined h) g h t.directory.next_federate off) in rw e (omega arith))
       (cases_Bool (s.directory.joined h))
 
-  pub stands_on : Stands x n m t
+  pub stands_on : StandsAbove x n m t
   stands_on = record {
     led = led_round_after;
     few = subst (λ (d : Directory). d.next_federate ≤ n + 1) (sym round_directory) st.few;

@@ -16,13 +16,13 @@ use Rattle.hla_progress.specs.CatchingUp.{IsSlow}
 use Rattle.hla_progress.specs.Creeping.{EachPairIsWide, EachSlowPromises}
 use Rattle.hla_progress.proofs.CatchUp.FirstRound.{floor_le, slow_by}
 use Rattle.hla_progress.proofs.Creep.Promising.{slow_ge}
-use Rattle.hla_progress.proofs.Creep.OneRound.{Stands, round_after, stands_on, round_role, round_heard, slow_since, slow_width, wide_on}
+use Rattle.hla_progress.proofs.Creep.OneRound.{StandsAbove, round_after, stands_on, round_role, round_heard, slow_since, slow_width, wide_on}
 
 -- each regulator promises x, or b or more
 abbrev pub Says : ℕ → ℕ → Components → Type 0
 Says x b s = (g : ℕ) → is_regulator (s.row g) ≡ true → min x b ≤ promise s g
 
-module _ (x n m : ℕ) (s : Components) (st : Stands x n m s) where
+module _ (x n m : ℕ) (s : Components) (st : StandsAbove x n m s) where
   -- a regulator is slow for x, or promises it
   pub by_slowness : (P : Type 0) (g : ℕ) → is_regulator (s.row g) ≡ true → (x ≤ promise s g → P) → (IsSlow s x g → P) → P
   by_slowness P g reg high slow = ⊎_elim
@@ -57,14 +57,14 @@ module _ (x n m : ℕ) (s : Components) (st : Stands x n m s) where
       omega (arith, known, slow_ge t g x on.led a (on.outs g ((led_inv t on.led).kept.time.regulators g a.regulates) a.regulates))
 
 -- two rounds
-module _ (x n m w b : ℕ) (s : Components) (st : Stands x n m s) (wide : EachPairIsWide s x w) (says : Says x b s) where
+module _ (x n m w b : ℕ) (s : Components) (st : StandsAbove x n m s) (wide : EachPairIsWide s x w) (says : Says x b s) where
   abbrev first : Components
   first = round_after n m s
 
   abbrev second : Components
   second = round_after n m first
 
-  on_first : Stands x n m first
+  on_first : StandsAbove x n m first
   on_first = stands_on x n m s st
 
   -- what h said after the first, where g is slow after it with the width v
@@ -92,10 +92,10 @@ once_more : (k w b : ℕ) → b + w + k * w ≡ b + suc k * w
 once_more k w b = omega (arith, suc-mul k w)
 
 pub record HaveSaid (x n m b : ℕ) (s : Components) : Type 0 where
-  pub stands : Stands x n m s
+  pub stands : StandsAbove x n m s
   pub says : Says x b s
 
-pub many_rounds : (x n m w k b : ℕ) (s : Components) → Stands x n m s → EachPairIsWide s x w → Says x b s → HaveSaid x n m (b + k * w) (state_after s (rounds (2 * k) n m))
+pub many_rounds : (x n m w k b : ℕ) (s : Components) → StandsAbove x n m s → EachPairIsWide s x w → Says x b s → HaveSaid x n m (b + k * w) (state_after s (rounds (2 * k) n m))
 many_rounds x n m w zero b s st wide says = record { stands = st; says = λ g reg. let l = says g reg in omega arith }
 many_rounds x n m w (suc k) b s st wide says =
     let first = round_after n m s in let second = round_after n m first in

@@ -42,12 +42,12 @@ pub record HoldsRow (r : TimeRow) (x : ℕ) : Type 0 where
   pub floor : r.floor < x
   pub request : (q : AdvanceRequest) → r.advance ≡ Some q → (is_next q.kind ≡ true) × (width r.lookahead q.kind ≡ 0)
 
-pub record Holds (s : Components) (x g : ℕ) : Type 0 where
+pub record HoldsAt (s : Components) (x g : ℕ) : Type 0 where
   pub row : HoldsRow (s.row g) x
   pub last : s.last_announced g < x
 
 -- ---- what such a federate promises
-low_bound : (s : Components) (x f g : ℕ) → Inv s → f ≢ g → s.directory.joined f ≡ true → Holds s x g → local_bound s f < x
+low_bound : (s : Components) (x f g : ℕ) → Inv s → f ≢ g → s.directory.joined f ≡ true → HoldsAt s x g → local_bound s f < x
 low_bound s x f g inv ne member b =
     let reg = b.row.regulates in
     let joined = inv.kept.time.regulators g reg in
@@ -58,17 +58,17 @@ low_in : (r : TimeRow) (x : ℕ) (o : Option AdvanceRequest) (queued bound : ℕ
 low_in r x None queued bound a b zero = a
 low_in r x (Some q) queued bound a b zero = omega (arith, a, b, zero q refl)
 
-low_promise : (s : Components) (x g h : ℕ) → Inv s → g ≢ h → Holds s x g → Holds s x h → promise s g < x
+low_promise : (s : Components) (x g h : ℕ) → Inv s → g ≢ h → HoldsAt s x g → HoldsAt s x h → promise s g < x
 low_promise s x g h inv ne a b = low_in (s.row g) x (next_request (s.row g)) (first_stamp (s.tso g)) (local_bound s g) a.row.floor
     (low_bound s x g h inv ne (inv.kept.time.regulators g a.row.regulates) b)
     (λ q waits. (a.row.request q (next_asked (s.row g) q waits)).1)
 
 -- ---- steps
-module _ (s : Components) (x g h : ℕ) (inv : Inv s) (ne : g ≢ h) (a : Holds s x g) (b : Holds s x h) where
-  announce_holds : (k : ℕ) → Holds (announce_outcome s k).state x g
+module _ (s : Components) (x g h : ℕ) (inv : Inv s) (ne : g ≢ h) (a : HoldsAt s x g) (b : HoldsAt s x h) where
+  announce_holds : (k : ℕ) → HoldsAt (announce_outcome s k).state x g
   announce_holds k = cond_both (is_regulator (s.row k) && ltb (s.last_announced k) (promise s k))
       (answer_outcome (answer.Announced (Some (promise s k))) (with_null_announced s k (promise s k)))
-      (answer_outcome (answer.Announced None) s) (λ (o : Outcomes). Holds o.state x g)
+      (answer_outcome (answer.Announced None) s) (λ (o : Outcomes). HoldsAt o.state x g)
       (λ _. record {
         row = a.row;
         last = ⊎_elim
@@ -78,7 +78,7 @@ module _ (s : Components) (x g h : ℕ) (inv : Inv s) (ne : g ≢ h) (a : Holds 
       })
       (λ _. a)
 
-  own_row : (p : Pick) → PickFacts (s.controls g) (s.row g) (s.ro g) (s.tso g) (local_bound s g) p → (r : TimeRow) → ((pick_outcome s g p).state.row ≡ upd s.row g r) → HoldsRow r x → Holds (pick_outcome s g p).state x g
+  own_row : (p : Pick) → PickFacts (s.controls g) (s.row g) (s.ro g) (s.tso g) (local_bound s g) p → (r : TimeRow) → ((pick_outcome s g p).state.row ≡ upd s.row g r) → HoldsRow r x → HoldsAt (pick_outcome s g p).state x g
   own_row p facts r is row = record { row = rw is (rw upd_same row); last = last_same p }
     where
       last_same : (p : Pick) → (pick_outcome s g p).state.last_announced g < x
@@ -98,7 +98,7 @@ module _ (s : Components) (x g h : ℕ) (inv : Inv s) (ne : g ≢ h) (a : Holds 
       let low = low_bound s x g h inv ne (inv.kept.time.regulators g a.row.regulates) b in
       record { regulates = a.row.regulates; constrained = a.row.constrained; floor = omega (arith, a.row.floor, z.1, at.1, le_reach q.kind t, low); request = λ p e. absurd (cc) }
 
-  pick_holds : (p : Pick) → PickFacts (s.controls g) (s.row g) (s.ro g) (s.tso g) (local_bound s g) p → Holds (pick_outcome s g p).state x g
+  pick_holds : (p : Pick) → PickFacts (s.controls g) (s.row g) (s.ro g) (s.tso g) (local_bound s g) p → HoldsAt (pick_outcome s g p).state x g
   pick_holds NoPick facts = a
   pick_holds (PickControl (ToDiscover from d) rest) facts = record { row = a.row; last = a.last }
   pick_holds (PickControl (ToRetract e) rest) facts = record { row = a.row; last = a.last }
@@ -108,7 +108,7 @@ module _ (s : Components) (x g h : ℕ) (inv : Inv s) (ne : g ≢ h) (a : Holds 
   pick_holds (PickTso q e rest) facts = own_row (PickTso q e rest) facts (row_after_pick (s.row g) q e.stamp) refl (record { regulates = a.row.regulates; constrained = a.row.constrained; floor = a.row.floor; request = a.row.request })
   pick_holds (PickGrant q t) facts = own_row (PickGrant q t) facts (row_after_grant (s.row g) q t) refl (granted_row q t facts)
 
-  other_pick : (k : ℕ) (p : Pick) → k ≢ g → Holds (pick_outcome s k p).state x g
+  other_pick : (k : ℕ) (p : Pick) → k ≢ g → HoldsAt (pick_outcome s k p).state x g
   other_pick k NoPick o = a
   other_pick k (PickControl (ToDiscover from d) rest) o = record { row = a.row; last = a.last }
   other_pick k (PickControl (ToRetract e) rest) o = record { row = a.row; last = a.last }
@@ -118,17 +118,17 @@ module _ (s : Components) (x g h : ℕ) (inv : Inv s) (ne : g ≢ h) (a : Holds 
   other_pick k (PickTso q e rest) o = record { row = rw upd_other a.row; last = a.last }
   other_pick k (PickGrant q t) o = record { row = rw upd_other a.row; last = a.last }
 
-  tick_holds : (k : ℕ) → Holds (tick_outcome s k).state x g
+  tick_holds : (k : ℕ) → HoldsAt (tick_outcome s k).state x g
   tick_holds k = ⊎_elim
-      (λ (e : k ≡ g). subst (λ k. Holds (tick_outcome s k).state x g) (sym e) (pick_holds (picked_at s g) (pick_tells (s.controls g) (s.row g) (s.ro g) (s.tso g) (local_bound s g))))
+      (λ (e : k ≡ g). subst (λ k. HoldsAt (tick_outcome s k).state x g) (sym e) (pick_holds (picked_at s g) (pick_tells (s.controls g) (s.row g) (s.ro g) (s.tso g) (local_bound s g))))
       (λ (o : k ≢ g). other_pick k (picked_at s k) o)
       (cases_eq k g)
 
-  unless_holds : (r : Option Fault) (o : Outcomes) → Holds o.state x g → Holds (unless_refused r s o).state x g
+  unless_holds : (r : Option Fault) (o : Outcomes) → HoldsAt o.state x g → HoldsAt (unless_refused r s o).state x g
   unless_holds None o w = w
   unless_holds (Some e) o w = a
 
-  pub next_holds : (step : Step) → IsOfRounds step → Holds (next s step).state x g
+  pub next_holds : (step : Step) → IsOfRounds step → HoldsAt (next s step).state x g
   next_holds (Join name) of = absurd of
   next_holds (Call k y) of = absurd of
   next_holds (Carry k l) of = let on = next_on s k l in record { row = rw on.row a.row; last = rw on.last a.last }
@@ -136,7 +136,7 @@ module _ (s : Components) (x g h : ℕ) (inv : Inv s) (ne : g ≢ h) (a : Holds 
   next_holds (Tick k) of = unless_holds (refusal (components_seen s) (Tick k)) (tick_outcome s k) (tick_holds k)
 
 -- ---- who waits for both
-holds_at : (s : Components) (x g : ℕ) → IsLedTo s → IsOfNoWidth s g → promise s g < x → Holds s x g
+holds_at : (s : Components) (x g : ℕ) → IsLedTo s → IsOfNoWidth s g → promise s g < x → HoldsAt s x g
 holds_at s x g is z low =
     let asks = next_asked (s.row g) z.request z.waits in
     record {
@@ -159,8 +159,8 @@ holds_at s x g is z low =
 
 -- two others, or f and another, hold f
 pub record BothHold (x g h : ℕ) (s : Components) : Type 0 where
-  pub one : Holds s x g
-  pub other : Holds s x h
+  pub one : HoldsAt s x g
+  pub other : HoldsAt s x h
 
 low_here : (s : Components) (f g h x : ℕ) → IsLedTo s → s.directory.joined f ≡ true → g ≢ h → BothHold x g h s → local_bound s f < x
 low_here s f g h x is member ne b = ⊎_elim

@@ -59,19 +59,19 @@ module _ (s : Components) (k : KeepsPromises s) (inv : Inv s) where
 
 -- ---- a federate resigns
 -- what its messages on leaving keep
-pub record IsReady (s : Components) (f : ℕ) : Type 0 where
+pub record IsReadyToLeave (s : Components) (f : ℕ) : Type 0 where
   pub keeps : KeepsPromises s
   pub cap : s.last_announced f ≤ forever
   pub epochs : (h : ℕ) → is_other s.directory.joined f h ≡ true → s.known_epoch h f ≡ s.epoch f
 
-pub ready : (s : Components) (f : ℕ) → KeepsPromises s → Inv s → IsReady s f
+pub ready : (s : Components) (f : ℕ) → KeepsPromises s → Inv s → IsReadyToLeave s f
 ready s f k inv = record { keeps = k; cap = announced_cap s k inv f; epochs = inv.kept.time.epochs f }
 
-pub ready_sent : (s : Components) (f : ℕ) (stamp : Option ℕ) (outs : List Outgoing) → IsReady s f → IsReady (with_messages_sent s f stamp outs) f
+pub ready_sent : (s : Components) (f : ℕ) (stamp : Option ℕ) (outs : List Outgoing) → IsReadyToLeave s f → IsReadyToLeave (with_messages_sent s f stamp outs) f
 ready_sent s f stamp [] r = r
 ready_sent s f stamp (out ∷ outs) r = ready_sent (with_message_sent s f stamp out) f stamp outs (record { keeps = keeps_sent s r.keeps f stamp out; cap = r.cap; epochs = r.epochs })
 
-module _ (s : Components) (f : ℕ) (r : IsReady s f) where
+module _ (s : Components) (f : ℕ) (r : IsReadyToLeave s f) where
   still_other : (g h : ℕ) → is_other (upd s.directory.joined f false) g h ≡ true → is_other s.directory.joined g h ≡ true
   still_other g h e = let p = and_parts _ _ e in and_from _ _ p.0 (upd_each s.directory.joined f false (λ j x. x ≡ true → s.directory.joined j ≡ true) (λ x. absurd (cc)) (λ _ _ x. x) h p.1)
 

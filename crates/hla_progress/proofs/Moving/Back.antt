@@ -10,11 +10,11 @@ use Rattle.hla_machine.specs.Central.{Central, BelowWake, BelowOut, BelowRequest
 use Rattle.hla_machine.specs.Callbacks.{MayGrant}
 use Rattle.hla_machine.proofs.Basics.GrantCases.{grant_free, grant_plain}
 use Rattle.hla_machine.proofs.Basics.Rows.{le_reach, next_none}
-use Rattle.hla_machine.proofs.Upkeep.Keeps.{Bag, IsKept, LowIn, low_weaker}
+use Rattle.hla_machine.proofs.Upkeep.Keeps.{Bag, IsCentralKept, LowIn, low_weaker}
 use Rattle.hla_progress.specs.Promises.{is_raised_late, IsRaised}
 use Rattle.hla_progress.proofs.Keeping.Changes.{next_asked}
 use Rattle.hla_progress.proofs.Creep.Promising.{next_constrained}
-use Rattle.hla_progress.proofs.Moving.Rounds.{Move, Regulates, Constrains, TakesEvent, TakesGrant, NoneGoes, Moves, NoRow, OneRow, RoundStep}
+use Rattle.hla_progress.proofs.Moving.Rounds.{Move, Regulates, Constrains, TakesEvent, TakesGrant, NoneGoes, MovesOne, NoRow, OneRow, RoundStep}
 use Rattle.hla_progress.proofs.Moving.Targets.{wake_map}
 
 -- it is in no flush while it is constrained
@@ -29,7 +29,7 @@ no_request : (below : ℕ → Type 0) (r : TimeRow) (o : Option AdvanceRequest) 
 no_request below r None v none b = b
 no_request below r (Some q) v none b = absurd (cc)
 
-module _ (c : Central) (kept : IsKept c) (g v : ℕ) where
+module _ (c : Central) (kept : IsCentralKept c) (g v : ℕ) where
   -- where its copies do not go
   same_back : (to : Bag) → (is_constrained (c.row g) ≡ true → NoneGoes c to g) → BelowOut (LowIn to c.sent g) (c.row g) v → BelowOut (LowIn c.bag c.sent g) (c.row g) v
   same_back to goes (inl l) = inl l
@@ -109,7 +109,7 @@ module _ (c : Central) (kept : IsKept c) (g v : ℕ) where
           (cases_lt (c.row g).floor v)
       by_out (inr w) = absurd (no_request (LowIn to c.sent g) (row_after_grant (c.row g) q t) (next_request (row_after_grant (c.row g) q t)) v (next_none (row_after_grant (c.row g) q t) refl) w)
 
-  outs_back : (d : Central) → Moves c d → IsRaised (c.row g) → IsInNoLateFlush (c.row g) → BelowOut (LowIn d.bag c.sent g) (d.row g) v → BelowOut (LowIn c.bag c.sent g) (c.row g) v
+  outs_back : (d : Central) → MovesOne c d → IsRaised (c.row g) → IsInNoLateFlush (c.row g) → BelowOut (LowIn d.bag c.sent g) (d.row g) v → BelowOut (LowIn c.bag c.sent g) (c.row g) v
   outs_back d (NoRow rows goes) raised calm b = same_back d.bag (goes g) (subst (λ (row : ℕ → TimeRow). BelowOut (LowIn d.bag c.sent g) (row g) v) rows b)
   outs_back d (OneRow h r rows move goes) raised calm b = ⊎_elim
       (λ (e : h ≡ g). let here : Move c g r = subst (λ h. Move c h r) e move in
@@ -129,7 +129,7 @@ module _ (c : Central) (kept : IsKept c) (g v : ℕ) where
   moved_calm r (TakesEvent q e s x asks con copy may is) calm = rw is calm
   moved_calm r (TakesGrant q t asks may is) calm = rw is (λ p e y. absurd (cc))
 
-  calms : (d : Central) → Moves c d → IsInNoLateFlush (c.row g) → IsInNoLateFlush (d.row g)
+  calms : (d : Central) → MovesOne c d → IsInNoLateFlush (c.row g) → IsInNoLateFlush (d.row g)
   calms d (NoRow rows goes) calm = rw rows calm
   calms d (OneRow h r rows move goes) calm = ⊎_elim
       (λ (e : h ≡ g). let here : Move c g r = subst (λ h. Move c h r) e move in

@@ -6,9 +6,9 @@ use Rattle.hla_machine.specs.declared.step.Step.{Step}
 use Rattle.hla_machine.specs.Central.{Central, BelowAllTso, BelowOut, new_central}
 use Rattle.hla_machine.specs.Runs.{Happening, IsRun}
 use Rattle.hla_machine.specs.History.{next_state}
-use Rattle.hla_machine.proofs.Upkeep.Keeps.{IsKept}
+use Rattle.hla_machine.proofs.Upkeep.Keeps.{IsCentralKept}
 use Rattle.hla_machine.proofs.Upkeep.Runs.{step_keeps, start_keeps}
-use Rattle.hla_machine.proofs.Copies.Retractions.{IsSound, step_onward, sound_start}
+use Rattle.hla_machine.proofs.Copies.Retractions.{AreRetractionsSound, step_onward, sound_start}
 use Rattle.hla_components.specs.Components.{Components}
 use Rattle.hla_components.specs.CentralOf.{central}
 use Rattle.hla_components.specs.Invariant.{EachOf}
@@ -23,8 +23,8 @@ use Rattle.hla_progress.proofs.Moving.Outs.{SameRequest, out_stays, role_stays, 
 use Rattle.hla_progress.proofs.Moving.Targets.{target_stays}
 
 pub record Sound (c : Central) : Type 0 where
-  pub kept : IsKept c
-  pub sound : IsSound c
+  pub kept : IsCentralKept c
+  pub sound : AreRetractionsSound c
 
 sound_run : (c : Central) (hs : List Happening) (d : Central) → IsRun c hs d → Sound c → Sound d
 sound_run c [] d run w = subst Sound run w

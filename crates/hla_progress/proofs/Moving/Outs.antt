@@ -10,14 +10,14 @@ use Rattle.hla_machine.specs.Central.{Central, Tso, BelowOut}
 use Rattle.hla_machine.specs.Callbacks.{MayGrant}
 use Rattle.hla_machine.proofs.Basics.GrantCases.{grant_plain}
 use Rattle.hla_machine.proofs.Basics.Rows.{next_not_flush, next_none, out_low, out_idle, out_picked, out_granted}
-use Rattle.hla_machine.proofs.Upkeep.Keeps.{Bag, IsKept, NoMore, LowIn, low_weaker, low_fewer}
-use Rattle.hla_progress.proofs.Moving.Rounds.{Move, Regulates, Constrains, TakesEvent, TakesGrant, Moves, NoRow, OneRow, RoundStep}
+use Rattle.hla_machine.proofs.Upkeep.Keeps.{Bag, IsCentralKept, NoMore, LowIn, low_weaker, low_fewer}
+use Rattle.hla_progress.proofs.Moving.Rounds.{Move, Regulates, Constrains, TakesEvent, TakesGrant, MovesOne, NoRow, OneRow, RoundStep}
 
 -- a next-event request is no other than before
 abbrev pub SameRequest : TimeRow → TimeRow → Type 0
 SameRequest r s = (q : AdvanceRequest) → next_request s ≡ Some q → (next_request r ≡ Some q) × (s.lookahead ≡ r.lookahead)
 
-module _ (c : Central) (kept : IsKept c) where
+module _ (c : Central) (kept : IsCentralKept c) where
   -- where a next-event request is granted
   pub next_granted : (h : ℕ) (q : AdvanceRequest) (t : ℕ) → MayGrant c h t q → is_constrained (c.row h) ≡ true → is_next q.kind ≡ true → t ≡ first_or (c.row h).first_pick q.asked
   next_granted h q t may con y =
@@ -33,7 +33,7 @@ module _ (c : Central) (kept : IsKept c) where
   same_out : (to : Bag) (g v : ℕ) → NoMore to c.bag → BelowOut (LowIn c.bag c.sent g) (c.row g) v → BelowOut (LowIn to c.sent g) (c.row g) v
   same_out to g v fewer b = out_low _ _ (c.row g) v (low_weaker c.bag c.sent g) (λ y _. low_fewer to c.bag c.sent fewer g y) b
 
-  outs : (d : Central) → NoMore d.bag c.bag → Moves c d → (g v : ℕ) → BelowOut (LowIn c.bag c.sent g) (c.row g) v → BelowOut (LowIn d.bag c.sent g) (d.row g) v
+  outs : (d : Central) → NoMore d.bag c.bag → MovesOne c d → (g v : ℕ) → BelowOut (LowIn c.bag c.sent g) (c.row g) v → BelowOut (LowIn d.bag c.sent g) (d.row g) v
   outs d fewer (NoRow rows goes) g v b = rw rows (same_out d.bag g v fewer b)
   outs d fewer (OneRow h r rows move goes) g v b = rw rows (upd_each c.row h r (λ g y. BelowOut (LowIn c.bag c.sent g) (c.row g) v → BelowOut (LowIn d.bag c.sent g) y v) (λ b. moved_out d.bag h r v fewer move b) (λ g ne b. same_out d.bag g v fewer b) g b)
 
@@ -52,7 +52,7 @@ module _ (c : Central) (kept : IsKept c) where
   moved_role h r (TakesEvent q e s x asks con copy may is) = rw is refl
   moved_role h r (TakesGrant q t asks may is) = rw is refl
 
-  roles : (d : Central) → Moves c d → (g : ℕ) → is_regulator (d.row g) ≡ is_regulator (c.row g)
+  roles : (d : Central) → MovesOne c d → (g : ℕ) → is_regulator (d.row g) ≡ is_regulator (c.row g)
   roles d (NoRow rows goes) g = rw rows refl
   roles d (OneRow h r rows move goes) g = rw rows (upd_each c.row h r (λ g (y : TimeRow). is_regulator y ≡ is_regulator (c.row g)) (moved_role h r move) (λ _ _. refl) g)
 
@@ -66,7 +66,7 @@ module _ (c : Central) (kept : IsKept c) where
   moved_request h r (TakesEvent k e s x asks con copy may is) = rw is (λ q e. (e, refl))
   moved_request h r (TakesGrant k t asks may is) = rw is (λ q e. absurd (let none = next_none (row_after_grant (c.row h) k t) refl in let no : None ≡ Some q = sym none ∙ e in cc))
 
-  requests : (d : Central) → Moves c d → (g : ℕ) → SameRequest (c.row g) (d.row g)
+  requests : (d : Central) → MovesOne c d → (g : ℕ) → SameRequest (c.row g) (d.row g)
   requests d (NoRow rows goes) g = rw rows (λ q e. (e, refl))
   requests d (OneRow h r rows move goes) g = rw rows (upd_each c.row h r (λ g y. SameRequest (c.row g) y) (moved_request h r move) (λ _ _ q e. (e, refl)) g)
 

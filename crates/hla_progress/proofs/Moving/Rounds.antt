@@ -45,15 +45,15 @@ abbrev pub NoneGoes : Central → Bag → ℕ → Type 0
 NoneGoes c to f = (g m : ℕ) (k : Copy) → c.bag g m f ≡ Some k → (c.sent g m).retracted ≡ false → k.order ≡ Tso → to g m f ≡ Some k
 
 -- none goes that is for a constrained federate, but for those of the one whose row changes
-pub data Moves (c d : Central) : Type 0 where
-  NoRow : d.row ≡ c.row → ((f : ℕ) → is_constrained (c.row f) ≡ true → NoneGoes c d.bag f) → Moves c d
-  OneRow : (h : ℕ) (r : TimeRow) → d.row ≡ upd c.row h r → Move c h r → ((f : ℕ) → h ≢ f → is_constrained (c.row f) ≡ true → NoneGoes c d.bag f) → Moves c d
+pub data MovesOne (c d : Central) : Type 0 where
+  NoRow : d.row ≡ c.row → ((f : ℕ) → is_constrained (c.row f) ≡ true → NoneGoes c d.bag f) → MovesOne c d
+  OneRow : (h : ℕ) (r : TimeRow) → d.row ≡ upd c.row h r → Move c h r → ((f : ℕ) → h ≢ f → is_constrained (c.row f) ≡ true → NoneGoes c d.bag f) → MovesOne c d
 
 pub record RoundStep (c d : Central) : Type 0 where
   pub sent : d.sent ≡ c.sent
   pub directory : d.directory ≡ c.directory
   pub fewer : NoMore d.bag c.bag
-  pub moves : Moves c d
+  pub moves : MovesOne c d
 
 -- an announcement or a carry
 abbrev pub IsNoTick : Step → Type 0

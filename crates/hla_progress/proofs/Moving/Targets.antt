@@ -10,9 +10,9 @@ use Rattle.hla_base.specs.Rows.{is_next, is_flush, is_constrained, row_after_pic
 use Rattle.hla_base.proofs.Tables.{upd_same, upd_other}
 use Rattle.hla_machine.specs.Central.{Central, Tso, BelowWake}
 use Rattle.hla_machine.specs.Callbacks.{IsCopy, MayPickIn}
-use Rattle.hla_machine.proofs.Upkeep.Keeps.{Bag, IsKept, NoMore, LowIn, low_fewer}
+use Rattle.hla_machine.proofs.Upkeep.Keeps.{Bag, IsCentralKept, NoMore, LowIn, low_fewer}
 use Rattle.hla_progress.specs.CatchingUp.{IsTarget}
-use Rattle.hla_progress.proofs.Moving.Rounds.{Move, Regulates, Constrains, TakesEvent, TakesGrant, NoneGoes, Moves, NoRow, OneRow, RoundStep}
+use Rattle.hla_progress.proofs.Moving.Rounds.{Move, Regulates, Constrains, TakesEvent, TakesGrant, NoneGoes, MovesOne, NoRow, OneRow, RoundStep}
 
 -- the wake by what lies below, and by the first pick
 abbrev pub WakeIn : (ℕ → Type 0) → AdvanceRequest → Option ℕ → ℕ → Type 0
@@ -30,7 +30,7 @@ wake_picked : (below to : ℕ → Type 0) (q : AdvanceRequest) (first : Option �
 wake_picked below to q (Some p) s t a b high w = w
 wake_picked below to q None s t a b high w = let low : s ≤ t = w.1 s (a, b) in (high w.0.1, λ x l. omega arith)
 
-module _ (c : Central) (kept : IsKept c) (f : ℕ) (q : AdvanceRequest) (t : ℕ) (asks : (c.row f).advance ≡ Some q) (con : is_constrained (c.row f) ≡ true) (fl : is_flush q.kind ≡ false) where
+module _ (c : Central) (kept : IsCentralKept c) (f : ℕ) (q : AdvanceRequest) (t : ℕ) (asks : (c.row f).advance ≡ Some q) (con : is_constrained (c.row f) ≡ true) (fl : is_flush q.kind ≡ false) where
   abbrev TargetIn : Bag → TimeRow → Type 0
   TargetIn bag r = (is_next q.kind ≡ false → t ≡ q.asked) × (is_next q.kind ≡ true → WakeIn (LowIn bag c.sent f) q r.first_pick t)
 
@@ -50,7 +50,7 @@ module _ (c : Central) (kept : IsKept c) (f : ℕ) (q : AdvanceRequest) (t : ℕ
       inl (rw is (subst (λ (k : AdvanceRequest). TargetIn to (row_after_pick (c.row f) k s)) (sym same) (taken_target to e s x copy (subst (λ (k : AdvanceRequest). MayPickIn c f k e s) same may) w)))
   own_target to r (TakesGrant k u ask may is) w = inr (rw is refl)
 
-  targets : (d : Central) → NoMore d.bag c.bag → Moves c d → TargetIn c.bag (c.row f) → TargetIn d.bag (d.row f) ⊎ ((d.row f).advance ≡ None)
+  targets : (d : Central) → NoMore d.bag c.bag → MovesOne c d → TargetIn c.bag (c.row f) → TargetIn d.bag (d.row f) ⊎ ((d.row f).advance ≡ None)
   targets d fewer (NoRow rows goes) w = inl (rw rows (quiet_target d.bag fewer (goes f con) w))
   targets d fewer (OneRow h r rows move goes) w = rw rows (⊎_elim
       (λ (e : h ≡ f). let here : Move c f r = subst (λ h. Move c h r) e move in rw e (rw upd_same (own_target d.bag r here w)))

@@ -14,13 +14,13 @@ use Rattle.hla_machine.specs.declared.step.Answer.{Answer}
 use Rattle.hla_machine.specs.declared.step.Answer.TheVariants as answer
 use Rattle.hla_machine.specs.declared.step.Choice.{Choice}
 use Rattle.hla_machine.specs.declared.step.Choice.TheVariants as choice
-use Rattle.hla_verdicts.proofs.Steps.Services.{IsPlain}
+use Rattle.hla_verdicts.proofs.Steps.Services.{IsPlainService}
 
 retract_done : (e : EventHandle) (c : Central) (f : ℕ) (a : Answer) (o : Choice) → MayAnswer c f (service.Retract e) a o → a ≡ answer.Done
 retract_done e c f answer.Done o may = refl
 retract_done e c f a o may = absurd may
 
-pub retract_plain : (e : EventHandle) → IsPlain (service.Retract e)
+pub retract_plain : (e : EventHandle) → IsPlainService (service.Retract e)
 retract_plain e = record { answers = λ c f o. tt; only = retract_done e; plain = λ o is. is; chooses = λ o is. is }
 
 both : (a b : Bool) → cond (not (a && b)) (Some fault.InvalidRetractionHandle) None ≡ None → (a ≡ true) × (b ≡ true)

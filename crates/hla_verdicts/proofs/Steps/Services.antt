@@ -38,13 +38,13 @@ pub joined_refusal : (c : Central) (f : ℕ) (x : Service) → c.directory.joine
 joined_refusal c f x joined = sym (call_refusal (central_seen c) f x joined)
 
 -- ---- services that choose nothing and have no answer
-pub record IsPlain (x : Service) : Type 0 where
+pub record IsPlainService (x : Service) : Type 0 where
   pub answers : (c : Central) (f : ℕ) (o : Choice) → MayAnswer c f x answer.Done o
   pub only : (c : Central) (f : ℕ) (a : Answer) (o : Choice) → MayAnswer c f x a o → a ≡ answer.Done
   pub plain : (o : Choice) → o ≡ choice.None → IsServiceChoice x o
   pub chooses : (o : Choice) → IsServiceChoice x o → o ≡ choice.None
 
-module _ (c : Central) (f : ℕ) (x : Service) (of : IsPlain x) where
+module _ (c : Central) (f : ℕ) (x : Service) (of : IsPlainService x) where
   plain_chooses : (out : Outcome) (o : Choice) → IsChoice (Call f x) out o → o ≡ choice.None
   plain_chooses (outcome.Done a) o is = of.chooses o is
   plain_chooses (outcome.Refused e) o is = is
