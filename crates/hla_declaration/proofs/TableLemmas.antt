@@ -10,7 +10,7 @@ use Rattle.hla_declaration.specs.Entries.{entry_at}
 use Rattle.hla_declaration.specs.Members.{IsMember, IsCleared, new_declarer}
 use Rattle.hla_declaration.specs.Lists.{AreListsWhole}
 use Rattle.hla_declaration.specs.Declarations.{DeclarationsValue, table, declarations_of}
-use Rattle.hla_declaration.specs.declared.member.Member.{Member}
+use Rattle.hla_declaration.specs.declared.member.Declarer.{Declarer}
 use Rattle.hla_declaration.proofs.EntryLemmas.{item_numbered-set_same, item_numbered-set_other, item_numbered_read, item_numbered_past, item_numbered-push, item_numbered-push_last, entry-set, entry-replicate}
 
 -- what holds at f, and at each other number, holds at each
@@ -18,8 +18,8 @@ by_number : (f : ℕ) (P : ℕ → Type 0) → P f → ((g : ℕ) → f ≢ g �
 by_number f P here there g = ⊎_elim (λ (e : f ≡ g). subst P e here) (λ (ne : f ≢ g). there g ne) (cases_eq f g)
 
 -- ---- one table
-module _ {X : Type 0} (absent : X) (row : Member → List X) (members : List Member) where
-  module _ (f : ℕ) (m new : Member) (some : 0 < f) (within : f ≤ length members) (is : m ≡ get_or members (f - 1) m) where
+module _ {X : Type 0} (absent : X) (row : Declarer → List X) (members : List Declarer) where
+  module _ (f : ℕ) (m new : Declarer) (some : 0 < f) (within : f ≤ length members) (is : m ≡ get_or members (f - 1) m) where
     changed_here : (k : ℕ) → table absent row (set members (f - 1) new) f k ≡ entry_at absent (row new) k
     changed_here k = ap (λ o. option_map_or (λ m. entry_at absent (row m) k) o absent) (item_numbered-set_same members f new some within)
 
@@ -55,7 +55,7 @@ module _ {X : Type 0} (absent : X) (row : Member → List X) (members : List Mem
         changed_there g ne k ∙ sym (ap (λ (b : Bool). cond b (λ (_ : ℕ). absent) (table absent row members g) k) n)) g))
 
   -- one more row, with nothing
-  pub table_more : (new : Member) → ((class : ℕ) → entry_at absent (row new) class ≡ absent) → table absent row (members ++ new ∷ []) ≡ table absent row members
+  pub table_more : (new : Declarer) → ((class : ℕ) → entry_at absent (row new) class ≡ absent) → table absent row (members ++ new ∷ []) ≡ table absent row members
   table_more new nothing = fun_ext (λ g. fun_ext (λ k. by_number (length members + 1) (λ g. table absent row (members ++ new ∷ []) g k ≡ table absent row members g k)
       (ap (λ o. option_map_or (λ m. entry_at absent (row m) k) o absent) (item_numbered-push_last members new) ∙ nothing k
       ∙ sym (ap (λ o. option_map_or (λ m. entry_at absent (row m) k) o absent) (item_numbered_past members (length members + 1) (omega arith))))
@@ -77,24 +77,24 @@ same_tables : (objects interactions : ℕ) {n n' : ℕ} {p p' s s' : ℕ → ℕ
     → n ≡ n' → p ≡ p' → s ≡ s' → pi ≡ pi' → si ≡ si' → tables_with n objects interactions p s pi si ≡ tables_with n' objects interactions p' s' pi' si'
 same_tables objects interactions a b c d e = λ i. tables_with (a i) objects interactions (b i) (c i) (d i) (e i)
 
-abbrev published_row : Member → List (Option (List ℕ))
+abbrev published_row : Declarer → List (Option (List ℕ))
 published_row m = m.published
 
-abbrev subscribed_row : Member → List (Option (List ℕ))
+abbrev subscribed_row : Declarer → List (Option (List ℕ))
 subscribed_row m = m.subscribed
 
-abbrev published_flags : Member → List Bool
+abbrev published_flags : Declarer → List Bool
 published_flags m = m.published_interactions
 
-abbrev subscribed_flags : Member → List Bool
+abbrev subscribed_flags : Declarer → List Bool
 subscribed_flags m = m.subscribed_interactions
 
 -- the tables of lists with these counts
-abbrev pub tables : ℕ → ℕ → List Member → DeclarationsValue
+abbrev pub tables : ℕ → ℕ → List Declarer → DeclarationsValue
 tables objects interactions members = declarations_of (record { object_classes = objects; interaction_classes = interactions; members = members })
 
-module _ (objects interactions : ℕ) (members : List Member) (whole : AreListsWhole objects interactions members) where
-  module _ (f : ℕ) (m : Member) (some : 0 < f) (within : f ≤ length members) (is : m ≡ get_or members (f - 1) m) where
+module _ (objects interactions : ℕ) (members : List Declarer) (whole : AreListsWhole objects interactions members) where
+  module _ (f : ℕ) (m : Declarer) (some : 0 < f) (within : f ≤ length members) (is : m ≡ get_or members (f - 1) m) where
     pub room : IsMember objects interactions m
     room = subst (IsMember objects interactions) (sym is) (All-get_or (IsMember objects interactions) members (f - 1) m (omega arith) whole.each)
 
@@ -103,7 +103,7 @@ module _ (objects interactions : ℕ) (members : List Member) (whole : AreListsW
           → tables objects interactions (set members (f - 1) (record m { published = set m.published (class - 1) x }))
           ≡ record (tables objects interactions members) { published = upd2 (table None published_row members) f class x }
       published_put x last =
-          let new : Member = record m { published = set m.published (class - 1) x } in
+          let new : Declarer = record m { published = set m.published (class - 1) x } in
           let fits : class ≤ length m.published = omega (arith, room.published) in
           same_tables objects interactions (length-set members (f - 1) new) (table_put None published_row members f m new some within is class x first fits refl)
           (table_kept None subscribed_row members f m new some within is refl) (table_kept false published_flags members f m new some within is refl)
@@ -113,7 +113,7 @@ module _ (objects interactions : ℕ) (members : List Member) (whole : AreListsW
           → tables objects interactions (set members (f - 1) (record m { subscribed = set m.subscribed (class - 1) x }))
           ≡ record (tables objects interactions members) { subscribed = upd2 (table None subscribed_row members) f class x }
       subscribed_put x last =
-          let new : Member = record m { subscribed = set m.subscribed (class - 1) x } in
+          let new : Declarer = record m { subscribed = set m.subscribed (class - 1) x } in
           let fits : class ≤ length m.subscribed = omega (arith, room.subscribed) in
           same_tables objects interactions (length-set members (f - 1) new) (table_kept None published_row members f m new some within is refl)
           (table_put None subscribed_row members f m new some within is class x first fits refl) (table_kept false published_flags members f m new some within is refl)
@@ -123,7 +123,7 @@ module _ (objects interactions : ℕ) (members : List Member) (whole : AreListsW
           → tables objects interactions (set members (f - 1) (record m { published_interactions = set m.published_interactions (class - 1) x }))
           ≡ record (tables objects interactions members) { published_interaction = upd2 (table false published_flags members) f class x }
       published_interaction_put x last =
-          let new : Member = record m { published_interactions = set m.published_interactions (class - 1) x } in
+          let new : Declarer = record m { published_interactions = set m.published_interactions (class - 1) x } in
           let fits : class ≤ length m.published_interactions = omega (arith, room.published_interactions) in
           same_tables objects interactions (length-set members (f - 1) new) (table_kept None published_row members f m new some within is refl)
           (table_kept None subscribed_row members f m new some within is refl) (table_put false published_flags members f m new some within is class x first fits refl)
@@ -133,14 +133,14 @@ module _ (objects interactions : ℕ) (members : List Member) (whole : AreListsW
           → tables objects interactions (set members (f - 1) (record m { subscribed_interactions = set m.subscribed_interactions (class - 1) x }))
           ≡ record (tables objects interactions members) { subscribed_interaction = upd2 (table false subscribed_flags members) f class x }
       subscribed_interaction_put x last =
-          let new : Member = record m { subscribed_interactions = set m.subscribed_interactions (class - 1) x } in
+          let new : Declarer = record m { subscribed_interactions = set m.subscribed_interactions (class - 1) x } in
           let fits : class ≤ length m.subscribed_interactions = omega (arith, room.subscribed_interactions) in
           same_tables objects interactions (length-set members (f - 1) new) (table_kept None published_row members f m new some within is refl)
           (table_kept None subscribed_row members f m new some within is refl) (table_kept false published_flags members f m new some within is refl)
           (table_put false subscribed_flags members f m new some within is class x first fits refl)
 
     -- a federate that declares nothing any more
-    pub member_cleared : (new : Member) → IsCleared m new
+    pub member_cleared : (new : Declarer) → IsCleared m new
         → tables objects interactions (set members (f - 1) new)
         ≡ record (tables objects interactions members) {
           published = upd (table None published_row members) f (λ _. None);
@@ -154,10 +154,10 @@ module _ (objects interactions : ℕ) (members : List Member) (whole : AreListsW
         (table_cleared false subscribed_flags members f m new some within is cleared.subscribed_interactions)
 
 -- one more federate, which declares nothing
-pub member_more : (objects interactions : ℕ) (members : List Member)
+pub member_more : (objects interactions : ℕ) (members : List Declarer)
     → tables objects interactions (members ++ new_declarer objects interactions ∷ []) ≡ record (tables objects interactions members) { federates = length members + 1 }
 member_more objects interactions members =
-    let new : Member = new_declarer objects interactions in
+    let new : Declarer = new_declarer objects interactions in
     same_tables objects interactions (length-append members (new ∷ []))
     (table_more None published_row members new (entry-replicate None objects)) (table_more None subscribed_row members new (entry-replicate None objects))
     (table_more false published_flags members new (entry-replicate false interactions)) (table_more false subscribed_flags members new (entry-replicate false interactions))

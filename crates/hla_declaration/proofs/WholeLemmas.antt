@@ -9,17 +9,17 @@ use Rattle.hla_declaration.specs.Members.{IsMember, IsCleared, new_declarer}
 use Rattle.hla_declaration.specs.Lists.{AreListsWhole}
 use Rattle.hla_declaration.specs.Declarations.{table}
 use Rattle.hla_declaration.specs.Subscribers.{is_in_set_of, AreSetsWhole, AreDeclarationsWhole}
-use Rattle.hla_declaration.specs.declared.member.Member.{Member}
+use Rattle.hla_declaration.specs.declared.member.Declarer.{Declarer}
 use Rattle.hla_declaration.proofs.TableLemmas.{room, published_put, subscribed_put, published_interaction_put, subscribed_interaction_put, member_cleared, member_more}
 use Rattle.hla_declaration.proofs.SubscriberLemmas.{sets_put, sets_withdrawn, sets_same}
 
 -- whether a federate subscribes some attributes of an object class
-abbrev object_table : List Member → ℕ → ℕ → Bool
-object_table members f class = is_some (table None (λ (m : Member). m.subscribed) members f class)
+abbrev object_table : List Declarer → ℕ → ℕ → Bool
+object_table members f class = is_some (table None (λ (m : Declarer). m.subscribed) members f class)
 
 -- whether a federate subscribes an interaction class
-abbrev interaction_table : List Member → ℕ → ℕ → Bool
-interaction_table members f class = table false (λ (m : Member). m.subscribed_interactions) members f class
+abbrev interaction_table : List Declarer → ℕ → ℕ → Bool
+interaction_table members f class = table false (λ (m : Declarer). m.subscribed_interactions) members f class
 
 -- what is there on condition is some on condition
 some_cond : (b : Bool) (o p : Option (List ℕ)) → is_some (cond b o p) ≡ cond b (is_some o) (is_some p)
@@ -36,7 +36,7 @@ false_row : (b : Bool) (row : ℕ → Bool) (k : ℕ) → cond b (λ (_ : ℕ). 
 false_row true row k = refl
 false_row false row k = refl
 
-module _ (objects interactions : ℕ) (members : List Member) (object_sets interaction_sets : List ℕ) (whole : AreDeclarationsWhole objects interactions members object_sets interaction_sets) where
+module _ (objects interactions : ℕ) (members : List Declarer) (object_sets interaction_sets : List ℕ) (whole : AreDeclarationsWhole objects interactions members object_sets interaction_sets) where
   -- there is more room in the sets
   pub whole_roomier : (o i : List ℕ) → ((class : ℕ) → entry_at 0 o class ≡ entry_at 0 object_sets class) → length object_sets ≤ length o
       → ((class : ℕ) → entry_at 0 i class ≡ entry_at 0 interaction_sets class) → length interaction_sets ≤ length i
@@ -53,7 +53,7 @@ module _ (objects interactions : ℕ) (members : List Member) (object_sets inter
   pub whole_more : length members < max_joins → objects ≤ length object_sets → interactions ≤ length interaction_sets
       → AreDeclarationsWhole objects interactions (members ++ new_declarer objects interactions ∷ []) object_sets interaction_sets
   whole_more few room_o room_i =
-      let new : Member = new_declarer objects interactions in
+      let new : Declarer = new_declarer objects interactions in
       let tables = member_more objects interactions members in
       let count : length (members ++ new ∷ []) ≡ length members + 1 = length-append members (new ∷ []) in
       let is_member : IsMember objects interactions new = record {
@@ -77,12 +77,12 @@ module _ (objects interactions : ℕ) (members : List Member) (object_sets inter
       }
 
   -- one federate declares something else
-  module _ (f : ℕ) (m : Member) (first_federate : 0 < f) (within : f ≤ length members) (is : m ≡ get_or members (f - 1) m) where
+  module _ (f : ℕ) (m : Declarer) (first_federate : 0 < f) (within : f ≤ length members) (is : m ≡ get_or members (f - 1) m) where
     -- the federate had room for each class
     before : IsMember objects interactions m
     before = room objects interactions members whole.lists f m first_federate within is
 
-    module _ (new : Member) where
+    module _ (new : Declarer) where
       -- there are as many federates as before
       count : length (set members (f - 1) new) ≡ length members
       count = length-set members (f - 1) new
@@ -113,7 +113,7 @@ module _ (objects interactions : ℕ) (members : List Member) (object_sets inter
       pub whole_published : (x : Option (List ℕ)) → class ≤ objects
           → AreDeclarationsWhole objects interactions (set members (f - 1) (record m { published = set m.published (class - 1) x })) object_sets interaction_sets
       whole_published x last =
-          let new : Member = record m { published = set m.published (class - 1) x } in
+          let new : Declarer = record m { published = set m.published (class - 1) x } in
           let tables = published_put objects interactions members whole.lists f m first_federate within is class first x last in
           record {
             lists = lists_put new (record { published = length-set m.published (class - 1) x ∙ before.published; subscribed = before.subscribed; published_interactions = before.published_interactions; subscribed_interactions = before.subscribed_interactions });
@@ -125,7 +125,7 @@ module _ (objects interactions : ℕ) (members : List Member) (object_sets inter
       pub whole_published_interaction : (x : Bool) → class ≤ interactions
           → AreDeclarationsWhole objects interactions (set members (f - 1) (record m { published_interactions = set m.published_interactions (class - 1) x })) object_sets interaction_sets
       whole_published_interaction x last =
-          let new : Member = record m { published_interactions = set m.published_interactions (class - 1) x } in
+          let new : Declarer = record m { published_interactions = set m.published_interactions (class - 1) x } in
           let tables = published_interaction_put objects interactions members whole.lists f m first_federate within is class first x last in
           record {
             lists = lists_put new (record { published = before.published; subscribed = before.subscribed; published_interactions = length-set m.published_interactions (class - 1) x ∙ before.published_interactions; subscribed_interactions = before.subscribed_interactions });
@@ -139,13 +139,13 @@ module _ (objects interactions : ℕ) (members : List Member) (object_sets inter
           → AreDeclarationsWhole objects interactions (set members (f - 1) (record m { subscribed = set m.subscribed (class - 1) x })) o interaction_sets
       unfolding upd2
       whole_subscribed x last o same listed =
-          let new : Member = record m { subscribed = set m.subscribed (class - 1) x } in
+          let new : Declarer = record m { subscribed = set m.subscribed (class - 1) x } in
           let tables = subscribed_put objects interactions members whole.lists f m first_federate within is class first x last in
           record {
             lists = lists_put new (record { published = before.published; subscribed = length-set m.subscribed (class - 1) x ∙ before.subscribed; published_interactions = before.published_interactions; subscribed_interactions = before.subscribed_interactions });
             objects = subst (λ n. AreSetsWhole objects n o (object_table (set members (f - 1) new))) (sym (count new))
                 (sets_put objects (length members) object_sets o (object_table members) (object_table (set members (f - 1) new)) whole.objects f class (is_some x) same listed
-                (λ g k. ap (λ v. is_some (v.subscribed g k)) tables ∙ some_cond (eqb f g && eqb class k) x (table None (λ (m : Member). m.subscribed) members g k)));
+                (λ g k. ap (λ v. is_some (v.subscribed g k)) tables ∙ some_cond (eqb f g && eqb class k) x (table None (λ (m : Declarer). m.subscribed) members g k)));
             interactions = interactions_kept new (λ g k. ap (λ v. v.subscribed_interaction g k) tables);
           }
 
@@ -155,7 +155,7 @@ module _ (objects interactions : ℕ) (members : List Member) (object_sets inter
           → AreDeclarationsWhole objects interactions (set members (f - 1) (record m { subscribed_interactions = set m.subscribed_interactions (class - 1) x })) object_sets i
       unfolding upd2
       whole_subscribed_interaction x last i same listed =
-          let new : Member = record m { subscribed_interactions = set m.subscribed_interactions (class - 1) x } in
+          let new : Declarer = record m { subscribed_interactions = set m.subscribed_interactions (class - 1) x } in
           let tables = subscribed_interaction_put objects interactions members whole.lists f m first_federate within is class first x last in
           record {
             lists = lists_put new (record { published = before.published; subscribed = before.subscribed; published_interactions = before.published_interactions; subscribed_interactions = length-set m.subscribed_interactions (class - 1) x ∙ before.subscribed_interactions });
@@ -166,7 +166,7 @@ module _ (objects interactions : ℕ) (members : List Member) (object_sets inter
           }
 
     -- a federate that declares nothing any more has room as before
-    cleared_member : (new : Member) → IsCleared m new → IsMember objects interactions new
+    cleared_member : (new : Declarer) → IsCleared m new → IsMember objects interactions new
     cleared_member new cleared =
         subst (λ n. IsMember objects n new) before.published_interactions (subst (λ n. IsMember n (length m.published_interactions) new) before.published
         (cleared.room (record {
@@ -177,7 +177,7 @@ module _ (objects interactions : ℕ) (members : List Member) (object_sets inter
         })))
 
     -- it declares nothing any more
-    pub whole_cleared : (new : Member) → IsCleared m new → (o i : List ℕ) → length o ≡ length object_sets → length i ≡ length interaction_sets
+    pub whole_cleared : (new : Declarer) → IsCleared m new → (o i : List ℕ) → length o ≡ length object_sets → length i ≡ length interaction_sets
         → ((g k : ℕ) → g ≤ max_joins → is_in_set_of o g k ≡ cond (eqb f g) false (is_in_set_of object_sets g k))
         → ((g k : ℕ) → g ≤ max_joins → is_in_set_of i g k ≡ cond (eqb f g) false (is_in_set_of interaction_sets g k))
         → AreDeclarationsWhole objects interactions (set members (f - 1) new) o i
@@ -188,8 +188,8 @@ module _ (objects interactions : ℕ) (members : List Member) (object_sets inter
           lists = lists_put new (cleared_member new cleared);
           objects = subst (λ n. AreSetsWhole objects n o (object_table (set members (f - 1) new))) (sym (count new))
               (sets_withdrawn objects (length members) object_sets o (object_table members) (object_table (set members (f - 1) new)) whole.objects f same_o listed_o
-              (λ g k. ap (λ v. is_some (v.subscribed g k)) tables ∙ none_row (eqb f g) (table None (λ (m : Member). m.subscribed) members g) k));
+              (λ g k. ap (λ v. is_some (v.subscribed g k)) tables ∙ none_row (eqb f g) (table None (λ (m : Declarer). m.subscribed) members g) k));
           interactions = subst (λ n. AreSetsWhole interactions n i (interaction_table (set members (f - 1) new))) (sym (count new))
               (sets_withdrawn interactions (length members) interaction_sets i (interaction_table members) (interaction_table (set members (f - 1) new)) whole.interactions f same_i listed_i
-              (λ g k. ap (λ v. v.subscribed_interaction g k) tables ∙ false_row (eqb f g) (table false (λ (m : Member). m.subscribed_interactions) members g) k));
+              (λ g k. ap (λ v. v.subscribed_interaction g k) tables ∙ false_row (eqb f g) (table false (λ (m : Declarer). m.subscribed_interactions) members g) k));
         }

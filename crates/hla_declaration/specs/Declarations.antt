@@ -4,7 +4,7 @@ use Rattle.std.specs.Option.{option_map_or}
 use Rattle.hla_catalogue.specs.Lookup.{item_numbered}
 use Rattle.hla_declaration.specs.Entries.{entry_at}
 use Rattle.hla_declaration.specs.Lists.{DeclarationLists}
-use Rattle.hla_declaration.specs.declared.member.Member.{Member}
+use Rattle.hla_declaration.specs.declared.member.Declarer.{Declarer}
 
 -- Tables by federate and class. For a number of no federate or of no class they say that nothing is declared
 pub record DeclarationsValue : Type 0 where
@@ -17,7 +17,7 @@ pub record DeclarationsValue : Type 0 where
   pub subscribed_interaction : ℕ → ℕ → Bool
 
 -- what the federate with a number has at a class
-abbrev pub table : {X : Type 0} → X → (Member → List X) → List Member → ℕ → ℕ → X
+abbrev pub table : {X : Type 0} → X → (Declarer → List X) → List Declarer → ℕ → ℕ → X
 table absent row members f class = option_map_or (λ m. entry_at absent (row m) class) (item_numbered members f) absent
 
 -- the tables that lists stand for
@@ -26,10 +26,10 @@ declarations_of d = record {
   federates = length d.members;
   object_classes = d.object_classes;
   interaction_classes = d.interaction_classes;
-  published = table None (λ (m : Member). m.published) d.members;
-  subscribed = table None (λ (m : Member). m.subscribed) d.members;
-  published_interaction = table false (λ (m : Member). m.published_interactions) d.members;
-  subscribed_interaction = table false (λ (m : Member). m.subscribed_interactions) d.members;
+  published = table None (λ (m : Declarer). m.published) d.members;
+  subscribed = table None (λ (m : Declarer). m.subscribed) d.members;
+  published_interaction = table false (λ (m : Declarer). m.published_interactions) d.members;
+  subscribed_interaction = table false (λ (m : Declarer). m.subscribed_interactions) d.members;
 }
 
 -- a federate declares nothing of the classes with a number

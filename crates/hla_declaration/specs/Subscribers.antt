@@ -5,7 +5,7 @@ use Rattle.hla_base.specs.Limits.{max_joins}
 use Rattle.hla_declaration.specs.Entries.{entry_at}
 use Rattle.hla_declaration.specs.Lists.{AreListsWhole}
 use Rattle.hla_declaration.specs.Declarations.{table}
-use Rattle.hla_declaration.specs.declared.member.Member.{Member}
+use Rattle.hla_declaration.specs.declared.member.Declarer.{Declarer}
 
 -- is a federate in the set that the bits of a number stand for
 abbrev pub has_federate : ℕ → ℕ → Bool
@@ -25,7 +25,7 @@ pub record AreSetsWhole (classes federates : ℕ) (sets : List ℕ) (subscribed 
   pub agree : AreSubscribers sets subscribed
 
 -- the lists are whole, and so are the sets of either kind of class
-pub record AreDeclarationsWhole (object_classes interaction_classes : ℕ) (members : List Member) (object_sets interaction_sets : List ℕ) : Type 0 where
+pub record AreDeclarationsWhole (object_classes interaction_classes : ℕ) (members : List Declarer) (object_sets interaction_sets : List ℕ) : Type 0 where
   pub lists : AreListsWhole object_classes interaction_classes members
-  pub objects : AreSetsWhole object_classes (length members) object_sets (λ f class. is_some (table None (λ (m : Member). m.subscribed) members f class))
-  pub interactions : AreSetsWhole interaction_classes (length members) interaction_sets (table false (λ (m : Member). m.subscribed_interactions) members)
+  pub objects : AreSetsWhole object_classes (length members) object_sets (λ f class. is_some (table None (λ (m : Declarer). m.subscribed) members f class))
+  pub interactions : AreSetsWhole interaction_classes (length members) interaction_sets (table false (λ (m : Declarer). m.subscribed_interactions) members)

@@ -9,7 +9,7 @@ ghost use Rattle.hla_catalogue.specs.Lookup.{item_numbered, contains_number};
 ghost use Rattle.hla_declaration.specs.Declarations.{declarations_of, IsBounded};
 ghost use Rattle.hla_declaration.specs.Subscribers.{AreSubscribers};
 
-use crate::member::Member;
+use crate::member::Declarer;
 use crate::subscribers::SubscriberSets;
 use hla_base::{AttributeNo, ClassNo, Fault, FederateNo, List};
 use std::alloc::Global;
@@ -24,7 +24,7 @@ use std::marker::Model;
 pub struct Declarations {
     object_classes: usize,
     interaction_classes: usize,
-    members: Vec<Member>,
+    members: Vec<Declarer>,
     object_subscribers: SubscriberSets,
     interaction_subscribers: SubscriberSets,
 }
@@ -89,7 +89,7 @@ impl Declarations {
     }
 
     /// What a federate declares; `None` where no federate has the number.
-    pub(crate) fn member(&self, federate: FederateNo) -> Option<&Member>
+    pub(crate) fn member(&self, federate: FederateNo) -> Option<&Declarer>
         ensures { option_copied result ≡ item_numbered self.now.members federate }
     {
         if federate == 0 {
@@ -109,7 +109,7 @@ impl Declarations {
         ensures unchanged { OnErr result (self.new ≡ self.old) }
     {
         let alloc = *self.members.allocator();
-        let member = Member::new(alloc, self.object_classes, self.interaction_classes)?;
+        let member = Declarer::new(alloc, self.object_classes, self.interaction_classes)?;
         self.object_subscribers.make_room(self.object_classes)?;
         self.interaction_subscribers
             .make_room(self.interaction_classes)?;

@@ -12,25 +12,25 @@ use std::alloc::Global;
 
 /// What one federate publishes and subscribes.
 #[derive(Debug, Drop)]
-pub struct Member {
+pub struct Declarer {
     pub published: AttributeLists,
     pub subscribed: AttributeLists,
     pub published_interactions: ClassSet,
     pub subscribed_interactions: ClassSet,
 }
 
-impl Member {
+impl Declarer {
     /// A federate that declares nothing, where there are this many object classes and interaction classes;
     /// `OutOfMemory` where the room for them was refused.
     pub fn new(
         alloc: Global,
         object_classes: usize,
         interaction_classes: usize,
-    ) -> Result<Member, Fault>
+    ) -> Result<Declarer, Fault>
         ensures ok { IfOk result (λ m. m ≡ new_declarer object_classes interaction_classes) }
         ensures err { IfErr result (λ e. e ≡ Fault.OutOfMemory) }
     {
-        Ok(Member {
+        Ok(Declarer {
             published: AttributeLists::new(alloc, object_classes)?,
             subscribed: AttributeLists::new(alloc, object_classes)?,
             published_interactions: ClassSet::new(alloc, interaction_classes)?,

@@ -19,12 +19,12 @@ use Rattle.hla_fed_file.specs.declared.place.Keyword.{Keyword}
 use Rattle.hla_fed_file.specs.declared.place.Keyword.TheVariants as word
 use Rattle.hla_fed_file.specs.declared.place.Head.{Head}
 use Rattle.hla_fed_file.specs.declared.place.Head.TheVariants as head
-use Rattle.hla_fed_file.specs.declared.place.Naming.{Naming}
-use Rattle.hla_fed_file.specs.declared.place.Naming.TheVariants as name
+use Rattle.hla_fed_file.specs.declared.place.NameOf.{NameOf}
+use Rattle.hla_fed_file.specs.declared.place.NameOf.TheVariants as name
 use Rattle.hla_fed_file.specs.declared.place.Lists.{Lists}
 use Rattle.hla_fed_file.specs.declared.place.Lists.TheVariants as lists
-use Rattle.hla_fed_file.specs.declared.place.Stage.{Stage}
-use Rattle.hla_fed_file.specs.declared.place.Stage.TheVariants as stage
+use Rattle.hla_fed_file.specs.declared.place.OptionStage.{OptionStage}
+use Rattle.hla_fed_file.specs.declared.place.OptionStage.TheVariants as stage
 use Rattle.hla_fed_file.specs.declared.place.Within.{Within}
 use Rattle.hla_fed_file.specs.declared.place.Within.TheVariants as within
 use Rattle.hla_fed_file.specs.declared.place.Place.{Place}
@@ -134,7 +134,7 @@ unfoldable pub after_close : Reader → Step
 after_close s = after_close_at s.place s
 
 -- Behind a name where one must stand.
-abbrev pub after_name_at : Naming → Reader → List ℕ → Step
+abbrev pub after_name_at : NameOf → Reader → List ℕ → Step
 after_name_at name.Label s n = Ok (record s { place = at.LabelEnd })
 after_name_at name.ObjectClass s n =
     if nat_le max_classes (length s.catalogue.object_classes) then Err kind.TooLarge
@@ -151,7 +151,7 @@ after_name_at name.Parameter s n =
     else if nat_le max_parameters (length s.catalogue.parameters) then Err kind.TooLarge
     else Ok (record s { place = at.ParameterEnd; catalogue = with_parameter s.lineage n s.catalogue })
 
-unfoldable pub after_name : Naming → Reader → List ℕ → Step
+unfoldable pub after_name : NameOf → Reader → List ℕ → Step
 after_name what s n =
     if length n == 0 then Err kind.ExpectedName
     else if nat_lt max_name (length n) then Err kind.TooLarge
@@ -183,14 +183,14 @@ with_place None s = Err kind.UnknownKeyword
 with_place (Some place) s = Ok (record s { place = place })
 
 -- behind a word in the options of an attribute
-abbrev pub attribute_option : Stage → Option Keyword → Reader → Step
+abbrev pub attribute_option : OptionStage → Option Keyword → Reader → Step
 attribute_option stage.Ordered k s = Ok (record s { place = at.AttributeEnd })
 attribute_option stage.Named (Some (word.Carried t)) s = Ok (record s { place = at.AttributeOptions stage.Carried; attribute = option_map {T = Attribute} {U = Attribute} (λ a. record a { transport = t }) s.attribute })
 attribute_option o (Some (word.Ordered r)) s = Ok (record s { place = at.AttributeOptions stage.Ordered; attribute = option_map {T = Attribute} {U = Attribute} (λ a. record a { order = r }) s.attribute })
 attribute_option o k s = Err kind.UnknownKeyword
 
 -- behind a word in the options of an interaction class
-abbrev pub class_option : Stage → Option Keyword → Reader → Step
+abbrev pub class_option : OptionStage → Option Keyword → Reader → Step
 class_option stage.Ordered k s = Ok (with_class_declared s)
 class_option stage.Named (Some (word.Carried t)) s = Ok (record s { place = at.ClassOptions stage.Carried; class = option_map {T = InteractionClass} {U = InteractionClass} (λ k. record k { transport = t }) s.class })
 class_option o (Some (word.Ordered r)) s = Ok (record s { place = at.ClassOptions stage.Ordered; class = option_map {T = InteractionClass} {U = InteractionClass} (λ k. record k { order = r }) s.class })

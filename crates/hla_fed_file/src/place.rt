@@ -38,7 +38,7 @@ pub enum Head {
 
 /// Whose name must stand.
 #[derive(Clone, Copy, Debug, PartialEq, Eq)]
-pub enum Naming {
+pub enum NameOf {
     Label,
     ObjectClass,
     Attribute,
@@ -58,7 +58,7 @@ pub enum Lists {
 
 /// What stands before the place of a transport, an order or a routing space.
 #[derive(Clone, Copy, Debug, PartialEq, Eq)]
-pub enum Stage {
+pub enum OptionStage {
     Named,
     Carried,
     Ordered,
@@ -81,14 +81,14 @@ pub enum Place {
     /// Behind an opening parenthesis.
     Head(Head),
     /// Where a name must stand.
-    Name(Naming),
+    Name(NameOf),
     /// Where a list may begin, or the present one end.
     Between(Lists),
     /// Behind the name of `Federation` or `FEDversion`.
     LabelEnd,
-    AttributeOptions(Stage),
+    AttributeOptions(OptionStage),
     AttributeEnd,
-    ClassOptions(Stage),
+    ClassOptions(OptionStage),
     ParameterEnd,
     /// In an ignored list, which ends where so many parentheses are open.
     Ignored(Within, u32),

@@ -8,7 +8,7 @@ ghost use Rattle.hla_fed_file.specs.Tokens.{view};
 
 use crate::fault::{FedFault, FedFaultKind};
 use crate::lexer::Token;
-use crate::place::{Head, Keyword, Lists, Naming, Place, Stage, Within, meaning};
+use crate::place::{Head, Keyword, Lists, NameOf, OptionStage, Place, Within, meaning};
 use hla_base::{
     ClassNo, Fault, List, MAX_ATTRIBUTES, MAX_CLASSES, MAX_FED_NESTING, MAX_NAME, MAX_PARAMETERS,
     Plain,
@@ -63,20 +63,20 @@ fn place_behind_keyword(head: Head, depth: u32, keyword: Option<Keyword>) -> Opt
 {
     match (head, keyword?) {
         (Head::File, Keyword::Fed) => Some(Place::Between(Lists::Parts)),
-        (Head::Part, Keyword::Label) => Some(Place::Name(Naming::Label)),
+        (Head::Part, Keyword::Label) => Some(Place::Name(NameOf::Label)),
         (Head::Part, Keyword::Ignored) => Some(Place::Ignored(Within::File, depth)),
         (Head::Part, Keyword::Objects) => Some(Place::Between(Lists::ObjectClasses)),
         (Head::Part, Keyword::Interactions) => Some(Place::Between(Lists::InteractionClasses)),
         (Head::ObjectClass | Head::ObjectItem, Keyword::Class) => Some(Place::Name(
-            Naming::ObjectClass,
+            NameOf::ObjectClass,
         )),
-        (Head::ObjectItem, Keyword::Attribute) => Some(Place::Name(Naming::Attribute)),
+        (Head::ObjectItem, Keyword::Attribute) => Some(Place::Name(NameOf::Attribute)),
         (Head::ObjectItem, Keyword::SecLevel) => Some(Place::Ignored(Within::ObjectClass, depth)),
         (Head::AttributeItem, Keyword::SecLevel) => Some(Place::Ignored(Within::Attribute, depth)),
         (Head::InteractionClass | Head::InteractionItem, Keyword::Class) => Some(Place::Name(
-            Naming::InteractionClass,
+            NameOf::InteractionClass,
         )),
-        (Head::InteractionItem, Keyword::Parameter) => Some(Place::Name(Naming::Parameter)),
+        (Head::InteractionItem, Keyword::Parameter) => Some(Place::Name(NameOf::Parameter)),
         (Head::InteractionItem, Keyword::SecLevel) => Some(Place::Ignored(
             Within::InteractionClass,
             depth,
@@ -295,7 +295,7 @@ impl Reader {
 
     /// Takes the name of an object class.
     fn open_object_class(&mut self, alloc: Global, name: &[u8]) -> Result<(), FedFaultKind>
-        ensures { Moves result (after_name_at Naming.ObjectClass self.old name.now) self.new }
+        ensures { Moves result (after_name_at NameOf.ObjectClass self.old name.now) self.new }
     {
         let count = self.catalogue.object_classes().len();
         if count >= MAX_CLASSES {
@@ -321,7 +321,7 @@ impl Reader {
 
     /// Takes the name of an interaction class.
     fn open_interaction_class(&mut self, alloc: Global, name: &[u8]) -> Result<(), FedFaultKind>
-        ensures { Moves result (after_name_at Naming.InteractionClass self.old name.now) self.new }
+        ensures { Moves result (after_name_at NameOf.InteractionClass self.old name.now) self.new }
     {
         let count = self.catalogue.interaction_classes().len();
         if count >= MAX_CLASSES {
@@ -336,13 +336,13 @@ impl Reader {
             transport: Transport::Reliable,
             order: Order::Receive,
         });
-        self.place = Place::ClassOptions(Stage::Named);
+        self.place = Place::ClassOptions(OptionStage::Named);
         Ok(())
     }
 
     /// Takes the name of an attribute.
     fn open_attribute(&mut self, alloc: Global, name: &[u8]) -> Result<(), FedFaultKind>
-        ensures { Moves result (after_name_at Naming.Attribute self.old name.now) self.new }
+        ensures { Moves result (after_name_at NameOf.Attribute self.old name.now) self.new }
     {
         if self
             .catalogue
@@ -365,13 +365,13 @@ impl Reader {
                 order: Order::Receive,
             });
         }
-        self.place = Place::AttributeOptions(Stage::Named);
+        self.place = Place::AttributeOptions(OptionStage::Named);
         Ok(())
     }
 
     /// Takes the name of a parameter.
     fn open_parameter(&mut self, alloc: Global, name: &[u8]) -> Result<(), FedFaultKind>
-        ensures { Moves result (after_name_at Naming.Parameter self.old name.now) self.new }
+        ensures { Moves result (after_name_at NameOf.Parameter self.old name.now) self.new }
     {
         if self
             .catalogue
@@ -400,7 +400,7 @@ impl Reader {
 
     /// Takes a name where one must stand.
     #[tactic(auto, unfolding(crate::specs::Reading::after_name))]
-    fn take_name(&mut self, alloc: Global, naming: Naming, name: &[u8]) -> Result<(), FedFaultKind>
+    fn take_name(&mut self, alloc: Global, naming: NameOf, name: &[u8]) -> Result<(), FedFaultKind>
         ensures { Moves result (after_name naming self.old name.now) self.new }
     {
         if name.is_empty() {
@@ -410,14 +410,14 @@ impl Reader {
             return Err(FedFaultKind::TooLarge);
         }
         match naming {
-            Naming::Label => {
+            NameOf::Label => {
                 self.place = Place::LabelEnd;
                 Ok(())
             }
-            Naming::ObjectClass => self.open_object_class(alloc, name),
-            Naming::Attribute => self.open_attribute(alloc, name),
-            Naming::InteractionClass => self.open_interaction_class(alloc, name),
-            Naming::Parameter => self.open_parameter(alloc, name),
+            NameOf::ObjectClass => self.open_object_class(alloc, name),
+            NameOf::Attribute => self.open_attribute(alloc, name),
+            NameOf::InteractionClass => self.open_interaction_class(alloc, name),
+            NameOf::Parameter => self.open_parameter(alloc, name),
         }
     }
 
@@ -436,26 +436,26 @@ impl Reader {
     }
 
     /// Takes a word in the options of an attribute.
-    fn attribute_option(&mut self, stage: Stage, word: &[u8]) -> Result<(), FedFaultKind>
+    fn attribute_option(&mut self, stage: OptionStage, word: &[u8]) -> Result<(), FedFaultKind>
         ensures { Moves result (attribute_option stage (keyword_of word.now) self.old) self.new }
     {
-        if stage == Stage::Ordered {
+        if stage == OptionStage::Ordered {
             self.place = Place::AttributeEnd;
             return Ok(());
         }
         match (stage, meaning(word)) {
-            (Stage::Named, Some(Keyword::Carried(transport))) => {
+            (OptionStage::Named, Some(Keyword::Carried(transport))) => {
                 if let Some(attribute) = &mut self.attribute {
                     attribute.transport = transport;
                 }
-                self.place = Place::AttributeOptions(Stage::Carried);
+                self.place = Place::AttributeOptions(OptionStage::Carried);
                 Ok(())
             }
             (_, Some(Keyword::Ordered(order))) => {
                 if let Some(attribute) = &mut self.attribute {
                     attribute.order = order;
                 }
-                self.place = Place::AttributeOptions(Stage::Ordered);
+                self.place = Place::AttributeOptions(OptionStage::Ordered);
                 Ok(())
             }
             _ => Err(FedFaultKind::UnknownKeyword),
@@ -463,25 +463,25 @@ impl Reader {
     }
 
     /// Takes a word in the options of an interaction class.
-    fn class_option(&mut self, stage: Stage, word: &[u8]) -> Result<(), FedFaultKind>
+    fn class_option(&mut self, stage: OptionStage, word: &[u8]) -> Result<(), FedFaultKind>
         ensures { Moves result (class_option stage (keyword_of word.now) self.old) self.new }
     {
-        if stage == Stage::Ordered {
+        if stage == OptionStage::Ordered {
             return self.declare_class();
         }
         match (stage, meaning(word)) {
-            (Stage::Named, Some(Keyword::Carried(transport))) => {
+            (OptionStage::Named, Some(Keyword::Carried(transport))) => {
                 if let Some(class) = &mut self.class {
                     class.transport = transport;
                 }
-                self.place = Place::ClassOptions(Stage::Carried);
+                self.place = Place::ClassOptions(OptionStage::Carried);
                 Ok(())
             }
             (_, Some(Keyword::Ordered(order))) => {
                 if let Some(class) = &mut self.class {
                     class.order = order;
                 }
-                self.place = Place::ClassOptions(Stage::Ordered);
+                self.place = Place::ClassOptions(OptionStage::Ordered);
                 Ok(())
             }
             _ => Err(FedFaultKind::UnknownKeyword),
@@ -515,11 +515,11 @@ impl Reader {
         match self.place {
             Place::Ignored(_, _) => Ok(()),
             Place::Name(naming) => self.take_name(alloc, naming, name),
-            Place::AttributeOptions(Stage::Ordered) => {
+            Place::AttributeOptions(OptionStage::Ordered) => {
                 self.place = Place::AttributeEnd;
                 Ok(())
             }
-            Place::ClassOptions(Stage::Ordered) => self.declare_class(),
+            Place::ClassOptions(OptionStage::Ordered) => self.declare_class(),
             Place::Head(_) => Err(FedFaultKind::UnknownKeyword),
             Place::Start | Place::Between(_) | Place::ClassOptions(_) => Err(
                 FedFaultKind::ExpectedOpen,

@@ -19,7 +19,7 @@ const SPARE_ROOM: usize = 64;
 
 /// An event's stamp, at its serial; `None` where the event is gone.
 #[derive(Clone, Copy, Debug)]
-pub(crate) struct Note {
+pub(crate) struct StampNote {
     pub serial: Serial,
     pub stamp: Option<Ticks>,
 }
@@ -27,7 +27,7 @@ pub(crate) struct Note {
 /// The stamps of one sender's events, by serials that rise from note to note. Contracts see the notes.
 #[derive(Debug, Drop)]
 pub(crate) struct Rising {
-    notes: VecDeque<Note>,
+    notes: VecDeque<StampNote>,
     /// About how many notes are of events that are gone: it tells when to sweep them out, and nothing else.
     gone: usize,
     /// How many notes there were when room was last given back, or refused to be; more than any where much of the room has
@@ -37,10 +37,10 @@ pub(crate) struct Rising {
 
 impl Model for Rising {
     ghost use Rattle.std.specs.Prelude.{List};
-    ghost use Rattle.hla_order_queues.specs.declared.rising.Note.{Note};
+    ghost use Rattle.hla_order_queues.specs.declared.rising.StampNote.{StampNote};
     ghost use Rattle.hla_order_queues.specs.Names.{AreRisingNotes};
 
-    ghost Value = { List Note };
+    ghost Value = { List StampNote };
 
     ghost view = { λ r. r.notes.items };
 
@@ -76,7 +76,7 @@ impl Rising {
         ensures put { (m : ℕ) → OnTrue result (noted m self.new ≡ cond (eqb serial m) (Some stamp) (noted m self.old)) }
         ensures refused { OnFalse result (self.new ≡ self.old) }
     {
-        let note = Note {
+        let note = StampNote {
             serial,
             stamp: Some(stamp),
         };
@@ -109,7 +109,7 @@ impl Rising {
 }
 
 /// The place of the first note with no lesser serial.
-fn place_of(notes: &VecDeque<Note>, serial: Serial) -> usize
+fn place_of(notes: &VecDeque<StampNote>, serial: Serial) -> usize
     requires { AreRisingNotes notes.now.items }
     ensures { result ≡ prefix_len (is_note_before serial) notes.now.items }
 {
@@ -117,7 +117,7 @@ fn place_of(notes: &VecDeque<Note>, serial: Serial) -> usize
 }
 
 /// The stamp in the note at a place, if the note has this serial.
-fn stamp_at(notes: &VecDeque<Note>, place: usize, serial: Serial) -> Option<Ticks>
+fn stamp_at(notes: &VecDeque<StampNote>, place: usize, serial: Serial) -> Option<Ticks>
     requires rising { AreRisingNotes notes.now.items }
     requires place { place ≡ prefix_len (is_note_before serial) notes.now.items }
     ensures { result ≡ noted serial notes.now.items }
@@ -133,7 +133,7 @@ fn stamp_at(notes: &VecDeque<Note>, place: usize, serial: Serial) -> Option<Tick
 }
 
 /// Takes the stamp at a serial, if the event is there.
-fn take_from(notes: &mut VecDeque<Note>, gone: &mut usize, serial: Serial) -> Option<Ticks>
+fn take_from(notes: &mut VecDeque<StampNote>, gone: &mut usize, serial: Serial) -> Option<Ticks>
     requires { AreRisingNotes notes.old.items }
     ensures { TakesNote serial notes.old.items notes.new.items result }
 {
@@ -149,7 +149,7 @@ fn take_from(notes: &mut VecDeque<Note>, gone: &mut usize, serial: Serial) -> Op
 }
 
 /// Whether the first note has this serial.
-fn is_first(notes: &VecDeque<Note>, serial: Serial) -> bool
+fn is_first(notes: &VecDeque<StampNote>, serial: Serial) -> bool
     ensures { result ≡ is_first_note serial notes.now.items }
 {
     match notes.front() {
@@ -159,7 +159,7 @@ fn is_first(notes: &VecDeque<Note>, serial: Serial) -> bool
 }
 
 /// Takes the first note, which has this serial, and gives its stamp.
-fn take_first(notes: &mut VecDeque<Note>, serial: Serial) -> Option<Ticks>
+fn take_first(notes: &mut VecDeque<StampNote>, serial: Serial) -> Option<Ticks>
     requires rising { AreRisingNotes notes.old.items }
     requires first { is_first_note serial notes.old.items ≡ true }
     ensures { TakesNote serial notes.old.items notes.new.items result }
@@ -171,14 +171,14 @@ fn take_first(notes: &mut VecDeque<Note>, serial: Serial) -> Option<Ticks>
 }
 
 /// Takes the stamp out of the note with this serial, if there is one. The note stays, so that no other moves.
-fn mark(notes: &mut VecDeque<Note>, serial: Serial) -> Option<Ticks>
+fn mark(notes: &mut VecDeque<StampNote>, serial: Serial) -> Option<Ticks>
     requires { AreRisingNotes notes.old.items }
     ensures { TakesNote serial notes.old.items notes.new.items result }
 {
     let place = place_of(notes, serial);
     let stamp = stamp_at(notes, place, serial);
     if stamp.is_some() {
-        notes[place] = Note {
+        notes[place] = StampNote {
             serial,
             stamp: None,
         };
@@ -187,7 +187,7 @@ fn mark(notes: &mut VecDeque<Note>, serial: Serial) -> Option<Ticks>
 }
 
 /// Takes notes of events that are gone out, if there are any, and gives room back.
-fn tidy(notes: &mut VecDeque<Note>, gone: &mut usize, tried: &mut usize)
+fn tidy(notes: &mut VecDeque<StampNote>, gone: &mut usize, tried: &mut usize)
     requires { AreRisingNotes notes.old.items }
     ensures { Keeps notes.old.items notes.new.items }
 {
@@ -199,7 +199,7 @@ fn tidy(notes: &mut VecDeque<Note>, gone: &mut usize, tried: &mut usize)
 }
 
 /// Takes the notes before the first event out.
-fn drop_first(notes: &mut VecDeque<Note>, gone: &mut usize)
+fn drop_first(notes: &mut VecDeque<StampNote>, gone: &mut usize)
     requires { AreRisingNotes notes.old.items }
     ensures { Keeps notes.old.items notes.new.items }
 {
@@ -211,7 +211,7 @@ fn drop_first(notes: &mut VecDeque<Note>, gone: &mut usize)
 
 /// Takes all notes of events that are gone out, where they are many. It goes through all notes, which the marking of each
 /// that is gone has paid for.
-fn drop_many(notes: &mut VecDeque<Note>, gone: &mut usize)
+fn drop_many(notes: &mut VecDeque<StampNote>, gone: &mut usize)
     requires { AreRisingNotes notes.old.items }
     ensures { Keeps notes.old.items notes.new.items }
 {
@@ -222,7 +222,7 @@ fn drop_many(notes: &mut VecDeque<Note>, gone: &mut usize)
 }
 
 /// Whether the first note is of an event that is gone.
-fn is_first_gone(notes: &VecDeque<Note>) -> bool
+fn is_first_gone(notes: &VecDeque<StampNote>) -> bool
     ensures { result ≡ is_first_none notes.now.items }
 {
     match notes.front() {
@@ -233,7 +233,7 @@ fn is_first_gone(notes: &VecDeque<Note>) -> bool
 
 /// Gives room back where that is due; if it is refused, or more room than was asked for stays, all stays as it is until it
 /// is due again.
-fn give_back(notes: &mut VecDeque<Note>, tried: &mut usize)
+fn give_back(notes: &mut VecDeque<StampNote>, tried: &mut usize)
     ensures same { notes.new.items ≡ notes.old.items }
     ensures tried { tried.new ≡ tried_after (deque_capacity notes.old) (deque_len notes.old) tried.old }
 {

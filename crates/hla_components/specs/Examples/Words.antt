@@ -119,15 +119,15 @@ pair number value = record { handle = number; value = value }
 
 -- ---- examples
 -- a step and what it ends in
-pub record Line : Type 0 where
+pub record ExampleStep : Type 0 where
   pub step : Step
   pub outcome : Outcome
 
 infix 70 ◌⟶◌
-abbrev pub ◌⟶◌ : Step → Outcome → Line
+abbrev pub ◌⟶◌ : Step → Outcome → ExampleStep
 step ⟶ outcome = record { step = step; outcome = outcome }
 
 -- from the beginning on, the steps of these lines end in what they say
-abbrev pub Shows : List Line → Type 0
+abbrev pub Shows : List ExampleStep → Type 0
 Shows lines =
-    map (λ (h : Happening). h.outcome) (happenings (new_components catalogue) (map (λ (l : Line). l.step) lines)) ≡ map (λ (l : Line). l.outcome) lines
+    map (λ (h : Happening). h.outcome) (happenings (new_components catalogue) (map (λ (l : ExampleStep). l.step) lines)) ≡ map (λ (l : ExampleStep). l.outcome) lines

@@ -16,10 +16,10 @@ use Rattle.hla_fed_file.specs.declared.fault.FedFaultKind.TheVariants as kind
 use Rattle.hla_fed_file.specs.declared.place.Keyword.{Keyword}
 use Rattle.hla_fed_file.specs.declared.place.Keyword.TheVariants as word
 use Rattle.hla_fed_file.specs.declared.place.Head.TheVariants as head
-use Rattle.hla_fed_file.specs.declared.place.Naming.TheVariants as name
+use Rattle.hla_fed_file.specs.declared.place.NameOf.TheVariants as name
 use Rattle.hla_fed_file.specs.declared.place.Lists.TheVariants as lists
-use Rattle.hla_fed_file.specs.declared.place.Stage.{Stage}
-use Rattle.hla_fed_file.specs.declared.place.Stage.TheVariants as stage
+use Rattle.hla_fed_file.specs.declared.place.OptionStage.{OptionStage}
+use Rattle.hla_fed_file.specs.declared.place.OptionStage.TheVariants as stage
 use Rattle.hla_fed_file.specs.declared.place.Within.TheVariants as within
 use Rattle.hla_fed_file.specs.declared.place.Place.{Place}
 use Rattle.hla_fed_file.specs.declared.place.Place.TheVariants as at
@@ -170,7 +170,7 @@ class_ordered_token text.Unclosed d l k c next ok = cc
 class_ordered_token text.End d l k c next ok = cc
 
 -- where a parenthesis is next, the class counts as declared
-behind_paren : (o : Stage) (d : ℕ) (l : List ℕ) (k : InteractionClass) (c : CatalogueValue) (t : Lexed) (ts : List Lexed) (final : CatalogueValue) → Fits t.token LeftParen ⊎ Fits t.token RightParen
+behind_paren : (o : OptionStage) (d : ℕ) (l : List ℕ) (k : InteractionClass) (c : CatalogueValue) (t : Lexed) (ts : List Lexed) (final : CatalogueValue) → Fits t.token LeftParen ⊎ Fits t.token RightParen
     → reading (pending (at.ClassOptions o) d l k c) (t ∷ ts) ≡ Ok final → reading (inside d k c) (t ∷ ts) ≡ Ok final
 behind_paren o d l k c t ts final (inl left) h =
     let f = fits_left t.token (pending (at.ClassOptions o) d l k c) left in

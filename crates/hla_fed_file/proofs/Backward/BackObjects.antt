@@ -16,9 +16,9 @@ use Rattle.hla_catalogue.specs.declared.declared.Transport.TheVariants as transp
 use Rattle.hla_fed_file.specs.declared.place.Keyword.{Keyword}
 use Rattle.hla_fed_file.specs.declared.place.Keyword.TheVariants as word
 use Rattle.hla_fed_file.specs.declared.place.Head.TheVariants as head
-use Rattle.hla_fed_file.specs.declared.place.Naming.TheVariants as name
+use Rattle.hla_fed_file.specs.declared.place.NameOf.TheVariants as name
 use Rattle.hla_fed_file.specs.declared.place.Lists.TheVariants as lists
-use Rattle.hla_fed_file.specs.declared.place.Stage.TheVariants as stage
+use Rattle.hla_fed_file.specs.declared.place.OptionStage.TheVariants as stage
 use Rattle.hla_fed_file.specs.declared.place.Within.TheVariants as within
 use Rattle.hla_fed_file.specs.declared.place.Place.{Place}
 use Rattle.hla_fed_file.specs.declared.place.Place.TheVariants as at

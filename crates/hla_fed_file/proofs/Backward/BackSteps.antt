@@ -14,7 +14,7 @@ use Rattle.hla_fed_file.specs.declared.place.Keyword.{Keyword}
 use Rattle.hla_fed_file.specs.declared.place.Keyword.TheVariants as word
 use Rattle.hla_fed_file.specs.declared.place.Head.{Head}
 use Rattle.hla_fed_file.specs.declared.place.Head.TheVariants as head
-use Rattle.hla_fed_file.specs.declared.place.Naming.{Naming}
+use Rattle.hla_fed_file.specs.declared.place.NameOf.{NameOf}
 use Rattle.hla_fed_file.specs.declared.place.Lists.{Lists}
 use Rattle.hla_fed_file.specs.declared.place.Within.{Within}
 use Rattle.hla_fed_file.specs.declared.place.Within.TheVariants as within
@@ -123,12 +123,12 @@ head_token text.Unclosed h d s next ok = cc
 head_token text.End h d s next ok = cc
 
 -- a name
-pub record NameRead (token : text.Token) (what : Naming) (s next : Reader) : Type 0 where
+pub record NameRead (token : text.Token) (what : NameOf) (s next : Reader) : Type 0 where
   pub name : List ℕ
   pub fits : Fits token (Named name)
   pub named : after_name what s name ≡ Ok next
 
-pub name_token : (token : text.Token) (what : Naming) (d : ℕ) (l : List ℕ) (c : CatalogueValue) (next : Reader) → after_token (reader (at.Name what) d l c) token ≡ Ok next → NameRead token what (reader (at.Name what) d l c) next
+pub name_token : (token : text.Token) (what : NameOf) (d : ℕ) (l : List ℕ) (c : CatalogueValue) (next : Reader) → after_token (reader (at.Name what) d l c) token ≡ Ok next → NameRead token what (reader (at.Name what) d l c) next
 unfolding after_open after_close after_word after_quoted
 name_token text.Open what d l c next ok = cc
 name_token text.Close what d l c next ok = cc
@@ -143,7 +143,7 @@ short_name_back true b n x next h g ok = cc
 short_name_back false true n x next h g ok = cc
 short_name_back false false n x next h g ok = let some : 0 < length n = grind (arith, nat_tests) in let few : length n ≤ max_name = grind (arith, nat_tests) in ((some, few), ok)
 
-pub was_named : (what : Naming) (s next : Reader) (n : List ℕ) → after_name what s n ≡ Ok next → IsShort n × (after_name_at what s n ≡ Ok next)
+pub was_named : (what : NameOf) (s next : Reader) (n : List ℕ) → after_name what s n ≡ Ok next → IsShort n × (after_name_at what s n ≡ Ok next)
 unfolding after_name
 was_named what s next n ok = short_name_back (length n == 0) (nat_lt max_name (length n)) n (after_name_at what s n) next refl refl ok
 

@@ -8,7 +8,7 @@ use Rattle.hla_fed_file.specs.Reading.{reading, after_open, after_close, after_w
 use Rattle.hla_fed_file.specs.Grammar.{Symbol, TheEnd, Fits, Spells, Parts, NoPart, ALabel, AnIgnored, Objects, Interactions, parts_then, file_of, object_classes_declare, interaction_classes_declare, parts_declare, parts_fit, Describes}
 use Rattle.hla_fed_file.specs.declared.place.Keyword.TheVariants as word
 use Rattle.hla_fed_file.specs.declared.place.Head.TheVariants as head
-use Rattle.hla_fed_file.specs.declared.place.Naming.TheVariants as name
+use Rattle.hla_fed_file.specs.declared.place.NameOf.TheVariants as name
 use Rattle.hla_fed_file.specs.declared.place.Lists.TheVariants as lists
 use Rattle.hla_fed_file.specs.declared.place.Within.TheVariants as within
 use Rattle.hla_fed_file.specs.declared.place.Place.TheVariants as at

@@ -14,10 +14,10 @@ use Rattle.hla_catalogue.specs.declared.declared.Transport.TheVariants as transp
 use Rattle.hla_fed_file.specs.declared.fault.FedFaultKind.TheVariants as kind
 use Rattle.hla_fed_file.specs.declared.place.Keyword.TheVariants as word
 use Rattle.hla_fed_file.specs.declared.place.Head.TheVariants as head
-use Rattle.hla_fed_file.specs.declared.place.Naming.TheVariants as name
+use Rattle.hla_fed_file.specs.declared.place.NameOf.TheVariants as name
 use Rattle.hla_fed_file.specs.declared.place.Lists.TheVariants as lists
-use Rattle.hla_fed_file.specs.declared.place.Stage.{Stage}
-use Rattle.hla_fed_file.specs.declared.place.Stage.TheVariants as stage
+use Rattle.hla_fed_file.specs.declared.place.OptionStage.{OptionStage}
+use Rattle.hla_fed_file.specs.declared.place.OptionStage.TheVariants as stage
 use Rattle.hla_fed_file.specs.declared.place.Within.TheVariants as within
 use Rattle.hla_fed_file.specs.declared.place.Place.TheVariants as at
 use Rattle.hla_fed_file.specs.declared.reader.Reader.{Reader}
@@ -43,7 +43,7 @@ inside d k c = reader (at.Between lists.InteractionItems) d k.lineage (with_clas
 
 -- what may stand behind options that end, whether or not the class is declared by then
 pub data BehindOptions (k : InteractionClass) (d : ℕ) (l : List ℕ) (c : CatalogueValue) : Reader → Type 0 where
-  Waits : (o : Stage) → BehindOptions k d l c (pending (at.ClassOptions o) d l k c)
+  Waits : (o : OptionStage) → BehindOptions k d l c (pending (at.ClassOptions o) d l k c)
   Declared : BehindOptions k d l c (inside d k c)
 
 -- such readers open and close alike

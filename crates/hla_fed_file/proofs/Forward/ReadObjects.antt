@@ -16,11 +16,11 @@ use Rattle.hla_fed_file.specs.declared.fault.FedFaultKind.TheVariants as kind
 use Rattle.hla_fed_file.specs.declared.place.Keyword.{Keyword}
 use Rattle.hla_fed_file.specs.declared.place.Keyword.TheVariants as word
 use Rattle.hla_fed_file.specs.declared.place.Head.TheVariants as head
-use Rattle.hla_fed_file.specs.declared.place.Naming.TheVariants as name
+use Rattle.hla_fed_file.specs.declared.place.NameOf.TheVariants as name
 use Rattle.hla_fed_file.specs.declared.place.Lists.{Lists}
 use Rattle.hla_fed_file.specs.declared.place.Lists.TheVariants as lists
-use Rattle.hla_fed_file.specs.declared.place.Stage.{Stage}
-use Rattle.hla_fed_file.specs.declared.place.Stage.TheVariants as stage
+use Rattle.hla_fed_file.specs.declared.place.OptionStage.{OptionStage}
+use Rattle.hla_fed_file.specs.declared.place.OptionStage.TheVariants as stage
 use Rattle.hla_fed_file.specs.declared.place.Within.TheVariants as within
 use Rattle.hla_fed_file.specs.declared.place.Place.{Place}
 use Rattle.hla_fed_file.specs.declared.place.Place.TheVariants as at
@@ -28,7 +28,7 @@ use Rattle.hla_fed_file.specs.declared.reader.Reader.{Reader}
 use Rattle.hla_fed_file.proofs.Forward.ReadSteps.{ReadsSymbols, above_zero, any_read, below_limit, paren_opened, down, half, keyword_read, left_read, list_read, name_read, reader, right_read}
 
 -- Options.
-abbrev pub stage_of : Option Transport → Stage
+abbrev pub stage_of : Option Transport → OptionStage
 stage_of None = stage.Named
 stage_of (Some t) = stage.Carried
 

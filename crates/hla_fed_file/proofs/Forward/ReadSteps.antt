@@ -13,7 +13,7 @@ use Rattle.hla_catalogue.specs.declared.declared.Attribute.{Attribute}
 use Rattle.hla_catalogue.specs.declared.declared.InteractionClass.{InteractionClass}
 use Rattle.hla_fed_file.specs.declared.place.Keyword.{Keyword}
 use Rattle.hla_fed_file.specs.declared.place.Head.{Head}
-use Rattle.hla_fed_file.specs.declared.place.Naming.{Naming}
+use Rattle.hla_fed_file.specs.declared.place.NameOf.{NameOf}
 use Rattle.hla_fed_file.specs.declared.place.Within.{Within}
 use Rattle.hla_fed_file.specs.declared.place.Place.{Place}
 use Rattle.hla_fed_file.specs.declared.place.Place.TheVariants as at
@@ -127,14 +127,14 @@ pub down : (d : ℕ) → d + 1 - 1 ≡ d
 down d = omega arith
 
 -- a name of 1 to 255 bytes
-short_named : (what : Naming) (s : Reader) (n : List ℕ) → IsShort n → after_name what s n ≡ after_name_at what s n
+short_named : (what : NameOf) (s : Reader) (n : List ℕ) → IsShort n → after_name what s n ≡ after_name_at what s n
 unfolding after_name
 short_named what s n short =
     let a : (length n == 0) ≡ false = above_zero _ short.0 in
     let b : nat_lt max_name (length n) ≡ false = le-ltb _ _ short.1 in
     rw (a, b) refl
 
-pub name_read : (what : Naming) (n : List ℕ) (d : ℕ) (l : List ℕ) (c : CatalogueValue) (s' : Reader) (ts : List Lexed) (ss : List Symbol) → IsShort n → after_name_at what (reader (at.Name what) d l c) n ≡ Ok s'
+pub name_read : (what : NameOf) (n : List ℕ) (d : ℕ) (l : List ℕ) (c : CatalogueValue) (s' : Reader) (ts : List Lexed) (ss : List Symbol) → IsShort n → after_name_at what (reader (at.Name what) d l c) n ≡ Ok s'
     → Spells ts (Named n ∷ ss) → ReadsSymbols (reader (at.Name what) d l c) s' ts ss
 unfolding after_word after_quoted
 name_read what n d l c s' [] ss short h sp = absurd sp

@@ -18,7 +18,7 @@ use Rattle.hla_machine.proofs.Basics.Rows.{le_reach}
 use Rattle.hla_machine.proofs.Upkeep.Keeps.{IsCentralKept, fewer_removed}
 use Rattle.hla_machine.proofs.Upkeep.Runs.{row_after_is}
 use Rattle.hla_machine.proofs.Upkeep.Turns.{Turn, Fresh, Calm, Asked, Entered, Regulated, Rested, Picked, Granted, step_turn}
-use Rattle.hla_machine.proofs.Upkeep.News.{Change, step_change}
+use Rattle.hla_machine.proofs.Upkeep.News.{NewsAndJoins, step_change}
 use Rattle.hla_machine.proofs.Upkeep.Ahead.{Taken, taken_of, pick_ahead, Reachable, reachable, reachable_step, reachable_run, time_grows}
 
 -- the state after a pick
@@ -51,7 +51,7 @@ module _ (f s v : ℕ) (P : ℕ → ℕ → ℕ → Type 0) (from : (g m x : ℕ
     Stays : Within c → Later c
 
   -- a step within the advance
-  within_turn : (c d : Central) → IsCentralKept c → Change c d → (w : Within c) → c.directory.joined f ≡ true → Turn c f (d.row f) (d.directory.joined f) → Later d
+  within_turn : (c d : Central) → IsCentralKept c → NewsAndJoins c d → (w : Within c) → c.directory.joined f ≡ true → Turn c f (d.row f) (d.directory.joined f) → Later d
   within_turn c d k ch w member (Fresh is left) = Left (left member) (le_trans (k.members f member) ch.joins.up)
   within_turn c d k ch w member (Calm same) = Stays (record {
     request = w.request;
@@ -121,7 +121,7 @@ module _ (f s v : ℕ) (P : ℕ → ℕ → ℕ → Type 0) (from : (g m x : ℕ
   not_both true h = absurd (h refl)
   not_both false h = refl
 
-  gone_step : (c d : Central) → Change c d → c.directory.joined f ≡ false → f < c.directory.next_federate → Phase d
+  gone_step : (c d : Central) → NewsAndJoins c d → c.directory.joined f ≡ false → f < c.directory.next_federate → Phase d
   gone_step c d ch out low = Gone (not_both (d.directory.joined f) (λ j. let e = ch.joins.old f low j in cc)) (le_trans low ch.joins.up)
 
   phase_step : (c : Central) (h : Happening) → MayEnd c h.step h.outcome h.choice → Reachable c → Phase c → f < c.directory.next_federate → Phase (next_state c h)

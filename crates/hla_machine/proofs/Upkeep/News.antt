@@ -42,7 +42,7 @@ pub record Joins (c d : Central) : Type 0 where
   pub up : c.directory.next_federate ≤ d.directory.next_federate
   pub old : (f : ℕ) → f < c.directory.next_federate → d.directory.joined f ≡ true → c.directory.joined f ≡ true
 
-pub record Change (c d : Central) : Type 0 where
+pub record NewsAndJoins (c d : Central) : Type 0 where
   pub news : News c d
   pub joins : Joins c d
 
@@ -55,7 +55,7 @@ same_joins c d e = record { up = omega (arith, e.0); old = λ f l j. subst (λ (
 no_news : (c : Central) → News c c
 no_news c f g m k is live tso = inr (is, live)
 
-calm : (c d : Central) → News c d → joins_same c d → Change c d
+calm : (c d : Central) → News c d → joins_same c d → NewsAndJoins c d
 calm c d n e = record { news = n; joins = same_joins c d e }
 
 fewer_change : (c : Central) (to : ℕ → ℕ → ℕ → Option Copy) → NoMore to c.bag → News c (record c { bag = to })
@@ -79,16 +79,16 @@ sent_joined : (c : Central) (f : ℕ) (stamp : Option ℕ) (outs : List Outgoing
 sent_joined c f stamp [] = refl
 sent_joined c f stamp (out ∷ outs) = sent_joined (after_message c f stamp out) f stamp outs
 
-sends_change : (c : Central) (f : ℕ) (stamp : Option ℕ) (outs : List Outgoing) → EachHigh (c.row f) stamp outs → IsCentralKept c → Change c (after_messages c f stamp outs)
+sends_change : (c : Central) (f : ℕ) (stamp : Option ℕ) (outs : List Outgoing) → EachHigh (c.row f) stamp outs → IsCentralKept c → NewsAndJoins c (after_messages c f stamp outs)
 sends_change c f stamp outs high k = calm c (after_messages c f stamp outs) (sends_news c f stamp outs high k) (sent_next c f stamp outs, sent_joined c f stamp outs)
 
-left_change : (c b : Central) (f : ℕ) → Change c b → Change c (after_leaving b f)
+left_change : (c b : Central) (f : ℕ) → NewsAndJoins c b → NewsAndJoins c (after_leaving b f)
 left_change c b f ch = record {
   news = λ l g m k is live tso. ch.news l g m k (left_fewer b f g m l k is tso) live tso;
   joins = record { up = ch.joins.up; old = λ l low j. ch.joins.old l low (upd_each b.directory.joined f false (λ l x. x ≡ true → b.directory.joined l ≡ true) (λ e. absurd (cc)) (λ l ne e. e) l j) };
 }
 
-join_change : (c : Central) (name : List ℕ) → Change c (after_join c name)
+join_change : (c : Central) (name : List ℕ) → NewsAndJoins c (after_join c name)
 join_change c name = record {
   news = no_news c;
   joins = record { up = omega arith; old = λ l low j. upd_each c.directory.joined c.directory.next_federate true (λ l x. l < c.directory.next_federate → x ≡ true → c.directory.joined l ≡ true) (λ low e. absurd (omega arith)) (λ l ne low e. e) l low j };
@@ -97,15 +97,15 @@ join_change c name = record {
 retract_news : (c : Central) (f m : ℕ) → News c (after_retract c f m)
 retract_news c f m l g n k is live tso = inr (is, upd2_each c.sent f m (record (c.sent f m) { retracted = true }) (λ h n (e : SentEvent). e.retracted ≡ false → (c.sent h n).retracted ≡ false) (λ e. absurd (cc)) (λ _ _ e. e) g n live)
 
-enter_change : (c : Central) (f lookahead : ℕ) (o : Choice) → Change c (after_enter c f lookahead o)
+enter_change : (c : Central) (f lookahead : ℕ) (o : Choice) → NewsAndJoins c (after_enter c f lookahead o)
 enter_change c f lookahead (choice.Entry e) = calm c _ (no_news c) (refl, refl)
 enter_change c f lookahead o = calm c _ (no_news c) (refl, refl)
 
-cease_change : (c : Central) (f : ℕ) (o : Choice) → Change c (after_cease c f o)
+cease_change : (c : Central) (f : ℕ) (o : Choice) → NewsAndJoins c (after_cease c f o)
 cease_change c f (choice.Moved events) = calm c _ (fewer_change c (with_demoted c.bag f events) (fewer_moved c.bag f events)) (refl, refl)
 cease_change c f o = calm c _ (no_news c) (refl, refl)
 
-call_change : (c : Central) (f : ℕ) (s : Service) (a : Answer) (o : Choice) → refusal (central_seen c) (Call f s) ≡ None → MayAnswer c f s a o → IsCentralKept c → Change c (after_call c f s o)
+call_change : (c : Central) (f : ℕ) (s : Service) (a : Answer) (o : Choice) → refusal (central_seen c) (Call f s) ≡ None → MayAnswer c f s a o → IsCentralKept c → NewsAndJoins c (after_call c f s o)
 call_change c f (service.Resign DeleteObjects) a o none may k = let outs = deletions_sent (objects_of c.directory f) in left_change c (after_messages c f None outs) f (sends_change c f None outs (each_high_unstamped (c.row f) outs) k)
 call_change c f (service.Resign NoAction) a o none may k = left_change c c f (calm c c (no_news c) (refl, refl))
 call_change c f (service.UpdateAttributeValues object values stamp) a o none may k = let x = clear_call (central_seen c) f (service.UpdateAttributeValues object values stamp) none in let outs = update_sent c.directory object values in
@@ -122,36 +122,36 @@ call_change c f s a o none may k = calm c _ (no_news c) (refl, refl)
 arrived_fewer : (c : Central) (g f m : ℕ) → NoMore (cond (is_disabled (c.row f).constrained) (at_key c.bag g m f (option_map demoted_copy (c.bag g m f))) c.bag) c.bag
 arrived_fewer c g f m = cond_both (is_disabled (c.row f).constrained) (at_key c.bag g m f (option_map demoted_copy (c.bag g m f))) c.bag (λ b. NoMore b c.bag) (λ _. fewer_demoted c.bag g m f) (λ _. same_bag c.bag)
 
-carry_change : (c : Central) (g f : ℕ) (x : Carried) → Change c (after_carry c g f x)
+carry_change : (c : Central) (g f : ℕ) (x : Carried) → NewsAndJoins c (after_carry c g f x)
 carry_change c g f (carried.Event e) = calm c _ (fewer_change c _ (arrived_fewer c g f e.serial)) (refl, refl)
 carry_change c g f (carried.Removal e) = calm c _ (fewer_change c _ (arrived_fewer c g f e.serial)) (refl, refl)
 carry_change c g f (carried.Retraction e) = calm c _ (fewer_change c (at_key c.bag g e.serial f None) (fewer_removed c.bag g e.serial f)) (refl, refl)
 carry_change c g f x = calm c _ (no_news c) (refl, refl)
 
-deliver_change : (c : Central) (f : ℕ) (e : EventHandle) (d : Delivery) → Change c (after_delivery c f e d)
+deliver_change : (c : Central) (f : ℕ) (e : EventHandle) (d : Delivery) → NewsAndJoins c (after_delivery c f e d)
 deliver_change c f e delivery.Receive = calm c _ (fewer_change c (at_key c.bag e.sender e.serial f None) (fewer_removed c.bag e.sender e.serial f)) (refl, refl)
 deliver_change c f e (delivery.Demoted s) = calm c _ (fewer_change c (at_key c.bag e.sender e.serial f None) (fewer_removed c.bag e.sender e.serial f)) (refl, refl)
 deliver_change c f e (delivery.TimeStamp s) = calm c _ (fewer_change c (at_key c.bag e.sender e.serial f None) (fewer_removed c.bag e.sender e.serial f)) (refl, refl)
 
-constrain_change : (c : Central) (f : ℕ) (o : Choice) → Change c (after_constraint c f o)
+constrain_change : (c : Central) (f : ℕ) (o : Choice) → NewsAndJoins c (after_constraint c f o)
 constrain_change c f (choice.Moved events) = calm c _ (fewer_change c (with_demoted c.bag f events) (fewer_moved c.bag f events)) (refl, refl)
 constrain_change c f o = calm c _ (no_news c) (refl, refl)
 
-pick_change : (c : Central) (f : ℕ) (x : Callback) (o : Choice) → Change c (after_pick c f x o)
+pick_change : (c : Central) (f : ℕ) (x : Callback) (o : Choice) → NewsAndJoins c (after_pick c f x o)
 pick_change c f (callback.ReflectAttributeValues object values event d) o = deliver_change c f event d
 pick_change c f (callback.ReceiveInteraction class values event d) o = deliver_change c f event d
 pick_change c f (callback.RemoveObjectInstance object event d) o = deliver_change c f event d
 pick_change c f (callback.TimeConstrainedEnabled time) o = constrain_change c f o
 pick_change c f x o = calm c _ (no_news c) (refl, refl)
 
-done_change : (c : Central) (step : Step) (a : Answer) (o : Choice) → refusal (central_seen c) step ≡ None → MayDo c step a o → IsCentralKept c → Change c (after_done c step a o)
+done_change : (c : Central) (step : Step) (a : Answer) (o : Choice) → refusal (central_seen c) step ≡ None → MayDo c step a o → IsCentralKept c → NewsAndJoins c (after_done c step a o)
 done_change c (Join name) a o none may k = join_change c name
 done_change c (Call f s) a o none may k = call_change c f s a o none may k
 done_change c (Carry from to) (answer.Carried x) o none may k = carry_change c from to x
 done_change c (Tick f) (answer.Ticked (Some x)) o none may k = pick_change c f x o
 done_change c step a o none may k = calm c c (no_news c) (refl, refl)
 
-pub step_change : (c : Central) (step : Step) (out : Outcome) (o : Choice) → MayEnd c step out o → IsCentralKept c → Change c (after c step out o)
+pub step_change : (c : Central) (step : Step) (out : Outcome) (o : Choice) → MayEnd c step out o → IsCentralKept c → NewsAndJoins c (after c step out o)
 step_change c step (outcome.Done a) o may k = done_change c step a o may.0 may.1 k
 step_change c (Tick f) (outcome.Failed x) o may k = pick_change c f x o
 step_change c step out o may k = calm c c (no_news c) (refl, refl)

@@ -11,7 +11,7 @@ use Rattle.std.specs.declared.cmp.Ordering.{Ordering}
 use Rattle.std.specs.declared.cmp.Ordering.TheVariants.{Less, Equal, Greater}
 use Rattle.std.specs.Ordering.{nat_cmp, ordering_then, is_eq}
 use Rattle.hla_order_queues.specs.declared.key.EventName.{EventName}
-use Rattle.hla_order_queues.specs.declared.rising.Note.{Note}
+use Rattle.hla_order_queues.specs.declared.rising.StampNote.{StampNote}
 use Rattle.hla_order_queues.specs.Kept.{name_eq, stamp_at}
 use Rattle.hla_order_queues.specs.Names.{noted, noted_at, with_entry, entries_from, rising_entries, entries_of, name_cmp, SetsAt}
 use Rattle.hla_order_queues.proofs.ByName.RisingLemmas.{or_none}
@@ -42,7 +42,7 @@ entry_there : (o : Option ℕ) (n k : EventName) (es : List (EventName × ℕ)) 
 entry_there None n k es = either (name_eq n k) (lookup (name_eq n) es)
 entry_there (Some t) n k es = refl
 
-from_there : (g : ℕ) (n : EventName) (qs : List Note) → lookup (name_eq n) (entries_from g qs) ≡ cond (eqb n.sender g) (noted n.serial qs) None
+from_there : (g : ℕ) (n : EventName) (qs : List StampNote) → lookup (name_eq n) (entries_from g qs) ≡ cond (eqb n.sender g) (noted n.serial qs) None
 unfolding noted entries_from
 from_there g n [] = either (eqb n.sender g) None
 from_there g n (q ∷ qs) =
@@ -61,7 +61,7 @@ behind a g h = grind (arith, nat_tests)
 alike : (a g : ℕ) → a ≡ g → eqb a g ≡ true
 alike a g h = grind (arith, nat_tests)
 
-none_lesser : (g : ℕ) (n : EventName) (rising : List (List Note)) → n.sender < g → lookup (name_eq n) (rising_entries g rising) ≡ None
+none_lesser : (g : ℕ) (n : EventName) (rising : List (List StampNote)) → n.sender < g → lookup (name_eq n) (rising_entries g rising) ≡ None
 unfolding rising_entries
 none_lesser g n [] h = refl
 none_lesser g n (qs ∷ rest) h =
@@ -73,7 +73,7 @@ none_noted : (m : ℕ) → None ≡ noted m []
 unfolding noted
 none_noted m = refl
 
-rising_there : (g i : ℕ) (n : EventName) (rising : List (List Note)) → n.sender ≡ g + i → lookup (name_eq n) (rising_entries g rising) ≡ noted n.serial (get_or rising i [])
+rising_there : (g i : ℕ) (n : EventName) (rising : List (List StampNote)) → n.sender ≡ g + i → lookup (name_eq n) (rising_entries g rising) ≡ noted n.serial (get_or rising i [])
 unfolding rising_entries
 rising_there g i n [] h = none_noted n.serial
 rising_there g zero n (qs ∷ rest) h =
@@ -88,7 +88,7 @@ rising_there g (suc i) n (qs ∷ rest) h =
     ∙ rising_there (suc g) i n rest (omega arith)
 
 -- what is at a name is what is noted, or else what the others have
-stamp_there : (rising : List (List Note)) (others : List (EventName × ℕ)) (n : EventName) → stamp_at (entries_of rising others) n ≡ option_or (noted_at rising n) (stamp_at others n)
+stamp_there : (rising : List (List StampNote)) (others : List (EventName × ℕ)) (n : EventName) → stamp_at (entries_of rising others) n ≡ option_or (noted_at rising n) (stamp_at others n)
 unfolding entries_of
 stamp_there rising others n =
     lookup-append (name_eq n) (rising_entries 0 rising) others
@@ -138,7 +138,7 @@ where_ok {A} {E} (Ok x) P h e = h
 where_ok {A} {E} (Err x) P h e = absurd (cc)
 
 -- ---- the lists of the senders
-pub noted_past : (rising : List (List Note)) (n : EventName) → length rising ≤ n.sender → None ≡ noted_at rising n
+pub noted_past : (rising : List (List StampNote)) (n : EventName) → length rising ≤ n.sender → None ≡ noted_at rising n
 noted_past rising n past = none_noted n.serial ∙ ap (noted n.serial) (sym (get_or_past rising n.sender [] past))
 
 equal_names : (k n : EventName) → name_eq k n ≡ true → k ≡ n
@@ -149,7 +149,7 @@ equal_names k n h =
     let M : ℕ → EventName = λ m. record { sender = n.sender; serial = m } in
     ap S a ∙ ap M b
 
-pub untouched : (rising : List (List Note)) (k n : EventName) → None ≡ noted_at rising k → noted_at rising n ≡ cond (name_eq k n) None (noted_at rising n)
+pub untouched : (rising : List (List StampNote)) (k n : EventName) → None ≡ noted_at rising k → noted_at rising n ≡ cond (name_eq k n) None (noted_at rising n)
 untouched rising k n none = none_if (name_eq k n) refl
   where
     none_if : (b : Bool) → name_eq k n ≡ b → noted_at rising n ≡ cond b None (noted_at rising n)
@@ -157,16 +157,16 @@ untouched rising k n none = none_if (name_eq k n) refl
     none_if false is = refl
 
 -- ---- what is noted, and the others
-pub nothing_there : (rising : List (List Note)) (others : List (EventName × ℕ)) (n : EventName) → rising ≡ [] → others ≡ [] → stamp_at (entries_of rising others) n ≡ None
+pub nothing_there : (rising : List (List StampNote)) (others : List (EventName × ℕ)) (n : EventName) → rising ≡ [] → others ≡ [] → stamp_at (entries_of rising others) n ≡ None
 nothing_there rising others n none no_others =
     stamp_there rising others n
     ∙ ap (λ (o : Option ℕ). option_or o (stamp_at others n)) (ap (λ rs. noted_at rs n) none ∙ sym (none_noted n.serial))
     ∙ ap (λ es. stamp_at es n) no_others
 
-viewed : (rising : List (List Note)) (others now : List (EventName × ℕ)) (n : EventName) → entries_of rising others ≡ now → stamp_at now n ≡ option_or (noted_at rising n) (stamp_at others n)
+viewed : (rising : List (List StampNote)) (others now : List (EventName × ℕ)) (n : EventName) → entries_of rising others ≡ now → stamp_at now n ≡ option_or (noted_at rising n) (stamp_at others n)
 viewed rising others now n view = ap (λ es. stamp_at es n) (sym view) ∙ stamp_there rising others n
 
-pub has_noted : (rising : List (List Note)) (others now : List (EventName × ℕ)) (n : EventName) (b : Bool) (o : Option ℕ) → entries_of rising others ≡ now → o ≡ noted_at rising n → b ≡ is_some o → b ≡ true → b ≡ is_some (stamp_at now n)
+pub has_noted : (rising : List (List StampNote)) (others now : List (EventName × ℕ)) (n : EventName) (b : Bool) (o : Option ℕ) → entries_of rising others ≡ now → o ≡ noted_at rising n → b ≡ is_some o → b ≡ true → b ≡ is_some (stamp_at now n)
 has_noted rising others now n b o view is some told =
     some_if o (stamp_at others n) some told
     ∙ ap (λ (p : Option ℕ). is_some (option_or p (stamp_at others n))) is
@@ -176,7 +176,7 @@ has_noted rising others now n b o view is some told =
     some_if None p e told = absurd (cc)
     some_if (Some t) p e told = e
 
-pub has_other : (rising : List (List Note)) (others now : List (EventName × ℕ)) (n : EventName) (b c : Bool) (o : Option ℕ) → entries_of rising others ≡ now → o ≡ noted_at rising n → b ≡ is_some o → b ≡ false → c ≡ is_some (lookup (is_at (name_cmp n)) others) → c ≡ is_some (stamp_at now n)
+pub has_other : (rising : List (List StampNote)) (others now : List (EventName × ℕ)) (n : EventName) (b c : Bool) (o : Option ℕ) → entries_of rising others ≡ now → o ≡ noted_at rising n → b ≡ is_some o → b ≡ false → c ≡ is_some (lookup (is_at (name_cmp n)) others) → c ≡ is_some (stamp_at now n)
 has_other rising others now n b c o view is none miss there =
     there
     ∙ ap is_some (found_at n others)
@@ -192,7 +192,7 @@ front_if : (b : Bool) (t : ℕ) (o p : Option ℕ) → option_or (cond b (Some t
 front_if true t o p = refl
 front_if false t o p = refl
 
-pub put_noted : (old rising new : List (List Note)) (others now : List (EventName × ℕ)) (k : EventName) (t : ℕ) → entries_of old others ≡ now → ((n : EventName) → noted_at rising n ≡ noted_at old n) → SetsAt (noted_at rising) (noted_at new) k (Some t) → SetsAt (stamp_at now) (stamp_at (entries_of new others)) k (Some t)
+pub put_noted : (old rising new : List (List StampNote)) (others now : List (EventName × ℕ)) (k : EventName) (t : ℕ) → entries_of old others ≡ now → ((n : EventName) → noted_at rising n ≡ noted_at old n) → SetsAt (noted_at rising) (noted_at new) k (Some t) → SetsAt (stamp_at now) (stamp_at (entries_of new others)) k (Some t)
 put_noted old rising new others now k t view same sets n =
     stamp_there new others n
     ∙ ap (λ (o : Option ℕ). option_or o (stamp_at others n)) (sets n ∙ ap (λ (o : Option ℕ). cond (name_eq k n) (Some t) o) (same n))
@@ -207,7 +207,7 @@ back_if : (b : Bool) (t : ℕ) (o p : Option ℕ) → (b ≡ true → o ≡ None
 back_if true t o p none = ap (λ (q : Option ℕ). option_or q (Some t)) (none refl)
 back_if false t o p none = refl
 
-pub put_other : (old new : List (List Note)) (others next now : List (EventName × ℕ)) (k : EventName) (t : ℕ) → entries_of old others ≡ now → stamp_at now k ≡ None → ((n : EventName) → noted_at new n ≡ noted_at old n) → SetsAt (stamp_at others) (stamp_at next) k (Some t) → SetsAt (stamp_at now) (stamp_at (entries_of new next)) k (Some t)
+pub put_other : (old new : List (List StampNote)) (others next now : List (EventName × ℕ)) (k : EventName) (t : ℕ) → entries_of old others ≡ now → stamp_at now k ≡ None → ((n : EventName) → noted_at new n ≡ noted_at old n) → SetsAt (stamp_at others) (stamp_at next) k (Some t) → SetsAt (stamp_at now) (stamp_at (entries_of new next)) k (Some t)
 put_other old new others next now k t view fresh same sets n =
     stamp_there new next n
     ∙ ap (λ (o : Option ℕ). option_or o (stamp_at next n)) (same n)
@@ -215,7 +215,7 @@ put_other old new others next now k t view fresh same sets n =
     ∙ back_if (name_eq k n) t (noted_at old n) (stamp_at others n) (λ is. ap (noted_at old) (sym (equal_names k n is)) ∙ first_none (noted_at old k) (stamp_at others k) (sym (viewed old others now k view) ∙ fresh))
     ∙ ap (λ (o : Option ℕ). cond (name_eq k n) (Some t) o) (sym (viewed old others now n view))
 
-pub put_none : (old new : List (List Note)) (others next now : List (EventName × ℕ)) → entries_of old others ≡ now → ((n : EventName) → noted_at new n ≡ noted_at old n) → next ≡ others → (n : EventName) → stamp_at (entries_of new next) n ≡ stamp_at now n
+pub put_none : (old new : List (List StampNote)) (others next now : List (EventName × ℕ)) → entries_of old others ≡ now → ((n : EventName) → noted_at new n ≡ noted_at old n) → next ≡ others → (n : EventName) → stamp_at (entries_of new next) n ≡ stamp_at now n
 put_none old new others next now view same kept n =
     stamp_there new next n
     ∙ ap (λ (o : Option ℕ). option_or o (stamp_at next n)) (same n)
@@ -226,7 +226,7 @@ both_if : (b : Bool) (o p : Option ℕ) → option_or (cond b None o) (cond b No
 both_if true o p = refl
 both_if false o p = refl
 
-pub taken : (old new : List (List Note)) (others next now : List (EventName × ℕ)) (k : EventName) → entries_of old others ≡ now → SetsAt (noted_at old) (noted_at new) k None → SetsAt (stamp_at others) (stamp_at next) k None → SetsAt (stamp_at now) (stamp_at (entries_of new next)) k None
+pub taken : (old new : List (List StampNote)) (others next now : List (EventName × ℕ)) (k : EventName) → entries_of old others ≡ now → SetsAt (noted_at old) (noted_at new) k None → SetsAt (stamp_at others) (stamp_at next) k None → SetsAt (stamp_at now) (stamp_at (entries_of new next)) k None
 taken old new others next now k view noted_sets sets n =
     stamp_there new next n
     ∙ ap (λ (o : Option ℕ). option_or o (stamp_at next n)) (noted_sets n)
@@ -234,7 +234,7 @@ taken old new others next now k view noted_sets sets n =
     ∙ both_if (name_eq k n) (noted_at old n) (stamp_at others n)
     ∙ ap (λ (o : Option ℕ). cond (name_eq k n) None o) (sym (viewed old others now n view))
 
-pub found_either : (rising : List (List Note)) (others now : List (EventName × ℕ)) (k : EventName) (o p : Option ℕ) → entries_of rising others ≡ now → o ≡ noted_at rising k → p ≡ stamp_at others k → option_or o p ≡ stamp_at now k
+pub found_either : (rising : List (List StampNote)) (others now : List (EventName × ℕ)) (k : EventName) (o p : Option ℕ) → entries_of rising others ≡ now → o ≡ noted_at rising k → p ≡ stamp_at others k → option_or o p ≡ stamp_at now k
 found_either rising others now k o p view is there =
     ap (λ (q : Option ℕ). option_or q p) is
     ∙ ap (λ (q : Option ℕ). option_or (noted_at rising k) q) there
