@@ -17,7 +17,7 @@ ghost use Rattle.hla_history.specs.Writing.{step_record};
 use crate::delivering::ready;
 use crate::doing::carry_out;
 use crate::preparing::{Stepped, taken};
-use crate::seating::{seated, unseated};
+use crate::seating::{seat, unseat};
 use crate::writing::{answered, take_away, write_foreseen};
 use hla_base::{ExecutionName, Fault, FederateNo, List, MAX_JOINS, Plain, SharedList};
 use hla_callbacks::{Ear, FederateAmbassador};
@@ -160,7 +160,7 @@ impl<B: FederateAmbassador> Hosted<B> {
         match taken(&mut self.federation, actor, execution, Step::Join { name }) {
             Ok(made) => {
                 let (record, stepped) = made;
-                let back = seated(&mut self.ears, &stepped.answer, inner);
+                let back = seat(&mut self.ears, &stepped.answer, inner);
                 Ok((record, stepped, back))
             }
             Err(fault) => Err((fault, inner)),
@@ -201,7 +201,7 @@ impl<B: FederateAmbassador> Hosted<B> {
             execution,
             Step::Call { federate, service },
         )?;
-        let back = unseated(&mut self.ears, federate, &stepped.answer);
+        let back = unseat(&mut self.ears, federate, &stepped.answer);
         Ok((record, stepped, back))
     }
 }

@@ -10,7 +10,7 @@ use hla_callbacks::{Ear, FederateAmbassador};
 use hla_machine::Outcome;
 
 /// Makes an ear for the federate that joined, or gives the ambassador back where it was refused.
-pub(crate) fn seated<B: FederateAmbassador>(
+pub(crate) fn seat<B: FederateAmbassador>(
     ears: &mut Vec<Option<Ear<B>>>,
     answer: &Outcome,
     inner: B,
@@ -39,7 +39,7 @@ fn ear_out<B: FederateAmbassador>(place: &mut Option<Ear<B>>) -> Option<Ear<B>>
 }
 
 /// Takes the ear of the federate that resigned, and hands out its ambassador; none where it was refused.
-pub(crate) fn unseated<B: FederateAmbassador>(
+pub(crate) fn unseat<B: FederateAmbassador>(
     ears: &mut Vec<Option<Ear<B>>>,
     federate: FederateNo,
     answer: &Outcome,

@@ -45,7 +45,7 @@ impl<L: Ledger + Naming, B: FederateAmbassador, W: Publisher<L>> Model for Locke
 }
 
 /// Keeps a record of the history on the board. Where memory is refused its counts wait, and no answer changes.
-fn noted<L: Naming, W: Publisher<L>>(board: &mut Board<L, W>, entry: &Record)
+fn note_record<L: Naming, W: Publisher<L>>(board: &mut Board<L, W>, entry: &Record)
     ensures { (h : List Entry) → IsPosted h board.old → IsPosted (h ++ entry.now ∷ []) board.new }
 {
     let _ = board.keep(entry);
@@ -57,13 +57,13 @@ fn last_noted<L: Naming, W: Publisher<L>>(board: &mut Board<L, W>, transcript: &
         → IsPosted (h ++ r ∷ []) board.new }
 {
     if let Some(entry) = transcript.last() {
-        noted(board, entry);
+        note_record(board, entry);
     }
 }
 
 /// Publishes the records that wait, which no monitor could read before. `OutOfMemory` where a growth was refused; then they
 /// wait on.
-fn caught_up<L: Naming, W: Publisher<L>>(board: &mut Board<L, W>) -> Result<(), Fault>
+fn catch_up_board<L: Naming, W: Publisher<L>>(board: &mut Board<L, W>) -> Result<(), Fault>
     ensures published { OnOk result (board.new.published ≡ board.new.shown) }
     ensures posted { (h : List Entry) → IsPosted h board.old → IsPosted h board.new }
     ensures monitors { board.new.monitors ≡ board.old.monitors }
@@ -148,7 +148,7 @@ impl<L: Ledger + Naming, B: FederateAmbassador, W: Publisher<L>> Locked<L, B, W>
         ensures parts { mine.new.parts ≡ mine.old.parts }
     {
         let stepped = self.shared.create(actor, name, fed, mine)?;
-        noted(&mut self.board, &stepped.own);
+        note_record(&mut self.board, &stepped.own);
         Ok(stepped)
     }
 
@@ -179,7 +179,7 @@ impl<L: Ledger + Naming, B: FederateAmbassador, W: Publisher<L>> Locked<L, B, W>
         ensures parts { mine.new.parts ≡ mine.old.parts }
     {
         let stepped = self.shared.destroy(actor, name, mine)?;
-        noted(&mut self.board, &stepped.own);
+        note_record(&mut self.board, &stepped.own);
         Ok(stepped)
     }
 
@@ -217,7 +217,7 @@ impl<L: Ledger + Naming, B: FederateAmbassador, W: Publisher<L>> Locked<L, B, W>
     {
         match self.shared.join(actor, execution, name, inner, mine) {
             Ok(joined) => {
-                noted(&mut self.board, &joined.0.own);
+                note_record(&mut self.board, &joined.0.own);
                 Ok(joined)
             }
             Err(refused) => Err(refused),
@@ -258,7 +258,7 @@ impl<L: Ledger + Naming, B: FederateAmbassador, W: Publisher<L>> Locked<L, B, W>
         let resigned = self
             .shared
             .resign(actor, execution, federate, action, mine)?;
-        noted(&mut self.board, &resigned.0.own);
+        note_record(&mut self.board, &resigned.0.own);
         Ok(resigned)
     }
 
@@ -268,7 +268,7 @@ impl<L: Ledger + Naming, B: FederateAmbassador, W: Publisher<L>> Locked<L, B, W>
         ensures begins { self.old.ended ≡ false → IsPrefix result self.new.held.history }
         ensures held { self.new.held ≡ self.old.held }
     {
-        let _ = caught_up(&mut self.board);
+        let _ = catch_up_board(&mut self.board);
         self.board.tell()
     }
 
@@ -282,7 +282,7 @@ impl<L: Ledger + Naming, B: FederateAmbassador, W: Publisher<L>> Locked<L, B, W>
             (λ _. self.new.posted.monitors ≡ self.old.posted.monitors) }
         ensures held { self.new.held ≡ self.old.held }
     {
-        let _ = caught_up(&mut self.board);
+        let _ = catch_up_board(&mut self.board);
         self.board.monitor()
     }
 

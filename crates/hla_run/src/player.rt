@@ -49,7 +49,7 @@ impl Deed {
 }
 
 /// Resigns: the federate is gone where it is not refused.
-fn resigned<L: Ledger + Naming, P: Publisher<L>>(
+fn resign<L: Ledger + Naming, P: Publisher<L>>(
     rt: &impl Wait,
     federate: Federate<L, Recorder, P>,
     action: ResignAction,
@@ -67,7 +67,7 @@ fn resigned<L: Ledger + Naming, P: Publisher<L>>(
 }
 
 /// Calls a service.
-fn served<L: Ledger + Naming, P: Publisher<L>>(
+fn serve<L: Ledger + Naming, P: Publisher<L>>(
     rt: &impl Wait,
     mut federate: Federate<L, Recorder, P>,
     service: Service,
@@ -75,7 +75,7 @@ fn served<L: Ledger + Naming, P: Publisher<L>>(
     if let Service::Resign { action } = &service {
         let action = *action;
         drop(service);
-        return resigned(rt, federate, action);
+        return resign(rt, federate, action);
     }
     let outcome = outcome_of(federate.serve(rt, service));
     Acted {
@@ -98,7 +98,7 @@ pub fn do_deed<L: Ledger + Naming, P: Publisher<L>>(
                 outcome,
             }
         }
-        Deed::Serve(service) => served(rt, federate, service),
+        Deed::Serve(service) => serve(rt, federate, service),
         Deed::Refused(fault) => Acted {
             player: Player::Joined(federate),
             outcome: Outcome::Refused(fault),

@@ -13,16 +13,16 @@ pub invariant_of-self-in-Ok-taken : goal.invariant_of-self-in-Ok-taken
 invariant_of-self-in-Ok-taken g c =
     len_joins (components_hosted c.self.inside.federation) (components_hosted c.taken.new.federation) c.args.name c.in-Ok-taken.made.1.answer
     (c.in-Ok-taken.ensures.answer ∙ ap (λ (r : Record). r.outcome) c.in-Ok-taken.ensures.record) c.in-Ok-taken.ensures.state
-    _ _ (c.reserve.ensures.len ∙ c.self.invariant) c.seated-back.ensures.len
+    _ _ (c.reserve.ensures.len ∙ c.self.invariant) c.seat-back.ensures.len
 
 pub returns-in-Ok-taken-clause-host : goal.returns-in-Ok-taken-clause-host
 returns-in-Ok-taken-clause-host g c =
     let answered = c.in-Ok-taken.ensures.answer ∙ ap (λ (r : Record). r.outcome) c.in-Ok-taken.ensures.record in
-    let heard = c.seated-back.ensures.heard
+    let heard = c.seat-back.ensures.heard
     ∙ ap (λ (ks : List Callback). cond (is_accepted c.in-Ok-taken.made.1.answer) (heard_of c.reserve.new.self.items ++ Some ks ∷ []) (heard_of c.reserve.new.self.items)) c.requires
     ∙ ap (λ (hs : List (Option (List Callback))). cond (is_accepted c.in-Ok-taken.made.1.answer) (hs ++ Some [] ∷ []) hs) (ap heard_of c.reserve.ensures.items) in
     let within : length c.self.inside.ears.items ≡ (components_hosted c.self.inside.federation).directory.next_federate = omega (arith, c.self.inside.ears.ok.0, c.self.invariant) in
     host_joins (components_hosted c.self.inside.federation) (components_hosted c.taken.new.federation) c.args.name c.in-Ok-taken.made.1.answer answered c.in-Ok-taken.ensures.state
-    (heard_of c.self.inside.ears.items) (heard_of c.seated-back.new.ears.items) (heard_length c.self.inside.ears.items _ within) heard
+    (heard_of c.self.inside.ears.items) (heard_of c.seat-back.new.ears.items) (heard_length c.self.inside.ears.items _ within) heard
     ∙ ap (λ (o : Outcome). host_after (host_of (record { name = c.self.inside.name; federation = c.self.inside.federation; heard = heard_of c.self.inside.ears.items })) (Join c.args.name) o) c.in-Ok-taken.ensures.answer
     ∙ ap (λ (h : HostedValue). host_after (host_of h) (Join c.args.name) c.in-Ok-taken.made.0.outcome) c.self.view_is

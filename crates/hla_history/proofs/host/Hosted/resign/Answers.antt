@@ -9,8 +9,8 @@ use Rattle.hla_history.proofs.Heard.Hosting.{ambassadors_ready}
 use Rattle.hla_history.proofs.Heard.Seats.{ear_resigns, host_resigns, len_resigns}
 use Rattle.hla_history.proofs.host.Hosted.resign.Goals as goal
 
-pub unseated-back-requires : goal.unseated-back-requires
-unseated-back-requires g c =
+pub unseat-back-requires : goal.unseat-back-requires
+unseat-back-requires g c =
     ear_resigns (components_hosted c.self.inside.federation) (components_hosted c.taken.new.federation) c.args.federate c.args.action c.in_ok-record.stepped.answer
     (c.in_ok-record.ensures.answer ∙ ap (λ (r : Record). r.outcome) c.in_ok-record.ensures.record) c.in_ok-record.ensures.state
     c.self.inside.ears.items (ambassadors_ready _ _ c.self.inside.ears.items c.self.view_is c.requires refl)
@@ -19,12 +19,12 @@ pub invariant_of-self-2 : goal.invariant_of-self-2
 invariant_of-self-2 g c =
     len_resigns (components_hosted c.self.inside.federation) (components_hosted c.taken.new.federation) c.args.federate c.args.action c.in_ok-record.stepped.answer
     (c.in_ok-record.ensures.answer ∙ ap (λ (r : Record). r.outcome) c.in_ok-record.ensures.record) c.in_ok-record.ensures.state
-    _ _ c.self.invariant c.unseated-back.ensures.len
+    _ _ c.self.invariant c.unseat-back.ensures.len
 
 pub returns-clause-host : goal.returns-clause-host
 returns-clause-host g c =
     host_resigns (components_hosted c.self.inside.federation) (components_hosted c.taken.new.federation) c.args.federate c.args.action c.in_ok-record.stepped.answer
     (c.in_ok-record.ensures.answer ∙ ap (λ (r : Record). r.outcome) c.in_ok-record.ensures.record) c.in_ok-record.ensures.state
-    (heard_of c.self.inside.ears.items) (heard_of c.unseated-back.new.ears.items) (ambassadors_ready _ _ c.self.inside.ears.items c.self.view_is c.requires refl) c.unseated-back.ensures.heard
+    (heard_of c.self.inside.ears.items) (heard_of c.unseat-back.new.ears.items) (ambassadors_ready _ _ c.self.inside.ears.items c.self.view_is c.requires refl) c.unseat-back.ensures.heard
     ∙ ap (λ (o : Outcome). host_after (host_of (record { name = c.self.inside.name; federation = c.self.inside.federation; heard = heard_of c.self.inside.ears.items })) (Call c.args.federate (service.Resign c.args.action)) o) c.in_ok-record.ensures.answer
     ∙ ap (λ (h : HostedValue). host_after (host_of h) (Call c.args.federate (service.Resign c.args.action)) c.in_ok-record.record.outcome) c.self.view_is

@@ -1,7 +1,7 @@
 use Rattle.std.proofs.Common.{ap}
 use Rattle.hla_history.specs.Creating.{is_accepted}
 use Rattle.hla_history.proofs.Heard.Ears.{cleared}
-use Rattle.hla_history.proofs.seating.unseated.Goals as goal
+use Rattle.hla_history.proofs.seating.unseat.Goals as goal
 
 pub returns-in-Some-clause-heard : goal.returns-in-Some-clause-heard
 returns-in-Some-clause-heard g c =
