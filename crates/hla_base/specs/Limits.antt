@@ -43,6 +43,21 @@ max_script_line = 4096
 abbrev pub max_history : ℕ
 max_history = 32768
 
+abbrev pub max_history_limit : ℕ
+max_history_limit = 1048576
+
+abbrev pub max_couriers : ℕ
+max_couriers = 1024
+
+abbrev pub max_callers : ℕ
+max_callers = 2048
+
+abbrev pub ledger_parts : ℕ
+ledger_parts = 2049
+
+abbrev pub max_monitors : ℕ
+max_monitors = 8
+
 abbrev pub max_executions : ℕ
 max_executions = 16
 

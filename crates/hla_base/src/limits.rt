@@ -45,8 +45,24 @@ pub const MAX_SCRIPT: usize = 1_048_576;
 pub const MAX_SCRIPT_LINE: usize = 4_096;
 
 /// The most records of a script's history, on the bare federation and behind the lock; then every act is refused with
-/// `HistoryFull`. A history behind the lock may be opened for more: for `MAX_HISTORY_LIMIT` of `hla_rti` at most.
+/// `HistoryFull`. A history behind the lock may be opened for more, for `MAX_HISTORY_LIMIT` at most.
 pub const MAX_HISTORY: usize = 32_768;
+
+/// The most records for which a history behind the lock may be opened; a greater limit is refused with `LimitReached`.
+pub const MAX_HISTORY_LIMIT: usize = 1_048_576;
+
+/// The most couriers that one run-time infrastructure hands out in all; a further one is refused with `LimitReached`.
+pub const MAX_COURIERS: u32 = 1_024;
+
+/// The most callers that one run-time infrastructure hands out in all: `MAX_JOINS` in each of `MAX_CREATES` executions, and
+/// the couriers. A further one is refused with `LimitReached`.
+pub const MAX_CALLERS: u32 = 64 * 16 + MAX_COURIERS;
+
+/// The parts of the ledger of a run-time infrastructure: one for each caller, and its own.
+pub const LEDGER_PARTS: u64 = 2_049;
+
+/// The most monitors that one run-time infrastructure hands out in all; a further one is refused with `LimitReached`.
+pub const MAX_MONITORS: u32 = 8;
 
 /// The most executions that are there at once; a further Create Federation Execution is refused with `LimitReached`.
 pub const MAX_EXECUTIONS: usize = 16;

@@ -3,11 +3,12 @@
 //! 2, .., ticks for its grant, and queries its time.
 
 ghost use Rattle.std.specs.Prelude.{◌≡◌};
+ghost use Rattle.hla_base.specs.Limits.{ledger_parts};
 
 use crate::counts::Counts;
 use crate::meter::Meter;
 use crate::reading::catalogue;
-use hla_base::{ExecutionName, Fault, FederateNo, List, Ticks};
+use hla_base::{ExecutionName, Fault, FederateNo, LEDGER_PARTS, List, Ticks};
 use hla_callbacks::Recorder;
 use hla_machine::Service;
 use hla_monitor::{Monitor, Naming, Opened, Publisher};
@@ -341,7 +342,7 @@ fn close<L: Ledger + Naming, W: Publisher<L>>(
     rti: Rti<L, Recorder, W>,
     rest: Rest<L>,
 ) -> Result<u64, Fault>
-    requires { L.parts ≡ 2049 }
+    requires { L.parts ≡ ledger_parts }
 {
     let Rest { lefts, reads } = rest;
     match rti.close(rt, lefts.into_vec()) {
@@ -362,7 +363,7 @@ fn end_run<L: Ledger + Naming, W: Publisher<L>>(
     rti: Rti<L, Recorder, W>,
     rest: Result<Rest<L>, Fault>,
 ) -> Result<u64, Fault>
-    requires { L.parts ≡ 2049 }
+    requires { L.parts ≡ ledger_parts }
 {
     match rest {
         Ok(rest) => close(rt, rti, rest),
@@ -385,7 +386,7 @@ fn run_at<L: Ledger + Naming + Send + Sync, R: Threads + Wait + Sync>(
 ) -> Result<Counts, Fault>
     requires name { blank.name ≡ L.name }
     requires parts { blank.parts ≡ L.parts }
-    requires all { blank.parts ≡ 2049 }
+    requires all { blank.parts ≡ ledger_parts }
     requires book { opened.seen.book ≡ L.book }
 {
     let mut rti = open_rti::<L, Recorder, &R>(alloc, rt, blank, opened, HISTORY_LIMIT)?;
@@ -409,7 +410,7 @@ pub fn run<R: Threads + Wait + Sync>(
     run_at::<Brand, R>(
         rt,
         alloc,
-        Blank::new(2049),
+        Blank::new(LEDGER_PARTS),
         Opened::new(),
         threads,
         rounds,

@@ -3,12 +3,13 @@
 //! infrastructure.
 
 ghost use Rattle.std.specs.Prelude.{◌≡◌, ◌<◌, IfOk};
+ghost use Rattle.hla_base.specs.Limits.{ledger_parts};
 ghost use Rattle.hla_history.specs.Hosts.{IsPlain};
 ghost use Rattle.hla_machine.specs.declared.step.Step.TheVariants as step;
 
 use crate::advancing::{FED, HISTORY_LIMIT, counted, name_of};
 use crate::counts::Counts;
-use hla_base::{ExecutionName, Fault, FederateNo, Ticks};
+use hla_base::{ExecutionName, Fault, FederateNo, LEDGER_PARTS, Ticks};
 use hla_callbacks::Recorder;
 use hla_history::Shared;
 use hla_machine::{Service, Step};
@@ -86,7 +87,7 @@ fn begin<L: Ledger>(
 fn open_office<L: Ledger>(alloc: Global, blank: Blank, federates: u32) -> Result<Office<L>, Fault>
     requires name { blank.name ≡ L.name }
     requires parts { blank.parts ≡ L.parts }
-    requires all { blank.parts ≡ 2049 }
+    requires all { blank.parts ≡ ledger_parts }
     ensures { IfOk result (λ o. 0 < o.share.parts) }
 {
     let execution = ExecutionName::new(b"bench")?;
@@ -256,7 +257,7 @@ fn run_lent_at<L: Ledger>(
 ) -> Result<Counts, Fault>
     requires name { blank.name ≡ L.name }
     requires parts { blank.parts ≡ L.parts }
-    requires all { blank.parts ≡ 2049 }
+    requires all { blank.parts ≡ ledger_parts }
 {
     let Office {
         execution,
@@ -279,7 +280,7 @@ fn run_locked_at<L: Ledger>(
 ) -> Result<Counts, Fault>
     requires name { blank.name ≡ L.name }
     requires parts { blank.parts ≡ L.parts }
-    requires all { blank.parts ≡ 2049 }
+    requires all { blank.parts ≡ ledger_parts }
 {
     let Office {
         execution,
@@ -296,7 +297,7 @@ fn run_locked_at<L: Ledger>(
 /// Plays so many rounds on the value, at a brand of its own. `HistoryFull` where the history is full, and `OutOfMemory` where
 /// a growth was refused; a step that is refused stops nothing.
 pub fn run_lent(alloc: Global, federates: u32, rounds: u64) -> Result<Counts, Fault> {
-    run_lent_at::<Brand>(alloc, Blank::new(2049), federates, rounds)
+    run_lent_at::<Brand>(alloc, Blank::new(LEDGER_PARTS), federates, rounds)
 }
 
 /// The same, the value locked anew for each step. The faults are `HistoryFull` and `OutOfMemory`, as of `run_lent`.
@@ -306,5 +307,5 @@ pub fn run_locked(
     federates: u32,
     rounds: u64,
 ) -> Result<Counts, Fault> {
-    run_locked_at::<Brand>(rt, alloc, Blank::new(2049), federates, rounds)
+    run_locked_at::<Brand>(rt, alloc, Blank::new(LEDGER_PARTS), federates, rounds)
 }

@@ -5,10 +5,11 @@ mod lives;
 mod start;
 
 ghost use Rattle.std.specs.Prelude.{◌≡◌};
+ghost use Rattle.hla_base.specs.Limits.{ledger_parts};
 
 use crate::lives::{Job, Lived, live};
 use crate::start::{Trouble, joined, keep, ready};
-use hla_base::{ExecutionName, Fault};
+use hla_base::{ExecutionName, Fault, LEDGER_PARTS};
 use hla_callbacks::{Callback, Delivery, Recorder};
 use hla_machine::ResignAction;
 use hla_monitor::{Naming, Opened, Publisher};
@@ -126,7 +127,7 @@ fn simulated<L: Ledger + Naming + Send + Sync, R: Threads + Wait + Sync>(
 ) -> Result<Vec<Recorder>, Trouble>
     requires name { blank.name ≡ L.name }
     requires parts { blank.parts ≡ L.parts }
-    requires all { blank.parts ≡ 2049 }
+    requires all { blank.parts ≡ ledger_parts }
     requires book { opened.seen.book ≡ L.book }
 {
     let mut rti = open_rti::<L, Recorder, &R>(alloc, rt, blank, opened, HISTORY_LIMIT)?;
@@ -140,7 +141,12 @@ fn simulated<L: Ledger + Naming + Send + Sync, R: Threads + Wait + Sync>(
 
 /// Runs the federation and prints what was told; the status.
 fn told<R: Runtime + AllocGlobal + Threads + Wait + Sync>(rt: &R) -> io::Result<u8> {
-    let ambassadors = match simulated::<Brand, R>(rt, rt.alloc(), Blank::new(2049), Opened::new()) {
+    let ambassadors = match simulated::<Brand, R>(
+        rt,
+        rt.alloc(),
+        Blank::new(LEDGER_PARTS),
+        Opened::new(),
+    ) {
         Ok(ambassadors) => ambassadors,
         Err(trouble) => {
             eprintln!(rt; "{trouble}")?;

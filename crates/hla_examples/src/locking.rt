@@ -1,7 +1,9 @@
 //! Examples behind the lock of the run-time infrastructure: line by line on one thread, and each federate on a thread of its own.
 
 ghost use Rattle.std.specs.Prelude.{◌≡◌};
+ghost use Rattle.hla_base.specs.Limits.{ledger_parts};
 
+use hla_base::LEDGER_PARTS;
 use hla_checker::check_run;
 use hla_monitor::{Naming, Opened};
 use hla_run::{OpenGate, Ran, run_in_order, run_scripts};
@@ -32,7 +34,7 @@ fn prints_expected<L: Ledger + Naming, R: Wait>(
 ) -> bool
     requires name { blank.name ≡ L.name }
     requires parts { blank.parts ≡ L.parts }
-    requires all { blank.parts ≡ 2049 }
+    requires all { blank.parts ≡ ledger_parts }
     requires book { opened.seen.book ≡ L.book }
 {
     let mut transcript = Vec::new(alloc);
@@ -63,7 +65,14 @@ pub fn is_same_behind_the_lock<R: Wait>(
     example: Example,
     records: usize,
 ) -> bool {
-    prints_expected::<Brand, R>(rt, alloc, Blank::new(2049), Opened::new(), example, records)
+    prints_expected::<Brand, R>(
+        rt,
+        alloc,
+        Blank::new(LEDGER_PARTS),
+        Opened::new(),
+        example,
+        records,
+    )
 }
 
 /// Whether the monitor of a run read the counts of all its records.
@@ -85,7 +94,7 @@ fn ends_on_threads<L: Ledger + Naming + Send + Sync, R: Threads + Wait + Sync>(
 ) -> bool
     requires name { blank.name ≡ L.name }
     requires parts { blank.parts ≡ L.parts }
-    requires all { blank.parts ≡ 2049 }
+    requires all { blank.parts ≡ ledger_parts }
     requires book { opened.seen.book ≡ L.book }
 {
     let mut transcript = Vec::new(alloc);
@@ -113,5 +122,5 @@ pub fn is_run_on_threads<R: Threads + Wait + Sync>(
     alloc: Global,
     example: Example,
 ) -> bool {
-    ends_on_threads::<Brand, R>(rt, alloc, Blank::new(2049), Opened::new(), example)
+    ends_on_threads::<Brand, R>(rt, alloc, Blank::new(LEDGER_PARTS), Opened::new(), example)
 }

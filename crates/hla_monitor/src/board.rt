@@ -1,20 +1,18 @@
 //! What is published of the history, and by whom.
 
 ghost use Rattle.std.specs.Prelude.{◌≡◌, ◌+◌, ◌<◌, ◌⊎◌, ◌++◌, ◌∷◌, [], true, if◌then◌else◌, IfOk, IfErr, OnOk, OnErr, MatchBool, MatchResult};
+ghost use Rattle.hla_base.specs.Limits.{max_monitors};
 ghost use mathlib.Core.List.{IsPrefix};
 ghost use Rattle.left_right.specs.Handles.{published, pending};
 
 use crate::history::{Length, Naming, Opened, Told};
 use crate::monitor::Monitor;
-use hla_base::Fault;
+use hla_base::{Fault, MAX_MONITORS};
 use hla_machine::Record;
 use left_right::{Absorb, ReadHandle, WriteHandle};
 use std::alloc::{AllocError, Global};
 use std::marker::Model;
 use std::sync::Wait;
-
-/// How many monitors one board hands out in all (a limit of this profile).
-pub const MAX_MONITORS: u32 = 8;
 
 /// How many records one board notes, which is more than a history can hold.
 const MAX_NOTED: u64 = 1 << 61;
@@ -243,7 +241,7 @@ impl<J: Naming, W: Publisher<J>> Board<J, W> {
     /// for it.
     pub fn monitor(&mut self) -> Result<Monitor<J>, Fault>
         ensures knows { IfOk result (λ m. m ≡ self.old.published) }
-        ensures below { OnOk result (self.old.monitors < 8) }
+        ensures below { OnOk result (self.old.monitors < max_monitors) }
         ensures err { IfErr result (λ e. e ≡ Fault.LimitReached) }
         ensures counted { MatchResult result (λ _. self.new.monitors ≡ self.old.monitors + 1)
             (λ _. self.new.monitors ≡ self.old.monitors) }

@@ -6,7 +6,8 @@ mod history;
 mod monitor;
 mod status;
 
-pub use board::{Board, MAX_MONITORS, Published, Publisher, open_board};
+pub use board::{Board, Published, Publisher, open_board};
 pub use history::{Length, Naming, Opened, Told};
+pub use hla_base::MAX_MONITORS;
 pub use monitor::Monitor;
 pub use status::Status;

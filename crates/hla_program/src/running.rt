@@ -1,6 +1,7 @@
 //! Tasks done, over any files and writers.
 
 ghost use Rattle.hla_transcript.specs.Watching.{stream_of};
+ghost use Rattle.hla_base.specs.Limits.{ledger_parts};
 ghost use Rattle.std.specs.Prelude.{◌≡◌, ◌&&◌, codes};
 ghost use Rattle.std.specs.Str.{bytes_eq};
 ghost use Rattle.hla_tasks.specs.Tasks.{named_task};
@@ -81,7 +82,7 @@ fn do_script<L: Ledger + Naming + Send + Sync, R: Threads + Wait + Sync, W: Writ
 ) -> u8
     requires name { means.blank.name ≡ L.name }
     requires parts { means.blank.parts ≡ L.parts }
-    requires all { means.blank.parts ≡ 2049 }
+    requires all { means.blank.parts ≡ ledger_parts }
     requires book { means.opened.seen.book ≡ L.book }
     ensures { EndsScript task fed.now script.now
         (stream_of W.contents out.old) (stream_of W.contents out.new)
@@ -114,7 +115,7 @@ fn do_shared<
 ) -> u8
     requires name { means.blank.name ≡ L.name }
     requires parts { means.blank.parts ≡ L.parts }
-    requires all { means.blank.parts ≡ 2049 }
+    requires all { means.blank.parts ≡ ledger_parts }
     requires book { means.opened.seen.book ≡ L.book }
     ensures { EndsShared task (stream_of I.remaining input.old) (stream_of I.remaining input.new)
         (stream_of W.contents out.old) (stream_of W.contents out.new)
@@ -150,7 +151,7 @@ fn do_files<
 ) -> u8
     requires name { means.blank.name ≡ L.name }
     requires parts { means.blank.parts ≡ L.parts }
-    requires all { means.blank.parts ≡ 2049 }
+    requires all { means.blank.parts ≡ ledger_parts }
     requires book { means.opened.seen.book ≡ L.book }
     ensures { EndsFiles task fed_name.now (stream_of I.remaining fed.old) (stream_of I.remaining fed.new)
         script_name.now (stream_of S.remaining script.old) (stream_of S.remaining script.new)
@@ -218,7 +219,7 @@ fn do_named<
 ) -> u8
     requires name { means.blank.name ≡ L.name }
     requires parts { means.blank.parts ≡ L.parts }
-    requires all { means.blank.parts ≡ 2049 }
+    requires all { means.blank.parts ≡ ledger_parts }
     requires book { means.opened.seen.book ≡ L.book }
     ensures { EndsNamed (O.bytes_of opener.now) task fed_name.now script_name.now
         (stream_of W.contents out.old) (stream_of W.contents out.new)
@@ -264,7 +265,7 @@ pub fn do_task<
 ) -> u8
     requires name { means.blank.name ≡ L.name }
     requires parts { means.blank.parts ≡ L.parts }
-    requires all { means.blank.parts ≡ 2049 }
+    requires all { means.blank.parts ≡ ledger_parts }
     requires book { means.opened.seen.book ≡ L.book }
     ensures { EndsTask (O.bytes_of opener.now) (named_task task.entry)
         (stream_of W.contents out.old) (stream_of W.contents out.new)

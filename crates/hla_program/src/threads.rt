@@ -1,6 +1,7 @@
 //! A script run on threads, and its records judged by the central machine.
 
 ghost use Rattle.std.specs.Prelude.{◌≡◌, IfSome, length};
+ghost use Rattle.hla_base.specs.Limits.{ledger_parts};
 ghost use Rattle.hla_transcript.specs.Watching.{stream_of};
 ghost use Rattle.hla_checker.specs.Faults.{IsWholeRun};
 ghost use Rattle.hla_program.specs.Program.{EndsJudging, EndsRunning};
@@ -77,7 +78,7 @@ pub(crate) fn run_bytes<
 ) -> u8
     requires name { means.blank.name ≡ L.name }
     requires parts { means.blank.parts ≡ L.parts }
-    requires all { means.blank.parts ≡ 2049 }
+    requires all { means.blank.parts ≡ ledger_parts }
     requires book { means.opened.seen.book ≡ L.book }
     ensures { EndsRunning is_watched fed.now script.now
         (stream_of W.contents out.old) (stream_of W.contents out.new)

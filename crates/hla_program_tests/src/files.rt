@@ -1,5 +1,6 @@
 ghost use Rattle.std.specs.Prelude.{◌≡◌, None};
 
+use hla_base::LEDGER_PARTS;
 use hla_monitor::Opened;
 use hla_program::{Means, Opener, System, do_task};
 use hla_tasks::Task;
@@ -114,7 +115,7 @@ fn status_of<R: Threads + Wait + Sync, O: Opener, W: Write, E: Write>(
     let means = Means {
         rt,
         alloc,
-        blank: Blank::new(2049),
+        blank: Blank::new(LEDGER_PARTS),
         opened: Opened::new(),
     };
     do_task::<Brand, R, O, W, E>(means, opener, task, out, errors)

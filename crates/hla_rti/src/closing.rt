@@ -1,6 +1,7 @@
 //! Closing: all callers come back, and the records go out.
 
 ghost use Rattle.std.specs.Prelude.{◌≡◌, ◌≢◌, ◌+◌, ◌≤◌, ◌↔◌, ◌==◌, vec_len, IsTrue, IfOk, IfErr, OnOk, OnErr, IfSome, IfNone};
+ghost use Rattle.hla_base.specs.Limits.{ledger_parts, max_callers};
 ghost use Rattle.std.specs.List.{list_any};
 ghost use Rattle.hla_history.specs.Closing.{Replays};
 ghost use Rattle.hla_machine.specs.Runs.{Executions, no_executions, AreRun};
@@ -76,7 +77,7 @@ fn holds<L: Ledger, B: FederateAmbassador>(lefts: &[Left<L, B>], number: u32) ->
 
 /// Whether each caller that was handed out is in the list.
 fn all_here<L: Ledger, B: FederateAmbassador>(handed: u32, lefts: &[Left<L, B>]) -> bool
-    requires { handed ≤ 2048 }
+    requires { handed ≤ max_callers }
     ensures { IsTrue result ↔ AllHere handed lefts.now }
 {
     for n in 0..handed {
@@ -116,8 +117,8 @@ pub fn settle<L: Ledger, B: FederateAmbassador>(
     lefts: Vec<Left<L, B>>,
     handed: u32,
 ) -> Result<Closed, Unsettled<L, B>>
-    requires parts { L.parts ≡ 2049 }
-    requires rest { rest.parts + handed ≡ 2048 }
+    requires parts { L.parts ≡ ledger_parts }
+    requires rest { rest.parts + handed ≡ max_callers }
     requires here { AllHere handed lefts.items }
     ensures records { IfOk result (λ c. c ≡ shared.old.history) }
     ensures agree { OnOk result (AllAgree shared.old.history lefts.items seat) }
@@ -146,7 +147,7 @@ impl<L: Ledger + Naming, B: FederateAmbassador, W: Publisher<L>> Rti<L, B, W> {
     /// caller, in order. Else `Missing` where a caller that was handed out is not in the list, and then `Transcript` with the
     /// place of the first that differs; then the infrastructure and the list come back, and nothing has changed.
     pub fn close(self, rt: &impl Wait, lefts: Vec<Left<L, B>>) -> Result<Closed, NotClosed<L, B, W>>
-        requires { L.parts ≡ 2049 }
+        requires { L.parts ≡ ledger_parts }
         ensures agree { IfOk result (λ c. AllAgree c lefts.items self.own) }
         ensures here { OnOk result (AllHere self.handed lefts.items) }
         ensures missing { IfErr result (λ n. n.fault ≡ CloseFault.Missing → AllHere self.handed lefts.items → ⊥) }

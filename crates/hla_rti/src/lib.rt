@@ -17,5 +17,6 @@ pub use answers::Registration;
 pub use closing::{CloseFault, Closed, NotClosed, Unsettled, settle};
 pub use courier::Courier;
 pub use federate::Federate;
-pub use rti::{MAX_CALLERS, MAX_COURIERS, MAX_HISTORY_LIMIT, Rti, open_rti};
+pub use hla_base::{LEDGER_PARTS, MAX_CALLERS, MAX_COURIERS, MAX_HISTORY_LIMIT};
+pub use rti::{Rti, open_rti};
 pub use seat::{Left, Seat};

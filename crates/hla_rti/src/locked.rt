@@ -1,6 +1,7 @@
 //! What lies under the lock: the history with its executions, and the board beside it.
 
 ghost use Rattle.std.specs.Prelude.{◌≡◌, ◌+◌, ◌<◌, ◌⊎◌, ◌↔◌, ◌++◌, ◌∷◌, [], List, length, true, false, None, Some, is_some, Err, IfOk, IfErr, IfSome, OnOk, OnErr, MatchResult, if◌then◌else◌, vec_len, vec_capacity};
+ghost use Rattle.hla_base.specs.Limits.{ledger_parts, max_callers, max_monitors};
 ghost use mathlib.Core.List.{IsPrefix};
 ghost use Rattle.hla_machine.specs.declared.service.Service.TheVariants as service;
 ghost use Rattle.hla_machine.specs.declared.step.Act.TheVariants as act;
@@ -276,7 +277,7 @@ impl<L: Ledger + Naming, B: FederateAmbassador, W: Publisher<L>> Locked<L, B, W>
     /// out, or there is no reader for it.
     pub(crate) fn monitor(&mut self) -> Result<Monitor<L>, Fault>
         ensures knows { IfOk result (λ m. m ≡ self.new.posted.published) }
-        ensures below { OnOk result (self.old.posted.monitors < 8) }
+        ensures below { OnOk result (self.old.posted.monitors < max_monitors) }
         ensures err { IfErr result (λ e. e ≡ Fault.LimitReached) }
         ensures counted { MatchResult result (λ _. self.new.posted.monitors ≡ self.old.posted.monitors + 1)
             (λ _. self.new.posted.monitors ≡ self.old.posted.monitors) }
@@ -294,8 +295,8 @@ impl<L: Ledger + Naming, B: FederateAmbassador, W: Publisher<L>> Locked<L, B, W>
         lefts: Vec<Left<L, B>>,
         handed: u32,
     ) -> Result<Closed, Unsettled<L, B>>
-        requires parts { L.parts ≡ 2049 }
-        requires rest { rest.parts + handed ≡ 2048 }
+        requires parts { L.parts ≡ ledger_parts }
+        requires rest { rest.parts + handed ≡ max_callers }
         requires here { AllHere handed lefts.items }
         ensures records { IfOk result (λ c. c ≡ self.old.held.history) }
         ensures agree { OnOk result (AllAgree self.old.held.history lefts.items seat) }

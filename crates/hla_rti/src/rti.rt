@@ -1,6 +1,7 @@
 //! The run-time infrastructure.
 
 ghost use Rattle.std.specs.Prelude.{◌≡◌, ◌+◌, ◌<◌, ◌≤◌, ◌⊎◌, [], true, IfOk, IfErr, OnOk, MatchResult};
+ghost use Rattle.hla_base.specs.Limits.{ledger_parts, max_callers, max_history_limit};
 ghost use Rattle.hla_machine.specs.declared.step.Act.TheVariants as act;
 ghost use Rattle.hla_machine.specs.declared.step.Answer.TheVariants as answer;
 ghost use Rattle.hla_machine.specs.declared.step.Outcome.TheVariants as outcome;
@@ -13,7 +14,7 @@ use crate::courier::Courier;
 use crate::federate::Federate;
 use crate::locked::Locked;
 use crate::seat::Seat;
-use hla_base::{ExecutionName, Fault, List};
+use hla_base::{ExecutionName, Fault, List, MAX_CALLERS, MAX_COURIERS, MAX_HISTORY_LIMIT};
 use hla_callbacks::FederateAmbassador;
 use hla_history::Shared;
 use hla_monitor::{Board, Monitor, Naming, Opened, Published, Publisher, Told, open_board};
@@ -21,15 +22,6 @@ use std::alloc::Global;
 use std::marker::Model;
 use std::sync::ledger::{Blank, Ledger, Share};
 use std::sync::{Arc, Mutex, Wait};
-
-/// How many couriers one run-time infrastructure hands out in all (a limit of this profile).
-pub const MAX_COURIERS: u32 = 1_024;
-
-/// How many callers one run-time infrastructure hands out in all: 16 joins in each of 64 executions, and the couriers.
-pub const MAX_CALLERS: u32 = 64 * 16 + MAX_COURIERS;
-
-/// The greatest limit of a history (a limit of this profile).
-pub const MAX_HISTORY_LIMIT: usize = 1_048_576;
 
 /// The run-time infrastructure: executions, their federates' ambassadors and one history behind one lock, and a caller of its
 /// own, which creates and destroys executions. Contracts see how many callers it has handed out, and that caller.
@@ -52,7 +44,7 @@ impl<L: Ledger + Naming, B: FederateAmbassador, W: Publisher<L>> Model for Rti<L
 
     ghost view = { λ r. record { handed = r.handed; own = r.seat } };
 
-    ghost invariant = { λ r. (r.rest.parts + r.handed ≡ 2048) × (r.rest.amount ≡ 0) × (r.seat.number ≡ 0) };
+    ghost invariant = { λ r. (r.rest.parts + r.handed ≡ max_callers) × (r.rest.amount ≡ 0) × (r.seat.number ≡ 0) };
 }
 
 impl<L: Ledger + Naming, B: FederateAmbassador, W: Publisher<L>> Rti<L, B, W> {
@@ -67,12 +59,12 @@ impl<L: Ledger + Naming, B: FederateAmbassador, W: Publisher<L>> Rti<L, B, W> {
     ) -> Result<Rti<L, B, W>, Fault>
         requires name { blank.name ≡ L.name }
         requires parts { blank.parts ≡ L.parts }
-        requires all { blank.parts ≡ 2049 }
+        requires all { blank.parts ≡ ledger_parts }
         requires board { board ≡ record { whole = true; shown = []; published = []; monitors = 0 } }
         ensures ok { IfOk result (λ r. r ≡ record { handed = 0; own = new_caller 0 }) }
-        ensures limit { OnOk result (history_limit ≤ 1048576) }
-        ensures err { IfErr result (λ e. ((e ≡ Fault.LimitReached) × (1048576 < history_limit))
-            ⊎ ((e ≡ Fault.OutOfMemory) × (history_limit ≤ 1048576))) }
+        ensures limit { OnOk result (history_limit ≤ max_history_limit) }
+        ensures err { IfErr result (λ e. ((e ≡ Fault.LimitReached) × (max_history_limit < history_limit))
+            ⊎ ((e ≡ Fault.OutOfMemory) × (history_limit ≤ max_history_limit))) }
     {
         if history_limit > MAX_HISTORY_LIMIT {
             drop(board);
@@ -237,11 +229,11 @@ pub fn open_rti<L: Ledger + Naming, B: FederateAmbassador, R: Wait + Drop>(
 ) -> Result<Rti<L, B, Published<L, R>>, Fault>
     requires name { blank.name ≡ L.name }
     requires parts { blank.parts ≡ L.parts }
-    requires all { blank.parts ≡ 2049 }
+    requires all { blank.parts ≡ ledger_parts }
     requires book { opened.seen.book ≡ L.book }
     ensures ok { IfOk result (λ r. r ≡ record { handed = 0; own = new_caller 0 }) }
-    ensures limit { OnOk result (history_limit ≤ 1048576) }
-    ensures err { IfErr result (λ e. ((e ≡ Fault.LimitReached) × (1048576 < history_limit)) ⊎ (e ≡ Fault.OutOfMemory)) }
+    ensures limit { OnOk result (history_limit ≤ max_history_limit) }
+    ensures err { IfErr result (λ e. ((e ≡ Fault.LimitReached) × (max_history_limit < history_limit)) ⊎ (e ≡ Fault.OutOfMemory)) }
 {
     let board = open_board::<L, R>(alloc, rt, opened)?;
     Rti::new(alloc, blank, board, history_limit)

@@ -1,7 +1,8 @@
 ghost use Rattle.std.specs.Prelude.{◌≡◌};
+ghost use Rattle.hla_base.specs.Limits.{ledger_parts};
 
 use crate::runs::{courier_of, created_from, joined_as, keep};
-use hla_base::{ExecutionName, Fault, List};
+use hla_base::{ExecutionName, Fault, LEDGER_PARTS, List};
 use hla_callbacks::Recorder;
 use hla_monitor::{Monitor, Naming, Opened, Publisher, Status};
 use hla_rti::{Courier, Federate, Rti, open_rti};
@@ -127,7 +128,7 @@ fn eight_steps<L: Ledger + Naming, R: Wait + Abort>(
 ) -> Result<(Status, Status), Fail>
     requires name { blank.name ≡ L.name }
     requires parts { blank.parts ≡ L.parts }
-    requires all { blank.parts ≡ 2049 }
+    requires all { blank.parts ≡ ledger_parts }
     requires book { opened.seen.book ≡ L.book }
 {
     let rti = open_rti::<L, Recorder, &R>(alloc, rt, blank, opened, 100)?;
@@ -138,7 +139,7 @@ fn eight_steps_at_a_brand<R: Wait + Abort>(
     rt: &R,
     alloc: Global,
 ) -> Result<(Status, Status), Fail> {
-    eight_steps::<Brand, R>(rt, alloc, Blank::new(2049), Opened::new())
+    eight_steps::<Brand, R>(rt, alloc, Blank::new(LEDGER_PARTS), Opened::new())
 }
 
 #[test]
@@ -230,7 +231,7 @@ fn three_steps<L: Ledger + Naming, R: Wait + Abort>(
 ) -> Result<(u64, u64), Fail>
     requires name { blank.name ≡ L.name }
     requires parts { blank.parts ≡ L.parts }
-    requires all { blank.parts ≡ 2049 }
+    requires all { blank.parts ≡ ledger_parts }
     requires book { opened.seen.book ≡ L.book }
 {
     let rti = open_rti::<L, Recorder, &R>(alloc, rt, blank, opened, 100)?;
@@ -243,7 +244,7 @@ fn three_steps_at_a_brand<R: Wait + Abort>(
     handed: u64,
     is_told_first: bool,
 ) -> Result<(u64, u64), Fail> {
-    let (blank, opened) = (Blank::new(2049), Opened::new());
+    let (blank, opened) = (Blank::new(LEDGER_PARTS), Opened::new());
     three_steps::<Brand, R>(rt, alloc, blank, opened, handed, is_told_first)
 }
 
@@ -398,7 +399,7 @@ fn beside_two<L: Ledger + Naming + Send + Sync, R: Threads + Wait + Abort + Sync
 ) -> Result<(bool, u64), Fail>
     requires name { blank.name ≡ L.name }
     requires parts { blank.parts ≡ L.parts }
-    requires all { blank.parts ≡ 2049 }
+    requires all { blank.parts ≡ ledger_parts }
     requires book { opened.seen.book ≡ L.book }
 {
     let rti = open_rti::<L, Recorder, &R>(alloc, rt, blank, opened, 1_000)?;
@@ -409,7 +410,7 @@ fn beside_two_at_a_brand<R: Threads + Wait + Abort + Sync>(
     rt: &R,
     alloc: Global,
 ) -> Result<(bool, u64), Fail> {
-    beside_two::<Brand, R>(rt, alloc, Blank::new(2049), Opened::new())
+    beside_two::<Brand, R>(rt, alloc, Blank::new(LEDGER_PARTS), Opened::new())
 }
 
 #[test]

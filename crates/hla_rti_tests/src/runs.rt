@@ -1,6 +1,7 @@
 ghost use Rattle.std.specs.Prelude.{◌≡◌, [], IfOk};
+ghost use Rattle.hla_base.specs.Limits.{ledger_parts};
 
-use hla_base::{ExecutionName, Fault, List};
+use hla_base::{ExecutionName, Fault, LEDGER_PARTS, List};
 use hla_callbacks::{Callback, Recorder};
 use hla_machine::{Carried, Outcome, Record, ResignAction};
 use hla_monitor::{Naming, Opened, Publisher};
@@ -150,7 +151,7 @@ pub fn closed<L: Ledger + Naming, W: Publisher<L>>(
     rti: Rti<L, Recorder, W>,
     lefts: Vec<Left<L, Recorder>>,
 ) -> Closed
-    requires { L.parts ≡ 2049 }
+    requires { L.parts ≡ ledger_parts }
 {
     match rti.close(rt, lefts) {
         Ok(closed) => closed,
@@ -381,7 +382,7 @@ fn not_closed<L: Ledger + Naming, W: Publisher<L>>(
     alloc: Global,
     rti: Rti<L, Recorder, W>,
 ) -> Rti<L, Recorder, W>
-    requires { L.parts ≡ 2049 }
+    requires { L.parts ≡ ledger_parts }
 {
     let Err(NotClosed { rti, lefts, fault }) = rti.close(rt, Vec::new(alloc)) else {
         panic!(rt; "closed without the federate");
@@ -399,7 +400,7 @@ fn is_closed<L: Ledger + Naming, W: Publisher<L>>(
     lefts: Vec<Left<L, Recorder>>,
     scene: Scene,
 ) -> bool
-    requires { L.parts ≡ 2049 }
+    requires { L.parts ≡ ledger_parts }
 {
     let rti = match scene {
         Scene::OneMissing => not_closed(rt, alloc, rti),
@@ -421,7 +422,7 @@ fn is_played<L: Ledger + Naming, R: Wait + Abort>(
 ) -> Result<bool, Fail>
     requires name { blank.name ≡ L.name }
     requires parts { blank.parts ≡ L.parts }
-    requires all { blank.parts ≡ 2049 }
+    requires all { blank.parts ≡ ledger_parts }
     requires book { opened.seen.book ≡ L.book }
 {
     let mut rti = open_rti::<L, Recorder, &R>(alloc, rt, blank, opened, limit_of(scene))?;
@@ -432,7 +433,7 @@ fn is_played<L: Ledger + Naming, R: Wait + Abort>(
 
 /// The records of a scene at a brand are those of the scene.
 fn play_at_a_brand<R: Wait + Abort>(rt: &R, alloc: Global, scene: Scene) -> Result<(), Fail> {
-    assert!(rt; is_played::<Brand, R>(rt, alloc, Blank::new(2049), Opened::new(), scene)?);
+    assert!(rt; is_played::<Brand, R>(rt, alloc, Blank::new(LEDGER_PARTS), Opened::new(), scene)?);
     Ok(())
 }
 

@@ -2,12 +2,13 @@
 //! transcript.
 
 ghost use Rattle.std.specs.Prelude.{◌≡◌, ◌<◌, ℕ, IfOk};
+ghost use Rattle.hla_base.specs.Limits.{ledger_parts};
 ghost use Rattle.hla_history.specs.Hosts.{IsPlain};
 ghost use Rattle.hla_machine.specs.declared.step.Step.TheVariants as step;
 
 use crate::random::Random;
 use crate::steps::made_step;
-use hla_base::{ExecutionName, Fault, List, Plain};
+use hla_base::{ExecutionName, Fault, LEDGER_PARTS, List, Plain};
 use hla_callbacks::Recorder;
 use hla_history::Shared;
 use hla_machine::{Outcome, Record, Step};
@@ -206,7 +207,7 @@ fn ask_all<L: Ledger>(shared: &Shared<L, Recorder>, kept: &mut Kept) -> Result<(
 fn run_of<L: Ledger>(alloc: Global, blank: Blank, way: Way, seed: u64) -> Result<Kept, Fail>
     requires name { blank.name ≡ L.name }
     requires parts { blank.parts ≡ L.parts }
-    requires all { blank.parts ≡ 2049 }
+    requires all { blank.parts ≡ ledger_parts }
 {
     let (book, mut share) = blank.open::<L>();
     let mut shared = Shared::new(alloc, book, LIMIT)?;
@@ -223,7 +224,7 @@ fn run_of<L: Ledger>(alloc: Global, blank: Blank, way: Way, seed: u64) -> Result
 }
 
 fn run_at_a_brand(alloc: Global, way: Way, seed: u64) -> Result<Kept, Fail> {
-    run_of::<Brand>(alloc, Blank::new(2049), way, seed)
+    run_of::<Brand>(alloc, Blank::new(LEDGER_PARTS), way, seed)
 }
 
 /// Whether two transcripts have the same records.

@@ -1,9 +1,10 @@
 //! Tests of callers that are each on a thread of its own.
 
 ghost use Rattle.std.specs.Prelude.{◌≡◌};
+ghost use Rattle.hla_base.specs.Limits.{ledger_parts};
 
 use crate::runs::{closed, courier_of, created, is_told, joined_as, keep};
-use hla_base::{ExecutionName, Fault, Ticks};
+use hla_base::{ExecutionName, Fault, LEDGER_PARTS, Ticks};
 use hla_callbacks::{Callback, Recorder};
 use hla_monitor::{Naming, Opened, Publisher};
 use hla_rti::{Courier, Federate, Left, Rti, open_rti};
@@ -265,7 +266,7 @@ fn close_granted<
     W: Publisher<L> + Send,
     R: Threads + Wait + Abort + Sync,
 >(rt: &R, alloc: Global, mut rti: Rti<L, Recorder, W>) -> Result<(), Fail>
-    requires { L.parts ≡ 2049 }
+    requires { L.parts ≡ ledger_parts }
 {
     match both_granted(rt, alloc, &mut rti) {
         Ok(lefts) => {
@@ -288,7 +289,7 @@ fn two_threads<L: Ledger + Naming + Send + Sync, R: Threads + Wait + Abort + Syn
 ) -> Result<(), Fail>
     requires name { blank.name ≡ L.name }
     requires parts { blank.parts ≡ L.parts }
-    requires all { blank.parts ≡ 2049 }
+    requires all { blank.parts ≡ ledger_parts }
     requires book { opened.seen.book ≡ L.book }
 {
     let rti = open_rti::<L, Recorder, &R>(alloc, rt, blank, opened, HISTORY_LIMIT)?;
@@ -297,5 +298,5 @@ fn two_threads<L: Ledger + Naming + Send + Sync, R: Threads + Wait + Abort + Syn
 
 #[test]
 fn two_threads_at_a_brand(rt: HostRuntime) -> Result<(), Fail> {
-    two_threads::<Brand, HostRuntime>(&rt, rt.alloc(), Blank::new(2049), Opened::new())
+    two_threads::<Brand, HostRuntime>(&rt, rt.alloc(), Blank::new(LEDGER_PARTS), Opened::new())
 }

@@ -1,6 +1,7 @@
 //! The end of a run: how the lines came out is written, and the infrastructure closes.
 
 ghost use Rattle.std.specs.Prelude.{◌≡◌, ◌||◌, OnOk, IfErr};
+ghost use Rattle.hla_base.specs.Limits.{ledger_parts};
 ghost use Rattle.std.specs.Io.KnownBytes.{Appends};
 ghost use Rattle.hla_run.specs.Running.{IsPastReading, told_text, is_unwritten_run};
 
@@ -31,7 +32,7 @@ pub fn close_told<L: Ledger + Naming, P: Publisher<L>, W: Write>(
     outcomes: &Outcomes,
     out: &mut Watched<W>,
 ) -> Result<Closed, RunFault>
-    requires { L.parts ≡ 2049 }
+    requires { L.parts ≡ ledger_parts }
     ensures told { OnOk result (Appends (W.contents out.old.inner) (W.contents out.new.inner)
         (told_text catalogue.now lines.now outcomes.now)) }
     ensures late { IfErr result IsPastReading }

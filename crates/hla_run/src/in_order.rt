@@ -4,6 +4,7 @@
 //! scope is taken apart, variant by variant, in the proof of each function that lets it.
 
 ghost use Rattle.std.specs.Prelude.{◌≡◌, ◌||◌, ◌+◌, ◌≤◌, OnOk, IfErr, length, vec_len, vec_capacity};
+ghost use Rattle.hla_base.specs.Limits.{ledger_parts};
 ghost use Rattle.hla_run.specs.Running.{AreTold, IsPastReading, IsRunFrom, StopsRun, is_unwritten_run};
 
 use crate::closing::close_told;
@@ -239,7 +240,7 @@ fn told_in_order<L: Ledger + Naming, P: Publisher<L>, W: Write>(
     lines: &[Line<'_>],
     out: &mut Watched<W>,
 ) -> Result<Closed, RunFault>
-    requires { L.parts ≡ 2049 }
+    requires { L.parts ≡ ledger_parts }
     ensures told { OnOk result (AreTold catalogue.now lines.now (W.contents out.old.inner)
         (W.contents out.new.inner)) }
     ensures late { IfErr result IsPastReading }
@@ -275,7 +276,7 @@ pub fn run_in_order<L: Ledger + Naming, R: Wait, W: Write>(
 ) -> Result<Closed, RunFault>
     requires name { blank.name ≡ L.name }
     requires parts { blank.parts ≡ L.parts }
-    requires all { blank.parts ≡ 2049 }
+    requires all { blank.parts ≡ ledger_parts }
     requires book { opened.seen.book ≡ L.book }
 
     // What was written is an outcome for each line, in the order of the script.

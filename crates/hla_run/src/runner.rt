@@ -1,6 +1,7 @@
 //! Running a script, each federate on a thread of its own.
 
 ghost use Rattle.std.specs.Prelude.{◌≡◌, ◌||◌, IfOk, OnOk, IfErr, length, vec_len};
+ghost use Rattle.hla_base.specs.Limits.{ledger_parts};
 ghost use Rattle.hla_run.specs.Running.{AreTold, IsPastReading, IsRunFrom, IsSeen, StopsRun, is_unwritten_run};
 
 use crate::closing::close_told;
@@ -132,7 +133,7 @@ fn told_on_threads<
     is_watched: bool,
     out: &mut Watched<W>,
 ) -> Result<Ran, RunFault>
-    requires { L.parts ≡ 2049 }
+    requires { L.parts ≡ ledger_parts }
     ensures told { OnOk result (AreTold catalogue.now lines.now (W.contents out.old.inner)
         (W.contents out.new.inner)) }
     ensures seen { IfOk result (λ r. IsSeen is_watched r.closed r.seen) }
@@ -200,7 +201,7 @@ pub fn run_scripts<
 ) -> Result<Ran, RunFault>
     requires name { blank.name ≡ L.name }
     requires parts { blank.parts ≡ L.parts }
-    requires all { blank.parts ≡ 2049 }
+    requires all { blank.parts ≡ ledger_parts }
     requires book { opened.seen.book ≡ L.book }
 
     // What was written is an outcome for each line that was done, in the order of the script.

@@ -1,10 +1,11 @@
 //! Lines that wait are answered as they were when threads gave their turns away, whatever turns the threads take.
 
 ghost use Rattle.std.specs.Prelude.{◌≡◌};
+ghost use Rattle.hla_base.specs.Limits.{ledger_parts};
 
 use crate::texts::run;
 use crate::turns::run_by_turns;
-use hla_base::FederateNo;
+use hla_base::{FederateNo, LEDGER_PARTS};
 use hla_monitor::{Naming, Opened};
 use hla_run::{Gate, OpenGate};
 use hla_transcript::Text;
@@ -177,7 +178,7 @@ fn rested<L: Ledger + Naming + Send + Sync, G: Gate + Sync, R: Threads + Wait + 
 ) -> Result<Vec<u8>, Fail>
     requires name { blank.name ≡ L.name }
     requires parts { blank.parts ≡ L.parts }
-    requires all { blank.parts ≡ 2049 }
+    requires all { blank.parts ≡ ledger_parts }
     requires book { opened.seen.book ≡ L.book }
 {
     let shown = run::<L, G, R>(rt, alloc, blank, opened, script.as_bytes(), gate)?;
@@ -199,7 +200,7 @@ fn now<G: Gate + Sync, R: Threads + Wait + Abort + Sync>(
     rested::<Brand, G, R>(
         rt,
         alloc,
-        Blank::new(2049),
+        Blank::new(LEDGER_PARTS),
         Opened::new(),
         script,
         federates,
@@ -216,7 +217,7 @@ fn before<R: Threads + Wait + Abort + Sync>(
     run_by_turns::<Brand, R>(
         rt,
         alloc,
-        Blank::new(2049),
+        Blank::new(LEDGER_PARTS),
         Opened::new(),
         script.as_bytes(),
     )

@@ -1,9 +1,10 @@
 //! Federates run on threads of their own: a line of one waits for a line of the other, and the other way round.
 
 ghost use Rattle.std.specs.Prelude.{◌≡◌};
+ghost use Rattle.hla_base.specs.Limits.{ledger_parts};
 
 use crate::texts::run;
-use hla_base::FederateNo;
+use hla_base::{FederateNo, LEDGER_PARTS};
 use hla_monitor::{Naming, Opened};
 use hla_run::Gate;
 use std::alloc::Global;
@@ -107,7 +108,7 @@ fn held<L: Ledger + Naming + Send + Sync, R: Threads + Wait + Abort + Sync>(
 ) -> Result<(), Fail>
     requires name { blank.name ≡ L.name }
     requires parts { blank.parts ≡ L.parts }
-    requires all { blank.parts ≡ 2049 }
+    requires all { blank.parts ≡ ledger_parts }
     requires book { opened.seen.book ≡ L.book }
 {
     let shown = run::<L, Holding, R>(rt, alloc, blank, opened, SCRIPT, gate)?;
@@ -122,7 +123,7 @@ fn first_waits_for_the_second(rt: HostRuntime) -> Result<(), Fail> {
     held::<Brand, HostRuntime>(
         &rt,
         rt.alloc(),
-        Blank::new(2049),
+        Blank::new(LEDGER_PARTS),
         Opened::new(),
         &Holding::new(4, 5),
     )
@@ -133,7 +134,7 @@ fn second_waits_for_the_first(rt: HostRuntime) -> Result<(), Fail> {
     held::<Brand, HostRuntime>(
         &rt,
         rt.alloc(),
-        Blank::new(2049),
+        Blank::new(LEDGER_PARTS),
         Opened::new(),
         &Holding::new(5, 4),
     )

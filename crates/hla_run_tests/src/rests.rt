@@ -1,10 +1,11 @@
 //! Threads that rest go on, however often they do so, and whatever a gate holds meanwhile.
 
 ghost use Rattle.std.specs.Prelude.{◌≡◌};
+ghost use Rattle.hla_base.specs.Limits.{ledger_parts};
 
 use crate::scripts::in_lockstep;
 use crate::texts::run;
-use hla_base::FederateNo;
+use hla_base::{FederateNo, LEDGER_PARTS};
 use hla_monitor::{Naming, Opened};
 use hla_run::Gate;
 use std::alloc::Global;
@@ -81,7 +82,7 @@ fn ends_beside_one_held<L: Ledger + Naming + Send + Sync, R: Threads + Wait + Ab
 ) -> Result<(), Fail>
     requires name { blank.name ≡ L.name }
     requires parts { blank.parts ≡ L.parts }
-    requires all { blank.parts ≡ 2049 }
+    requires all { blank.parts ≡ ledger_parts }
     requires book { opened.seen.book ≡ L.book }
 {
     let gate = HeldBehind {
@@ -102,7 +103,7 @@ fn a_tick_ends_beside_one_held_behind_its_line(rt: HostRuntime) -> Result<(), Fa
         ends_beside_one_held::<Brand, HostRuntime>(
             &rt,
             rt.alloc(),
-            Blank::new(2049),
+            Blank::new(LEDGER_PARTS),
             Opened::new(),
         )?;
     }
@@ -112,7 +113,12 @@ fn a_tick_ends_beside_one_held_behind_its_line(rt: HostRuntime) -> Result<(), Fa
 #[test]
 fn rests_end_in_each_of_many_runs(rt: HostRuntime) -> Result<(), Fail> {
     for _ in 0..LOCKSTEPS {
-        in_lockstep::<Brand, HostRuntime>(&rt, rt.alloc(), Blank::new(2049), Opened::new())?;
+        in_lockstep::<Brand, HostRuntime>(
+            &rt,
+            rt.alloc(),
+            Blank::new(LEDGER_PARTS),
+            Opened::new(),
+        )?;
     }
     Ok(())
 }

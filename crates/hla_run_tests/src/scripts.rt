@@ -1,9 +1,11 @@
 //! Scripts that run on threads, and in order on one.
 
 ghost use Rattle.std.specs.Prelude.{◌≡◌};
+ghost use Rattle.hla_base.specs.Limits.{ledger_parts};
 
 use crate::gates::{Both, Holding};
 use crate::texts::{FED, Shown, run, run_on_one_thread};
+use hla_base::LEDGER_PARTS;
 use hla_callbacks::{Callback, Delivery};
 use hla_checker::check_run;
 use hla_machine::{Answer, Outcome, Record};
@@ -102,7 +104,7 @@ pub fn in_lockstep<L: Ledger + Naming + Send + Sync, R: Threads + Wait + Abort +
 ) -> Result<(), Fail>
     requires name { blank.name ≡ L.name }
     requires parts { blank.parts ≡ L.parts }
-    requires all { blank.parts ≡ 2049 }
+    requires all { blank.parts ≡ ledger_parts }
     requires book { opened.seen.book ≡ L.book }
 {
     let gate = Both {
@@ -124,7 +126,7 @@ pub fn in_lockstep<L: Ledger + Naming + Send + Sync, R: Threads + Wait + Abort +
 
 #[test]
 fn in_lockstep_at_a_brand(rt: HostRuntime) -> Result<(), Fail> {
-    in_lockstep::<Brand, HostRuntime>(&rt, rt.alloc(), Blank::new(2049), Opened::new())
+    in_lockstep::<Brand, HostRuntime>(&rt, rt.alloc(), Blank::new(LEDGER_PARTS), Opened::new())
 }
 
 /// The script in order on one thread, with its carries and announcements: nothing lies behind them for the ticks to fetch.
@@ -136,7 +138,7 @@ fn in_order<L: Ledger + Naming, R: Wait + Abort>(
 ) -> Result<(), Fail>
     requires name { blank.name ≡ L.name }
     requires parts { blank.parts ≡ L.parts }
-    requires all { blank.parts ≡ 2049 }
+    requires all { blank.parts ≡ ledger_parts }
     requires book { opened.seen.book ≡ L.book }
 {
     let shown = run_on_one_thread::<L, R>(rt, alloc, blank, opened, ORDERED)?;
@@ -148,7 +150,7 @@ fn in_order<L: Ledger + Naming, R: Wait + Abort>(
 
 #[test]
 fn in_order_at_a_brand(rt: HostRuntime) -> Result<(), Fail> {
-    in_order::<Brand, HostRuntime>(&rt, rt.alloc(), Blank::new(2049), Opened::new())
+    in_order::<Brand, HostRuntime>(&rt, rt.alloc(), Blank::new(LEDGER_PARTS), Opened::new())
 }
 
 /// What a run of texts at fault answers, with nothing written.
@@ -162,7 +164,7 @@ fn refused<L: Ledger + Naming + Send + Sync, R: Threads + Wait + Abort + Sync>(
 ) -> Result<RunFault, Fail>
     requires name { blank.name ≡ L.name }
     requires parts { blank.parts ≡ L.parts }
-    requires all { blank.parts ≡ 2049 }
+    requires all { blank.parts ≡ ledger_parts }
     requires book { opened.seen.book ≡ L.book }
 {
     let mut out = Watched::new(Vec::new(alloc));
@@ -181,7 +183,7 @@ fn a_fed_file_at_fault(rt: HostRuntime) -> Result<(), Fail> {
     let fault = refused::<Brand, HostRuntime>(
         &rt,
         rt.alloc(),
-        Blank::new(2049),
+        Blank::new(LEDGER_PARTS),
         Opened::new(),
         b"(FED",
         b"leave",
@@ -195,7 +197,7 @@ fn a_script_at_fault(rt: HostRuntime) -> Result<(), Fail> {
     let fault = refused::<Brand, HostRuntime>(
         &rt,
         rt.alloc(),
-        Blank::new(2049),
+        Blank::new(LEDGER_PARTS),
         Opened::new(),
         FED,
         b"create\nleave\n",

@@ -1,6 +1,7 @@
 //! What the tests share: a FED text, scripts, and runs of them.
 
 ghost use Rattle.std.specs.Prelude.{◌≡◌};
+ghost use Rattle.hla_base.specs.Limits.{ledger_parts};
 
 use hla_monitor::{Naming, Opened, Status};
 use hla_rti::Closed;
@@ -47,7 +48,7 @@ pub fn run<L: Ledger + Naming + Send + Sync, G: Gate + Sync, R: Threads + Wait +
 ) -> Result<Shown, Fail>
     requires name { blank.name ≡ L.name }
     requires parts { blank.parts ≡ L.parts }
-    requires all { blank.parts ≡ 2049 }
+    requires all { blank.parts ≡ ledger_parts }
     requires book { opened.seen.book ≡ L.book }
 {
     let mut out = Watched::new(Vec::new(alloc));
@@ -74,7 +75,7 @@ pub fn run_on_one_thread<L: Ledger + Naming, R: Wait + Abort>(
 ) -> Result<Shown, Fail>
     requires name { blank.name ≡ L.name }
     requires parts { blank.parts ≡ L.parts }
-    requires all { blank.parts ≡ 2049 }
+    requires all { blank.parts ≡ ledger_parts }
     requires book { opened.seen.book ≡ L.book }
 {
     let mut out = Watched::new(Vec::new(alloc));

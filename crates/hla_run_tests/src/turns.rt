@@ -2,6 +2,7 @@
 //! What exchanges and waits is kept as it was, to compare with.
 
 ghost use Rattle.std.specs.Prelude.{◌≡◌};
+ghost use Rattle.hla_base.specs.Limits.{ledger_parts};
 
 use crate::texts::FED;
 use hla_base::{ExecutionName, Fault, FederateNo, List, MAX_HISTORY};
@@ -311,7 +312,7 @@ pub fn run_by_turns<L: Ledger + Naming + Send + Sync, R: Threads + Wait + Abort 
 ) -> Result<Text, Fail>
     requires name { blank.name ≡ L.name }
     requires parts { blank.parts ≡ L.parts }
-    requires all { blank.parts ≡ 2049 }
+    requires all { blank.parts ≡ ledger_parts }
     requires book { opened.seen.book ≡ L.book }
 {
     let Ok(catalogue) = read(alloc, FED) else {

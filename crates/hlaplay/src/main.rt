@@ -10,6 +10,7 @@ ghost use Rattle.hla_transcript.specs.Watching.{stream_of};
 ghost use Rattle.hlaplay.specs.Run.{EndsMisuse, EndsSomeRun};
 
 use crate::running::{MISUSED, do_words};
+use hla_base::LEDGER_PARTS;
 use hla_monitor::Opened;
 use hla_program::{Means, System, tell, tell_out_of_memory};
 use hla_transcript::Watched;
@@ -64,7 +65,7 @@ fn run<R: Runtime + AllocGlobal + Threads + Wait + Sync, E: Write>(
     let means = Means {
         rt,
         alloc,
-        blank: Blank::new(2049),
+        blank: Blank::new(LEDGER_PARTS),
         opened: Opened::new(),
     };
     let ended = do_words::<Brand, R, _, _, E>(means, &system, texts.as_slice(), &mut out, errors);

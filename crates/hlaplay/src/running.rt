@@ -1,6 +1,7 @@
 //! The run that the words of a command line ask for, over any files and writers.
 
 ghost use Rattle.std.specs.Prelude.{◌≡◌};
+ghost use Rattle.hla_base.specs.Limits.{ledger_parts};
 ghost use Rattle.hla_transcript.specs.Watching.{stream_of};
 ghost use Rattle.clap.specs.Walk.{texts};
 ghost use Rattle.hlaplay.specs.Run.{EndsMisuse, EndsRun};
@@ -50,7 +51,7 @@ pub fn do_words<
 ) -> u8
     requires name { means.blank.name ≡ L.name }
     requires parts { means.blank.parts ≡ L.parts }
-    requires all { means.blank.parts ≡ 2049 }
+    requires all { means.blank.parts ≡ ledger_parts }
     requires book { means.opened.seen.book ≡ L.book }
     ensures { EndsRun (texts words.now) (O.bytes_of opener.now)
         (stream_of W.contents out.old) (stream_of W.contents out.new)

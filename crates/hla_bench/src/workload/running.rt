@@ -1,13 +1,14 @@
 //! A federation that runs through the infrastructure, from its opening to its close.
 
 ghost use Rattle.std.specs.Prelude.{◌≡◌};
+ghost use Rattle.hla_base.specs.Limits.{ledger_parts};
 
 use crate::advancing::{HISTORY_LIMIT, name_of};
 use crate::random::Random;
 use crate::workload::digest::Digest;
 use crate::workload::federates::{Carrier, FED, Field, Player, prepare, register};
 use crate::workload::sizes::Sizes;
-use hla_base::{ExecutionName, Fault, FederateNo, List};
+use hla_base::{ExecutionName, Fault, FederateNo, LEDGER_PARTS, List};
 use hla_callbacks::Recorder;
 use hla_machine::Record;
 use hla_monitor::{Naming, Opened, Publisher};
@@ -242,7 +243,7 @@ fn close<L: Ledger + Naming, W: Publisher<L>>(
     rti: Rti<L, Recorder, W>,
     rest: Result<Leavings<L>, Fault>,
 ) -> Result<Digest, Fault>
-    requires { L.parts ≡ 2049 }
+    requires { L.parts ≡ ledger_parts }
 {
     let Leavings { lefts, mut digest } = match rest {
         Ok(rest) => rest,
@@ -274,7 +275,7 @@ fn run_at<L: Ledger + Naming + Send + Sync, R: Threads + Wait + Sync>(
 ) -> Result<Digest, Fault>
     requires name { blank.name ≡ L.name }
     requires parts { blank.parts ≡ L.parts }
-    requires all { blank.parts ≡ 2049 }
+    requires all { blank.parts ≡ ledger_parts }
     requires book { opened.seen.book ≡ L.book }
 {
     let mut rti = open_rti::<L, Recorder, &R>(field.alloc, rt, blank, opened, HISTORY_LIMIT)?;
@@ -297,5 +298,11 @@ pub fn run<R: Threads + Wait + Sync>(rt: &R, alloc: Global, sizes: Sizes) -> Res
         may_begin: AtomicBool::new(false),
         is_over: AtomicBool::new(false),
     };
-    run_at::<Brand, R>(rt, &field, Blank::new(2049), Opened::new(), sizes.seed)
+    run_at::<Brand, R>(
+        rt,
+        &field,
+        Blank::new(LEDGER_PARTS),
+        Opened::new(),
+        sizes.seed,
+    )
 }

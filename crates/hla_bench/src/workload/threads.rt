@@ -1,11 +1,12 @@
 //! Scripts in lock-step that run with a thread for each federate, as `hlaplay run` does.
 
 ghost use Rattle.std.specs.Prelude.{◌≡◌};
+ghost use Rattle.hla_base.specs.Limits.{ledger_parts};
 
 use crate::random::Random;
 use crate::workload::line_digest::LineDigest;
 use crate::workload::texts::Text;
-use hla_base::Fault;
+use hla_base::{Fault, LEDGER_PARTS};
 use hla_checker::check_run;
 use hla_monitor::{Naming, Opened};
 use hla_run::{OpenGate, Ran, run_scripts};
@@ -87,7 +88,7 @@ fn run_at<L: Ledger + Naming + Send + Sync, R: Threads + Wait + Sync>(
 ) -> Result<LineDigest, Fault>
     requires name { blank.name ≡ L.name }
     requires parts { blank.parts ≡ L.parts }
-    requires all { blank.parts ≡ 2049 }
+    requires all { blank.parts ≡ ledger_parts }
     requires book { opened.seen.book ≡ L.book }
 {
     let mut out = Watched::new(Vec::new(alloc));
@@ -115,7 +116,7 @@ pub fn run<R: Threads + Wait + Sync>(
     run_at::<Brand, R>(
         rt,
         alloc,
-        Blank::new(2049),
+        Blank::new(LEDGER_PARTS),
         Opened::new(),
         text.text.as_bytes(),
     )
