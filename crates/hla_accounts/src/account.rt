@@ -98,7 +98,11 @@ impl Account {
     pub fn note(&mut self, stamp: Ticks, receivers: Receivers) -> Result<(), Fault>
         requires unsent { (m : ℕ) → self.old.next_serial ≤ m → sent_of self.old.sent m ≡ no_event }
         requires room { self.old.next_serial ≤ max_serial }
-        ensures account { OnOk result (self.new ≡ record self.old { next_serial = self.old.next_serial + 1; sent = self.new.sent }) }
+        ensures account { OnOk result
+            (self.new ≡ record self.old {
+              next_serial = self.old.next_serial + 1;
+              sent = self.new.sent;
+            }) }
         ensures sent { OnOk result (sent_of self.new.sent ≡ upd (sent_of self.old.sent) self.old.next_serial (record {
           stamp = stamp;
           retractable = true;

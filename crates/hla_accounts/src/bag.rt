@@ -387,7 +387,9 @@ impl Bag {
     #[inline(never)]
     fn demote_at(&mut self, place: usize)
         requires { place < length self.old }
-        ensures written { (d : Waiting) → self.new ≡ slice_set self.old place (demoted_waiting (slice_index_or self.old place d)) }
+        ensures written { (d : Waiting)
+            → self.new ≡ slice_set self.old place
+            (demoted_waiting (slice_index_or self.old place d)) }
         ensures apart { AreApart self.new }
     {
         self.indexing.catch_up(&self.waiting);

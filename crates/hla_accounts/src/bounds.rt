@@ -46,8 +46,8 @@ impl Accounts {
 
     /// Whether a time, in ticks, is at most each stamp of what an index has in time-stamp order and was not retracted.
     fn is_below_indexed_tso(&self, indexing: &Indexing, time: Ticks) -> bool
-        ensures { (ws : List Waiting) → IsIndexingOf ws indexing.now → result ≡ list_all (is_at_most_waiting self.now time) (take
-            indexing.now.count ws) }
+        ensures { (ws : List Waiting) → IsIndexingOf ws indexing.now
+            → result ≡ list_all (is_at_most_waiting self.now time) (take indexing.now.count ws) }
     {
         match &indexing.index {
             Some(index) => index

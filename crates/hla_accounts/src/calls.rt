@@ -84,8 +84,8 @@ impl Accounts {
     /// Whether a time, in ticks, is at most each stamp of what an index has that was moved to receive order and is not
     /// retracted.
     fn is_below_indexed_demoted(&self, indexing: &Indexing, time: Ticks) -> bool
-        ensures { (ws : List Waiting) → IsIndexingOf ws indexing.now → result ≡ list_all (is_at_most_demoted self.now time) (take
-            indexing.now.count ws) }
+        ensures { (ws : List Waiting) → IsIndexingOf ws indexing.now
+            → result ≡ list_all (is_at_most_demoted self.now time) (take indexing.now.count ws) }
     {
         match &indexing.index {
             Some(index) => index

@@ -86,9 +86,13 @@ impl Accounts {
     fn add_due(&mut self, federate: FederateNo, event: EventHandle) -> Result<(), Fault>
         requires some { 0 < federate }
         requires within { federate ≤ length self.old }
-        ensures ok { OnOk result ((d : Directory) → let c = central_with d self.old in central_with d self.new ≡ record c {
-          due = at3 c.due event.sender event.serial federate (c.due event.sender event.serial federate + 1);
-        }) }
+        ensures ok { OnOk result
+            ((d : Directory)
+            → let c = central_with d self.old in central_with d self.new
+            ≡ record c {
+              due = at3 c.due event.sender event.serial federate
+                  (c.due event.sender event.serial federate + 1);
+            }) }
         ensures err { IfErr result (λ e. e ≡ Fault.OutOfMemory) }
     {
         self.accounts[federate as usize - 1].due.add(event)
@@ -99,9 +103,13 @@ impl Accounts {
     pub fn add_owed(&mut self, federate: FederateNo, event: EventHandle) -> Result<(), Fault>
         requires some { 0 < federate }
         requires within { federate ≤ length self.old }
-        ensures ok { OnOk result ((d : Directory) → let c = central_with d self.old in central_with d self.new ≡ record c {
-          owed = at3 c.owed event.sender event.serial federate (c.owed event.sender event.serial federate + 1);
-        }) }
+        ensures ok { OnOk result
+            ((d : Directory)
+            → let c = central_with d self.old in central_with d self.new
+            ≡ record c {
+              owed = at3 c.owed event.sender event.serial federate
+                  (c.owed event.sender event.serial federate + 1);
+            }) }
         ensures err { IfErr result (λ e. e ≡ Fault.OutOfMemory) }
     {
         self.accounts[federate as usize - 1].owed.add(event)
@@ -111,9 +119,12 @@ impl Accounts {
     fn take_owed(&mut self, federate: FederateNo, event: EventHandle)
         requires some { 0 < federate }
         requires within { federate ≤ length self.old }
-        ensures { (d : Directory) → let c = central_with d self.old in central_with d self.new ≡ record c {
-          owed = at3 c.owed event.sender event.serial federate (c.owed event.sender event.serial federate - 1);
-        } }
+        ensures { (d : Directory)
+            → let c = central_with d self.old in central_with d self.new
+            ≡ record c {
+              owed = at3 c.owed event.sender event.serial federate
+                  (c.owed event.sender event.serial federate - 1);
+            } }
     {
         self.accounts[federate as usize - 1].owed.remove(event);
     }

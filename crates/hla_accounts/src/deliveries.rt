@@ -71,7 +71,8 @@ impl Accounts {
         waits: bool,
     ) -> bool
         requires { waits ≡ true → account_at self.now federate ≢ no_account }
-        ensures { result ≡ may_deliver self.now federate event.sender event.serial content.now delivery waits }
+        ensures { result
+            ≡ may_deliver self.now federate event.sender event.serial content.now delivery waits }
     {
         let Some(account) = self.get(federate) else {
             return false;
@@ -142,7 +143,8 @@ impl Accounts {
     /// with the events and what lies below the time, each times the logarithm of the events; where memory for the names of the
     /// events was refused, as where it is little.
     fn are_indexed_among(&self, indexing: &Indexing, time: Ticks, events: &[EventHandle]) -> bool
-        ensures { (ws : List Waiting) → IsIndexingOf ws indexing.now → result ≡ list_all (is_among_if_below self.now time events.now)
+        ensures { (ws : List Waiting) → IsIndexingOf ws indexing.now
+            → result ≡ list_all (is_among_if_below self.now time events.now)
             (take indexing.now.count ws) }
     {
         let Some(index) = &indexing.index else {

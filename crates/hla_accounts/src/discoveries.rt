@@ -20,9 +20,13 @@ impl Accounts {
     pub fn add_offers(&mut self, federate: FederateNo, offers: Vec<Offer>) -> Result<(), Fault>
         requires some { 0 < federate }
         requires within { federate ≤ length self.old }
-        ensures ok { OnOk result ((d : Directory) → let c = central_with d self.old in central_with d self.new ≡ record c {
-          discoveries = λ g. upd (c.discoveries g) federate (c.discoveries g federate ++ offers_from g offers.items);
-        }) }
+        ensures ok { OnOk result
+            ((d : Directory)
+            → let c = central_with d self.old in central_with d self.new
+            ≡ record c {
+              discoveries = λ g. upd (c.discoveries g) federate
+                  (c.discoveries g federate ++ offers_from g offers.items);
+            }) }
         ensures err { IfErr result (λ e. e ≡ Fault.OutOfMemory) }
     {
         self.accounts[federate as usize - 1].offers.add_all(offers)
@@ -37,10 +41,14 @@ impl Accounts {
         found: Option<Discovery>,
     ) -> Result<(), Fault>
         requires some { 0 < federate }
-        ensures ok { OnOk result ((d : Directory) → let c = central_with d self.old in central_with d self.new ≡ record c {
-          discoveries = upd2 c.discoveries owner federate
-              (c.discoveries owner federate ++ option_to_list (when (is_other c.directory.joined owner federate) found));
-        }) }
+        ensures ok { OnOk result
+            ((d : Directory)
+            → let c = central_with d self.old in central_with d self.new
+            ≡ record c {
+              discoveries = upd2 c.discoveries owner federate
+                  (c.discoveries owner federate
+                  ++ option_to_list (when (is_other c.directory.joined owner federate) found));
+            }) }
         ensures err { IfErr result (λ e. e ≡ Fault.OutOfMemory) }
     {
         if owner == federate || !self.is_joined(federate) {
@@ -65,10 +73,15 @@ impl Accounts {
         found: Vec<Option<Discovery>>,
     ) -> Result<(), Fault>
         requires few { length found.items ≤ max_joins }
-        ensures ok { OnOk result ((d : Directory) (news : ℕ → List Discovery) → let c = central_with d self.old in
-            ((f : ℕ) → is_other c.directory.joined owner f ≡ true → option_to_list (item_for found.items f) ≡ news f) →
-            central_with d self.new ≡ record c {
-              discoveries = upd_row c.discoveries c.directory.joined owner (λ f discoveries. discoveries ++ news f);
+        ensures ok { OnOk result
+            ((d : Directory) (news : ℕ → List Discovery)
+            → let c = central_with d self.old in
+            ((f : ℕ) → is_other c.directory.joined owner f ≡ true
+            → option_to_list (item_for found.items f) ≡ news f)
+            → central_with d self.new
+            ≡ record c {
+              discoveries = upd_row c.discoveries c.directory.joined owner
+                  (λ f discoveries. discoveries ++ news f);
             }) }
         ensures err { IfErr result (λ e. e ≡ Fault.OutOfMemory) }
     {

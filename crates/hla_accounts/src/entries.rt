@@ -50,7 +50,9 @@ impl Accounts {
         time: Ticks,
         lookahead: Ticks,
     ) -> Option<Fault>
-        ensures { (d : Directory) → result ≡ first_fault (call_tests (central_seen (central_with d self.now)) federate
+        ensures { (d : Directory)
+            → result ≡ first_fault
+            (call_tests (central_seen (central_with d self.now)) federate
             (service.EnableTimeRegulation time lookahead)) }
     {
         let low = self.greatest_bar(time.saturating_add(lookahead));
@@ -114,7 +116,8 @@ impl Accounts {
         requires { (d : Directory) → first_fault (call_tests (central_seen (central_with d self.now)) federate
             (service.EnableTimeRegulation time lookahead)) ≡ None }
         ensures value { result ≡ may_enter self.now federate (time + lookahead) entry }
-        ensures within { IsTrue result → MayRegulateFrom (account_at self.now federate).state lookahead entry }
+        ensures within { IsTrue result
+            → MayRegulateFrom (account_at self.now federate).state lookahead entry }
     {
         self.may_enter(federate, time + lookahead, entry)
     }

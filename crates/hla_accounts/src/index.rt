@@ -228,8 +228,9 @@ impl Index {
     /// Where the message stands that an event handle names, if it waits. The caller tests that it stands there. It takes
     /// the time of `add`.
     pub fn place_of(&self, event: EventHandle) -> Option<usize>
-        ensures { (t : ℕ → ℕ → Option Delivery) → IsIndexOf self.now t →
-            MatchOption result (t event.sender event.serial ≡ None) (λ _. t event.sender event.serial ≢ None) }
+        ensures { (t : ℕ → ℕ → Option Delivery) → IsIndexOf self.now t
+            → MatchOption result (t event.sender event.serial ≡ None)
+            (λ _. t event.sender event.serial ≢ None) }
     {
         match self.arrivals.get(&Name::of(event)) {
             Some(number) => match self.numbers.binary_search(number) {
@@ -298,7 +299,8 @@ impl Index {
 
     /// The keys of what is to be given in time-stamp order with this stamp, in ticks, before an event.
     pub fn ordered_before(&self, event: EventHandle, stamp: Ticks) -> Range<'_, Key>
-        ensures keys { result ≡ filter (is_ordered_before event.sender event.serial stamp) self.now.keys.keys }
+        ensures keys { result
+            ≡ filter (is_ordered_before event.sender event.serial stamp) self.now.keys.keys }
         ensures runs { ShowsInOrder (deref {X = Key}) }
     {
         self.between(

@@ -65,7 +65,8 @@ fn least_stamps(waiting: &[Waiting]) -> (Ticks, Ticks)
 
 /// The index that there is, or else one of no messages.
 fn index_or_new(index: Option<Index>, alloc: Global) -> Index
-    ensures { (k : ℕ) (ws : List Waiting) → IsHead index k (take k ws) → IsIndexOf result (delivery_at (take k ws)) }
+    ensures { (k : ℕ) (ws : List Waiting) → IsHead index k (take k ws)
+        → IsIndexOf result (delivery_at (take k ws)) }
 {
     match index {
         Some(index) => index,
@@ -98,8 +99,8 @@ impl Indexing {
     /// Whether it is known, with no look at the tail, that none of what it has to be given in time-stamp order has a stamp below
     /// a time, in ticks.
     pub fn has_no_ordered_below(&self, time: Ticks) -> bool
-        ensures { (ws : List Waiting) → AreNotBelow self.now.least_ordered self.now.least_demoted ws → result ≡ true →
-            AreNotBelow time 0 ws }
+        ensures { (ws : List Waiting) → AreNotBelow self.now.least_ordered self.now.least_demoted ws
+            → result ≡ true → AreNotBelow time 0 ws }
     {
         time <= self.least_ordered
     }
@@ -107,8 +108,8 @@ impl Indexing {
     /// Whether it is known, with no look at the tail, that none of what it has that was moved to receive order has a stamp below
     /// a time, in ticks.
     pub fn has_no_demoted_below(&self, time: Ticks) -> bool
-        ensures { (ws : List Waiting) → AreNotBelow self.now.least_ordered self.now.least_demoted ws → result ≡ true →
-            AreNotBelow 0 time ws }
+        ensures { (ws : List Waiting) → AreNotBelow self.now.least_ordered self.now.least_demoted ws
+            → result ≡ true → AreNotBelow 0 time ws }
     {
         time <= self.least_demoted
     }
@@ -213,8 +214,9 @@ impl Indexing {
 
     /// A message was put behind the others.
     pub fn put(&mut self, delivery: Delivery)
-        ensures { (ws : List Waiting) (w : Waiting) → IsIndexingOf ws self.old → waiting_at ws w.event.sender w.event.serial ≡ None →
-            w.delivery ≡ delivery → IsIndexingOf (ws ++ w ∷ []) self.new }
+        ensures { (ws : List Waiting) (w : Waiting) → IsIndexingOf ws self.old
+            → waiting_at ws w.event.sender w.event.serial ≡ None → w.delivery ≡ delivery
+            → IsIndexingOf (ws ++ w ∷ []) self.new }
     {
         lower(&mut self.least_ordered, &mut self.least_demoted, delivery);
     }
@@ -249,9 +251,12 @@ impl Indexing {
         requires kept { IsIndexingOf waiting.now self.old }
         requires all { IsCaughtUp waiting.now self.old }
         requires within { place < length waiting.now }
-        requires after { (d : Waiting) → after ≡ demoted_delivery (slice_index_or waiting.now place d).delivery }
-        ensures { (d : Waiting) → IsIndexingOf (slice_set waiting.now place (demoted_waiting (slice_index_or waiting.now place d)))
-            self.new }
+        requires after { (d : Waiting)
+            → after ≡ demoted_delivery (slice_index_or waiting.now place d).delivery }
+        ensures { (d : Waiting)
+            → IsIndexingOf
+            (slice_set waiting.now place
+            (demoted_waiting (slice_index_or waiting.now place d))) self.new }
     {
         let messages = waiting.as_slice();
         let message = &messages[place];

@@ -17,7 +17,9 @@ impl Accounts {
     /// nothing is said of the accounts then.
     pub fn join(&mut self, name: List<u8>, alloc: Global) -> Result<(), Fault>
         requires { length self.old < max_joins }
-        ensures ok { OnOk result ((d : Directory) → central_with d self.new ≡ after_join (central_with d self.old) name) }
+        ensures ok { OnOk result
+            ((d : Directory)
+            → central_with d self.new ≡ after_join (central_with d self.old) name) }
         ensures err { IfErr result (λ e. e ≡ Fault.OutOfMemory) }
     {
         match self.accounts.push(Account::new(name, alloc)) {

@@ -219,7 +219,9 @@ impl WaitingLine {
     /// The message at a place is to be given so.
     pub fn set_delivery(&mut self, place: usize, delivery: Delivery)
         requires { place < length self.old }
-        ensures { (d : Waiting) → self.new ≡ slice_set self.old place (record (slice_index_or self.old place d) { delivery = delivery }) }
+        ensures { (d : Waiting)
+            → self.new ≡ slice_set self.old place
+            (record (slice_index_or self.old place d) { delivery = delivery }) }
     {
         self.waiting[self.start + place].delivery = delivery;
     }

@@ -116,12 +116,17 @@ impl Accounts {
         requires some { 0 < sender }
         requires within { sender ≤ length self.old }
         requires room { (account_at self.old sender).next_serial ≤ max_serial }
-        requires unsent { sent_of (account_at self.old sender).sent (account_at self.old sender).next_serial ≡ no_event }
-        ensures ok { OnOk result ((d : Directory) → let c = central_with d self.old in central_with d self.new ≡ record c {
-          serial = upd c.serial sender (c.serial sender + 1);
-          sent = upd2 c.sent sender (c.serial sender) (kept_event stamp
-              (λ f. is_other c.directory.joined sender f && is_some (item_for contents.now f)));
-        }) }
+        requires unsent { sent_of (account_at self.old sender).sent
+            (account_at self.old sender).next_serial ≡ no_event }
+        ensures ok { OnOk result
+            ((d : Directory)
+            → let c = central_with d self.old in central_with d self.new
+            ≡ record c {
+              serial = upd c.serial sender (c.serial sender + 1);
+              sent = upd2 c.sent sender (c.serial sender)
+                  (kept_event stamp
+                  (λ f. is_other c.directory.joined sender f && is_some (item_for contents.now f)));
+            }) }
         ensures err { IfErr result (λ e. e ≡ Fault.OutOfMemory) }
     {
         match stamp {
@@ -148,10 +153,14 @@ impl Accounts {
         requires some { 0 < federate }
         requires free { copy_at (account_at self.old federate).bag event.sender event.serial ≡ None }
         requires used { event.serial < (account_at self.old event.sender).next_serial }
-        ensures ok { OnOk result ((d : Directory) → let c = central_with d self.old in central_with d self.new ≡ record c {
-          bag = at_key c.bag event.sender event.serial federate
-              (when (is_other c.directory.joined event.sender federate) (option_map (copy_given delivery) content));
-        }) }
+        ensures ok { OnOk result
+            ((d : Directory)
+            → let c = central_with d self.old in central_with d self.new
+            ≡ record c {
+              bag = at_key c.bag event.sender event.serial federate
+                  (when (is_other c.directory.joined event.sender federate)
+                  (option_map (copy_given delivery) content));
+            }) }
         ensures err { IfErr result (λ e. e ≡ Fault.OutOfMemory) }
     {
         if event.sender == federate || !self.is_joined(federate) {
@@ -180,9 +189,13 @@ impl Accounts {
         requires few { length contents.items ≤ max_joins }
         requires free { (f : ℕ) → copy_at (account_at self.old f).bag event.sender event.serial ≡ None }
         requires used { event.serial < (account_at self.old event.sender).next_serial }
-        ensures ok { OnOk result ((d : Directory) → let c = central_with d self.old in central_with d self.new ≡ record c {
-          bag = with_copies c.directory.joined c.bag event.sender event.serial (copy_sent delivery contents.items);
-        }) }
+        ensures ok { OnOk result
+            ((d : Directory)
+            → let c = central_with d self.old in central_with d self.new
+            ≡ record c {
+              bag = with_copies c.directory.joined c.bag event.sender event.serial
+                  (copy_sent delivery contents.items);
+            }) }
         ensures err { IfErr result (λ e. e ≡ Fault.OutOfMemory) }
     {
         let mut federate = 1;

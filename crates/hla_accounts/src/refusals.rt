@@ -41,7 +41,8 @@ fn is_bad_name(name: &[u8]) -> bool
 impl Accounts {
     /// Why a federate may not call, announce or tick, if it may not: it is not joined.
     pub fn caller_fault(&self, federate: FederateNo) -> Option<Fault>
-        ensures { (d : Directory) → result ≡ first_fault (joined_test (central_with d self.now).directory federate ∷ []) }
+        ensures { (d : Directory)
+            → result ≡ first_fault (joined_test (central_with d self.now).directory federate ∷ []) }
     {
         if self.is_joined(federate) {
             None
@@ -53,7 +54,8 @@ impl Accounts {
     /// Why nothing may be carried from a federate to another, if it may not: a wire leads to one that is joined, from one
     /// that ever was.
     pub fn carry_fault(&self, from: FederateNo, to: FederateNo) -> Option<Fault>
-        ensures { (d : Directory) → result ≡ refusal (central_seen (central_with d self.now)) (step.Carry from to) }
+        ensures { (d : Directory)
+            → result ≡ refusal (central_seen (central_with d self.now)) (step.Carry from to) }
     {
         if !self.is_joined(to) || from == to || from == 0 || from >= self.next_federate() {
             Some(Fault::FederateNotExecutionMember)
@@ -79,7 +81,8 @@ impl Accounts {
     /// Why no federate may join under a name, if it may not (Join Federation Execution): a joined one has it, or there were
     /// `MAX_JOINS`, or the name is empty or too long.
     pub fn join_fault(&self, name: &[u8]) -> Option<Fault>
-        ensures { (d : Directory) → result ≡ refusal (central_seen (central_with d self.now)) (step.Join name.now) }
+        ensures { (d : Directory)
+            → result ≡ refusal (central_seen (central_with d self.now)) (step.Join name.now) }
     {
         if self.is_named(name) {
             Some(Fault::FederateAlreadyExecutionMember)

@@ -35,8 +35,9 @@ impl Accounts {
 
     /// Why a federate may not retract a message, if it may not (Retract): it is another's, or may be retracted no more.
     pub fn retract_fault(&self, federate: FederateNo, event: EventHandle) -> Option<Fault>
-        ensures { (d : Directory) → result ≡ first_fault (call_tests (central_seen (central_with d self.now)) federate
-            (service.Retract event)) }
+        ensures { (d : Directory)
+            → result ≡ first_fault
+            (call_tests (central_seen (central_with d self.now)) federate (service.Retract event)) }
     {
         if event.sender == federate && self.may_retract(event) {
             None
@@ -66,9 +67,13 @@ impl Accounts {
     /// The retraction of a message is under way to each federate to which it goes. `OutOfMemory` where a growth was
     /// refused; nothing is said of the accounts then.
     pub fn owe(&mut self, event: EventHandle) -> Result<(), Fault>
-        ensures ok { OnOk result ((d : Directory) → let c = central_with d self.old in central_with d self.new ≡ record c {
-          owed = owed_to_receivers c.owed event.sender event.serial (is_told_of self.old event.sender event.serial);
-        }) }
+        ensures ok { OnOk result
+            ((d : Directory)
+            → let c = central_with d self.old in central_with d self.new
+            ≡ record c {
+              owed = owed_to_receivers c.owed event.sender event.serial
+                  (is_told_of self.old event.sender event.serial);
+            }) }
         ensures err { IfErr result (λ e. e ≡ Fault.OutOfMemory) }
     {
         for receiver in 1..self.next_federate() {
@@ -85,8 +90,10 @@ impl Accounts {
         requires some { 0 < event.sender }
         requires within { event.sender ≤ length self.old }
         requires may { (sent_of (account_at self.old event.sender).sent event.serial).retractable ≡ true }
-        ensures ok { OnOk result ((d : Directory) → central_with d self.new ≡ after_retract (central_with d self.old)
-            event.sender event.serial) }
+        ensures ok { OnOk result
+            ((d : Directory)
+            → central_with d self.new
+            ≡ after_retract (central_with d self.old) event.sender event.serial) }
         ensures err { IfErr result (λ e. e ≡ Fault.OutOfMemory) }
     {
         self.owe(event)?;

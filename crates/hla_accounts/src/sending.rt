@@ -59,11 +59,16 @@ impl Accounts {
     pub fn put(&mut self, federate: FederateNo, waiting: Waiting) -> Result<(), Fault>
         requires some { 0 < federate }
         requires within { federate ≤ length self.old }
-        requires free { waiting_at (account_at self.old federate).bag waiting.event.sender waiting.event.serial ≡ None }
+        requires free { waiting_at
+            (account_at self.old federate).bag waiting.event.sender waiting.event.serial ≡ None }
         requires used { waiting.event.serial < (account_at self.old waiting.event.sender).next_serial }
-        ensures ok { OnOk result ((d : Directory) → let c = central_with d self.old in central_with d self.new ≡ record c {
-          bag = at_key c.bag waiting.event.sender waiting.event.serial federate (Some (copy_of waiting));
-        }) }
+        ensures ok { OnOk result
+            ((d : Directory)
+            → let c = central_with d self.old in central_with d self.new
+            ≡ record c {
+              bag = at_key c.bag waiting.event.sender waiting.event.serial federate
+                  (Some (copy_of waiting));
+            }) }
         ensures err { IfErr result (λ e. e ≡ Fault.OutOfMemory) }
     {
         self.accounts[federate as usize - 1].bag.put(waiting)

@@ -72,8 +72,9 @@ fn are_not_earlier(event: EventHandle, waiting: &[Waiting]) -> bool
 
 /// Whether an index has no earlier message of the same sender in receive order.
 fn is_first_indexed_ro(indexing: &Indexing, event: EventHandle) -> bool
-    ensures { (ws : List Waiting) → IsIndexingOf ws indexing.now → result ≡ list_all (is_not_earlier event.sender event.serial) (take
-        indexing.now.count ws) }
+    ensures { (ws : List Waiting) → IsIndexingOf ws indexing.now
+        → result ≡ list_all (is_not_earlier event.sender event.serial)
+        (take indexing.now.count ws) }
 {
     match &indexing.index {
         Some(index) => index.received_before(event).next().is_none(),
@@ -188,8 +189,9 @@ impl Accounts {
 
     /// Whether none of what an index has with this stamp, in ticks, and was not retracted has a key below that of an event.
     fn is_first_indexed_key(&self, indexing: &Indexing, event: EventHandle, stamp: Ticks) -> bool
-        ensures { (ws : List Waiting) → IsIndexingOf ws indexing.now → result ≡ list_all (is_not_before self.now event.sender event.serial
-            stamp) (take indexing.now.count ws) }
+        ensures { (ws : List Waiting) → IsIndexingOf ws indexing.now
+            → result ≡ list_all (is_not_before self.now event.sender event.serial stamp)
+            (take indexing.now.count ws) }
     {
         match &indexing.index {
             Some(index) => index

@@ -75,7 +75,8 @@ pub trait FederateAmbassador: Drop {
         delivery: Delivery,
     ) -> Result<(), FederateFault>
         requires { room self.old ≡ true }
-        ensures { heard self.new ≡ heard self.old ++ callback.RemoveObjectInstance object event delivery ∷ [] };
+        ensures { heard self.new
+            ≡ heard self.old ++ callback.RemoveObjectInstance object event delivery ∷ [] };
 
     /// Time Regulation Enabled (HLA 1.3, time management): the federate regulates, with this time, in ticks, from now on.
     /// `FederateFault` where it fails in it.

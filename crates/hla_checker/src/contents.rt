@@ -36,7 +36,8 @@ pub(crate) struct ServiceMessage {
 
 /// How many of these values come before the first whose attribute is not among those that a federate subscribes.
 fn count_subscribed(subscribed: &[AttributeNo], values: &[HandleValuePair]) -> usize
-    ensures { result ≡ prefix_len (λ (v : HandleValuePair). contains_number v.handle subscribed.now) values.now }
+    ensures { result
+        ≡ prefix_len (λ (v : HandleValuePair). contains_number v.handle subscribed.now) values.now }
 {
     values
         .iter()
@@ -66,8 +67,9 @@ fn add_subscribed(
     subscribed: &[AttributeNo],
     values: &[HandleValuePair],
 ) -> Result<(), Fault>
-    ensures ok { OnOk result (shown.new ≡ shown.old ++ filter (λ (v : HandleValuePair). contains_number v.handle
-        subscribed.now) values.now) }
+    ensures ok { OnOk result
+        (shown.new ≡ shown.old
+        ++ filter (λ (v : HandleValuePair). contains_number v.handle subscribed.now) values.now) }
     ensures err { IfErr result (λ e. e ≡ Fault.OutOfMemory) }
 {
     for value in values {
@@ -86,7 +88,8 @@ fn cut_to_subscribed(
     values: &[HandleValuePair],
     first: usize,
 ) -> Result<SharedList<HandleValuePair>, Fault>
-    requires count { first ≡ prefix_len (λ (v : HandleValuePair). contains_number v.handle subscribed.now) values.now }
+    requires count { first
+        ≡ prefix_len (λ (v : HandleValuePair). contains_number v.handle subscribed.now) values.now }
     requires within { first < length values.now }
     ensures ok { IfOk result (λ shown. shown ≡ filter (λ (v : HandleValuePair). contains_number v.handle
         subscribed.now) values.now) }
@@ -101,8 +104,9 @@ fn cut_to_subscribed(
 impl KeptExecution {
     /// How many of these values come before the first whose parameter a class does not have.
     fn count_parameters(&self, class: ClassNo, values: &[HandleValuePair]) -> usize
-        ensures { result ≡ prefix_len (λ (v : HandleValuePair). has_parameter self.now.catalogue class v.handle)
-            values.now }
+        ensures { result
+            ≡ prefix_len
+            (λ (v : HandleValuePair). has_parameter self.now.catalogue class v.handle) values.now }
     {
         values
             .iter()
@@ -137,8 +141,9 @@ impl KeptExecution {
         values: &[HandleValuePair],
         count: usize,
     ) -> Result<SharedList<HandleValuePair>, Fault>
-        requires count { count ≡ prefix_len (λ (v : HandleValuePair). has_parameter self.now.catalogue class v.handle)
-            values.now }
+        requires count { count
+            ≡ prefix_len
+            (λ (v : HandleValuePair). has_parameter self.now.catalogue class v.handle) values.now }
         requires within { count < length values.now }
         ensures ok { IfOk result (λ shown. shown ≡ filter
             (λ (v : HandleValuePair). has_parameter self.now.catalogue class v.handle) values.now) }
@@ -197,8 +202,9 @@ impl KeptExecution {
         class: ClassNo,
         values: &mut Values,
     ) -> Result<Option<Content>, Fault>
-        ensures ok { IfOk result (λ x. x ≡ content_for (directory_of self.now) (AnInteraction class values.old)
-            federate) }
+        ensures ok { IfOk result
+            (λ x. x ≡ content_for (directory_of self.now)
+            (AnInteraction class values.old) federate) }
         ensures kept { OnOk result (values.new ≡ values.old) }
         ensures err { IfErr result (λ e. e ≡ Fault.OutOfMemory) }
     {
@@ -256,7 +262,8 @@ impl KeptExecution {
 
     /// What a message says to a federate, if anything. `OutOfMemory` where a growth was refused.
     fn content_for(&self, body: &mut Body, federate: FederateNo) -> Result<Option<Content>, Fault>
-        ensures ok { IfOk result (λ x. x ≡ content_for (directory_of self.now) (body_said body.old) federate) }
+        ensures ok { IfOk result
+            (λ x. x ≡ content_for (directory_of self.now) (body_said body.old) federate) }
         ensures kept { OnOk result (body_said body.new ≡ body_said body.old) }
         ensures err { IfErr result (λ e. e ≡ Fault.OutOfMemory) }
     {

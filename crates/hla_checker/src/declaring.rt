@@ -94,7 +94,8 @@ fn declare(declarations: &mut Declarations, federate: FederateNo, declaration: C
     requires some { 0 < federate }
     requires joined { federate ≤ (declarations_of declarations.old).federates }
     requires defined { IsOfClass (declarations_of declarations.old) declaration }
-    ensures { declarations_of declarations.new ≡ with_declaration (declarations_of declarations.old) federate declaration }
+    ensures { declarations_of declarations.new
+        ≡ with_declaration (declarations_of declarations.old) federate declaration }
 {
     match declaration {
         ClassDeclaration::UnpublishObject { class } => {
@@ -132,7 +133,8 @@ impl KeptExecution {
         requires consistent { IsConsistent self.old }
         requires joined { (account_at self.old.accounts federate).is_joined ≡ true }
         requires declaration { declaration_of service.now ≡ Some declaration }
-        ensures { JudgedStep self.old (steps.Call federate service.now) outcome.now choice.now self.new result }
+        ensures { JudgedStep self.old
+            (steps.Call federate service.now) outcome.now choice.now self.new result }
     {
         let fault = self.declaration_fault(federate, declaration);
         match verdict_unless_done(fault, outcome, choice) {
@@ -156,8 +158,10 @@ impl KeptExecution {
     ) -> Result<Verdict, Fault>
         requires consistent { IsConsistent self.old }
         requires joined { (account_at self.old.accounts federate).is_joined ≡ true }
-        ensures ok { IfOk result (JudgedStep self.old (steps.Call federate (services.PublishObjectClass class attributes.now))
-            outcome.now choice.now self.new) }
+        ensures ok { IfOk result
+            (JudgedStep self.old
+            (steps.Call federate
+            (services.PublishObjectClass class attributes.now)) outcome.now choice.now self.new) }
         ensures err { IfErr result (λ e. e ≡ Fault.OutOfMemory) }
     {
         let fault = self.attributes_fault(class, attributes.as_slice());

@@ -53,7 +53,8 @@ impl KeptExecution {
         requires joined { (account_at self.old.accounts federate).is_joined ≡ true }
         requires room { (account_at self.old.accounts federate).next_serial ≤ max_serial }
         requires exists { ((registry_of self.old.objects).object object).exists ≡ true }
-        ensures deleted { OnOk result (central_of self.new ≡ after_delete (central_of self.old) federate object stamp) }
+        ensures deleted { OnOk result
+            (central_of self.new ≡ after_delete (central_of self.old) federate object stamp) }
         ensures consistent { OnOk result (IsConsistent self.new) }
         ensures err { IfErr result (λ e. e ≡ Fault.OutOfMemory) }
     {

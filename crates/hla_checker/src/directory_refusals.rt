@@ -49,7 +49,10 @@ impl KeptExecution {
 
     /// Why an object class may not be withdrawn, by whether it is declared and the fault where it is not.
     fn object_class_fault(&self, class: ClassNo, is_declared: bool, fault: Fault) -> Option<Fault>
-        ensures { result ≡ first_fault (no_object_class (directory_of self.now) class ∷ test_for fault (not is_declared) ∷ []) }
+        ensures { result
+            ≡ first_fault
+            (no_object_class (directory_of self.now) class ∷ test_for fault (not is_declared)
+            ∷ []) }
     {
         if !self.catalogue.is_object_class(class) {
             return Some(Fault::ObjectClassNotDefined);
@@ -75,7 +78,10 @@ impl KeptExecution {
         is_declared: bool,
         fault: Fault,
     ) -> Option<Fault>
-        ensures { result ≡ first_fault (no_interaction_class (directory_of self.now) class ∷ test_for fault (not is_declared) ∷ []) }
+        ensures { result
+            ≡ first_fault
+            (no_interaction_class (directory_of self.now) class ∷ test_for fault (not is_declared)
+            ∷ []) }
     {
         if !self.catalogue.is_interaction_class(class) {
             return Some(Fault::InteractionClassNotDefined);

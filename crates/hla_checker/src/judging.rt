@@ -32,8 +32,10 @@ fn judge_moving_call(
 ) -> Result<Verdict, Fault>
     requires joined { (account_at accounts.old federate).is_joined ≡ true }
     requires moving { IsMovingCall service.now }
-    ensures ok { IfOk result (λ v. (d : Directory) → JudgedWith d accounts.old (steps.Call federate service.now) outcome.now
-        choice.now accounts.new v) }
+    ensures ok { IfOk result
+        (λ v. (d : Directory)
+        → JudgedWith d accounts.old
+        (steps.Call federate service.now) outcome.now choice.now accounts.new v) }
     ensures err { IfErr result (λ e. e ≡ Fault.OutOfMemory) }
     ensures size { IfOk result (λ _. length accounts.new ≡ length accounts.old) }
 {
@@ -65,7 +67,8 @@ impl KeptExecution {
         requires consistent { IsConsistent self.now }
         requires joined { (account_at self.now.accounts federate).is_joined ≡ true }
         requires look_up { IsLookUpCall service.now }
-        ensures { JudgedStep self.now (steps.Call federate service.now) outcome.now choice.now self.now result }
+        ensures { JudgedStep self.now
+            (steps.Call federate service.now) outcome.now choice.now self.now result }
     {
         match service {
             Service::GetObjectClassHandle { name } => {
@@ -104,7 +107,9 @@ impl KeptExecution {
         requires consistent { IsConsistent self.old }
         requires joined { (account_at self.old.accounts federate).is_joined ≡ true }
         requires other { IsOtherCall service.now }
-        ensures ok { IfOk result (JudgedStep self.old (steps.Call federate service.now) outcome.now choice.now self.new) }
+        ensures ok { IfOk result
+            (JudgedStep self.old
+            (steps.Call federate service.now) outcome.now choice.now self.new) }
         ensures err { IfErr result (λ e. e ≡ Fault.OutOfMemory) }
     {
         match service {
@@ -153,7 +158,9 @@ impl KeptExecution {
     ) -> Result<Verdict, Fault>
         requires consistent { IsConsistent self.old }
         requires joined { (account_at self.old.accounts federate).is_joined ≡ true }
-        ensures ok { IfOk result (JudgedStep self.old (steps.Call federate service.now) outcome.now choice.now self.new) }
+        ensures ok { IfOk result
+            (JudgedStep self.old
+            (steps.Call federate service.now) outcome.now choice.now self.new) }
         ensures err { IfErr result (λ e. e ≡ Fault.OutOfMemory) }
     {
         if let Some(change) = row_change_of(service) {
@@ -185,7 +192,9 @@ impl KeptExecution {
         choice: &Choice,
     ) -> Result<Verdict, Fault>
         requires { IsConsistent self.old }
-        ensures ok { IfOk result (JudgedStep self.old (steps.Call federate service.now) outcome.now choice.now self.new) }
+        ensures ok { IfOk result
+            (JudgedStep self.old
+            (steps.Call federate service.now) outcome.now choice.now self.new) }
         ensures err { IfErr result (λ e. e ≡ Fault.OutOfMemory) }
     {
         if !self.accounts.is_joined(federate) {

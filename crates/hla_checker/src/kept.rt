@@ -36,7 +36,9 @@ impl Model for KeptExecution {
 
 /// Whether any federate is joined.
 fn is_any_joined(accounts: &Accounts) -> bool
-    ensures { result ≡ list_any (λ f. (account_at accounts.now f).is_joined) (numbers_below (length accounts.now + 1)) }
+    ensures { result
+        ≡ list_any (λ f. (account_at accounts.now f).is_joined)
+        (numbers_below (length accounts.now + 1)) }
 {
     for federate in 0..accounts.next_federate() {
         if accounts.is_joined(federate) {

@@ -38,7 +38,8 @@ fn judge_number(
     outcome: &Outcome,
     choice: &Choice,
 ) -> Verdict
-    ensures { (c : Central) (f : ℕ) (x : Service) → TestsLookUp c f x (IsHandleIn found) → ToldOf fault outcome.now choice.now result c f x }
+    ensures { (c : Central) (f : ℕ) (x : Service) → TestsLookUp c f x (IsHandleIn found)
+        → ToldOf fault outcome.now choice.now result c f x }
 {
     match answer_to_test(fault, outcome, choice) {
         Err(verdict) => verdict,
@@ -49,7 +50,8 @@ fn judge_number(
 impl KeptExecution {
     /// Why the name of an attribute is not looked up, by what was found.
     fn attribute_name_fault(&self, class: ClassNo, found: Option<u32>) -> Option<Fault>
-        ensures { result ≡ first_fault (no_object_class (directory_of self.now) class ∷ not_found found ∷ []) }
+        ensures { result
+            ≡ first_fault (no_object_class (directory_of self.now) class ∷ not_found found ∷ []) }
     {
         if self.catalogue.is_object_class(class) {
             unfound_fault(found)
@@ -60,7 +62,9 @@ impl KeptExecution {
 
     /// Why the name of a parameter is not looked up, by what was found.
     fn parameter_name_fault(&self, class: ClassNo, found: Option<u32>) -> Option<Fault>
-        ensures { result ≡ first_fault (no_interaction_class (directory_of self.now) class ∷ not_found found ∷ []) }
+        ensures { result
+            ≡ first_fault
+            (no_interaction_class (directory_of self.now) class ∷ not_found found ∷ []) }
     {
         if self.catalogue.is_interaction_class(class) {
             unfound_fault(found)
@@ -71,7 +75,10 @@ impl KeptExecution {
 
     /// Why the number of an object is not looked up by its name.
     fn object_named_fault(&self, federate: FederateNo, name: &[u8]) -> Option<Fault>
-        ensures { result ≡ first_fault (call_tests (central_seen (central_of self.now)) federate (services.GetObjectInstanceHandle name.now)) }
+        ensures { result
+            ≡ first_fault
+            (call_tests (central_seen (central_of self.now)) federate
+            (services.GetObjectInstanceHandle name.now)) }
     {
         match self.registry.object_named(federate, name) {
             Some(_) => None,
@@ -81,7 +88,10 @@ impl KeptExecution {
 
     /// Why the name of an object is not looked up by its number.
     fn object_name_fault(&self, federate: FederateNo, object: ObjectNo) -> Option<Fault>
-        ensures { result ≡ first_fault (call_tests (central_seen (central_of self.now)) federate (services.GetObjectInstanceName object)) }
+        ensures { result
+            ≡ first_fault
+            (call_tests (central_seen (central_of self.now)) federate
+            (services.GetObjectInstanceName object)) }
     {
         if self.registry.is_known(object, federate) {
             None
@@ -92,7 +102,9 @@ impl KeptExecution {
 
     /// Whether an answer is the number of an object of this name that a federate knows.
     fn is_object_number(&self, federate: FederateNo, name: &[u8], answer: &Answer) -> bool
-        ensures { Decides result (MayAnswer (central_of self.now) federate (services.GetObjectInstanceHandle name.now) answer.now choices.None) }
+        ensures { Decides result
+            (MayAnswer (central_of self.now) federate
+            (services.GetObjectInstanceHandle name.now) answer.now choices.None) }
     {
         match found_handle_in(answer) {
             Some(object) => {
@@ -112,8 +124,9 @@ impl KeptExecution {
     ) -> Verdict
         requires consistent { IsConsistent self.now }
         requires joined { (account_at self.now.accounts federate).is_joined ≡ true }
-        ensures { JudgedStep self.now (steps.Call federate (services.GetObjectClassHandle name.now)) outcome.now
-            choice.now self.now result }
+        ensures { JudgedStep self.now
+            (steps.Call federate
+            (services.GetObjectClassHandle name.now)) outcome.now choice.now self.now result }
     {
         let found = self.catalogue.object_class(name.as_slice());
         judge_number(unfound_fault(found), found, outcome, choice)
@@ -129,8 +142,9 @@ impl KeptExecution {
     ) -> Verdict
         requires consistent { IsConsistent self.now }
         requires joined { (account_at self.now.accounts federate).is_joined ≡ true }
-        ensures { JudgedStep self.now (steps.Call federate (services.GetInteractionClassHandle name.now)) outcome.now
-            choice.now self.now result }
+        ensures { JudgedStep self.now
+            (steps.Call federate
+            (services.GetInteractionClassHandle name.now)) outcome.now choice.now self.now result }
     {
         let found = self.catalogue.interaction_class(name.as_slice());
         judge_number(unfound_fault(found), found, outcome, choice)
@@ -147,8 +161,9 @@ impl KeptExecution {
     ) -> Verdict
         requires consistent { IsConsistent self.now }
         requires joined { (account_at self.now.accounts federate).is_joined ≡ true }
-        ensures { JudgedStep self.now (steps.Call federate (services.GetAttributeHandle name.now class)) outcome.now
-            choice.now self.now result }
+        ensures { JudgedStep self.now
+            (steps.Call federate
+            (services.GetAttributeHandle name.now class)) outcome.now choice.now self.now result }
     {
         let found = self.catalogue.attribute(class, name.as_slice());
         judge_number(
@@ -170,8 +185,9 @@ impl KeptExecution {
     ) -> Verdict
         requires consistent { IsConsistent self.now }
         requires joined { (account_at self.now.accounts federate).is_joined ≡ true }
-        ensures { JudgedStep self.now (steps.Call federate (services.GetParameterHandle name.now class)) outcome.now
-            choice.now self.now result }
+        ensures { JudgedStep self.now
+            (steps.Call federate
+            (services.GetParameterHandle name.now class)) outcome.now choice.now self.now result }
     {
         let found = self.catalogue.parameter(class, name.as_slice());
         judge_number(
@@ -192,8 +208,9 @@ impl KeptExecution {
     ) -> Verdict
         requires consistent { IsConsistent self.now }
         requires joined { (account_at self.now.accounts federate).is_joined ≡ true }
-        ensures { JudgedStep self.now (steps.Call federate (services.GetObjectInstanceHandle name.now)) outcome.now
-            choice.now self.now result }
+        ensures { JudgedStep self.now
+            (steps.Call federate
+            (services.GetObjectInstanceHandle name.now)) outcome.now choice.now self.now result }
     {
         let fault = self.object_named_fault(federate, name.as_slice());
         match answer_to_test(fault, outcome, choice) {
@@ -212,8 +229,9 @@ impl KeptExecution {
     ) -> Verdict
         requires consistent { IsConsistent self.now }
         requires joined { (account_at self.now.accounts federate).is_joined ≡ true }
-        ensures { JudgedStep self.now (steps.Call federate (services.GetObjectInstanceName object)) outcome.now
-            choice.now self.now result }
+        ensures { JudgedStep self.now
+            (steps.Call federate
+            (services.GetObjectInstanceName object)) outcome.now choice.now self.now result }
     {
         let fault = self.object_name_fault(federate, object);
         match answer_to_test(fault, outcome, choice) {

@@ -39,8 +39,11 @@ fn discovery_class(
     federate: FederateNo,
     object: ObjectNo,
 ) -> Option<ClassNo>
-    ensures { result ≡ option_map (λ (d : Discovery). d.class)
-        (discovery_of (directory_kept catalogue.now (declarations_of declarations.now) (registry_of registry.now)) federate object) }
+    ensures { result
+        ≡ option_map (λ (d : Discovery). d.class)
+        (discovery_of
+        (directory_kept catalogue.now (declarations_of declarations.now)
+        (registry_of registry.now)) federate object) }
 {
     if !registry.has_object(object)
         || registry.owner(object) == federate
@@ -60,8 +63,10 @@ fn wanted_class(
     federate: FederateNo,
     object: ObjectNo,
 ) -> Option<ClassNo>
-    ensures { result ≡ option_map (λ (d : Discovery). d.class)
-        (wanted_of (directory_kept catalogue.now (declarations_of declarations.now) (registry_of registry.now)) of federate object) }
+    ensures { result
+        ≡ option_map (λ (d : Discovery). d.class)
+        (wanted_of (directory_kept catalogue.now (declarations_of declarations.now)
+        (registry_of registry.now)) of federate object) }
 {
     if is_wanted(of, registry.owner(object)) {
         discovery_class(catalogue, declarations, registry, federate, object)
@@ -80,8 +85,12 @@ pub(crate) fn offers_to(
     of: Option<FederateNo>,
     federate: FederateNo,
 ) -> Result<Vec<Offer>, Fault>
-    ensures ok { IfOk result (λ offers. (g : ℕ) → offers_from g offers.items ≡
-        wanted_discoveries (directory_kept catalogue.now (declarations_of declarations.now) (registry_of registry.now)) of g federate) }
+    ensures ok { IfOk result
+        (λ offers. (g : ℕ)
+        → offers_from g offers.items
+        ≡ wanted_discoveries
+        (directory_kept catalogue.now (declarations_of declarations.now)
+        (registry_of registry.now)) of g federate) }
     ensures err { IfErr result (λ e. e ≡ Fault.OutOfMemory) }
 {
     let mut offers = Vec::new(alloc);
@@ -112,9 +121,13 @@ pub(crate) fn make_found_known(
 )
     requires some { 0 < federate }
     requires within { federate ≤ max_joins }
-    ensures { registry_of registry.new ≡ record (registry_of registry.old) {
-      known = (with_discoveries_made (directory_kept catalogue.now (declarations_of declarations.now) (registry_of registry.old)) federate).known;
-    } }
+    ensures { registry_of registry.new
+        ≡ record (registry_of registry.old) {
+          known =
+              (with_discoveries_made
+              (directory_kept catalogue.now (declarations_of declarations.now)
+              (registry_of registry.old)) federate).known;
+        } }
 {
     let end = registry.next_object();
     for object in 1..end {
@@ -133,8 +146,11 @@ fn is_to_discover(
     federate: FederateNo,
     object: ObjectNo,
 ) -> bool
-    ensures { result ≡ (account_at accounts.now federate).is_joined && is_some
-        (discovery_of (directory_kept catalogue.now (declarations_of declarations.now) (registry_of registry.now)) federate object) }
+    ensures { result
+        ≡ (account_at accounts.now federate).is_joined
+        && is_some (discovery_of
+        (directory_kept catalogue.now (declarations_of declarations.now)
+        (registry_of registry.now)) federate object) }
 {
     accounts.is_joined(federate)
         && discovery_class(catalogue, declarations, registry, federate, object).is_some()
@@ -150,10 +166,12 @@ pub(crate) fn make_new_known(
 )
     requires some { 0 < object }
     requires registered { object < (registry_of registry.old).next_object }
-    ensures { registry_of registry.new ≡ record (registry_of registry.old) {
-      known = known_to_joined (directory_kept catalogue.now (declarations_of declarations.now) (registry_of registry.old))
-          (λ f. (account_at accounts.now f).is_joined) object;
-    } }
+    ensures { registry_of registry.new
+        ≡ record (registry_of registry.old) {
+          known = known_to_joined
+              (directory_kept catalogue.now (declarations_of declarations.now) (registry_of registry.old))
+              (λ f. (account_at accounts.now f).is_joined) object;
+        } }
 {
     let end = accounts.next_federate();
     for federate in 1..end {
@@ -183,10 +201,17 @@ fn offer_new_to(
 ) -> Result<(), Fault>
     requires some { 0 < federate }
     requires within { federate ≤ length accounts.old }
-    ensures ok { OnOk result ((d : Directory) → let c = central_with d accounts.old in central_with d accounts.new ≡ record c {
-      discoveries = upd2 c.discoveries owner federate (c.discoveries owner federate ++ cond (is_other c.directory.joined owner federate)
-          (discoveries_of (directory_kept catalogue.now (declarations_of declarations.now) (registry_of registry.now)) owner federate) []);
-    }) }
+    ensures ok { OnOk result
+        ((d : Directory)
+        → let c = central_with d accounts.old in central_with d accounts.new
+        ≡ record c {
+          discoveries = upd2 c.discoveries owner federate
+              (c.discoveries owner federate
+              ++ cond (is_other c.directory.joined owner federate)
+              (discoveries_of
+              (directory_kept catalogue.now (declarations_of declarations.now)
+              (registry_of registry.now)) owner federate) []);
+        }) }
     ensures err { IfErr result (λ e. e ≡ Fault.OutOfMemory) }
 {
     if owner == federate || !accounts.is_joined(federate) {
@@ -213,10 +238,16 @@ pub(crate) fn offer_new(
     registry: &Registry,
     owner: FederateNo,
 ) -> Result<(), Fault>
-    ensures ok { OnOk result ((d : Directory) → let c = central_with d accounts.old in central_with d accounts.new ≡ record c {
-      discoveries = upd_row c.discoveries c.directory.joined owner (λ f discoveries. discoveries ++
-          discoveries_of (directory_kept catalogue.now (declarations_of declarations.now) (registry_of registry.now)) owner f);
-    }) }
+    ensures ok { OnOk result
+        ((d : Directory)
+        → let c = central_with d accounts.old in central_with d accounts.new
+        ≡ record c {
+          discoveries = upd_row c.discoveries c.directory.joined owner
+              (λ f discoveries. discoveries
+              ++ discoveries_of
+              (directory_kept catalogue.now (declarations_of declarations.now)
+              (registry_of registry.now)) owner f);
+        }) }
     ensures err { IfErr result (λ e. e ≡ Fault.OutOfMemory) }
 {
     let end = accounts.next_federate();

@@ -39,7 +39,9 @@ fn published_copy(
     federate: FederateNo,
     class: ClassNo,
 ) -> Result<List<AttributeNo>, Fault>
-    ensures ok { IfOk result (λ xs. xs ≡ option_map_or (λ ys. ys) ((declarations_of declarations.now).published federate class) []) }
+    ensures ok { IfOk result
+        (λ xs. xs ≡ option_map_or (λ ys. ys)
+        ((declarations_of declarations.now).published federate class) []) }
     ensures err { IfErr result (λ e. e ≡ Fault.OutOfMemory) }
 {
     let published = declarations.published_attributes(federate, class);
@@ -81,7 +83,8 @@ impl KeptExecution {
         requires within { federate ≤ length self.old.accounts }
         requires few { (registry_of self.old.objects).next_object ≤ max_objects }
         requires unused { is_name_used_in (registry_of self.old.objects) name ≡ false }
-        ensures registered { OnOk result (central_of self.new ≡ after_register (central_of self.old) federate class name) }
+        ensures registered { OnOk result
+            (central_of self.new ≡ after_register (central_of self.old) federate class name) }
         ensures consistent { OnOk result (IsConsistent self.new) }
         ensures err { IfErr result (λ e. e ≡ Fault.OutOfMemory) }
     {
@@ -119,8 +122,10 @@ impl KeptExecution {
     ) -> Result<Verdict, Fault>
         requires consistent { IsConsistent self.old }
         requires joined { (account_at self.old.accounts federate).is_joined ≡ true }
-        ensures ok { IfOk result (JudgedStep self.old (steps.Call federate (services.RegisterObjectInstance class name.now))
-            outcome.now choice.now self.new) }
+        ensures ok { IfOk result
+            (JudgedStep self.old
+            (steps.Call federate
+            (services.RegisterObjectInstance class name.now)) outcome.now choice.now self.new) }
         ensures err { IfErr result (λ e. e ≡ Fault.OutOfMemory) }
     {
         let object = self.registry.next_object();

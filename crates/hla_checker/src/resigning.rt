@@ -59,7 +59,10 @@ impl KeptExecution {
         requires joined { (account_at self.old.accounts federate).is_joined ≡ true }
         requires room { (k : ℕ) → k < length (objects_of (directory_of self.old) federate) →
             (account_at self.old.accounts federate).next_serial + k ≤ max_serial }
-        ensures resigned { OnOk result (central_of self.new ≡ after_leaving (after_messages (central_of self.old) federate None
+        ensures resigned { OnOk result
+            (central_of self.new
+            ≡ after_leaving
+            (after_messages (central_of self.old) federate None
             (deletions_sent (objects_of (directory_of self.old) federate))) federate) }
         ensures consistent { OnOk result (IsConsistent self.new) }
         ensures err { IfErr result (λ e. e ≡ Fault.OutOfMemory) }
@@ -81,8 +84,9 @@ impl KeptExecution {
     ) -> Result<Verdict, Fault>
         requires consistent { IsConsistent self.old }
         requires joined { (account_at self.old.accounts federate).is_joined ≡ true }
-        ensures ok { IfOk result (JudgedStep self.old (steps.Call federate (services.Resign action)) outcome.now
-            choice.now self.new) }
+        ensures ok { IfOk result
+            (JudgedStep self.old
+            (steps.Call federate (services.Resign action)) outcome.now choice.now self.new) }
         ensures err { IfErr result (λ e. e ≡ Fault.OutOfMemory) }
     {
         let fault = self.resign_fault(federate, action);

@@ -30,8 +30,9 @@ impl KeptExecution {
         requires within { federate ≤ length self.old.accounts }
         requires numbered { 0 < class }
         requires defined { class ≤ (declarations_of self.old.declarations).object_classes }
-        ensures subscribed { OnOk result (central_of self.new ≡ after_subscribe (central_of self.old) federate class
-            (Some attributes)) }
+        ensures subscribed { OnOk result
+            (central_of self.new
+            ≡ after_subscribe (central_of self.old) federate class (Some attributes)) }
         ensures consistent { OnOk result (IsConsistent self.new) }
         ensures err { IfErr result (λ e. e ≡ Fault.OutOfMemory) }
     {

@@ -59,7 +59,8 @@ fn creation_refusal(is_there: bool, is_read: bool, creates: u32, present: u32) -
 
 /// Takes the executions of a name out.
 fn remove_named(executions: &mut Vec<NamedExecution>, name: &SharedList<u8>)
-    ensures { executions.new.items ≡ filter (λ (x : NamedExecution). not (bytes_eq name.now x.name)) executions.old.items }
+    ensures { executions.new.items
+        ≡ filter (λ (x : NamedExecution). not (bytes_eq name.now x.name)) executions.old.items }
 {
     executions.retain(|x| !(name.as_slice() == x.name.as_slice()));
 }
@@ -90,7 +91,9 @@ impl ExecutionTable {
         requires free { create_fault (executions_of self.old) name.now (Some catalogue.now) ≡ None }
         requires consistent { AreConsistent self.old.executions.items }
         ensures consistent { OnOk result (AreConsistent self.new.executions.items) }
-        ensures ok { OnOk result (executions_of self.new ≡ after_create (executions_of self.old) name.now (Some catalogue.now)) }
+        ensures ok { OnOk result
+            (executions_of self.new
+            ≡ after_create (executions_of self.old) name.now (Some catalogue.now)) }
         ensures err { IfErr result (λ e. e ≡ Fault.OutOfMemory) }
     {
         let alloc = *self.executions.allocator();

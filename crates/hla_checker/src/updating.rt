@@ -49,8 +49,10 @@ impl KeptExecution {
     /// The values of the attributes whose updates go in receive order, and the others, each moved into its part. `OutOfMemory`
     /// where a growth was refused.
     fn split(&self, values: List<HandleValuePair>) -> Result<Parts, Fault>
-        ensures received { IfOk result (λ p. p.received ≡ values_of_order (directory_of self.now) Order.Receive values) }
-        ensures stamped { IfOk result (λ p. p.stamped ≡ values_of_order (directory_of self.now) Order.Timestamp values) }
+        ensures received { IfOk result
+            (λ p. p.received ≡ values_of_order (directory_of self.now) Order.Receive values) }
+        ensures stamped { IfOk result
+            (λ p. p.stamped ≡ values_of_order (directory_of self.now) Order.Timestamp values) }
         ensures err { IfErr result (λ e. e ≡ Fault.OutOfMemory) }
     {
         let count = self.count_received(values.as_slice());
@@ -67,8 +69,10 @@ impl KeptExecution {
 
     /// The parts of an update: those that are given, where all have one order. `OutOfMemory` where a growth was refused.
     fn parts_of(&self, values: List<HandleValuePair>) -> Result<Parts, Fault>
-        ensures received { IfOk result (λ p. p.received ≡ values_of_order (directory_of self.now) Order.Receive values) }
-        ensures stamped { IfOk result (λ p. p.stamped ≡ values_of_order (directory_of self.now) Order.Timestamp values) }
+        ensures received { IfOk result
+            (λ p. p.received ≡ values_of_order (directory_of self.now) Order.Receive values) }
+        ensures stamped { IfOk result
+            (λ p. p.stamped ≡ values_of_order (directory_of self.now) Order.Timestamp values) }
         ensures err { IfErr result (λ e. e ≡ Fault.OutOfMemory) }
     {
         if self.has_only(Order::Receive, values.as_slice()) {

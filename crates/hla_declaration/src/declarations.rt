@@ -183,9 +183,11 @@ impl Declarations {
         requires joined { federate ≤ (declarations_of self.old).federates }
         requires numbered { 0 < class }
         requires defined { class ≤ (declarations_of self.old).interaction_classes }
-        ensures { declarations_of self.new ≡ record (declarations_of self.old) {
-          published_interaction = upd2 (declarations_of self.old).published_interaction federate class publishes;
-        } }
+        ensures { declarations_of self.new
+            ≡ record (declarations_of self.old) {
+              published_interaction = upd2
+                  (declarations_of self.old).published_interaction federate class publishes;
+            } }
     {
         self.members[federate as usize - 1]
             .published_interactions
@@ -198,9 +200,11 @@ impl Declarations {
         requires joined { federate ≤ (declarations_of self.old).federates }
         requires numbered { 0 < class }
         requires defined { class ≤ (declarations_of self.old).interaction_classes }
-        ensures { declarations_of self.new ≡ record (declarations_of self.old) {
-          subscribed_interaction = upd2 (declarations_of self.old).subscribed_interaction federate class subscribes;
-        } }
+        ensures { declarations_of self.new
+            ≡ record (declarations_of self.old) {
+              subscribed_interaction = upd2
+                  (declarations_of self.old).subscribed_interaction federate class subscribes;
+            } }
     {
         self.members[federate as usize - 1]
             .subscribed_interactions
@@ -317,9 +321,11 @@ impl Declarations {
         requires joined { federate ≤ (declarations_of self.old).federates }
         requires numbered { 0 < class }
         requires defined { class ≤ (declarations_of self.old).interaction_classes }
-        ensures { declarations_of self.new ≡ record (declarations_of self.old) {
-          subscribed_interaction = upd2 (declarations_of self.old).subscribed_interaction federate class false;
-        } }
+        ensures { declarations_of self.new
+            ≡ record (declarations_of self.old) {
+              subscribed_interaction = upd2
+                  (declarations_of self.old).subscribed_interaction federate class false;
+            } }
     {
         self.set_subscribed_interaction(federate, class, false);
     }

@@ -22,7 +22,8 @@ fn has_federate(set: u32, federate: FederateNo) -> bool
 /// A set with a federate or without it, and with the others as before.
 fn with_federate(set: u32, federate: FederateNo, is_in: bool) -> u32
     requires { federate ≤ max_joins }
-    ensures { (f : ℕ) → f ≤ max_joins → has_federate result f ≡ cond (eqb federate f) is_in (has_federate set f) }
+    ensures { (f : ℕ) → f ≤ max_joins
+        → has_federate result f ≡ cond (eqb federate f) is_in (has_federate set f) }
 {
     if is_in {
         set | (1 << federate)
@@ -84,7 +85,8 @@ impl SubscriberSets {
 
     /// The federates that subscribe any of these classes.
     pub fn subscribers_among(&self, classes: &[ClassNo]) -> u32
-        ensures { (f : ℕ) → f ≤ max_joins → has_federate result f ≡ list_any (is_in_set_of self.now f) classes.now }
+        ensures { (f : ℕ) → f ≤ max_joins
+            → has_federate result f ≡ list_any (is_in_set_of self.now f) classes.now }
     {
         let mut subscribers = 0;
         for class in classes {
@@ -102,8 +104,8 @@ impl SubscriberSets {
         federate: FederateNo,
     ) -> Option<ClassNo>
         requires few { federate ≤ max_joins }
-        requires others { has_federate subscribers federate ≡ false → find (is_in_set_of self.now federate) classes.now
-            ≡ None }
+        requires others { has_federate subscribers federate ≡ false
+            → find (is_in_set_of self.now federate) classes.now ≡ None }
         ensures { result ≡ find (is_in_set_of self.now federate) classes.now }
     {
         if !has_federate(subscribers, federate) {
@@ -120,8 +122,9 @@ impl SubscriberSets {
         requires few { federate ≤ max_joins }
         requires some { 0 < class }
         requires within { class ≤ length self.old }
-        ensures listed { (f k : ℕ) → f ≤ max_joins → is_in_set_of self.new f k ≡ cond (eqb federate f && eqb class k) is_in
-            (is_in_set_of self.old f k) }
+        ensures listed { (f k : ℕ) → f ≤ max_joins
+            → is_in_set_of self.new f k
+            ≡ cond (eqb federate f && eqb class k) is_in (is_in_set_of self.old f k) }
         ensures room { length self.new ≡ length self.old }
     {
         let place = class as usize - 1;

@@ -55,7 +55,8 @@ impl Parts {
     pub fn disable_time_constrained(&mut self, federate: FederateNo) -> Result<Answer, Fault>
         requires { MayCall self.old federate }
         ensures whole { IsWhole self.new }
-        ensures done { EndsChosen self.old (step.Call federate service.DisableTimeConstrained) result self.new }
+        ensures done { EndsChosen self.old
+            (step.Call federate service.DisableTimeConstrained) result self.new }
     {
         if let Some(fault) = self.members.local(federate).state().unconstrain_fault() {
             return Err(fault);
@@ -74,7 +75,8 @@ impl Parts {
     ) -> Result<Answer, Fault>
         requires { MayCall self.old federate }
         ensures whole { IsWhole self.new }
-        ensures done { Ends self.old (step.Call federate (service.ModifyLookahead lookahead)) result self.new }
+        ensures done { Ends self.old
+            (step.Call federate (service.ModifyLookahead lookahead)) result self.new }
     {
         if let Some(fault) = self
             .members
@@ -109,7 +111,8 @@ impl Parts {
     pub fn disable_asynchronous_delivery(&mut self, federate: FederateNo) -> Result<Answer, Fault>
         requires { MayCall self.old federate }
         ensures whole { IsWhole self.new }
-        ensures done { Ends self.old (step.Call federate service.DisableAsynchronousDelivery) result self.new }
+        ensures done { Ends self.old
+            (step.Call federate service.DisableAsynchronousDelivery) result self.new }
     {
         if let Some(fault) = self
             .members

@@ -107,7 +107,8 @@ impl Parts {
         requires whole { IsWhole self.now }
         requires some { 0 < federate }
         requires within { federate < (state_of self.now).directory.next_federate }
-        ensures ok { OnOk result (HasAdded (last_null_to (state_of self.now) federate) outbox.old outbox.new) }
+        ensures ok { OnOk result
+            (HasAdded (last_null_to (state_of self.now) federate) outbox.old outbox.new) }
         ensures err { IfErr result (λ e. e ≡ Fault.OutOfMemory) }
     {
         let local = self.members.local(federate);

@@ -199,8 +199,10 @@ impl Parts {
     ) -> Option<EventHandle>
         requires some { 0 < federate }
         requires within { federate < (state_of self.now).directory.next_federate }
-        ensures { (values : List HandleValuePair) → result ≡ sent_handle federate ((state_of self.now).row federate) stamp
-            ((state_of self.now).serial federate) (interaction_sent (state_of self.now).directory class values) }
+        ensures { (values : List HandleValuePair)
+            → result ≡ sent_handle federate ((state_of self.now).row federate) stamp
+            ((state_of self.now).serial federate)
+            (interaction_sent (state_of self.now).directory class values) }
     {
         let serial = self.members.next_serial(federate);
         let order = self.catalogue.interaction_order(class);
@@ -218,8 +220,10 @@ impl Parts {
         requires within { federate < (state_of self.now).directory.next_federate }
         requires serials { (object : ℕ) → (state_of self.now).serial federate + length
             (update_sent (state_of self.now).directory object values.now) ≤ max_serial + 1 }
-        ensures { (object : ℕ) → result ≡ sent_handle federate ((state_of self.now).row federate) stamp
-            ((state_of self.now).serial federate) (update_sent (state_of self.now).directory object values.now) }
+        ensures { (object : ℕ)
+            → result ≡ sent_handle federate ((state_of self.now).row federate) stamp
+            ((state_of self.now).serial federate)
+            (update_sent (state_of self.now).directory object values.now) }
     {
         if !self.has_order(Order::Timestamp, values) {
             return None;
@@ -236,7 +240,9 @@ impl Parts {
         requires may { MayCall self.now federate }
         requires allowed { refusal (components_seen (state_of self.now))
             (step.Call federate service.now) ≡ None }
-        ensures ok { IfOk result (λ a. (call_outcome (state_of self.now) federate service.now).outcome ≡ outcome.Done a) }
+        ensures ok { IfOk result
+            (λ a. (call_outcome (state_of self.now) federate service.now).outcome
+            ≡ outcome.Done a) }
         ensures err { IfErr result (λ e. e ≡ Fault.OutOfMemory) }
         ensures memory { OnErr result (service_takes_memory service.now ≡ true) }
     {

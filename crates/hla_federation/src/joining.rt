@@ -108,8 +108,11 @@ impl Parts {
         requires some { 0 < federate }
         requires within { federate < (members_of self.now.members).next_federate }
         requires serials { serial + length objects.now ≤ largest_number }
-        ensures ok { IfOk result (λ outbox. (h : ℕ) → item [] outbox h ≡ messages_to (state_of self.now).directory
-            federate serial ((state_of self.now).row federate) None (deletions_sent objects.now) h
+        ensures ok { IfOk result
+            (λ outbox. (h : ℕ)
+            → item [] outbox h
+            ≡ messages_to (state_of self.now).directory federate serial
+            ((state_of self.now).row federate) None (deletions_sent objects.now) h
             ++ last_null_to (state_of self.now) federate h) }
         ensures err { IfErr result (λ e. e ≡ Fault.OutOfMemory) }
     {

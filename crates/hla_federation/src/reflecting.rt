@@ -68,7 +68,9 @@ fn is_subscribed(subscribed: &[AttributeNo], attribute: AttributeNo) -> bool
 
 /// The place of the first of these values whose attribute is not subscribed, if there is one.
 fn first_hidden(subscribed: &[AttributeNo], values: &[HandleValuePair]) -> Option<usize>
-    ensures { result ≡ position (λ (v : HandleValuePair). not (contains_number v.handle subscribed.now)) values.now }
+    ensures { result
+        ≡ position (λ (v : HandleValuePair). not
+        (contains_number v.handle subscribed.now)) values.now }
 {
     values
         .iter()
@@ -92,7 +94,8 @@ impl Parts {
         values: &[HandleValuePair],
         hidden: usize,
     ) -> Result<List<HandleValuePair>, Fault>
-        requires { position (λ (v : HandleValuePair). not (contains_number v.handle subscribed.now)) values.now
+        requires { position
+            (λ (v : HandleValuePair). not (contains_number v.handle subscribed.now)) values.now
             ≡ Some hidden }
         ensures ok { IfOk result (λ shown. shown ≡ filter
             (λ (v : HandleValuePair). contains_number v.handle subscribed.now) values.now) }
@@ -117,7 +120,8 @@ impl Parts {
         subscribed: &[AttributeNo],
         hidden: usize,
     ) -> Result<Option<SharedEvent>, Fault>
-        requires { position (λ (v : HandleValuePair). not (contains_number v.handle subscribed.now)) values.now
+        requires { position
+            (λ (v : HandleValuePair). not (contains_number v.handle subscribed.now)) values.now
             ≡ Some hidden }
         ensures ok { IfOk result (λ e. event_messages e ≡ said_messages heading (reflection_of object (filter
             (λ (v : HandleValuePair). contains_number v.handle subscribed.now) values.now))) }
@@ -145,7 +149,8 @@ impl Parts {
         hidden: usize,
     ) -> Result<Option<SharedEvent>, Fault>
         requires made { IfSome made.old (IsMade heading object values.now) }
-        requires hidden { position (λ (v : HandleValuePair). not (contains_number v.handle subscribed.now)) values.now
+        requires hidden { position
+            (λ (v : HandleValuePair). not (contains_number v.handle subscribed.now)) values.now
             ≡ Some hidden }
         ensures made { OnOk result (IfSome made.new (IsMade heading object values.now)) }
         ensures ok { IfOk result (λ e. event_messages e ≡ said_messages heading (reflection_of object (filter

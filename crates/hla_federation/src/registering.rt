@@ -196,10 +196,14 @@ impl Parts {
         requires some { 0 < federate }
         requires within { federate ≤ max_joins }
         ensures same { self.new ≡ record self.old { objects = self.new.objects } }
-        ensures known { (attributes : List ℕ) → registry_of self.new.objects ≡ record (registry_of self.old.objects) {
-          known = (with_discoveries_made (with_subscribed (state_of self.old).directory federate class
-              (Some attributes)) federate).known;
-        } }
+        ensures known { (attributes : List ℕ)
+            → registry_of self.new.objects
+            ≡ record (registry_of self.old.objects) {
+              known =
+                  (with_discoveries_made
+                  (with_subscribed (state_of self.old).directory federate class
+                  (Some attributes)) federate).known;
+            } }
     {
         let end = self.registry.next_object();
         for object in 1..end {
@@ -221,8 +225,9 @@ impl Parts {
     ) -> Result<Answer, Fault>
         requires { MayCall self.old federate }
         ensures whole { IsWhole self.new }
-        ensures done { Ends self.old (step.Call federate (service.SubscribeObjectClassAttributes class attributes.now))
-            result self.new }
+        ensures done { Ends self.old
+            (step.Call federate
+            (service.SubscribeObjectClassAttributes class attributes.now)) result self.new }
     {
         if let Some(fault) = self.attributes_fault(class, attributes.as_slice()) {
             return Err(fault);

@@ -291,8 +291,9 @@ impl Parts {
         object: ObjectNo,
     ) -> Result<(), Fault>
         requires { IsWhole self.now }
-        ensures ok { OnOk result (HasAdded (message_to (state_of self.now).directory heading (ADeletion object))
-            outbox.old outbox.new) }
+        ensures ok { OnOk result
+            (HasAdded (message_to (state_of self.now).directory heading
+            (ADeletion object)) outbox.old outbox.new) }
         ensures err { IfErr result (λ e. e ≡ Fault.OutOfMemory) }
     {
         let end = self.members.next_federate();
@@ -315,7 +316,8 @@ impl Parts {
         values: &SharedList<HandleValuePair>,
     ) -> Result<Option<Receivers>, Fault>
         requires { IsWhole self.now }
-        ensures count { IfOk result (λ told. one_if (is_some told) ≡ length (part_sent Receive object values.now)) }
+        ensures count { IfOk result
+            (λ told. one_if (is_some told) ≡ length (part_sent Receive object values.now)) }
         ensures receivers { IfOk result (λ told. IfSome told (λ rs. receiver_set rs ≡ is_receiver
             (state_of self.now).directory heading.sender (AnUpdate object values.now))) }
         ensures ok { OnOk result (HasAdded (part_to (state_of self.now).directory heading object values.now)
@@ -405,8 +407,9 @@ impl Parts {
     ) -> Result<Answer, Fault>
         requires { MayCall self.old federate }
         ensures whole { IsWhole self.new }
-        ensures done { Ends self.old (step.Call federate (service.UpdateAttributeValues object values.now stamp))
-            result self.new }
+        ensures done { Ends self.old
+            (step.Call federate
+            (service.UpdateAttributeValues object values.now stamp)) result self.new }
     {
         if let Some(fault) = self.update_fault(federate, object, values, stamp) {
             return Err(fault);

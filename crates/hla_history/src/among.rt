@@ -66,7 +66,8 @@ fn refuse_into(
     ensures copied { IfOk result (λ out. transcript.new.items
         ≡ transcript.old.items ++ step_record actor execution.now step out choice.None ∷ []) }
     ensures refused { IfOk result (λ out. out ≡ outcome.Refused fault.FederationExecutionDoesNotExist) }
-    ensures len { vec_len history.new ≡ (if is_ok result then vec_len history.old + 1 else vec_len history.old) }
+    ensures len { vec_len history.new
+        ≡ (if is_ok result then vec_len history.old + 1 else vec_len history.old) }
     ensures capacity { vec_capacity history.new ≡ vec_capacity history.old }
     ensures err { IfErr result (λ e. e ≡ Fault.OutOfMemory) }
     ensures unwritten { OnErr result (history.new.items ≡ history.old.items) }
@@ -99,16 +100,23 @@ pub(crate) fn step_among_into<B: FederateAmbassador>(
         → HasAmbassadors h }
     requires room { vec_len history.old < vec_capacity history.old }
     requires room_beside { vec_len transcript.old < vec_capacity transcript.old }
-    ensures written { IfOk result (λ out. history.new.items ≡ history.old.items ++ step_record actor execution.now step out
+    ensures written { IfOk result
+        (λ out. history.new.items
+        ≡ history.old.items
+        ++ step_record actor execution.now step out
         (chosen_in (table_of executions.old.items execution.now) step) ∷ []) }
-    ensures copied { IfOk result (λ out. transcript.new.items ≡ transcript.old.items ++ step_record actor execution.now step out
+    ensures copied { IfOk result
+        (λ out. transcript.new.items
+        ≡ transcript.old.items
+        ++ step_record actor execution.now step out
         (chosen_in (table_of executions.old.items execution.now) step) ∷ []) }
     ensures ends { IfOk result (λ out. EndsIn (table_of executions.old.items execution.now) step out
         (chosen_in (table_of executions.old.items execution.now) step)) }
     ensures hosts { IfOk result (λ out. table_of executions.new.items
         ≡ hosts_after_step (table_of executions.old.items) execution.now
         (table_of executions.old.items execution.now) step out) }
-    ensures len { vec_len history.new ≡ (if is_ok result then vec_len history.old + 1 else vec_len history.old) }
+    ensures len { vec_len history.new
+        ≡ (if is_ok result then vec_len history.old + 1 else vec_len history.old) }
     ensures capacity { vec_capacity history.new ≡ vec_capacity history.old }
     ensures err { IfErr result (λ e. e ≡ Fault.OutOfMemory) }
     ensures unchanged { OnErr result (executions.new.items ≡ executions.old.items) }

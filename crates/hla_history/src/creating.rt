@@ -39,11 +39,12 @@ pub(crate) fn catalogue_read(alloc: Global, fed: &[u8]) -> Result<Option<Catalog
 
 /// Why an execution is not created, in the order of the tests.
 fn creation_refusal(is_there: bool, is_read: bool, counts: Counts) -> Option<Fault>
-    ensures { result ≡ first_fault
+    ensures { result
+        ≡ first_fault
         (test_for fault.FederationExecutionAlreadyExists is_there
         ∷ test_for fault.ErrorReadingFED (not is_read)
-        ∷ test_for fault.LimitReached (not (ltb counts.present max_executions) || not (ltb counts.creates max_creates))
-        ∷ []) }
+        ∷ test_for fault.LimitReached
+        (not (ltb counts.present max_executions) || not (ltb counts.creates max_creates)) ∷ []) }
 {
     if is_there {
         Some(Fault::FederationExecutionAlreadyExists)
@@ -158,7 +159,8 @@ fn destruction_refusal<B: FederateAmbassador>(
 
 /// Takes an execution out.
 fn remove_named<B: FederateAmbassador>(executions: &mut Vec<Hosted<B>>, name: &ExecutionName)
-    ensures { executions.new.items ≡ filter (λ (h : HostedValue). not (bytes_eq name.now h.name)) executions.old.items }
+    ensures { executions.new.items
+        ≡ filter (λ (h : HostedValue). not (bytes_eq name.now h.name)) executions.old.items }
 {
     executions.retain(|h| !h.is_named(name));
 }
@@ -177,11 +179,14 @@ pub(crate) fn destroy_among<B: FederateAmbassador>(
       outcome = p.0.outcome;
       choice = choice.None;
     }) }
-    ensures ends { IfOk result (λ p. EndsAs (destruction_fault (table_of executions.old.items name)) p.0.outcome) }
+    ensures ends { IfOk result
+        (λ p. EndsAs (destruction_fault (table_of executions.old.items name)) p.0.outcome) }
     ensures own { IfOk result (λ p. p.1.own ≡ p.0) }
     ensures answer { IfOk result (λ p. p.1.answer ≡ p.0.outcome) }
-    ensures hosts { IfOk result (λ p. hosts_of counts.new.creates counts.new.present executions.new.items
-        ≡ hosts_after (hosts_of counts.old.creates counts.old.present executions.old.items) name act.Destroy p.0.outcome) }
+    ensures hosts { IfOk result
+        (λ p. hosts_of counts.new.creates counts.new.present executions.new.items
+        ≡ hosts_after
+        (hosts_of counts.old.creates counts.old.present executions.old.items) name act.Destroy p.0.outcome) }
     ensures err { IfErr result (λ e. e ≡ Fault.OutOfMemory) }
     ensures unchanged { OnErr result (executions.new.items ≡ executions.old.items) }
     ensures counts { OnErr result (counts.new ≡ counts.old) }

@@ -97,14 +97,23 @@ impl<B: FederateAmbassador> Hosted<B> {
         requires ambassadors { HasAmbassadors (host_of self.old) }
         requires room { vec_len history.old < vec_capacity history.old }
         requires room_beside { vec_len transcript.old < vec_capacity transcript.old }
-        ensures written { IfOk result (λ out. history.new.items ≡ history.old.items ++ step_record actor self.old.name step out
+        ensures written { IfOk result
+            (λ out. history.new.items
+            ≡ history.old.items
+            ++ step_record actor self.old.name step out
             (next (components_hosted self.old.federation) step).choice ∷ []) }
-        ensures copied { IfOk result (λ out. transcript.new.items ≡ transcript.old.items ++ step_record actor self.old.name step out
+        ensures copied { IfOk result
+            (λ out. transcript.new.items
+            ≡ transcript.old.items
+            ++ step_record actor self.old.name step out
             (next (components_hosted self.old.federation) step).choice ∷ []) }
-        ensures given { IfOk result (λ out. given_outcome out ≡ (next (components_hosted self.old.federation) step).outcome) }
+        ensures given { IfOk result
+            (λ out. given_outcome out
+            ≡ (next (components_hosted self.old.federation) step).outcome) }
         ensures name { self.new.name ≡ self.old.name }
         ensures host { IfOk result (λ out. host_of self.new ≡ host_after (host_of self.old) step out) }
-        ensures len { vec_len history.new ≡ (if is_ok result then vec_len history.old + 1 else vec_len history.old) }
+        ensures len { vec_len history.new
+            ≡ (if is_ok result then vec_len history.old + 1 else vec_len history.old) }
         ensures capacity { vec_capacity history.new ≡ vec_capacity history.old }
         ensures err { IfErr result (λ e. e ≡ Fault.OutOfMemory) }
         ensures unchanged { OnErr result (self.new ≡ self.old) }
@@ -146,7 +155,8 @@ impl<B: FederateAmbassador> Hosted<B> {
         ensures answer { IfOk result (λ p. p.1.answer ≡ p.0.outcome) }
         ensures back { IfOk result (λ p. p.2 ≡ (if is_accepted p.1.answer then None else Some inner)) }
         ensures name { self.new.name ≡ self.old.name }
-        ensures host { IfOk result (λ p. host_of self.new ≡ host_after (host_of self.old) (step.Join name) p.0.outcome) }
+        ensures host { IfOk result
+            (λ p. host_of self.new ≡ host_after (host_of self.old) (step.Join name) p.0.outcome) }
         ensures err { IfErr result (λ e. e.0 ≡ Fault.OutOfMemory) }
         ensures returned { IfErr result (λ e. e.1 ≡ inner) }
         ensures unchanged { OnErr result (self.new ≡ self.old) }
@@ -186,7 +196,9 @@ impl<B: FederateAmbassador> Hosted<B> {
         ensures own { IfOk result (λ p. p.1.own ≡ p.0) }
         ensures answer { IfOk result (λ p. p.1.answer ≡ p.0.outcome) }
         ensures back { IfOk result (λ p. is_some p.2 ≡ is_accepted p.1.answer) }
-        ensures heard { IfOk result (λ p. IfSome p.2 (λ b. heard_from (Some (host_of self.old)) federate ≡ Some (B.heard b))) }
+        ensures heard { IfOk result
+            (λ p. IfSome p.2
+            (λ b. heard_from (Some (host_of self.old)) federate ≡ Some (B.heard b))) }
         ensures name { self.new.name ≡ self.old.name }
         ensures host { IfOk result (λ p. host_of self.new
             ≡ host_after (host_of self.old) (step.Call federate (service.Resign action)) p.0.outcome) }

@@ -31,7 +31,9 @@ pub(crate) fn join_among<B: FederateAmbassador>(
       outcome = p.0.outcome;
       choice = p.0.choice;
     }) }
-    ensures ends { IfOk result (λ p. EndsIn (table_of executions.old.items execution) (step.Join name) p.0.outcome p.0.choice) }
+    ensures ends { IfOk result
+        (λ p. EndsIn (table_of executions.old.items execution)
+        (step.Join name) p.0.outcome p.0.choice) }
     ensures own { IfOk result (λ p. p.1.own ≡ p.0) }
     ensures answer { IfOk result (λ p. p.1.answer ≡ p.0.outcome) }
     ensures back { IfOk result (λ p. p.2 ≡ (if is_accepted p.1.answer then None else Some inner)) }
@@ -80,7 +82,9 @@ pub(crate) fn resign_among<B: FederateAmbassador>(
     ensures own { IfOk result (λ p. p.1.own ≡ p.0) }
     ensures answer { IfOk result (λ p. p.1.answer ≡ p.0.outcome) }
     ensures back { IfOk result (λ p. is_some p.2 ≡ is_accepted p.1.answer) }
-    ensures heard { IfOk result (λ p. IfSome p.2 (λ b. heard_from (table_of executions.old.items execution) federate ≡ Some (B.heard b))) }
+    ensures heard { IfOk result
+        (λ p. IfSome p.2
+        (λ b. heard_from (table_of executions.old.items execution) federate ≡ Some (B.heard b))) }
     ensures hosts { IfOk result (λ p. table_of executions.new.items
         ≡ hosts_after_step (table_of executions.old.items) execution
         (table_of executions.old.items execution) (step.Call federate (service.Resign action)) p.0.outcome) }

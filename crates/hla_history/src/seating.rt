@@ -18,8 +18,10 @@ pub(crate) fn seat<B: FederateAmbassador>(
     requires { vec_len ears.old < vec_capacity ears.old }
     ensures back { result ≡ (if is_accepted answer.now then None else Some inner) }
     ensures heard { heard_of ears.new.items
-        ≡ (if is_accepted answer.now then heard_of ears.old.items ++ Some (B.heard inner) ∷ [] else heard_of ears.old.items) }
-    ensures len { vec_len ears.new ≡ (if is_accepted answer.now then vec_len ears.old + 1 else vec_len ears.old) }
+        ≡ (if is_accepted answer.now then heard_of ears.old.items ++ Some (B.heard inner)
+        ∷ [] else heard_of ears.old.items) }
+    ensures len { vec_len ears.new
+        ≡ (if is_accepted answer.now then vec_len ears.old + 1 else vec_len ears.old) }
 {
     match answer {
         Outcome::Done(_) => {
@@ -49,7 +51,8 @@ pub(crate) fn unseat<B: FederateAmbassador>(
     ensures back { is_some result ≡ is_accepted answer.now }
     ensures at { IfSome result (λ b. get_or (heard_of ears.old.items) federate None ≡ Some (B.heard b)) }
     ensures heard { heard_of ears.new.items
-        ≡ (if is_accepted answer.now then slice_set (heard_of ears.old.items) federate None else heard_of ears.old.items) }
+        ≡ (if is_accepted answer.now then slice_set
+        (heard_of ears.old.items) federate None else heard_of ears.old.items) }
     ensures len { vec_len ears.new ≡ vec_len ears.old }
 {
     match answer {

@@ -153,11 +153,17 @@ impl<L: Ledger, B: FederateAmbassador> Shared<L, B> {
         requires part { 0 < mine.old.parts }
         requires plain { IsPlain step }
         requires room { vec_len transcript.old < vec_capacity transcript.old }
-        ensures asked { IfOk result (λ out. transcript.new.items ≡ transcript.old.items ++ step_record actor execution.now step out
+        ensures asked { IfOk result
+            (λ out. transcript.new.items
+            ≡ transcript.old.items
+            ++ step_record actor execution.now step out
             (chosen_in ((held_of self.old).hosts.host execution.now) step) ∷ []) }
         ensures form { IfOk result (λ out. EndsInForm (step_form step) out) }
-        ensures recorded { IfOk result (λ out. held_of self.new ≡ with_record (held_of self.old) (step_record actor execution.now
-            step out (chosen_in ((held_of self.old).hosts.host execution.now) step))) }
+        ensures recorded { IfOk result
+            (λ out. held_of self.new
+            ≡ with_record (held_of self.old)
+            (step_record actor execution.now step out
+            (chosen_in ((held_of self.old).hosts.host execution.now) step))) }
         ensures full { result ≡ Err Fault.HistoryFull ↔ (length self.old.history ≡ self.old.limit) }
         ensures refused { IfErr result (λ e. (e ≡ Fault.HistoryFull) ⊎ (e ≡ Fault.OutOfMemory)) }
         ensures unchanged { OnErr result (self.new ≡ self.old) }

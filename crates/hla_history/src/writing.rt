@@ -32,8 +32,11 @@ pub(crate) fn write_foreseen(
     history: &mut Vec<Record>,
 ) -> Result<(), Fault>
     requires { vec_len history.old < vec_capacity history.old }
-    ensures written { OnOk result (history.new.items ≡ history.old.items ++ step_record actor name.now step
-        (next (components_hosted federation.now) step).outcome (next (components_hosted federation.now) step).choice ∷ []) }
+    ensures written { OnOk result
+        (history.new.items
+        ≡ history.old.items
+        ++ step_record actor name.now step (next (components_hosted federation.now) step).outcome
+        (next (components_hosted federation.now) step).choice ∷ []) }
     ensures len { OnOk result (vec_len history.new ≡ vec_len history.old + 1) }
     ensures capacity { vec_capacity history.new ≡ vec_capacity history.old }
     ensures err { IfErr result (λ e. e ≡ Fault.OutOfMemory) }
@@ -80,7 +83,8 @@ pub(crate) fn write_copy(made: &Record, transcript: &mut Vec<Record>) -> Result<
 
 /// Takes the last record away again.
 pub(crate) fn take_away(records: &mut Vec<Record>)
-    ensures items { (rs : List Entry) (r : Entry) → records.old.items ≡ rs ++ r ∷ [] → records.new.items ≡ rs }
+    ensures items { (rs : List Entry) (r : Entry) → records.old.items ≡ rs ++ r ∷ []
+        → records.new.items ≡ rs }
     ensures len { (rs : List Entry) (r : Entry) → records.old.items ≡ rs ++ r ∷ []
         → vec_len records.new + 1 ≡ vec_len records.old }
     ensures capacity { vec_capacity records.new ≡ vec_capacity records.old }
@@ -108,10 +112,10 @@ pub(crate) fn answered(
     history: &mut Vec<Record>,
     transcript: &mut Vec<Record>,
 ) -> Outcome
-    ensures written { (rs : List Entry) (r : Entry) → history.old.items ≡ rs ++ r ∷ [] → ended.answer ≡ r.outcome
-        → history.new.items ≡ rs ++ with_outcome r result ∷ [] }
-    ensures copied { (rs : List Entry) (r : Entry) → transcript.old.items ≡ rs ++ r ∷ [] → ended.answer ≡ r.outcome
-        → transcript.new.items ≡ rs ++ with_outcome r result ∷ [] }
+    ensures written { (rs : List Entry) (r : Entry) → history.old.items ≡ rs ++ r ∷ []
+        → ended.answer ≡ r.outcome → history.new.items ≡ rs ++ with_outcome r result ∷ [] }
+    ensures copied { (rs : List Entry) (r : Entry) → transcript.old.items ≡ rs ++ r ∷ []
+        → ended.answer ≡ r.outcome → transcript.new.items ≡ rs ++ with_outcome r result ∷ [] }
     ensures given { given_outcome result ≡ given_outcome ended.answer }
     ensures callback { callback_in result ≡ callback_in ended.answer }
     ensures len { vec_len history.new ≡ vec_len history.old }

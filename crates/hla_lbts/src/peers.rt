@@ -83,9 +83,12 @@ impl Peers {
     pub fn accept(&mut self, peer: FederateNo, epoch: u64, value: Ticks)
         requires some { 0 < peer }
         requires within { peer ≤ max_joins }
-        ensures { peers_of self.new ≡ record (peers_of self.old) {
-          bound = upd (peers_of self.old).bound peer (null_bound ((peers_of self.old).known_epoch peer) ((peers_of self.old).bound peer) epoch value);
-        } }
+        ensures { peers_of self.new
+            ≡ record (peers_of self.old) {
+              bound = upd (peers_of self.old).bound peer
+                  (null_bound ((peers_of self.old).known_epoch peer)
+                  ((peers_of self.old).bound peer) epoch value);
+            } }
     {
         let row = self.row(peer);
         let bound = if epoch == row.epoch {

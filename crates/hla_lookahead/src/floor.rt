@@ -75,9 +75,12 @@ impl Floor {
     /// constrained and may be granted an earlier time, by a next-event request or a flush: there it waits for the grant.
     pub fn on_request(&mut self, kind: AdvanceKind, asked: Ticks, is_constrained: bool)
         requires { asked ≤ max_time }
-        ensures { self.new ≡ record self.old {
-          floor = cond ((is_next kind || is_flush kind) && is_constrained) self.old.floor (max self.old.floor (asked + width self.old.lookahead kind));
-        } }
+        ensures { self.new
+            ≡ record self.old {
+              floor = cond
+                  ((is_next kind || is_flush kind) && is_constrained) self.old.floor
+                  (max self.old.floor (asked + width self.old.lookahead kind));
+            } }
     {
         if (kind.is_next() || kind.is_flush()) && is_constrained {
             return;

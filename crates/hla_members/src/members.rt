@@ -140,9 +140,12 @@ impl Members {
         requires some { 0 < federate }
         requires within { federate < (members_of self.old.shown).next_federate }
         requires serials { (members_of self.old.shown).serial federate + count ≤ largest_number }
-        ensures { members_of self.new.shown ≡ record (members_of self.old.shown) {
-          serial = upd (members_of self.old.shown).serial federate ((members_of self.old.shown).serial federate + count);
-        } }
+        ensures { members_of self.new.shown
+            ≡ record (members_of self.old.shown) {
+              serial = upd
+                  (members_of self.old.shown).serial federate
+                  ((members_of self.old.shown).serial federate + count);
+            } }
     {
         self.members[federate as usize - 1].count_messages(count);
     }
@@ -152,7 +155,8 @@ impl Members {
     fn note(&mut self, federate: FederateNo, note: Option<Note>) -> Result<(), Fault>
         requires some { 0 < federate }
         requires within { federate < (members_of self.old.shown).next_federate }
-        requires unsent { IfSome note (λ n. IsUnsentFrom ((members_of self.old.shown).sent federate) n.serial) }
+        requires unsent { IfSome note
+            (λ n. IsUnsentFrom ((members_of self.old.shown).sent federate) n.serial) }
         ensures ok { OnOk result (members_of self.new.shown ≡ record (members_of self.old.shown) {
           sent = with_noted (members_of self.old.shown).sent federate note;
         }) }
@@ -267,9 +271,12 @@ impl Members {
         requires some { 0 < to }
         requires within { to < (members_of self.old.shown).next_federate }
         requires room { 0 < room_in self.old.rooms from to }
-        ensures wires { members_of self.new.shown ≡ record (members_of self.old.shown) {
-          wire = upd2 (members_of self.old.shown).wire from to (put_behind message ((members_of self.old.shown).wire from to));
-        } }
+        ensures wires { members_of self.new.shown
+            ≡ record (members_of self.old.shown) {
+              wire = upd2
+                  (members_of self.old.shown).wire from to
+                  (put_behind message ((members_of self.old.shown).wire from to));
+            } }
         ensures less { room_in self.old.rooms from to ≤ room_in self.new.rooms from to + 1 }
         ensures room { (g h : ℕ) → (from ≢ g) ⊎ (to ≢ h) → room_in self.new.rooms g h ≡ room_in
             self.old.rooms g h }
@@ -341,13 +348,18 @@ impl Members {
         requires some { 0 < federate }
         requires within { federate < (members_of self.old.shown).next_federate }
         requires serials { (members_of self.old.shown).serial federate + count ≤ largest_number }
-        requires unsent { IfSome note (λ n. IsUnsentFrom ((members_of self.old.shown).sent federate) n.serial) }
-        ensures ok { OnOk result (members_of self.new.shown ≡ record (members_of self.old.shown) {
-          serial = upd (members_of self.old.shown).serial federate ((members_of self.old.shown).serial federate + count);
-          wire = wires_posted_below (From federate) (item [] outbox) (members_of self.old.shown).next_federate
-              (members_of self.old.shown).wire;
-          sent = with_noted (members_of self.old.shown).sent federate note;
-        }) }
+        requires unsent { IfSome note
+            (λ n. IsUnsentFrom ((members_of self.old.shown).sent federate) n.serial) }
+        ensures ok { OnOk result
+            (members_of self.new.shown
+            ≡ record (members_of self.old.shown) {
+              serial = upd
+                  (members_of self.old.shown).serial federate
+                  ((members_of self.old.shown).serial federate + count);
+              wire = wires_posted_below (From federate) (item [] outbox)
+                  (members_of self.old.shown).next_federate (members_of self.old.shown).wire;
+              sent = with_noted (members_of self.old.shown).sent federate note;
+            }) }
         ensures err { IfErr result (λ e. e ≡ Fault.OutOfMemory) }
         ensures unchanged { OnErr result (self.new.shown ≡ self.old.shown) }
     {
@@ -430,7 +442,8 @@ impl Members {
         ensures local { OnOk result (HasAccepted from ((members_of self.old.shown).wire from to)
             ((members_of self.old.shown).local to) ((members_of self.new.shown).local to)) }
         ensures err { IfErr result (λ e. e ≡ Fault.OutOfMemory) }
-        ensures memory { OnErr result (arrival_takes_memory ((members_of self.old.shown).wire from to) ≡ true) }
+        ensures memory { OnErr result
+            (arrival_takes_memory ((members_of self.old.shown).wire from to) ≡ true) }
         ensures unchanged { OnErr result (self.new.shown ≡ self.old.shown) }
     {
         self.members[to as usize - 1].arrive(from)
@@ -455,11 +468,14 @@ impl Members {
         ensures callback { IfOk result (λ k. k ≡ callback_given (picked_by
             ((members_of self.old.shown).local federate).row
             (local_pick ((members_of self.old.shown).local federate)))) }
-        ensures state { OnOk result (members_of self.new.shown ≡ with_component (members_of self.old.shown) federate
+        ensures state { OnOk result
+            (members_of self.new.shown
+            ≡ with_component (members_of self.old.shown) federate
             (local_picking ((members_of self.old.shown).local federate)
             (local_pick ((members_of self.old.shown).local federate)))) }
         ensures err { IfErr result (λ e. e ≡ Fault.OutOfMemory) }
-        ensures memory { OnErr result (local_pick ((members_of self.old.shown).local federate) ≡ PickConstrains) }
+        ensures memory { OnErr result
+            (local_pick ((members_of self.old.shown).local federate) ≡ PickConstrains) }
         ensures unchanged { OnErr result (self.new.shown ≡ self.old.shown) }
     {
         self.members[federate as usize - 1].pick_up()
@@ -480,7 +496,9 @@ impl Members {
     pub fn cease_constraint(&mut self, federate: FederateNo) -> Result<(), Fault>
         requires some { 0 < federate }
         requires within { federate < (members_of self.old.shown).next_federate }
-        ensures ok { OnOk result (members_of self.new.shown ≡ with_component (members_of self.old.shown) federate
+        ensures ok { OnOk result
+            (members_of self.new.shown
+            ≡ with_component (members_of self.old.shown) federate
             (local_unconstrained ((members_of self.old.shown).local federate))) }
         ensures err { IfErr result (λ e. e ≡ Fault.OutOfMemory) }
         ensures unchanged { OnErr result (self.new.shown ≡ self.old.shown) }

@@ -43,7 +43,8 @@ pub trait Publisher<J: Naming>: Drop {
 
     /// Shows another beginning. `OutOfMemory` where a growth was refused; then the one before is shown.
     fn post(&mut self, told: &Told<J>) -> Result<(), Fault>
-        ensures ok { MatchResult result (λ _. posted self.new ≡ told.now) (λ _. posted self.new ≡ posted self.old) }
+        ensures ok { MatchResult result (λ _. posted self.new ≡ told.now)
+            (λ _. posted self.new ≡ posted self.old) }
         ensures err { IfErr result (λ e. e ≡ Fault.OutOfMemory) };
 
     /// The beginning that is shown.
@@ -149,9 +150,12 @@ impl<J: Naming, W: Publisher<J>> Board<J, W> {
     /// be added to what is shown; then it shows no more. That takes 2^61 records, or another who adds to the same history:
     /// there is none, as a board alone has its length, but no contract can say so.
     pub fn note(&mut self, entry: &Record) -> Result<(), Fault>
-        ensures ok { OnOk result ((self.new.shown ≡ self.old.shown ++ entry.now ∷ []) × (self.new.published ≡ self.new.shown)) }
+        ensures ok { OnOk result
+            ((self.new.shown ≡ self.old.shown ++ entry.now ∷ [])
+            × (self.new.published ≡ self.new.shown)) }
         ensures waits { OnErr result (self.new.published ≡ self.old.published) }
-        ensures err { IfErr result (λ e. e ≡ (if self.new.whole then Fault.OutOfMemory else Fault.LimitReached)) }
+        ensures err { IfErr result
+            (λ e. e ≡ (if self.new.whole then Fault.OutOfMemory else Fault.LimitReached)) }
         ensures shown { MatchBool self.new.whole
             ((self.old.whole ≡ true) × (self.new.shown ≡ self.old.shown ++ entry.now ∷ []))
             (self.new.shown ≡ self.old.shown) }
@@ -172,8 +176,10 @@ impl<J: Naming, W: Publisher<J>> Board<J, W> {
         ensures published { 0 < self.old.monitors → OnOk result (self.new.published ≡ self.new.shown) }
         ensures first { self.old.published ≡ [] → OnOk result (self.new.published ≡ self.new.shown) }
         ensures waits { OnErr result (self.new.published ≡ self.old.published) }
-        ensures either { OnOk result ((self.new.published ≡ self.new.shown) ⊎ (self.new.published ≡ self.old.published)) }
-        ensures err { IfErr result (λ e. e ≡ (if self.new.whole then Fault.OutOfMemory else Fault.LimitReached)) }
+        ensures either { OnOk result
+            ((self.new.published ≡ self.new.shown) ⊎ (self.new.published ≡ self.old.published)) }
+        ensures err { IfErr result
+            (λ e. e ≡ (if self.new.whole then Fault.OutOfMemory else Fault.LimitReached)) }
         ensures shown { MatchBool self.new.whole
             ((self.old.whole ≡ true) × (self.new.shown ≡ self.old.shown ++ entry.now ∷ []))
             (self.new.shown ≡ self.old.shown) }

@@ -240,9 +240,11 @@ impl Registry {
     pub fn delete(&mut self, object: ObjectNo)
         requires some { 0 < object }
         requires registered { object < (registry_of self.old).next_object }
-        ensures { registry_of self.new ≡ record (registry_of self.old) {
-          object = upd (registry_of self.old).object object (record ((registry_of self.old).object object) { exists = false });
-        } }
+        ensures { registry_of self.new
+            ≡ record (registry_of self.old) {
+              object = upd (registry_of self.old).object object
+                  (record ((registry_of self.old).object object) { exists = false });
+            } }
     {
         let entry = &mut self.entries[object as usize - 1];
         entry.exists = false;

@@ -65,7 +65,8 @@ impl Blocks {
 
     /// Takes the block with the least events, if there is one.
     pub fn take_first(&mut self) -> Option<Block>
-        ensures events { MatchOption result ((events_of self.old ≡ []) × (events_of self.new ≡ [])) (λ b. b ++ events_of self.new ≡ events_of self.old) }
+        ensures events { MatchOption result ((events_of self.old ≡ []) × (events_of self.new ≡ []))
+            (λ b. b ++ events_of self.new ≡ events_of self.old) }
         ensures filled { IfSome result (λ b. 0 < length b) }
         ensures below { IfSome result (λ b. AreBelowBlocks b self.new) }
     {
@@ -242,7 +243,9 @@ fn split_before(first: &mut Block, floors: &mut Floors, alloc: Global) -> bool
 
 /// The key of the event with which the greater half of the block under this floor would begin.
 fn middle_of(floors: &Floors, floor: EventKey) -> Option<EventKey>
-    ensures { IfSome result (λ k. MatchOption (block_at floor floors.now) ⊥ (λ b. Some k ≡ option_map (λ x. key_of x) (slice_get b (length b / 2)))) }
+    ensures { IfSome result
+        (λ k. MatchOption (block_at floor floors.now) ⊥
+        (λ b. Some k ≡ option_map (λ x. key_of x) (slice_get b (length b / 2)))) }
 {
     floors.get(floor)?.middle()
 }

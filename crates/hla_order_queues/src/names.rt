@@ -124,7 +124,8 @@ fn reach(rising: &mut Vec<Rising>, sender: FederateNo, alloc: Global) -> bool
 
 /// Whether the sender of an event has a list, all of whose serials are less than the event's.
 fn rises(rising: &[Rising], key: EventKey) -> bool
-    ensures { MatchBool result (Rises rising.now key.sender key.serial) (Rises rising.now key.sender key.serial → ⊥) }
+    ensures { MatchBool result (Rises rising.now key.sender key.serial)
+        (Rises rising.now key.sender key.serial → ⊥) }
 {
     match rising.get(key.sender as usize) {
         Some(events) => events.is_below(key.serial),
@@ -137,7 +138,8 @@ fn push(rising: &mut Vec<Rising>, key: EventKey) -> bool
     requires { Rises rising.old.items key.sender key.serial }
     ensures put { OnTrue result (SetsAt (noted_at rising.old.items) (noted_at rising.new.items)
         (record { sender = key.sender; serial = key.serial }) (Some key.stamp)) }
-    ensures refused { OnFalse result ((n : EventName) → noted_at rising.new.items n ≡ noted_at rising.old.items n) }
+    ensures refused { OnFalse result
+        ((n : EventName) → noted_at rising.new.items n ≡ noted_at rising.old.items n) }
 {
     rising[key.sender as usize].push(key.serial, key.stamp)
 }

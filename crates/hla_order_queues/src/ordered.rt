@@ -165,7 +165,8 @@ fn put(first: &mut Block, later: &mut Blocks, event: Event) -> Result<(), Event>
     requires ordered { IsInOrder (first.old ++ events_of later.old) }
     requires unique { IsUnique (first.old ++ events_of later.old) }
     requires below { AreBelowBlocks first.old later.old }
-    ensures ok { OnOk result (first.new ++ events_of later.new ≡ insert_event event (first.old ++ events_of later.old)) }
+    ensures ok { OnOk result
+        (first.new ++ events_of later.new ≡ insert_event event (first.old ++ events_of later.old)) }
     ensures err { IfErr result (λ e. e ≡ event) }
     ensures unchanged { OnErr result (first.new ++ events_of later.new ≡ first.old ++ events_of later.old) }
     ensures below { AreBelowBlocks first.new later.new }
@@ -204,7 +205,8 @@ fn take_key(first: &mut Block, later: &mut Blocks, key: EventKey) -> Option<Even
     requires below { AreBelowBlocks first.old later.old }
     requires there { stamp_of (name_of_key key) (first.old ++ events_of later.old) ≡ Some key.stamp }
     ensures found { result ≡ find_event key.sender key.serial (first.old ++ events_of later.old) }
-    ensures rest { first.new ++ events_of later.new ≡ remove_event key.sender key.serial (first.old ++ events_of later.old) }
+    ensures rest { first.new ++ events_of later.new
+        ≡ remove_event key.sender key.serial (first.old ++ events_of later.old) }
     ensures below { AreBelowBlocks first.new later.new }
 {
     if later.is_after(key) {

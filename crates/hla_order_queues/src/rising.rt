@@ -73,7 +73,9 @@ impl Rising {
     /// however many there are, but for the growth of the room.
     pub fn push(&mut self, serial: Serial, stamp: Ticks) -> bool
         requires { AreLess serial self.old }
-        ensures put { (m : ℕ) → OnTrue result (noted m self.new ≡ cond (eqb serial m) (Some stamp) (noted m self.old)) }
+        ensures put { (m : ℕ)
+            → OnTrue result
+            (noted m self.new ≡ cond (eqb serial m) (Some stamp) (noted m self.old)) }
         ensures refused { OnFalse result (self.new ≡ self.old) }
     {
         let note = StampNote {

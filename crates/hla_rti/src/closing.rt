@@ -150,7 +150,8 @@ impl<L: Ledger + Naming, B: FederateAmbassador, W: Publisher<L>> Rti<L, B, W> {
         requires { L.parts ≡ ledger_parts }
         ensures agree { IfOk result (λ c. AllAgree c lefts.items self.own) }
         ensures here { OnOk result (AllHere self.handed lefts.items) }
-        ensures missing { IfErr result (λ n. n.fault ≡ CloseFault.Missing → AllHere self.handed lefts.items → ⊥) }
+        ensures missing { IfErr result
+            (λ n. n.fault ≡ CloseFault.Missing → AllHere self.handed lefts.items → ⊥) }
         ensures present { IfErr result (λ n. n.fault ≢ CloseFault.Missing → AllHere self.handed lefts.items) }
         ensures back { IfErr result (λ n. (n.rti ≡ self) × (n.lefts ≡ lefts)) }
     {

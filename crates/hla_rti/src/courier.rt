@@ -46,7 +46,8 @@ impl<L: Ledger + Naming, B: FederateAmbassador, W: Publisher<L>> Courier<L, B, W
         from: FederateNo,
         to: FederateNo,
     ) -> Result<Carried, Fault>
-        ensures { HasAnswered self.old execution (act.Step (step.Carry from to)) (said answer.Carried result) self.new }
+        ensures { HasAnswered self.old execution (act.Step (step.Carry from to))
+            (said answer.Carried result) self.new }
     {
         carried_in(
             self.seat
@@ -64,7 +65,8 @@ impl<L: Ledger + Naming, B: FederateAmbassador, W: Publisher<L>> Courier<L, B, W
         execution: ExecutionName,
         federate: FederateNo,
     ) -> Result<Option<Ticks>, Fault>
-        ensures { HasAnswered self.old execution (act.Step (step.Announce federate)) (said answer.Announced result) self.new }
+        ensures { HasAnswered self.old execution (act.Step (step.Announce federate))
+            (said answer.Announced result) self.new }
     {
         announced_in(
             self.seat

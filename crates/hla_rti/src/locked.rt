@@ -101,11 +101,17 @@ impl<L: Ledger + Naming, B: FederateAmbassador, W: Publisher<L>> Locked<L, B, W>
         requires part { 0 < mine.old.parts }
         requires plain { IsPlain step }
         requires room { vec_len transcript.old < vec_capacity transcript.old }
-        ensures asked { IfOk result (λ out. transcript.new.items ≡ transcript.old.items ++ step_record actor execution.now step out
+        ensures asked { IfOk result
+            (λ out. transcript.new.items
+            ≡ transcript.old.items
+            ++ step_record actor execution.now step out
             (chosen_in ((held_of self.old.held).hosts.host execution.now) step) ∷ []) }
         ensures form { IfOk result (λ out. EndsInForm (step_form step) out) }
-        ensures recorded { IfOk result (λ out. held_of self.new.held ≡ with_record (held_of self.old.held)
-            (step_record actor execution.now step out (chosen_in ((held_of self.old.held).hosts.host execution.now) step))) }
+        ensures recorded { IfOk result
+            (λ out. held_of self.new.held
+            ≡ with_record (held_of self.old.held)
+            (step_record actor execution.now step out
+            (chosen_in ((held_of self.old.held).hosts.host execution.now) step))) }
         ensures full { result ≡ Err Fault.HistoryFull ↔ (length self.old.held.history ≡ self.old.held.limit) }
         ensures refused { IfErr result (λ e. (e ≡ Fault.HistoryFull) ⊎ (e ≡ Fault.OutOfMemory)) }
         ensures unchanged { OnErr result (self.new ≡ self.old) }
@@ -140,7 +146,8 @@ impl<L: Ledger + Naming, B: FederateAmbassador, W: Publisher<L>> Locked<L, B, W>
           choice = choice.None;
         }) }
         ensures form { IfOk result (λ s. EndsInForm NoAnswer s.answer) }
-        ensures recorded { IfOk result (λ s. held_of self.new.held ≡ with_record (held_of self.old.held) s.own) }
+        ensures recorded { IfOk result
+            (λ s. held_of self.new.held ≡ with_record (held_of self.old.held) s.own) }
         ensures full { result ≡ Err Fault.HistoryFull ↔ (length self.old.held.history ≡ self.old.held.limit) }
         ensures refused { IfErr result (λ e. (e ≡ Fault.HistoryFull) ⊎ (e ≡ Fault.OutOfMemory)) }
         ensures unchanged { OnErr result (self.new ≡ self.old) }
@@ -171,7 +178,8 @@ impl<L: Ledger + Naming, B: FederateAmbassador, W: Publisher<L>> Locked<L, B, W>
           choice = choice.None;
         }) }
         ensures form { IfOk result (λ s. EndsInForm NoAnswer s.answer) }
-        ensures recorded { IfOk result (λ s. held_of self.new.held ≡ with_record (held_of self.old.held) s.own) }
+        ensures recorded { IfOk result
+            (λ s. held_of self.new.held ≡ with_record (held_of self.old.held) s.own) }
         ensures full { result ≡ Err Fault.HistoryFull ↔ (length self.old.held.history ≡ self.old.held.limit) }
         ensures refused { IfErr result (λ e. (e ≡ Fault.HistoryFull) ⊎ (e ≡ Fault.OutOfMemory)) }
         ensures unchanged { OnErr result (self.new ≡ self.old) }
@@ -205,10 +213,13 @@ impl<L: Ledger + Naming, B: FederateAmbassador, W: Publisher<L>> Locked<L, B, W>
           outcome = p.0.answer;
           choice = p.0.own.choice;
         }) }
-        ensures recorded { IfOk result (λ p. held_of self.new.held ≡ with_record (held_of self.old.held) p.0.own) }
+        ensures recorded { IfOk result
+            (λ p. held_of self.new.held ≡ with_record (held_of self.old.held) p.0.own) }
         ensures form { IfOk result (λ p. EndsInForm AFederate p.0.answer) }
         ensures back { IfOk result (λ p. p.1 ≡ (if is_accepted p.0.answer then None else Some inner)) }
-        ensures full { result ≡ Err (Fault.HistoryFull, inner) ↔ (length self.old.held.history ≡ self.old.held.limit) }
+        ensures full { result
+            ≡ Err (Fault.HistoryFull, inner) ↔
+            (length self.old.held.history ≡ self.old.held.limit) }
         ensures refused { IfErr result (λ e. (e.0 ≡ Fault.HistoryFull) ⊎ (e.0 ≡ Fault.OutOfMemory)) }
         ensures returned { IfErr result (λ e. e.1 ≡ inner) }
         ensures unchanged { OnErr result (self.new ≡ self.old) }
@@ -248,7 +259,8 @@ impl<L: Ledger + Naming, B: FederateAmbassador, W: Publisher<L>> Locked<L, B, W>
         ensures back { IfOk result (λ p. is_some p.1 ≡ is_accepted p.0.answer) }
         ensures heard { IfOk result (λ p. IfSome p.1 (λ b.
             heard_from ((held_of self.old.held).hosts.host execution) federate ≡ Some (B.heard b))) }
-        ensures recorded { IfOk result (λ p. held_of self.new.held ≡ with_record (held_of self.old.held) p.0.own) }
+        ensures recorded { IfOk result
+            (λ p. held_of self.new.held ≡ with_record (held_of self.old.held) p.0.own) }
         ensures full { result ≡ Err Fault.HistoryFull ↔ (length self.old.held.history ≡ self.old.held.limit) }
         ensures refused { IfErr result (λ e. (e ≡ Fault.HistoryFull) ⊎ (e ≡ Fault.OutOfMemory)) }
         ensures unchanged { OnErr result (self.new ≡ self.old) }

@@ -26,7 +26,8 @@ impl<L: Ledger + Naming, B: FederateAmbassador, W: Publisher<L>> Federate<L, B, 
         class: ClassNo,
         attributes: List<AttributeNo>,
     ) -> Result<(), Fault>
-        ensures { IsServed self.old (service.PublishObjectClass class attributes) (said nothing result) self.new }
+        ensures { IsServed self.old (service.PublishObjectClass class attributes)
+            (said nothing result) self.new }
     {
         self.serve_done(rt, Service::PublishObjectClass { class, attributes })
     }
@@ -47,7 +48,8 @@ impl<L: Ledger + Naming, B: FederateAmbassador, W: Publisher<L>> Federate<L, B, 
         class: ClassNo,
         attributes: List<AttributeNo>,
     ) -> Result<(), Fault>
-        ensures { IsServed self.old (service.SubscribeObjectClassAttributes class attributes) (said nothing result) self.new }
+        ensures { IsServed self.old (service.SubscribeObjectClassAttributes class attributes)
+            (said nothing result) self.new }
     {
         self.serve_done(
             rt,
@@ -101,7 +103,8 @@ impl<L: Ledger + Naming, B: FederateAmbassador, W: Publisher<L>> Federate<L, B, 
         rt: &impl Wait,
         class: ClassNo,
     ) -> Result<(), Fault>
-        ensures { IsServed self.old (service.UnsubscribeInteractionClass class) (said nothing result) self.new }
+        ensures { IsServed self.old (service.UnsubscribeInteractionClass class)
+            (said nothing result) self.new }
     {
         self.serve_done(rt, Service::UnsubscribeInteractionClass { class })
     }
@@ -116,7 +119,8 @@ impl<L: Ledger + Naming, B: FederateAmbassador, W: Publisher<L>> Federate<L, B, 
         class: ClassNo,
         name: Option<List<u8>>,
     ) -> Result<Registration, Fault>
-        ensures { IsServed self.old (service.RegisterObjectInstance class name) (said (λ r. answer.Registered r.object r.name) result) self.new }
+        ensures { IsServed self.old (service.RegisterObjectInstance class name)
+            (said (λ r. answer.Registered r.object r.name) result) self.new }
     {
         self.serve_registration(rt, Service::RegisterObjectInstance { class, name })
     }
@@ -133,7 +137,8 @@ impl<L: Ledger + Naming, B: FederateAmbassador, W: Publisher<L>> Federate<L, B, 
         values: List<HandleValuePair>,
         stamp: Option<Ticks>,
     ) -> Result<Option<EventHandle>, Fault>
-        ensures { IsServed self.old (service.UpdateAttributeValues object values stamp) (said answer.Sent result) self.new }
+        ensures { IsServed self.old (service.UpdateAttributeValues object values stamp)
+            (said answer.Sent result) self.new }
     {
         self.serve_event(
             rt,
@@ -157,7 +162,8 @@ impl<L: Ledger + Naming, B: FederateAmbassador, W: Publisher<L>> Federate<L, B, 
         values: List<HandleValuePair>,
         stamp: Option<Ticks>,
     ) -> Result<Option<EventHandle>, Fault>
-        ensures { IsServed self.old (service.SendInteraction class values stamp) (said answer.Sent result) self.new }
+        ensures { IsServed self.old (service.SendInteraction class values stamp)
+            (said answer.Sent result) self.new }
     {
         self.serve_event(
             rt,
@@ -178,7 +184,8 @@ impl<L: Ledger + Naming, B: FederateAmbassador, W: Publisher<L>> Federate<L, B, 
         object: ObjectNo,
         stamp: Option<Ticks>,
     ) -> Result<(), Fault>
-        ensures { IsServed self.old (service.DeleteObjectInstance object stamp) (said nothing result) self.new }
+        ensures { IsServed self.old (service.DeleteObjectInstance object stamp)
+            (said nothing result) self.new }
     {
         self.serve_done(rt, Service::DeleteObjectInstance { object, stamp })
     }

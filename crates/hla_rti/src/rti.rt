@@ -99,7 +99,8 @@ impl<L: Ledger + Naming, B: FederateAmbassador, W: Publisher<L>> Rti<L, B, W> {
     /// created. `HistoryFull` and `OutOfMemory` without a record, and then nothing has changed; of any other fault there is a
     /// record, and nothing else has changed.
     pub fn create(&mut self, rt: &impl Wait, name: ExecutionName, fed: &[u8]) -> Result<(), Fault>
-        ensures answered { HasAnswered self.old.own name (act.Create (catalogue_from fed.now)) (said nothing result) self.new.own }
+        ensures answered { HasAnswered self.old.own name (act.Create (catalogue_from fed.now))
+            (said nothing result) self.new.own }
         ensures handed { self.new.handed ≡ self.old.handed }
     {
         done_in(self.seat.create(rt, &self.shared, name, fed))
@@ -233,7 +234,9 @@ pub fn open_rti<L: Ledger + Naming, B: FederateAmbassador, R: Wait + Drop>(
     requires book { opened.seen.book ≡ L.book }
     ensures ok { IfOk result (λ r. r ≡ record { handed = 0; own = new_caller 0 }) }
     ensures limit { OnOk result (history_limit ≤ max_history_limit) }
-    ensures err { IfErr result (λ e. ((e ≡ Fault.LimitReached) × (max_history_limit < history_limit)) ⊎ (e ≡ Fault.OutOfMemory)) }
+    ensures err { IfErr result
+        (λ e. ((e ≡ Fault.LimitReached) × (max_history_limit < history_limit))
+        ⊎ (e ≡ Fault.OutOfMemory)) }
 {
     let board = open_board::<L, R>(alloc, rt, opened)?;
     Rti::new(alloc, blank, board, history_limit)

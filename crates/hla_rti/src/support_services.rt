@@ -35,7 +35,8 @@ impl<L: Ledger + Naming, B: FederateAmbassador, W: Publisher<L>> Federate<L, B, 
         rt: &impl Wait,
         name: List<u8>,
     ) -> Result<ClassNo, Fault>
-        ensures { IsServed self.old (service.GetInteractionClassHandle name) (said answer.Handle result) self.new }
+        ensures { IsServed self.old (service.GetInteractionClassHandle name)
+            (said answer.Handle result) self.new }
     {
         self.serve_handle(rt, Service::GetInteractionClassHandle { name })
     }
@@ -48,7 +49,8 @@ impl<L: Ledger + Naming, B: FederateAmbassador, W: Publisher<L>> Federate<L, B, 
         name: List<u8>,
         class: ClassNo,
     ) -> Result<AttributeNo, Fault>
-        ensures { IsServed self.old (service.GetAttributeHandle name class) (said answer.Handle result) self.new }
+        ensures { IsServed self.old (service.GetAttributeHandle name class)
+            (said answer.Handle result) self.new }
     {
         self.serve_handle(rt, Service::GetAttributeHandle { name, class })
     }
@@ -61,7 +63,8 @@ impl<L: Ledger + Naming, B: FederateAmbassador, W: Publisher<L>> Federate<L, B, 
         name: List<u8>,
         class: ClassNo,
     ) -> Result<ParameterNo, Fault>
-        ensures { IsServed self.old (service.GetParameterHandle name class) (said answer.Handle result) self.new }
+        ensures { IsServed self.old (service.GetParameterHandle name class)
+            (said answer.Handle result) self.new }
     {
         self.serve_handle(rt, Service::GetParameterHandle { name, class })
     }
@@ -73,7 +76,8 @@ impl<L: Ledger + Naming, B: FederateAmbassador, W: Publisher<L>> Federate<L, B, 
         rt: &impl Wait,
         name: List<u8>,
     ) -> Result<ObjectNo, Fault>
-        ensures { IsServed self.old (service.GetObjectInstanceHandle name) (said answer.Handle result) self.new }
+        ensures { IsServed self.old (service.GetObjectInstanceHandle name)
+            (said answer.Handle result) self.new }
     {
         self.serve_handle(rt, Service::GetObjectInstanceHandle { name })
     }
@@ -85,7 +89,8 @@ impl<L: Ledger + Naming, B: FederateAmbassador, W: Publisher<L>> Federate<L, B, 
         rt: &impl Wait,
         object: ObjectNo,
     ) -> Result<List<u8>, Fault>
-        ensures { IsServed self.old (service.GetObjectInstanceName object) (said answer.Name result) self.new }
+        ensures { IsServed self.old (service.GetObjectInstanceName object)
+            (said answer.Name result) self.new }
     {
         self.serve_name(rt, Service::GetObjectInstanceName { object })
     }

@@ -28,7 +28,8 @@ impl<L: Ledger + Naming, B: FederateAmbassador, W: Publisher<L>> Federate<L, B, 
         time: Ticks,
         lookahead: Ticks,
     ) -> Result<(), Fault>
-        ensures { IsServed self.old (service.EnableTimeRegulation time lookahead) (said nothing result) self.new }
+        ensures { IsServed self.old (service.EnableTimeRegulation time lookahead)
+            (said nothing result) self.new }
     {
         self.serve_done(rt, Service::EnableTimeRegulation { time, lookahead })
     }
@@ -74,7 +75,8 @@ impl<L: Ledger + Naming, B: FederateAmbassador, W: Publisher<L>> Federate<L, B, 
         rt: &impl Wait,
         time: Ticks,
     ) -> Result<(), Fault>
-        ensures { IsServed self.old (service.TimeAdvanceRequestAvailable time) (said nothing result) self.new }
+        ensures { IsServed self.old (service.TimeAdvanceRequestAvailable time)
+            (said nothing result) self.new }
     {
         self.serve_done(rt, Service::TimeAdvanceRequestAvailable { time })
     }

@@ -202,8 +202,10 @@ impl Execution {
 
     /// Does a step, and notes who has joined or resigned by it. Where memory runs out, nothing has changed.
     fn noted_step(&mut self, step: &Step) -> Result<Ending, Fault>
-        ensures ok { IfOk result (λ e. IsStepped (option_map components_of self.old.federation) step.now e.outcome
-            e.choice (option_map components_of self.new.federation)) }
+        ensures ok { IfOk result
+            (λ e. IsStepped
+            (option_map components_of self.old.federation) step.now e.outcome e.choice
+            (option_map components_of self.new.federation)) }
         ensures noted { IfOk result (λ e. self.new.members.items
             ≡ member_after self.old.members.items (act.Step step.now) e.outcome) }
         ensures err { OnErr result (self.new.federation ≡ self.old.federation) }

@@ -93,8 +93,8 @@ fn empty_texts(alloc: Global, count: usize) -> Result<Vec<Text>, Fault>
 
 /// Adds the line of an attribute to the text of the class that declares it.
 fn note_attribute(texts: &mut Vec<Text>, number: u64, attribute: &Attribute) -> Result<(), Fault>
-    ensures ok { OnOk result (EachGrows (λ class. own_attribute_text class number attribute.now) texts.old.items
-        texts.new.items) }
+    ensures ok { OnOk result
+        (EachGrows (λ class. own_attribute_text class number attribute.now) texts.old.items texts.new.items) }
     ensures err { IfErr result (λ e. e ≡ Fault.OutOfMemory) }
 {
     let class = attribute.class as usize;
@@ -107,8 +107,8 @@ fn note_attribute(texts: &mut Vec<Text>, number: u64, attribute: &Attribute) -> 
 
 /// Adds the line of a parameter to the text of the class that declares it.
 fn note_parameter(texts: &mut Vec<Text>, number: u64, parameter: &Parameter) -> Result<(), Fault>
-    ensures ok { OnOk result (EachGrows (λ class. own_parameter_text class number parameter.now) texts.old.items
-        texts.new.items) }
+    ensures ok { OnOk result
+        (EachGrows (λ class. own_parameter_text class number parameter.now) texts.old.items texts.new.items) }
     ensures err { IfErr result (λ e. e ≡ Fault.OutOfMemory) }
 {
     let class = parameter.class as usize;

@@ -36,7 +36,9 @@ fn take(
     requires some { 0 < to }
     requires within { to ≤ length accounts.old }
     requires may { (d : Directory) → MayCarry (central_with d accounts.old) from to carried }
-    ensures ok { OnOk result ((d : Directory) → central_with d accounts.new ≡ after_carry (central_with d accounts.old) from to carried) }
+    ensures ok { OnOk result
+        ((d : Directory)
+        → central_with d accounts.new ≡ after_carry (central_with d accounts.old) from to carried) }
     ensures err { IfErr result (λ e. e ≡ Fault.OutOfMemory) }
 {
     match carried {
@@ -93,8 +95,9 @@ pub fn judge_carry(
     outcome: &Outcome,
     choice: &Choice,
 ) -> Result<Verdict, Fault>
-    ensures ok { IfOk result (λ v. (d : Directory) → JudgedWith d accounts.old (steps.Carry from to) outcome.now
-        choice.now accounts.new v) }
+    ensures ok { IfOk result
+        (λ v. (d : Directory)
+        → JudgedWith d accounts.old (steps.Carry from to) outcome.now choice.now accounts.new v) }
     ensures err { IfErr result (λ e. e ≡ Fault.OutOfMemory) }
 {
     let fault = accounts.carry_fault(from, to);

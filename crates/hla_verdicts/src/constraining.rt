@@ -55,8 +55,9 @@ fn may_be_constrained(
 fn constrain(accounts: &mut Accounts, federate: FederateNo, events: &[EventHandle])
     requires some { 0 < federate }
     requires within { federate ≤ length accounts.old }
-    ensures { (d : Directory) → central_with d accounts.new ≡ after_constraint (central_with d accounts.old) federate
-        (choices.Moved events.now) }
+    ensures { (d : Directory)
+        → central_with d accounts.new
+        ≡ after_constraint (central_with d accounts.old) federate (choices.Moved events.now) }
 {
     accounts.change_row(federate, RowChange::EnterConstraint);
     accounts.demote(federate, events);
@@ -71,7 +72,8 @@ fn judge_moving(
     events: &[EventHandle],
 ) -> Verdict
     requires { (account_at accounts.old federate).is_joined ≡ true }
-    ensures judged { (d : Directory) → JudgedPick (central_with d accounts.old) federate (callbacks.TimeConstrainedEnabled time)
+    ensures judged { (d : Directory)
+        → JudgedPick (central_with d accounts.old) federate (callbacks.TimeConstrainedEnabled time)
         (choices.Moved events.now) (central_with d accounts.new) result }
     ensures size { length accounts.new ≡ length accounts.old }
 {
@@ -93,8 +95,9 @@ pub(crate) fn judge_constraint(
     choice: &Choice,
 ) -> Verdict
     requires { (account_at accounts.old federate).is_joined ≡ true }
-    ensures judged { (d : Directory) → JudgedPick (central_with d accounts.old) federate (callbacks.TimeConstrainedEnabled time)
-        choice.now (central_with d accounts.new) result }
+    ensures judged { (d : Directory)
+        → JudgedPick (central_with d accounts.old) federate
+        (callbacks.TimeConstrainedEnabled time) choice.now (central_with d accounts.new) result }
     ensures size { length accounts.new ≡ length accounts.old }
 {
     match choice {

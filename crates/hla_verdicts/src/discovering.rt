@@ -28,10 +28,14 @@ fn judge_offer(
     choice: &Choice,
 ) -> Verdict
     requires { (account_at accounts.old federate).is_joined ≡ true }
-    ensures judged { (d : Directory) → let c = central_with d accounts.old in
-        Judged (IsNextDiscovery (c.discoveries owner federate) discovery.now × (choice.now ≡ choices.None))
-        (central_with d accounts.new ≡ record c { discoveries = upd2 c.discoveries owner federate (drop 1 (c.discoveries owner federate)) })
-        result }
+    ensures judged { (d : Directory)
+        → let c = central_with d accounts.old in Judged
+        (IsNextDiscovery (c.discoveries owner federate) discovery.now × (choice.now ≡ choices.None))
+        (central_with d accounts.new
+        ≡ record c {
+          discoveries = upd2 c.discoveries owner federate
+              (drop 1 (c.discoveries owner federate));
+        }) result }
     ensures size { length accounts.new ≡ length accounts.old }
 {
     if !is_nothing(choice) {
@@ -56,8 +60,10 @@ pub(crate) fn judge_discovery(
     choice: &Choice,
 ) -> Result<Verdict, Fault>
     requires { (account_at accounts.old federate).is_joined ≡ true }
-    ensures ok { IfOk result (λ v. (d : Directory) → d.object ≡ (registry_of registry.now).object →
-        JudgedPick (central_with d accounts.old) federate (callbacks.DiscoverObjectInstance object class name.now) choice.now
+    ensures ok { IfOk result
+        (λ v. (d : Directory) → d.object ≡ (registry_of registry.now).object
+        → JudgedPick (central_with d accounts.old) federate
+        (callbacks.DiscoverObjectInstance object class name.now) choice.now
         (central_with d accounts.new) v) }
     ensures err { IfErr result (λ e. e ≡ Fault.OutOfMemory) }
     ensures size { length accounts.new ≡ length accounts.old }

@@ -20,7 +20,8 @@ pub fn answer_to_test<'a>(
     outcome: &'a Outcome,
     choice: &Choice,
 ) -> Result<&'a Answer, Verdict>
-    ensures answered { IfOk result (λ a. (fault ≡ None) × (outcome.now ≡ outcomes.Done a.now) × (choice.now ≡ choices.None)) }
+    ensures answered { IfOk result
+        (λ a. (fault ≡ None) × (outcome.now ≡ outcomes.Done a.now) × (choice.now ≡ choices.None)) }
     ensures told { IfErr result (λ v. (c : Central) (f : ℕ) (x : Service) → ChoosesNothing x →
         ToldOf fault outcome.now choice.now v c f x) }
 {
@@ -45,7 +46,8 @@ pub fn verdict_unless_done(
 ) -> Option<Verdict>
     ensures { MatchOption result
         ((fault ≡ None) × (outcome.now ≡ outcomes.Done answers.Done) × (choice.now ≡ choices.None))
-        (λ v. (c : Central) (f : ℕ) (x : Service) → ChoosesNothing x → AnswersDone x → ToldOf fault outcome.now choice.now v c f x) }
+        (λ v. (c : Central) (f : ℕ) (x : Service) → ChoosesNothing x → AnswersDone x
+        → ToldOf fault outcome.now choice.now v c f x) }
 {
     match answer_to_test(fault, outcome, choice) {
         Err(verdict) => Some(verdict),

@@ -28,8 +28,9 @@ fn give(accounts: &mut Accounts, federate: FederateNo, event: EventHandle, deliv
     requires within { federate ≤ length accounts.old }
     requires may { (stamp : ℕ) → delivery ≡ deliveries.TimeStamp stamp → MayChangeRow (changes.Pick stamp)
         (account_at accounts.old federate).state }
-    ensures { (d : Directory) → central_with d accounts.new ≡ after_delivery (central_with d accounts.old) federate
-        event delivery }
+    ensures { (d : Directory)
+        → central_with d accounts.new
+        ≡ after_delivery (central_with d accounts.old) federate event delivery }
 {
     match delivery {
         Delivery::Receive => accounts.take(federate, event),
@@ -78,8 +79,11 @@ pub(crate) fn judge_reflection(
     choice: &Choice,
 ) -> Result<Verdict, Fault>
     requires { (account_at accounts.old federate).is_joined ≡ true }
-    ensures ok { IfOk result (λ v. (d : Directory) → JudgedPick (central_with d accounts.old) federate
-        (callbacks.ReflectAttributeValues object values.now event delivery) choice.now (central_with d accounts.new) v) }
+    ensures ok { IfOk result
+        (λ v. (d : Directory)
+        → JudgedPick (central_with d accounts.old) federate
+        (callbacks.ReflectAttributeValues object values.now event delivery) choice.now
+        (central_with d accounts.new) v) }
     ensures err { IfErr result (λ e. e ≡ Fault.OutOfMemory) }
     ensures size { length accounts.new ≡ length accounts.old }
 {
@@ -101,8 +105,11 @@ pub(crate) fn judge_interaction(
     choice: &Choice,
 ) -> Result<Verdict, Fault>
     requires { (account_at accounts.old federate).is_joined ≡ true }
-    ensures ok { IfOk result (λ v. (d : Directory) → JudgedPick (central_with d accounts.old) federate
-        (callbacks.ReceiveInteraction class values.now event delivery) choice.now (central_with d accounts.new) v) }
+    ensures ok { IfOk result
+        (λ v. (d : Directory)
+        → JudgedPick (central_with d accounts.old) federate
+        (callbacks.ReceiveInteraction class values.now event delivery) choice.now
+        (central_with d accounts.new) v) }
     ensures err { IfErr result (λ e. e ≡ Fault.OutOfMemory) }
     ensures size { length accounts.new ≡ length accounts.old }
 {
@@ -122,8 +129,10 @@ pub(crate) fn judge_removal(
     choice: &Choice,
 ) -> Verdict
     requires { (account_at accounts.old federate).is_joined ≡ true }
-    ensures judged { (d : Directory) → JudgedPick (central_with d accounts.old) federate
-        (callbacks.RemoveObjectInstance object event delivery) choice.now (central_with d accounts.new) result }
+    ensures judged { (d : Directory)
+        → JudgedPick (central_with d accounts.old) federate
+        (callbacks.RemoveObjectInstance object event delivery) choice.now
+        (central_with d accounts.new) result }
     ensures size { length accounts.new ≡ length accounts.old }
 {
     let content = Content::Removal { object };

@@ -35,7 +35,9 @@ pub(crate) fn is_refused_with(outcome: &Outcome, fault: Fault) -> bool
 
 /// Whether a step of an execution that does not exist ended so and chose this: refused for that, with nothing chosen.
 pub fn is_unfound(outcome: &Outcome, choice: &Choice) -> bool
-    ensures { Decides result ((outcome.now ≡ outcomes.Refused faults.FederationExecutionDoesNotExist) × (choice.now ≡ choices.None)) }
+    ensures { Decides result
+        ((outcome.now ≡ outcomes.Refused faults.FederationExecutionDoesNotExist)
+        × (choice.now ≡ choices.None)) }
 {
     is_refused_with(outcome, Fault::FederationExecutionDoesNotExist) && is_nothing(choice)
 }
@@ -70,7 +72,9 @@ pub fn ends_as(fault: Option<Fault>, outcome: &Outcome) -> bool
 
 /// Whether a call of a federate that is not joined ended so and chose this: it was refused for that, with nothing chosen.
 pub fn is_strangers(outcome: &Outcome, choice: &Choice) -> bool
-    ensures { Decides result ((outcome.now ≡ outcomes.Refused faults.FederateNotExecutionMember) × (choice.now ≡ choices.None)) }
+    ensures { Decides result
+        ((outcome.now ≡ outcomes.Refused faults.FederateNotExecutionMember)
+        × (choice.now ≡ choices.None)) }
 {
     is_refused_with(outcome, Fault::FederateNotExecutionMember) && is_nothing(choice)
 }

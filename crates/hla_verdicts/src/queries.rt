@@ -122,8 +122,9 @@ pub fn judge_query(
 ) -> Verdict
     requires joined { (account_at accounts.now federate).is_joined ≡ true }
     requires query { time_query_of service.now ≡ Some query }
-    ensures { (d : Directory) → JudgedWith d accounts.now (steps.Call federate service.now) outcome.now choice.now
-        accounts.now result }
+    ensures { (d : Directory)
+        → JudgedWith d accounts.now
+        (steps.Call federate service.now) outcome.now choice.now accounts.now result }
 {
     if !is_nothing(choice) {
         return Verdict::Wrong;

@@ -30,9 +30,11 @@ fn may_send_from(
 ) -> bool
     requires { (d : Directory) → first_fault (call_tests (central_seen (central_with d accounts.now)) federate
         (services.EnableTimeRegulation time lookahead)) ≡ None }
-    ensures may { (d : Directory) → Decides result (MayEnter (central_with d accounts.now) federate (time + lookahead)
-        (choices.Entry entry)) }
-    ensures within { IsTrue result → MayRegulateFrom (account_at accounts.now federate).state lookahead entry }
+    ensures may { (d : Directory)
+        → Decides result
+        (MayEnter (central_with d accounts.now) federate (time + lookahead) (choices.Entry entry)) }
+    ensures within { IsTrue result
+        → MayRegulateFrom (account_at accounts.now federate).state lookahead entry }
 {
     let _next = accounts.next_federate();
     accounts.may_regulate_from(federate, time, lookahead, entry)
@@ -48,7 +50,9 @@ fn judge_sending_from(
     entry: Ticks,
 ) -> Verdict
     requires joined { (account_at accounts.old federate).is_joined ≡ true }
-    requires free { (d : Directory) → first_fault (call_tests (central_seen (central_with d accounts.old)) federate
+    requires free { (d : Directory)
+        → first_fault
+        (call_tests (central_seen (central_with d accounts.old)) federate
         (services.EnableTimeRegulation time lookahead)) ≡ None }
     ensures judged { (d : Directory) → let c = central_with d accounts.old in
         Judged (MayEnter c federate (time + lookahead) (choices.Entry entry))
@@ -73,10 +77,14 @@ fn judge_asking(
     choice: &Choice,
 ) -> Verdict
     requires joined { (account_at accounts.old federate).is_joined ≡ true }
-    requires free { (d : Directory) → first_fault (call_tests (central_seen (central_with d accounts.old)) federate
+    requires free { (d : Directory)
+        → first_fault
+        (call_tests (central_seen (central_with d accounts.old)) federate
         (services.EnableTimeRegulation time lookahead)) ≡ None }
-    ensures judged { (d : Directory) → let c = central_with d accounts.old in
-        Judged (MayAnswer c federate (services.EnableTimeRegulation time lookahead) answer.now choice.now × IsEntry choice.now)
+    ensures judged { (d : Directory)
+        → let c = central_with d accounts.old in Judged
+        (MayAnswer c federate (services.EnableTimeRegulation time lookahead) answer.now choice.now
+        × IsEntry choice.now)
         (central_with d accounts.new ≡ after_enter c federate lookahead choice.now) result }
     ensures size { length accounts.new ≡ length accounts.old }
 {

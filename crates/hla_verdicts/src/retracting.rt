@@ -24,8 +24,10 @@ pub fn judge_retraction(
     choice: &Choice,
 ) -> Result<Verdict, Fault>
     requires { (account_at accounts.old federate).is_joined ≡ true }
-    ensures ok { IfOk result (λ v. (d : Directory) → JudgedWith d accounts.old (steps.Call federate (services.Retract event))
-        outcome.now choice.now accounts.new v) }
+    ensures ok { IfOk result
+        (λ v. (d : Directory)
+        → JudgedWith d accounts.old
+        (steps.Call federate (services.Retract event)) outcome.now choice.now accounts.new v) }
     ensures err { IfErr result (λ e. e ≡ Fault.OutOfMemory) }
     ensures size { IfOk result (λ _. length accounts.new ≡ length accounts.old) }
 {

@@ -112,8 +112,9 @@ pub fn judge_row_service(
 ) -> Verdict
     requires joined { (account_at accounts.old federate).is_joined ≡ true }
     requires change { row_change_of service.now ≡ Some change }
-    ensures judged { (d : Directory) → JudgedWith d accounts.old (steps.Call federate service.now) outcome.now choice.now
-        accounts.new result }
+    ensures judged { (d : Directory)
+        → JudgedWith d accounts.old
+        (steps.Call federate service.now) outcome.now choice.now accounts.new result }
     ensures size { length accounts.new ≡ length accounts.old }
 {
     let fault = row_fault(accounts, federate, change);

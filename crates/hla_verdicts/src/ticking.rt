@@ -67,7 +67,9 @@ fn may_be_granted(accounts: &Accounts, federate: FederateNo, time: Ticks) -> boo
 
 /// Whether a federate is to be asked to take an event back.
 fn may_be_asked(accounts: &Accounts, federate: FederateNo, event: EventHandle) -> bool
-    ensures { (d : Directory) → Decides result (1 ≤ (central_with d accounts.now).due event.sender event.serial federate) }
+    ensures { (d : Directory)
+        → Decides result
+        (1 ≤ (central_with d accounts.now).due event.sender event.serial federate) }
 {
     accounts.is_due(federate, event)
 }
@@ -80,8 +82,9 @@ fn judge_entry(
     choice: &Choice,
 ) -> Verdict
     requires { (account_at accounts.old federate).is_joined ≡ true }
-    ensures judged { (d : Directory) → JudgedPick (central_with d accounts.old) federate (callbacks.TimeRegulationEnabled time)
-        choice.now (central_with d accounts.new) result }
+    ensures judged { (d : Directory)
+        → JudgedPick (central_with d accounts.old) federate
+        (callbacks.TimeRegulationEnabled time) choice.now (central_with d accounts.new) result }
     ensures size { length accounts.new ≡ length accounts.old }
 {
     if !is_nothing(choice) {
@@ -102,8 +105,9 @@ fn judge_grant(
     choice: &Choice,
 ) -> Verdict
     requires { (account_at accounts.old federate).is_joined ≡ true }
-    ensures judged { (d : Directory) → JudgedPick (central_with d accounts.old) federate (callbacks.TimeAdvanceGrant time)
-        choice.now (central_with d accounts.new) result }
+    ensures judged { (d : Directory)
+        → JudgedPick (central_with d accounts.old) federate
+        (callbacks.TimeAdvanceGrant time) choice.now (central_with d accounts.new) result }
     ensures size { length accounts.new ≡ length accounts.old }
 {
     if !is_nothing(choice) {
@@ -125,8 +129,9 @@ fn judge_request(
     choice: &Choice,
 ) -> Verdict
     requires { (account_at accounts.old federate).is_joined ≡ true }
-    ensures judged { (d : Directory) → JudgedPick (central_with d accounts.old) federate (callbacks.RequestRetraction event)
-        choice.now (central_with d accounts.new) result }
+    ensures judged { (d : Directory)
+        → JudgedPick (central_with d accounts.old) federate
+        (callbacks.RequestRetraction event) choice.now (central_with d accounts.new) result }
     ensures size { length accounts.new ≡ length accounts.old }
 {
     if !is_nothing(choice) {
@@ -149,7 +154,8 @@ fn judge_plain_pick(
 ) -> Verdict
     requires joined { (account_at accounts.old federate).is_joined ≡ true }
     requires plain { IsPlainPick callback.now }
-    ensures judged { (d : Directory) → JudgedPick (central_with d accounts.old) federate callback.now choice.now
+    ensures judged { (d : Directory)
+        → JudgedPick (central_with d accounts.old) federate callback.now choice.now
         (central_with d accounts.new) result }
     ensures size { length accounts.new ≡ length accounts.old }
 {
@@ -181,8 +187,10 @@ fn judge_pick(
     choice: &Choice,
 ) -> Result<Verdict, Fault>
     requires { (account_at accounts.old federate).is_joined ≡ true }
-    ensures ok { IfOk result (λ v. (d : Directory) → d.object ≡ (registry_of registry.now).object →
-        JudgedPick (central_with d accounts.old) federate callback.now choice.now (central_with d accounts.new) v) }
+    ensures ok { IfOk result
+        (λ v. (d : Directory) → d.object ≡ (registry_of registry.now).object
+        → JudgedPick (central_with d accounts.old) federate callback.now choice.now
+        (central_with d accounts.new) v) }
     ensures err { IfErr result (λ e. e ≡ Fault.OutOfMemory) }
     ensures size { length accounts.new ≡ length accounts.old }
 {
@@ -239,9 +247,13 @@ fn judge_answer(
     choice: &Choice,
 ) -> Result<Verdict, Fault>
     requires { (account_at accounts.old federate).is_joined ≡ true }
-    ensures ok { IfOk result (λ v. (d : Directory) → d.object ≡ (registry_of registry.now).object → let c = central_with d accounts.old in
-        Judged (MayDo c (steps.Tick federate) answer.now choice.now × IsChoice (steps.Tick federate) (outcomes.Done answer.now) choice.now)
-        (central_with d accounts.new ≡ after_done c (steps.Tick federate) answer.now choice.now) v) }
+    ensures ok { IfOk result
+        (λ v. (d : Directory) → d.object ≡ (registry_of registry.now).object
+        → let c = central_with d accounts.old in Judged
+        (MayDo c (steps.Tick federate) answer.now choice.now
+        × IsChoice (steps.Tick federate) (outcomes.Done answer.now) choice.now)
+        (central_with d accounts.new
+        ≡ after_done c (steps.Tick federate) answer.now choice.now) v) }
     ensures err { IfErr result (λ e. e ≡ Fault.OutOfMemory) }
     ensures size { length accounts.new ≡ length accounts.old }
 {

@@ -20,7 +20,9 @@ use hla_machine::{Answer, Choice, Outcome};
 
 /// Whether these events may move to receive order as a federate ceases to be constrained.
 fn may_cease(accounts: &Accounts, federate: FederateNo, events: &[EventHandle]) -> bool
-    ensures { (d : Directory) → Decides result (MayCease (central_with d accounts.now) federate (choices.Moved events.now)) }
+    ensures { (d : Directory)
+        → Decides result
+        (MayCease (central_with d accounts.now) federate (choices.Moved events.now)) }
 {
     let _next = accounts.next_federate();
     accounts.may_cease(federate, events)
@@ -30,8 +32,9 @@ fn may_cease(accounts: &Accounts, federate: FederateNo, events: &[EventHandle]) 
 fn cease(accounts: &mut Accounts, federate: FederateNo, events: &[EventHandle])
     requires some { 0 < federate }
     requires within { federate ≤ length accounts.old }
-    ensures { (d : Directory) → central_with d accounts.new ≡ after_cease (central_with d accounts.old) federate
-        (choices.Moved events.now) }
+    ensures { (d : Directory)
+        → central_with d accounts.new
+        ≡ after_cease (central_with d accounts.old) federate (choices.Moved events.now) }
 {
     accounts.change_row(federate, RowChange::CeaseConstraint);
     accounts.demote(federate, events);
@@ -64,8 +67,10 @@ fn judge_cessation(
     choice: &Choice,
 ) -> Verdict
     requires { (account_at accounts.old federate).is_joined ≡ true }
-    ensures judged { (d : Directory) → let c = central_with d accounts.old in
-        Judged (MayAnswer c federate services.DisableTimeConstrained answer.now choice.now × AreMoved choice.now)
+    ensures judged { (d : Directory)
+        → let c = central_with d accounts.old in Judged
+        (MayAnswer c federate services.DisableTimeConstrained answer.now choice.now
+        × AreMoved choice.now)
         (central_with d accounts.new ≡ after_cease c federate choice.now) result }
     ensures size { length accounts.new ≡ length accounts.old }
 {
@@ -88,8 +93,9 @@ pub fn judge_unconstraining(
     choice: &Choice,
 ) -> Verdict
     requires { (account_at accounts.old federate).is_joined ≡ true }
-    ensures judged { (d : Directory) → JudgedWith d accounts.old (steps.Call federate services.DisableTimeConstrained)
-        outcome.now choice.now accounts.new result }
+    ensures judged { (d : Directory)
+        → JudgedWith d accounts.old
+        (steps.Call federate services.DisableTimeConstrained) outcome.now choice.now accounts.new result }
     ensures size { length accounts.new ≡ length accounts.old }
 {
     let fault = accounts.unconstrain_fault(federate);
