@@ -40,15 +40,16 @@ impl Accounts {
         requires some { 0 < federate }
         requires within { federate ≤ length self.old }
         requires room { (account_at self.old federate).next_serial ≤ max_serial }
-        ensures ok { OnOk result ((d : Directory) → let c = central_with d self.old in central_with d self.new ≡ record c {
-          serial = upd c.serial federate (c.serial federate + 1);
-          sent = upd2 c.sent federate (c.serial federate) (record {
-            stamp = stamp;
-            retractable = true;
-            retracted = false;
-            receivers = receiver_set receivers;
-          });
-        }) }
+        ensures ok { OnOk result
+            ((d : Directory) → let c = central_with d self.old in central_with d self.new ≡ record c {
+              serial = upd c.serial federate (c.serial federate + 1);
+              sent = upd2 c.sent federate (c.serial federate) (record {
+                stamp = stamp;
+                retractable = true;
+                retracted = false;
+                receivers = receiver_set receivers;
+              });
+            }) }
         ensures err { IfErr result (λ e. e ≡ Fault.OutOfMemory) }
     {
         self.accounts[federate as usize - 1].note(stamp, receivers)
