@@ -2,5 +2,5 @@
 pub mod Events
 -- The stamps of events by name
 pub mod ByName
--- Blocks of events under their floors, and the queue that they make
-pub mod UnderFloors
+-- Blocks of events under their separators, and the queue that they make
+pub mod UnderSeparators

@@ -39,27 +39,27 @@ unfoldable pub joined : List (List Event) → List Event
 joined [] = []
 joined (b ∷ bs) = b ++ joined bs
 
--- the events of blocks that lie under their floors
+-- the events of blocks that lie under their separators
 abbrev pub events_of : List (EventKey × List Event) → List Event
 events_of es = joined (values_of es)
 
--- there is no block, or the first floor comes after this key
-abbrev pub floor_after : EventKey → List (EventKey × List Event) → Bool
-floor_after k [] = true
-floor_after k (e ∷ es) = is_less k e.0
+-- there is no block, or the first separator comes after this key
+abbrev pub separator_after : EventKey → List (EventKey × List Event) → Bool
+separator_after k [] = true
+separator_after k (e ∷ es) = is_less k e.0
 
--- all floors come after this key
+-- all separators come after this key
 abbrev pub AreAfter : EventKey → List (EventKey × List Event) → Type 0
 AreAfter k es = AllByRecursion (λ e. is_less k e.0 ≡ true) es
 
--- all floors come after these events
+-- all separators come after these events
 abbrev pub AreBelowBlocks : List Event → List (EventKey × List Event) → Type 0
 AreBelowBlocks xs es = AllByRecursion (λ x. AreAfter (key_of x) es) xs
 
--- no event comes before its block's floor, and the floors behind come after it
-unfoldable pub AreFloored : List (EventKey × List Event) → Type 0
-AreFloored [] = Unit {0}
-AreFloored (e ∷ es) = AllByRecursion (λ x. is_less (key_of x) e.0 ≡ false) e.1 × AreBelowBlocks e.1 es × AreFloored es
+-- no event comes before its block's separator, and the separators behind come after it
+unfoldable pub AreSeparatored : List (EventKey × List Event) → Type 0
+AreSeparatored [] = Unit {0}
+AreSeparatored (e ∷ es) = AllByRecursion (λ x. is_less (key_of x) e.0 ≡ false) e.1 × AreBelowBlocks e.1 es × AreSeparatored es
 
 -- no two events have one sender and one serial
 unfoldable pub IsUnique : List Event → Type 0
@@ -69,10 +69,10 @@ IsUnique (x ∷ xs) = (find_event x.sender x.serial xs ≡ None) × IsUnique xs
 -- what is kept of the blocks behind the first
 pub record AreBlocks (es : List (EventKey × List Event)) : Type 0 where
   pub filled : AllByRecursion (λ e. 0 < length e.1) es
-  pub floored : AreFloored es
+  pub separatored : AreSeparatored es
   pub ordered : IsInOrder (events_of es)
 
--- the block under a floor, another in its place, and the blocks without it
+-- the block under a separator, another in its place, and the blocks without it
 abbrev pub block_at : EventKey → List (EventKey × List Event) → Option (List Event)
 block_at f es = lookup (is_at (key_cmp f)) es
 
@@ -82,7 +82,7 @@ set_block f es b = set_value (is_at (key_cmp f)) es b
 abbrev pub without_block : EventKey → List (EventKey × List Event) → List (EventKey × List Event)
 without_block f es = remove_entry (is_at (key_cmp f)) es
 
--- a block lies under this floor, and lesser floors are before it
+-- a block lies under this separator, and lesser separators are before it
 pub record At (f : EventKey) (es : List (EventKey × List Event)) : Type 0 where
   pub before : List (EventKey × List Event)
   pub block : List Event
@@ -90,13 +90,13 @@ pub record At (f : EventKey) (es : List (EventKey × List Event)) : Type 0 where
   pub whole : es ≡ before ++ (f, block) ∷ behind
   pub lesser : AllByRecursion (λ e. is_less e.0 f ≡ true) before
 
--- the event with this key belongs in the block under this floor
+-- the event with this key belongs in the block under this separator
 pub record IsPlace (k f : EventKey) (es : List (EventKey × List Event)) : Type 0 where
   pub at : At f es
   pub low : is_less k f ≡ false
   pub high : AreAfter k at.behind
 
--- the block under this floor keeps its lesser half, and this is the greater
+-- the block under this separator keeps its lesser half, and this is the greater
 pub record IsHalved (f : EventKey) (old new : List (EventKey × List Event)) (greater : List Event) : Type 0 where
   pub block : List Event
   pub lesser : List Event

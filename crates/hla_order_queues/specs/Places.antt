@@ -1,4 +1,4 @@
--- How blocks lie under their floors: in a slab, at the places that an ordered map has for the floors
+-- How blocks lie under their separators: in a slab, at the places that an ordered map has for the separators
 use Rattle.std.specs.Prelude.{◌≡◌, ℕ, eqb, ◌||◌, Bool, false, List, [], ◌∷◌, is_some, Result}
 use Rattle.std.specs.Option.{unwrap_or}
 use Rattle.std.specs.Result.{OnOk, OnErr}
@@ -12,27 +12,27 @@ use Rattle.hla_order_queues.specs.Kept.{set_block}
 abbrev pub block_in : Slab (List Event) → ℕ → List Event
 block_in s place = unwrap_or (get s place) []
 
--- the blocks at these places, under their floors
+-- the blocks at these places, under their separators
 abbrev pub blocks_at : Slab (List Event) → List (EventKey × ℕ) → List (EventKey × List Event)
 blocks_at s [] = []
 blocks_at s (e ∷ es) = (e.0, block_in s e.1) ∷ blocks_at s es
 
--- a floor has this place
+-- a separator has this place
 abbrev pub is_place_named : ℕ → List (EventKey × ℕ) → Bool
 is_place_named place [] = false
 is_place_named place (e ∷ es) = eqb e.1 place || is_place_named place es
 
--- no two floors have one place
+-- no two separators have one place
 abbrev pub AreOwnPlaces : List (EventKey × ℕ) → Type 0
 AreOwnPlaces [] = Unit {0}
 AreOwnPlaces (e ∷ es) = (is_place_named e.1 es ≡ false) × AreOwnPlaces es
 
--- the slab has a block just at the places that floors have, and each floor has a place of its own
+-- the slab has a block just at the places that separators have, and each separator has a place of its own
 pub record AreHeld (s : Slab (List Event)) (es : List (EventKey × ℕ)) : Type 0 where
   pub held : (place : ℕ) → is_some (get s place) ≡ is_place_named place es
   pub distinct : AreOwnPlaces es
 
--- an event was put into the block under a floor, or refused
+-- an event was put into the block under a separator, or refused
 pub record IsPutIn (x : Event) (f : EventKey) (was : List Event) (old new : List (EventKey × List Event)) (r : Result (Unit {0}) Event) : Type 0 where
   pub block : List Event
   pub now : new ≡ set_block f old block

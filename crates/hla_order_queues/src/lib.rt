@@ -4,12 +4,12 @@
 mod block;
 mod blocks;
 mod control;
-mod floors;
 mod key;
 mod names;
 mod ordered;
 mod receive;
 mod rising;
+mod separators;
 mod tso;
 
 pub use control::Control;

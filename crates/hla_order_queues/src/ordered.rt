@@ -159,7 +159,7 @@ impl Ordered {
     }
 }
 
-/// Puts an event at its place, behind all of the first block only where no later floor is at most its key; the event comes
+/// Puts an event at its place, behind all of the first block only where no later separator is at most its key; the event comes
 /// back, and all is as it was, where a growth was refused.
 fn put(first: &mut Block, later: &mut Blocks, event: Event) -> Result<(), Event>
     requires ordered { IsInOrder (first.old ++ events_of later.old) }

@@ -2,19 +2,19 @@
 use Rattle.std.proofs.Common.{◌≡◌, ◌++◌, ap, subst, sym, ◌∙◌}
 use Rattle.std.specs.BTreeMap.{insert_entry}
 use Rattle.hla_order_queues.specs.Kept.{key_cmp, events_of, AreBelowBlocks, AreBlocks}
-use Rattle.hla_order_queues.proofs.UnderFloors.SplitLemmas.{IsBetween, between_known, new_first, closed_first, IsFrontSplit, front_done}
+use Rattle.hla_order_queues.proofs.UnderSeparators.SplitLemmas.{IsBetween, between_known, new_first, closed_first, IsFrontSplit, front_done}
 use Rattle.hla_order_queues.proofs.blocks.split_before.Goals as goal
 use Rattle.hla_order_queues.proofs.blocks.split_before.Goals.{In-Some, After-replace, After-remove}
 
-between : (c : In-Some) → IsBetween c.in-Some.middle c.args.first.now c.args.floors.now
-between c = between_known c.in-Some.middle c.args.first.now c.args.floors.now c.requires.ordered c.requires.unique c.requires.below c.in-Some.ensures
+between : (c : In-Some) → IsBetween c.in-Some.middle c.args.first.now c.args.separators.now
+between c = between_known c.in-Some.middle c.args.first.now c.args.separators.now c.requires.ordered c.requires.unique c.requires.below c.in-Some.ensures
 
 pub insert-requires : goal.insert-requires
-insert-requires c = new_first c.in-Some.middle c.args.first.now c.args.floors.now (between (goal.at.insert-requires c).In-Some)
+insert-requires c = new_first c.in-Some.middle c.args.first.now c.args.separators.now (between (goal.at.insert-requires c).In-Some)
 
-split : (c : After-replace) → IsBetween c.in-Some.middle c.args.first.now c.args.floors.now → IsFrontSplit c.args.first.now c.split.new.self c.args.floors.now c.replace.new.self
+split : (c : After-replace) → IsBetween c.in-Some.middle c.args.first.now c.args.separators.now → IsFrontSplit c.args.first.now c.split.new.self c.args.separators.now c.replace.new.self
 split c m =
-    front_done c.in-Some.middle c.args.first.now c.split.new.self c.in-Ok.greater c.args.floors.now c.insert.new.self c.replace.new.self m c.requires.blocks c.requires.below c.requires.ordered (c.if-not-insert.ensures.put ∙ ap (insert_entry key_cmp c.args.floors.now c.in-Some.middle) c.new.ensures) c.in-Ok.ensures.ok c.in-Ok.ensures.middle c.replace.ensures
+    front_done c.in-Some.middle c.args.first.now c.split.new.self c.in-Ok.greater c.args.separators.now c.insert.new.self c.replace.new.self m c.requires.blocks c.requires.below c.requires.ordered (c.if-not-insert.ensures.put ∙ ap (insert_entry key_cmp c.args.separators.now c.in-Some.middle) c.new.ensures) c.in-Ok.ensures.ok c.in-Ok.ensures.middle c.replace.ensures
 
 pub returns-in-Ok-clause-same : goal.returns-in-Ok-clause-same
 returns-in-Ok-clause-same c = let at = goal.at.returns-in-Ok-clause-same c in (split at.After-replace (between at.In-Some)).same
@@ -25,9 +25,9 @@ returns-in-Ok-clause-blocks c = let at = goal.at.returns-in-Ok-clause-blocks c i
 pub returns-in-Ok-clause-below : goal.returns-in-Ok-clause-below
 returns-in-Ok-clause-below c = let at = goal.at.returns-in-Ok-clause-below c in (split at.After-replace (between at.In-Some)).below
 
-left : (c : After-remove) → IsBetween c.in-Some.middle c.args.first.now c.args.floors.now → c.remove.new.self ≡ c.args.floors.now
+left : (c : After-remove) → IsBetween c.in-Some.middle c.args.first.now c.args.separators.now → c.remove.new.self ≡ c.args.separators.now
 left c m =
-    closed_first c.in-Some.middle c.args.floors.now c.insert.new.self c.remove.new.self c.args.first.now m (c.if-not-insert.ensures.put ∙ ap (insert_entry key_cmp c.args.floors.now c.in-Some.middle) c.new.ensures) c.remove.ensures.rest
+    closed_first c.in-Some.middle c.args.separators.now c.insert.new.self c.remove.new.self c.args.first.now m (c.if-not-insert.ensures.put ∙ ap (insert_entry key_cmp c.args.separators.now c.in-Some.middle) c.new.ensures) c.remove.ensures.rest
 
 pub returns-in-Err-clause-same : goal.returns-in-Err-clause-same
 returns-in-Err-clause-same c =
@@ -40,4 +40,4 @@ returns-in-Err-clause-blocks c = let at = goal.at.returns-in-Err-clause-blocks c
 pub returns-in-Err-clause-below : goal.returns-in-Err-clause-below
 returns-in-Err-clause-below c =
     let at = goal.at.returns-in-Err-clause-below c in
-    subst (AreBelowBlocks c.split.new.self) (sym (left at.After-remove (between at.In-Some))) (subst (λ xs. AreBelowBlocks xs c.args.floors.now) (sym c.in-Err.ensures.err) c.requires.below)
+    subst (AreBelowBlocks c.split.new.self) (sym (left at.After-remove (between at.In-Some))) (subst (λ xs. AreBelowBlocks xs c.args.separators.now) (sym c.in-Err.ensures.err) c.requires.below)

@@ -1,10 +1,10 @@
--- The event goes to the first block where all later floors come after it, and else behind that.
+-- The event goes to the first block where all later separators come after it, and else behind that.
 use Rattle.std.proofs.Common.{◌≡◌, ◌<◌, ◌++◌, length, sym, ap, subst, arith}
 use Rattle.hla_order_queues.specs.declared.key.EventKey.{EventKey}
 use Rattle.hla_order_queues.specs.Kept.{events_of, IsInOrder, IsUnique, AreAfter}
 use Rattle.hla_order_queues.proofs.Events.OrderLemmas.{parts_of}
-use Rattle.hla_order_queues.proofs.UnderFloors.SplitLemmas.{unique_parts}
-use Rattle.hla_order_queues.proofs.UnderFloors.KeptLemmas.{put_front, put_behind, put_below, put_filled, none_in_front}
+use Rattle.hla_order_queues.proofs.UnderSeparators.SplitLemmas.{unique_parts}
+use Rattle.hla_order_queues.proofs.UnderSeparators.KeptLemmas.{put_front, put_behind, put_below, put_filled, none_in_front}
 use Rattle.hla_order_queues.proofs.ordered.put.Goals as goal
 
 pub insert-requires : goal.insert-requires

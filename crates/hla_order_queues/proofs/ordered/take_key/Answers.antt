@@ -1,12 +1,12 @@
--- The event is in the first block where all later floors come after the key, and else among the later ones.
+-- The event is in the first block where all later separators come after the key, and else among the later ones.
 use Rattle.std.proofs.Common.{◌≡◌, ◌++◌, None, Some, sym, ap, subst, ◌∙◌}
 use Rattle.hla_order_queues.specs.Queues.{find_event}
 use Rattle.hla_order_queues.specs.Kept.{key_of, events_of, AreAfter, AreBelowBlocks}
 use Rattle.hla_order_queues.proofs.Events.OrderLemmas.{parts_of}
 use Rattle.hla_order_queues.proofs.Events.RemovalLemmas.{find_event_behind, remove_event_before, remove_event_behind, All-remove_event}
 use Rattle.hla_order_queues.proofs.ByName.StampLemmas.{HasKey, has_key}
-use Rattle.hla_order_queues.proofs.UnderFloors.KeyLemmas.{in_front, key_behind, stamp_behind}
-use Rattle.hla_order_queues.proofs.UnderFloors.PutLemmas.{missed_in_front}
+use Rattle.hla_order_queues.proofs.UnderSeparators.KeyLemmas.{in_front, key_behind, stamp_behind}
+use Rattle.hla_order_queues.proofs.UnderSeparators.PutLemmas.{missed_in_front}
 use Rattle.hla_order_queues.proofs.ordered.take_key.Goals as goal
 use Rattle.hla_order_queues.proofs.ordered.take_key.Goals.{Start, Then-is_after, Else-is_after}
 

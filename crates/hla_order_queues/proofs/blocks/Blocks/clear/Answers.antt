@@ -1,5 +1,5 @@
 -- There are no blocks.
-use Rattle.hla_order_queues.proofs.UnderFloors.JoinedLemmas.{no_blocks}
+use Rattle.hla_order_queues.proofs.UnderSeparators.JoinedLemmas.{no_blocks}
 use Rattle.hla_order_queues.proofs.blocks.Blocks.clear.Goals as goal
 
 pub invariant_of-self : goal.invariant_of-self

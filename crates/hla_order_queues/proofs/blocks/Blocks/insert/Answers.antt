@@ -5,19 +5,19 @@ use Rattle.hla_base.specs.declared.content.Event.{Event}
 use Rattle.hla_order_queues.specs.Queues.{insert_event}
 use Rattle.hla_order_queues.specs.declared.key.EventKey.{EventKey}
 use Rattle.hla_order_queues.specs.Kept.{events_of, AreBelowBlocks, IsPlace}
-use Rattle.hla_order_queues.proofs.UnderFloors.PutLemmas.{IsPut, put_under, ordered_under}
+use Rattle.hla_order_queues.proofs.UnderSeparators.PutLemmas.{IsPut, put_under, ordered_under}
 use Rattle.hla_order_queues.proofs.blocks.Blocks.insert.Goals as goal
 use Rattle.hla_order_queues.proofs.blocks.Blocks.insert.Goals.{After-insert_event}
 
 pub insert_event-requires : goal.insert_event-requires
-insert_event-requires c = ordered_under c.in-Some.floor c.roomy_floor.new.floors c.in-Some.ensures.place.at c.in-Some.ensures.blocks
+insert_event-requires c = ordered_under c.in-Some.separator c.roomy_separator.new.separators c.in-Some.ensures.place.at c.in-Some.ensures.blocks
 
-put : (c : After-insert_event) → IsPut c.args.event c.roomy_floor.new.floors c.insert_event.new.self c.insert_event.result
+put : (c : After-insert_event) → IsPut c.args.event c.roomy_separator.new.separators c.insert_event.new.self c.insert_event.result
 put c =
-    let place = subst (λ (k : EventKey). IsPlace k c.in-Some.floor c.roomy_floor.new.floors) c.of.ensures c.in-Some.ensures.place in
-    put_under c.args.event c.roomy_floor.new.floors c.insert_event.new.self c.in-Some.floor c.insert_event.result place c.in-Some.ensures.blocks c.insert_event.ensures.put
+    let place = subst (λ (k : EventKey). IsPlace k c.in-Some.separator c.roomy_separator.new.separators) c.of.ensures c.in-Some.ensures.place in
+    put_under c.args.event c.roomy_separator.new.separators c.insert_event.new.self c.in-Some.separator c.insert_event.result place c.in-Some.ensures.blocks c.insert_event.ensures.put
 
-same : (c : After-insert_event) → events_of c.roomy_floor.new.floors ≡ events_of c.args.self.now
+same : (c : After-insert_event) → events_of c.roomy_separator.new.separators ≡ events_of c.args.self.now
 same c = c.in-Some.ensures.same ∙ ap events_of c.self.view_is
 
 pub invariant_of-self-2 : goal.invariant_of-self-2

@@ -1,5 +1,5 @@
 -- There are no blocks.
-use Rattle.hla_order_queues.proofs.UnderFloors.JoinedLemmas.{no_blocks}
+use Rattle.hla_order_queues.proofs.UnderSeparators.JoinedLemmas.{no_blocks}
 use Rattle.hla_order_queues.proofs.blocks.Blocks.new.Goals as goal
 
 pub invariant_of-result : goal.invariant_of-result

@@ -2,12 +2,12 @@
 use Rattle.std.proofs.Common.{List, subst}
 use Rattle.hla_base.specs.declared.content.Event.{Event}
 use Rattle.hla_order_queues.specs.declared.key.EventKey.{EventKey}
-use Rattle.hla_order_queues.proofs.UnderFloors.JoinedLemmas.{IsTakenOut, taken_front}
+use Rattle.hla_order_queues.proofs.UnderSeparators.JoinedLemmas.{IsTakenOut, taken_front}
 use Rattle.hla_order_queues.proofs.blocks.Blocks.take_first.Goals as goal
 use Rattle.hla_order_queues.proofs.blocks.Blocks.take_first.Goals.{After-take_first}
 
-taken : (c : After-take_first) → IsTakenOut c.take_first.result c.self.inside.floors c.take_first.new.self
-taken c = taken_front c.take_first.result c.self.inside.floors c.take_first.new.self c.self.invariant c.take_first.ensures
+taken : (c : After-take_first) → IsTakenOut c.take_first.result c.self.inside.separators c.take_first.new.self
+taken c = taken_front c.take_first.result c.self.inside.separators c.take_first.new.self c.self.invariant c.take_first.ensures
 
 pub invariant_of-self : goal.invariant_of-self
 invariant_of-self c = (taken c).left

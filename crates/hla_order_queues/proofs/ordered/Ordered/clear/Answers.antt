@@ -1,5 +1,5 @@
 -- Nothing is kept.
-use Rattle.hla_order_queues.proofs.UnderFloors.KeptLemmas.{kept_nothing}
+use Rattle.hla_order_queues.proofs.UnderSeparators.KeptLemmas.{kept_nothing}
 use Rattle.hla_order_queues.proofs.ordered.Ordered.clear.Goals as goal
 
 pub invariant_of-self : goal.invariant_of-self

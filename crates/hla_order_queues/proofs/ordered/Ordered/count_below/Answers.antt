@@ -4,7 +4,7 @@ use Rattle.std.specs.List.{prefix_len}
 use Rattle.hla_order_queues.specs.Moving.{is_moved, IsRising}
 use Rattle.hla_order_queues.specs.Kept.{events_of}
 use Rattle.hla_order_queues.proofs.Events.OrderLemmas.{IsRising-ordered}
-use Rattle.hla_order_queues.proofs.UnderFloors.StepLemmas.{prefix_len-parts, prefix_len-le}
+use Rattle.hla_order_queues.proofs.UnderSeparators.StepLemmas.{prefix_len-parts, prefix_len-le}
 use Rattle.hla_order_queues.proofs.ordered.Ordered.count_below.Goals as goal
 
 pub count_below-requires : goal.count_below-requires

@@ -2,7 +2,7 @@
 use Rattle.std.proofs.Common.{ap, ◌∙◌}
 use Rattle.std.specs.List.{slice_get}
 use Rattle.hla_order_queues.specs.Kept.{events_of}
-use Rattle.hla_order_queues.proofs.UnderFloors.KeptLemmas.{first_event}
+use Rattle.hla_order_queues.proofs.UnderSeparators.KeptLemmas.{first_event}
 use Rattle.hla_order_queues.proofs.ordered.Ordered.first.Goals as goal
 
 pub returns : goal.returns

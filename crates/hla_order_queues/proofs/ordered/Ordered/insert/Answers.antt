@@ -1,7 +1,7 @@
 -- What is kept is in order, and one more.
 use Rattle.std.proofs.Common.{sym, subst, arith}
 use Rattle.hla_order_queues.specs.Kept.{events_of, IsUnique}
-use Rattle.hla_order_queues.proofs.UnderFloors.KeptLemmas.{kept_inserted}
+use Rattle.hla_order_queues.proofs.UnderSeparators.KeptLemmas.{kept_inserted}
 use Rattle.hla_order_queues.proofs.ordered.Ordered.insert.Goals as goal
 
 pub put-requires-clause-unique : goal.put-requires-clause-unique

@@ -1,5 +1,5 @@
 -- Nothing is kept.
-use Rattle.hla_order_queues.proofs.UnderFloors.KeptLemmas.{kept_nothing}
+use Rattle.hla_order_queues.proofs.UnderSeparators.KeptLemmas.{kept_nothing}
 use Rattle.hla_order_queues.proofs.ordered.Ordered.new.Goals as goal
 
 pub invariant_of-result : goal.invariant_of-result

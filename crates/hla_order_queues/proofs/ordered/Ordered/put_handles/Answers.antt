@@ -1,7 +1,7 @@
 -- First those of the first block, then those behind it.
 use Rattle.std.proofs.Common.{◌≡◌, min, length, arith}
 use Rattle.hla_order_queues.specs.Kept.{events_of}
-use Rattle.hla_order_queues.proofs.UnderFloors.KeptLemmas.{put_both}
+use Rattle.hla_order_queues.proofs.UnderSeparators.KeptLemmas.{put_both}
 use Rattle.hla_order_queues.proofs.ordered.Ordered.put_handles.Goals as goal
 
 pub returns-clause-put : goal.returns-clause-put

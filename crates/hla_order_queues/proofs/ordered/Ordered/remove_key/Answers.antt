@@ -1,7 +1,7 @@
 -- What is left is in order, and one fewer.
 use Rattle.std.proofs.Common.{◌∙◌}
 use Rattle.hla_order_queues.specs.Kept.{events_of}
-use Rattle.hla_order_queues.proofs.UnderFloors.KeptLemmas.{some_kept, kept_removed}
+use Rattle.hla_order_queues.proofs.UnderSeparators.KeptLemmas.{some_kept, kept_removed}
 use Rattle.hla_order_queues.proofs.ordered.Ordered.remove_key.Goals as goal
 
 pub overflow_sub-self : goal.overflow_sub-self

@@ -1,6 +1,6 @@
 -- The first event is that of the first block, which is filled again.
 use Rattle.hla_order_queues.specs.Kept.{events_of}
-use Rattle.hla_order_queues.proofs.UnderFloors.KeptLemmas.{kept_taken}
+use Rattle.hla_order_queues.proofs.UnderSeparators.KeptLemmas.{kept_taken}
 use Rattle.hla_order_queues.proofs.ordered.Ordered.take_first.Goals as goal
 
 pub invariant_of-self : goal.invariant_of-self
