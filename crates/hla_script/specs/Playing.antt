@@ -27,11 +27,10 @@ use Rattle.hla_requests.specs.Members.{members}
 use Rattle.hla_requests.specs.Requests.{request_of}
 
 -- ---- the record of a line
--- a create that is accepted holds the catalogue; so does one past the limit, which is tested behind the FED file
+-- a create holds the catalogue, but for that of an execution that is there, which is refused before the FED file is looked at
 abbrev pub created_catalogue : CatalogueValue → Outcome → Option CatalogueValue
-created_catalogue c (outcome.Done a) = Some c
-created_catalogue c (outcome.Refused fault.LimitReached) = Some c
-created_catalogue c out = None
+created_catalogue c (outcome.Refused fault.FederationExecutionAlreadyExists) = None
+created_catalogue c out = Some c
 
 abbrev pub act_of : CatalogueValue → Request → Outcome → Act
 act_of c request.Create out = act.Create (created_catalogue c out)

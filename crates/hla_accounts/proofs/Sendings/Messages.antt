@@ -23,7 +23,7 @@ use Rattle.hla_machine.proofs.Basics.Bags.{bag_ext, key_parts, or_else-none, at_
 use Rattle.hla_accounts.specs.declared.account.Account.{Account}
 use Rattle.hla_accounts.specs.Accounts.{account_at, central_with, copy_at, copy_given}
 use Rattle.hla_accounts.specs.Sendings.{item_for, copy_sent, sent_delivery, stamp_in_order, noted_stamp, kept_event, IsCutTo}
-use Rattle.hla_accounts.proofs.Changes.Accounts.{account_at-past}
+use Rattle.hla_accounts.proofs.AfterSteps.Accounts.{account_at-past}
 
 -- ---- lists by federate
 pub item_for-past : {X : Type 0} (xs : List (Option X)) (f : ℕ) → length xs < f → item_for xs f ≡ None

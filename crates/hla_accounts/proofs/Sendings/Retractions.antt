@@ -13,8 +13,8 @@ use Rattle.hla_machine.proofs.Basics.Bags.{key_parts}
 use Rattle.hla_accounts.specs.declared.account.Account.{Account}
 use Rattle.hla_accounts.specs.Accounts.{account_at, no_account, central_with, times_listed}
 use Rattle.hla_accounts.specs.Calls.{is_told_of}
-use Rattle.hla_accounts.proofs.Changes.Accounts.{account_at-past}
-use Rattle.hla_accounts.proofs.Changes.Counts.{same_size}
+use Rattle.hla_accounts.proofs.AfterSteps.Accounts.{account_at-past}
+use Rattle.hla_accounts.proofs.AfterSteps.Counts.{same_size}
 
 and_false : (a b : Bool) → (a && (b && false)) ≡ false
 and_false true true = refl

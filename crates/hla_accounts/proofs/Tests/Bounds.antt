@@ -6,7 +6,7 @@ use Rattle.std.specs.Option.{option_map_or}
 use Rattle.std.proofs.lemmas.Bool.Decides.{nat_tests, Decides-by_and, Decides-like, Decides-and, Decides-or, Decides-eqb, Decides-below_and}
 use Rattle.std.proofs.lemmas.Bool.{cases_lt}
 use Rattle.hla_base.specs.Limits.{forever}
-use Rattle.hla_accounts.proofs.Changes.Accounts.{account_at-past}
+use Rattle.hla_accounts.proofs.AfterSteps.Accounts.{account_at-past}
 use Rattle.std.proofs.lemmas.List.Elements.{All-nil, All-cons, All-head, All-tail}
 use Rattle.hla_base.specs.declared.row.AdvanceKind.{AdvanceKind}
 use Rattle.hla_base.specs.declared.row.AdvanceRequest.{AdvanceRequest}

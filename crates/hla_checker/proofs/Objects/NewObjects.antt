@@ -12,7 +12,7 @@ use Rattle.hla_machine.specs.Central.{Central}
 use Rattle.hla_accounts.specs.declared.account.Account.{Account}
 use Rattle.hla_accounts.specs.declared.offers.Offer.{Offer}
 use Rattle.hla_accounts.specs.Accounts.{account_at, central_with, offers_from}
-use Rattle.hla_accounts.proofs.Changes.Accounts.{account_at-past}
+use Rattle.hla_accounts.proofs.AfterSteps.Accounts.{account_at-past}
 use Rattle.hla_accounts.proofs.Sendings.Discoveries.{none_offered, offers_in}
 use Rattle.hla_accounts.proofs.Sendings.Messages.{joined_in}
 use Rattle.hla_checker.specs.Offering.{wanted_discoveries, known_to_joined}

@@ -24,7 +24,7 @@ use Rattle.hla_machine.specs.declared.step.Choice.TheVariants as choice
 use Rattle.hla_machine.proofs.Basics.Tests.{all_clear}
 use Rattle.hla_accounts.specs.declared.account.Account.{Account}
 use Rattle.hla_accounts.specs.Accounts.{account_at, central_with}
-use Rattle.hla_accounts.proofs.Changes.Counts.{same_size}
+use Rattle.hla_accounts.proofs.AfterSteps.Counts.{same_size}
 use Rattle.hla_accounts.proofs.Sendings.Discoveries.{offers_in}
 use Rattle.hla_accounts.proofs.Sendings.Messages.{joined_in}
 use Rattle.hla_verdicts.specs.declared.verdict.Verdict.TheVariants as verdict

@@ -12,7 +12,7 @@ use Rattle.hla_machine.specs.declared.step.Answer.TheVariants as answer
 use Rattle.hla_accounts.specs.declared.account.Account.{Account}
 use Rattle.hla_accounts.specs.declared.offers.Offer.{Offer}
 use Rattle.hla_accounts.specs.Accounts.{central_with, offers_from}
-use Rattle.hla_accounts.proofs.Changes.Counts.{same_size}
+use Rattle.hla_accounts.proofs.AfterSteps.Counts.{same_size}
 use Rattle.hla_verdicts.specs.Calls.{AnswersDone}
 use Rattle.hla_verdicts.specs.Kept.{KeptValue, IsConsistent, central_of, directory_kept}
 use Rattle.hla_checker.specs.Offering.{wanted_discoveries}

@@ -33,7 +33,7 @@ use Rattle.hla_accounts.specs.declared.row_change.RowChange.{RowChange}
 use Rattle.hla_accounts.specs.declared.row_change.RowChange.TheVariants.{Request, CeaseRegulation, AskConstraint, SetLookahead, SetAsynchronous}
 use Rattle.hla_accounts.specs.Accounts.{account_at, central_with}
 use Rattle.hla_accounts.specs.RowChanges.{changed_row, MayChangeRow}
-use Rattle.hla_accounts.proofs.Changes.Accounts.{account_at-past}
+use Rattle.hla_accounts.proofs.AfterSteps.Accounts.{account_at-past}
 use Rattle.hla_verdicts.specs.declared.verdict.Verdict.{Verdict}
 use Rattle.hla_verdicts.specs.declared.verdict.Verdict.TheVariants as verdict
 use Rattle.hla_verdicts.specs.Verdicts.{Judged}

@@ -6,7 +6,7 @@ use Rattle.hla_machine.specs.Machine.{central_seen}
 use Rattle.hla_machine.specs.declared.service.Service.TheVariants as services
 use Rattle.hla_machine.specs.declared.step.Step.TheVariants as steps
 use Rattle.hla_accounts.specs.Accounts.{central_with}
-use Rattle.hla_accounts.proofs.Changes.Counts.{same_size}
+use Rattle.hla_accounts.proofs.AfterSteps.Counts.{same_size}
 use Rattle.hla_verdicts.proofs.Steps.Outcomes.{refused_told, done_wrong}
 use Rattle.hla_verdicts.proofs.Steps.Calls.{joined_within}
 use Rattle.hla_verdicts.proofs.Steps.Services.{joined_refusal, plain_chose, plain_not_done, plain_done}

@@ -1,6 +1,6 @@
 use Rattle.std.proofs.Common.{ap}
 use Rattle.hla_machine.specs.Central.{Central}
-use Rattle.hla_accounts.proofs.Changes.Counts.{same_size}
+use Rattle.hla_accounts.proofs.AfterSteps.Counts.{same_size}
 use Rattle.hla_verdicts.proofs.ticking.judge_entry.Goals as goal
 
 pub returns-clause-judged : goal.returns-clause-judged

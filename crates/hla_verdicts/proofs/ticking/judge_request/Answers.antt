@@ -1,7 +1,7 @@
 use Rattle.std.proofs.Common.{sym, ap, ◌∙◌}
 use mathlib.Core.Bool.{false≢true}
 use Rattle.hla_machine.specs.Central.{Central}
-use Rattle.hla_accounts.proofs.Changes.Counts.{same_size}
+use Rattle.hla_accounts.proofs.AfterSteps.Counts.{same_size}
 use Rattle.hla_verdicts.proofs.ticking.judge_request.Goals as goal
 
 pub returns-then-not-may_be_asked-clause-judged : goal.returns-then-not-may_be_asked-clause-judged

@@ -1,7 +1,7 @@
 use Rattle.std.proofs.Common.{ℕ, ◌≤◌, sym, ap, subst}
 use Rattle.hla_machine.specs.Central.{Central}
 use Rattle.hla_accounts.specs.Accounts.{central_with}
-use Rattle.hla_accounts.proofs.Changes.Counts.{same_size}
+use Rattle.hla_accounts.proofs.AfterSteps.Counts.{same_size}
 use Rattle.hla_verdicts.proofs.Time.Constraints.{ceased_after}
 use Rattle.hla_verdicts.proofs.unconstraining.cease.Goals as goal
 

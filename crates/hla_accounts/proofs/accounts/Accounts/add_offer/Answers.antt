@@ -2,9 +2,9 @@
 use Rattle.std.proofs.Common.{◌≡◌, ◌≤◌, ◌-◌, ◌++◌, ◌∷◌, [], length, set, subst, ap, ◌∙◌}
 use Rattle.hla_base.specs.Tables.{upd2}
 use Rattle.hla_accounts.specs.Accounts.{account_at, central_with, offers_from}
-use Rattle.hla_accounts.proofs.Changes.OneAccount.{account_read}
-use Rattle.hla_accounts.proofs.Changes.Offers.{offers_set, offers_kept, offers-push}
-use Rattle.hla_accounts.proofs.Changes.Counts.{on_ok}
+use Rattle.hla_accounts.proofs.AfterSteps.OneAccount.{account_read}
+use Rattle.hla_accounts.proofs.AfterSteps.Offers.{offers_set, offers_kept, offers-push}
+use Rattle.hla_accounts.proofs.AfterSteps.Counts.{on_ok}
 use Rattle.hla_accounts.proofs.accounts.Accounts.add_offer.Goals as goal
 
 inside : (c : goal.After-self-1) → c.args.federate ≤ length c.self.inside.accounts.items

@@ -4,7 +4,7 @@ use Rattle.hla_machine.specs.Callbacks.{with_demoted}
 use Rattle.hla_accounts.specs.declared.bag.Waiting.{Waiting}
 use Rattle.hla_accounts.specs.Bags.{waiting_at}
 use Rattle.hla_accounts.specs.Accounts.{account_at, central_with}
-use Rattle.hla_accounts.proofs.Changes.OneAccount.{account_read, bag_kept, demote_set, none_demoted, arrived}
+use Rattle.hla_accounts.proofs.AfterSteps.OneAccount.{account_read, bag_kept, demote_set, none_demoted, arrived}
 use Rattle.hla_accounts.proofs.accounts.Accounts.arrive.Goals as goal
 
 inside : (c : goal.After-self-1) → c.args.federate ≤ length c.self.inside.accounts.items

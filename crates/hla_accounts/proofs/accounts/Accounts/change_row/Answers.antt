@@ -4,7 +4,7 @@ use Rattle.hla_machine.specs.Callbacks.{with_central_row}
 use Rattle.hla_accounts.specs.declared.account.Account.{Account}
 use Rattle.hla_accounts.specs.RowChanges.{changed_row, MayChangeRow}
 use Rattle.hla_accounts.specs.Accounts.{account_at, central_with}
-use Rattle.hla_accounts.proofs.Changes.OneAccount.{account_read, account_shown, row_kept, row_set}
+use Rattle.hla_accounts.proofs.AfterSteps.OneAccount.{account_read, account_shown, row_kept, row_set}
 use Rattle.hla_accounts.proofs.accounts.Accounts.change_row.Goals as goal
 
 pub make-requires : goal.make-requires

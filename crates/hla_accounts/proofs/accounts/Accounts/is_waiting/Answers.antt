@@ -1,6 +1,6 @@
 -- Nothing waits for who never joined.
 use mathlib.Core.Bool.{false≢true}
-use Rattle.hla_accounts.proofs.Changes.Accounts.{nothing_waits}
+use Rattle.hla_accounts.proofs.AfterSteps.Accounts.{nothing_waits}
 use Rattle.hla_accounts.proofs.accounts.Accounts.is_waiting.Goals as goal
 
 pub returns-in-None : goal.returns-in-None

@@ -2,7 +2,7 @@
 use Rattle.std.proofs.Common.{◌≡◌, ◌++◌, ◌∷◌, [], subst, ap, ◌∙◌}
 use Rattle.hla_machine.specs.Machine.{after_join}
 use Rattle.hla_accounts.specs.Accounts.{central_with}
-use Rattle.hla_accounts.proofs.Changes.Joins.{joins_set, joins_kept}
+use Rattle.hla_accounts.proofs.AfterSteps.Joins.{joins_set, joins_kept}
 use Rattle.hla_accounts.proofs.accounts.Accounts.join.Goals as goal
 use Rattle.hla_accounts.proofs.accounts.Accounts.join.Goals.{in-Ok, in-Err}
 

@@ -3,8 +3,8 @@ use Rattle.std.proofs.Common.{◌≡◌, ◌≤◌, ◌-◌, length, set, subst}
 use Rattle.hla_machine.specs.Directory.{without_member}
 use Rattle.hla_machine.specs.Machine.{after_leaving}
 use Rattle.hla_accounts.specs.Accounts.{account_at, central_with}
-use Rattle.hla_accounts.proofs.Changes.OneAccount.{account_read}
-use Rattle.hla_accounts.proofs.Changes.Joins.{left_set, left_kept}
+use Rattle.hla_accounts.proofs.AfterSteps.OneAccount.{account_read}
+use Rattle.hla_accounts.proofs.AfterSteps.Joins.{left_set, left_kept}
 use Rattle.hla_accounts.proofs.accounts.Accounts.leave.Goals as goal
 
 inside : (c : goal.After-self-1) → c.args.federate ≤ length c.self.inside.accounts.items

@@ -1,7 +1,7 @@
 -- It waits or does not, and the rest is tested.
 use Rattle.std.proofs.lemmas.Bool.Decides.{Decides-at}
 use Rattle.hla_accounts.specs.Accounts.{AreKept}
-use Rattle.hla_accounts.proofs.Changes.Accounts.{nothing_waits}
+use Rattle.hla_accounts.proofs.AfterSteps.Accounts.{nothing_waits}
 use Rattle.hla_accounts.proofs.Tests.Ticks.{may_deliver_decided}
 use Rattle.hla_accounts.proofs.accounts.Accounts.may_deliver.Goals as goal
 

@@ -1,5 +1,5 @@
 -- There is nobody.
-use Rattle.hla_accounts.proofs.Changes.Accounts.{none_kept}
+use Rattle.hla_accounts.proofs.AfterSteps.Accounts.{none_kept}
 use Rattle.hla_accounts.proofs.accounts.Accounts.new.Goals as goal
 
 pub invariant_of-result : goal.invariant_of-result

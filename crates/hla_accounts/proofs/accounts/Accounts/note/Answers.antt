@@ -7,9 +7,9 @@ use Rattle.hla_retraction.specs.SentRows.{sent_of}
 use Rattle.hla_retraction.specs.Receivers.{receiver_set}
 use Rattle.hla_accounts.specs.declared.account.Account.{Account}
 use Rattle.hla_accounts.specs.Accounts.{account_at, central_with, AreKept}
-use Rattle.hla_accounts.proofs.Changes.OneAccount.{account_read, account_shown}
-use Rattle.hla_accounts.proofs.Changes.Counts.{on_ok}
-use Rattle.hla_accounts.proofs.Changes.Sends.{on_both, notes_kept, note_set}
+use Rattle.hla_accounts.proofs.AfterSteps.OneAccount.{account_read, account_shown}
+use Rattle.hla_accounts.proofs.AfterSteps.Counts.{on_ok}
+use Rattle.hla_accounts.proofs.AfterSteps.Sends.{on_both, notes_kept, note_set}
 use Rattle.hla_accounts.proofs.accounts.Accounts.note.Goals as goal
 
 inside : (c : goal.After-self-1) → c.args.federate ≤ length c.self.inside.accounts.items

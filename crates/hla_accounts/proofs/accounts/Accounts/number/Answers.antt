@@ -3,7 +3,7 @@ use Rattle.std.proofs.Common.{◌+◌, ap, ◌∙◌}
 use Rattle.hla_base.specs.Tables.{upd, upd2}
 use Rattle.hla_retraction.specs.SentEvents.{SentEvent}
 use Rattle.hla_accounts.specs.Accounts.{central_with}
-use Rattle.hla_accounts.proofs.Changes.Counts.{on_ok}
+use Rattle.hla_accounts.proofs.AfterSteps.Counts.{on_ok}
 use Rattle.hla_accounts.proofs.Sendings.Messages.{receives, kept_as, unkept}
 use Rattle.hla_accounts.proofs.accounts.Accounts.number.Goals as goal
 

@@ -4,7 +4,7 @@ use Rattle.std.specs.Option.{option_to_list}
 use Rattle.hla_base.specs.declared.content.Discovery.{Discovery}
 use Rattle.hla_base.specs.Tables.{is_other, when, upd2}
 use Rattle.hla_accounts.specs.Accounts.{central_with}
-use Rattle.hla_accounts.proofs.Changes.Counts.{on_ok}
+use Rattle.hla_accounts.proofs.AfterSteps.Counts.{on_ok}
 use Rattle.hla_accounts.proofs.Sendings.Discoveries.{offers_in, none_offered}
 use Rattle.hla_accounts.proofs.Sendings.Messages.{joined_in, other_self, other_unjoined, other_joined, when_untold, when_told, when_none}
 use Rattle.hla_accounts.proofs.accounts.Accounts.offer_to.Goals as goal

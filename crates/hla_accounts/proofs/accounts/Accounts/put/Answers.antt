@@ -4,9 +4,9 @@ use Rattle.hla_machine.specs.Central.{at_key}
 use Rattle.hla_accounts.specs.declared.account.Account.{Account}
 use Rattle.hla_accounts.specs.Bags.{waiting_at}
 use Rattle.hla_accounts.specs.Accounts.{account_at, central_with, copy_of}
-use Rattle.hla_accounts.proofs.Changes.OneAccount.{account_read, account_shown, entry_set}
-use Rattle.hla_accounts.proofs.Changes.Counts.{on_ok}
-use Rattle.hla_accounts.proofs.Changes.Sends.{puts_kept}
+use Rattle.hla_accounts.proofs.AfterSteps.OneAccount.{account_read, account_shown, entry_set}
+use Rattle.hla_accounts.proofs.AfterSteps.Counts.{on_ok}
+use Rattle.hla_accounts.proofs.AfterSteps.Sends.{puts_kept}
 use Rattle.hla_accounts.proofs.accounts.Accounts.put.Goals as goal
 
 inside : (c : goal.After-self-1) → c.args.federate ≤ length c.self.inside.accounts.items

@@ -4,7 +4,7 @@ use Rattle.hla_base.specs.declared.content.Content.{Content}
 use Rattle.hla_base.specs.Tables.{is_other, when}
 use Rattle.hla_machine.specs.Central.{Copy, at_key}
 use Rattle.hla_accounts.specs.Accounts.{central_with, copy_given}
-use Rattle.hla_accounts.proofs.Changes.Counts.{on_ok}
+use Rattle.hla_accounts.proofs.AfterSteps.Counts.{on_ok}
 use Rattle.hla_accounts.proofs.Sendings.Messages.{joined_in, none_put, other_self, other_unjoined, other_joined, when_untold, when_told, nothing_said}
 use Rattle.hla_accounts.proofs.accounts.Accounts.put_copy.Goals as goal
 use Rattle.hla_accounts.proofs.accounts.Accounts.put_copy.Goals.{then-event-federate-via-then-event-federate, then-event-federate-via-else-event-federate+then-not-is_joined}

@@ -4,8 +4,8 @@ use Rattle.hla_base.specs.Tables.{upd2}
 use Rattle.hla_retraction.specs.SentRows.{sent_of}
 use Rattle.hla_accounts.specs.declared.account.Account.{Account}
 use Rattle.hla_accounts.specs.Accounts.{account_at, central_with}
-use Rattle.hla_accounts.proofs.Changes.OneAccount.{account_read, account_shown}
-use Rattle.hla_accounts.proofs.Changes.Sends.{retract_kept, retract_set}
+use Rattle.hla_accounts.proofs.AfterSteps.OneAccount.{account_read, account_shown}
+use Rattle.hla_accounts.proofs.AfterSteps.Sends.{retract_kept, retract_set}
 use Rattle.hla_accounts.proofs.accounts.Accounts.retract.Goals as goal
 
 inside : (c : goal.After-self-1) → c.args.federate ≤ length c.self.inside.accounts.items

@@ -3,7 +3,7 @@ use Rattle.std.proofs.Common.{◌≡◌, ap, ◌∙◌}
 use Rattle.hla_machine.specs.Central.{Central, with_copies}
 use Rattle.hla_accounts.specs.Accounts.{central_with}
 use Rattle.hla_accounts.specs.Sendings.{copy_sent, sent_delivery, noted_stamp, stamp_in_order}
-use Rattle.hla_accounts.proofs.Changes.Counts.{on_ok}
+use Rattle.hla_accounts.proofs.AfterSteps.Counts.{on_ok}
 use Rattle.hla_accounts.proofs.Sendings.Messages.{sent_so, noted_none, noted_some, copies_unused, serial_used}
 use Rattle.hla_accounts.proofs.accounts.Accounts.send.Goals as goal
 use Rattle.hla_accounts.proofs.accounts.Accounts.send.Goals.{then-is_deletion, else-is_deletion}

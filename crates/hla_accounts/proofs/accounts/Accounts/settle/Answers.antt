@@ -2,7 +2,7 @@
 use Rattle.std.proofs.Common.{◌≡◌, ◌-◌, ℕ, None, length, sym, ap, ◌∙◌}
 use Rattle.hla_machine.specs.Central.{Central, at_key, at3}
 use Rattle.hla_accounts.specs.Accounts.{central_with}
-use Rattle.hla_accounts.proofs.Changes.Counts.{same_size, settled_asking, settled_taking}
+use Rattle.hla_accounts.proofs.AfterSteps.Counts.{same_size, settled_asking, settled_taking}
 use Rattle.hla_accounts.proofs.accounts.Accounts.settle.Goals as goal
 use Rattle.hla_accounts.proofs.accounts.Accounts.settle.Goals.{Joined-not-is_there, After-take, then-not-is_there+in_ok-add_due, else-not-is_there}
 

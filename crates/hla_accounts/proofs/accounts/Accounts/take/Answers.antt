@@ -4,7 +4,7 @@ use Rattle.hla_machine.specs.Central.{at_key}
 use Rattle.hla_accounts.specs.declared.bag.Waiting.{Waiting}
 use Rattle.hla_accounts.specs.Bags.{waiting_at}
 use Rattle.hla_accounts.specs.Accounts.{account_at, central_with}
-use Rattle.hla_accounts.proofs.Changes.OneAccount.{account_read, bag_kept, take_set, none_stays}
+use Rattle.hla_accounts.proofs.AfterSteps.OneAccount.{account_read, bag_kept, take_set, none_stays}
 use Rattle.hla_accounts.proofs.accounts.Accounts.take.Goals as goal
 
 inside : (c : goal.After-self-1) → c.args.federate ≤ length c.self.inside.accounts.items

@@ -4,7 +4,7 @@ use Rattle.hla_base.specs.Tables.{upd2}
 use Rattle.hla_catalogue.specs.CatalogueValue.{empty_catalogue}
 use Rattle.hla_machine.specs.Directory.{new_directory}
 use Rattle.hla_machine.specs.Central.{Central}
-use Rattle.hla_accounts.proofs.Changes.Counts.{same_size}
+use Rattle.hla_accounts.proofs.AfterSteps.Counts.{same_size}
 use Rattle.hla_accounts.proofs.accounts.Accounts.take_back.Goals as goal
 
 pub retract-requires-clause-within : goal.retract-requires-clause-within

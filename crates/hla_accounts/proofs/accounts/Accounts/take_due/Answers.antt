@@ -2,7 +2,7 @@
 use Rattle.std.proofs.Common.{◌≡◌, ◌≤◌, ◌-◌, length, set, subst}
 use Rattle.hla_machine.specs.Central.{at3}
 use Rattle.hla_accounts.specs.Accounts.{account_at, central_with}
-use Rattle.hla_accounts.proofs.Changes.OneAccount.{account_read, due_kept, due_set}
+use Rattle.hla_accounts.proofs.AfterSteps.OneAccount.{account_read, due_kept, due_set}
 use Rattle.hla_accounts.proofs.accounts.Accounts.take_due.Goals as goal
 
 inside : (c : goal.After-self-1) → c.args.federate ≤ length c.self.inside.accounts.items

@@ -2,8 +2,8 @@
 use Rattle.std.proofs.Common.{◌≡◌, ◌≤◌, ◌-◌, drop, length, set, subst}
 use Rattle.hla_base.specs.Tables.{upd2}
 use Rattle.hla_accounts.specs.Accounts.{account_at, central_with}
-use Rattle.hla_accounts.proofs.Changes.OneAccount.{account_read}
-use Rattle.hla_accounts.proofs.Changes.Offers.{offers_set, offers_kept}
+use Rattle.hla_accounts.proofs.AfterSteps.OneAccount.{account_read}
+use Rattle.hla_accounts.proofs.AfterSteps.Offers.{offers_set, offers_kept}
 use Rattle.hla_accounts.proofs.accounts.Accounts.take_offer.Goals as goal
 
 inside : (c : goal.After-self-1) → c.args.federate ≤ length c.self.inside.accounts.items

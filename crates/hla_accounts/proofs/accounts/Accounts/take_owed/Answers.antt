@@ -2,8 +2,8 @@
 use Rattle.std.proofs.Common.{◌≡◌, ◌≤◌, ◌-◌, length, set, subst}
 use Rattle.hla_machine.specs.Central.{at3}
 use Rattle.hla_accounts.specs.Accounts.{account_at, central_with}
-use Rattle.hla_accounts.proofs.Changes.OneAccount.{account_read}
-use Rattle.hla_accounts.proofs.Changes.Counts.{owed_taken, owed_kept}
+use Rattle.hla_accounts.proofs.AfterSteps.OneAccount.{account_read}
+use Rattle.hla_accounts.proofs.AfterSteps.Counts.{owed_taken, owed_kept}
 use Rattle.hla_accounts.proofs.accounts.Accounts.take_owed.Goals as goal
 
 inside : (c : goal.After-self-1) → c.args.federate ≤ length c.self.inside.accounts.items

@@ -4,8 +4,8 @@ use Rattle.hla_base.specs.Limits.{max_serial}
 use Rattle.hla_base.specs.Tables.{upd}
 use Rattle.hla_accounts.specs.declared.account.Account.{Account}
 use Rattle.hla_accounts.specs.Accounts.{account_at, central_with, AreKept}
-use Rattle.hla_accounts.proofs.Changes.OneAccount.{account_read, account_shown}
-use Rattle.hla_accounts.proofs.Changes.Sends.{serial_kept, serial_set}
+use Rattle.hla_accounts.proofs.AfterSteps.OneAccount.{account_read, account_shown}
+use Rattle.hla_accounts.proofs.AfterSteps.Sends.{serial_kept, serial_set}
 use Rattle.hla_accounts.proofs.accounts.Accounts.take_serial.Goals as goal
 
 inside : (c : goal.After-self-1) → c.args.federate ≤ length c.self.inside.accounts.items

@@ -1,5 +1,5 @@
 -- The event stands behind the others.
-use Rattle.hla_accounts.proofs.Changes.Handles.{times-push}
+use Rattle.hla_accounts.proofs.AfterSteps.Handles.{times-push}
 use Rattle.hla_accounts.proofs.handles.Handles.add.Goals as goal
 use Rattle.hla_accounts.proofs.handles.Handles.add.Goals.{in-Ok, in-Err}
 

@@ -1,7 +1,7 @@
 -- The first of the event goes, if there is one.
 use Rattle.std.proofs.Common.{◌∙◌, sym, ap, arith}
 use Rattle.hla_accounts.specs.Accounts.{times_listed}
-use Rattle.hla_accounts.proofs.Changes.Handles.{place_within, removed_one, none_removed, times-without_one}
+use Rattle.hla_accounts.proofs.AfterSteps.Handles.{place_within, removed_one, none_removed, times-without_one}
 use Rattle.hla_accounts.proofs.handles.Handles.remove.Goals as goal
 
 pub remove-requires : goal.remove-requires

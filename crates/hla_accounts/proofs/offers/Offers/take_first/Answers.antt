@@ -1,7 +1,7 @@
 -- The first of them goes, if there is one.
 use Rattle.std.proofs.Common.{◌∙◌, sym, ap, arith}
 use Rattle.hla_accounts.specs.Accounts.{offers_from}
-use Rattle.hla_accounts.proofs.Changes.Offers.{place_within, removed_first, none_removed, offers-without_first}
+use Rattle.hla_accounts.proofs.AfterSteps.Offers.{place_within, removed_first, none_removed, offers-without_first}
 use Rattle.hla_accounts.proofs.offers.Offers.take_first.Goals as goal
 
 pub remove-requires : goal.remove-requires

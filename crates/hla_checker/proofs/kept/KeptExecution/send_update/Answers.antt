@@ -4,7 +4,7 @@ use Rattle.hla_machine.specs.Central.{Central}
 use Rattle.hla_machine.specs.Directory.{Directory, Outgoing, part_sent}
 use Rattle.hla_machine.specs.Sends.{after_messages}
 use Rattle.hla_accounts.specs.Accounts.{account_at}
-use Rattle.hla_accounts.proofs.Changes.Counts.{on_ok}
+use Rattle.hla_accounts.proofs.AfterSteps.Counts.{on_ok}
 use Rattle.hla_verdicts.specs.Kept.{central_of, directory_of}
 use Rattle.hla_checker.proofs.Sends.Updates.{after_append, after_directory, after_serial, update_parts, second_room}
 use Rattle.hla_checker.proofs.kept.KeptExecution.send_update.Goals as goal

@@ -14,7 +14,7 @@ use Rattle.hla_accounts.specs.declared.account.Account.{Account}
 use Rattle.hla_accounts.specs.declared.bag.Waiting.{Waiting}
 use Rattle.hla_accounts.specs.Bags.{waiting_at, AreApart}
 use Rattle.hla_accounts.specs.Accounts.{AreKept, account_at, central_with, copy_at, offers_from, times_listed}
-use Rattle.hla_accounts.proofs.Changes.OneAccount.{field, field_same, account_at-set, upd_itself}
+use Rattle.hla_accounts.proofs.AfterSteps.OneAccount.{field, field_same, account_at-set, upd_itself}
 
 pub on_both : {X E P Q R : Type 0} (r : Result X E) → (P → Q → R) → OnOk r P → OnOk r Q → OnOk r R
 on_both (Ok x) f p q = f p q

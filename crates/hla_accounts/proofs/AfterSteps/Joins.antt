@@ -17,9 +17,9 @@ use Rattle.hla_machine.specs.Machine.{after_join, after_leaving}
 use Rattle.hla_accounts.specs.declared.account.Account.{Account}
 use Rattle.hla_accounts.specs.Bags.{waiting_at, AreApart}
 use Rattle.hla_accounts.specs.Accounts.{AreKept, account_at, no_account, central_with, copy_at, copy_of, offers_from, times_listed}
-use Rattle.hla_accounts.proofs.Changes.Accounts.{account_at-past, nothing_sent}
+use Rattle.hla_accounts.proofs.AfterSteps.Accounts.{account_at-past, nothing_sent}
 use Rattle.hla_accounts.proofs.Bags.Contents.{waiting_at-nil}
-use Rattle.hla_accounts.proofs.Changes.OneAccount.{fields, field, field_same, kept_changed, upd_itself, upd_read}
+use Rattle.hla_accounts.proofs.AfterSteps.OneAccount.{fields, field, field_same, kept_changed, upd_itself, upd_read}
 
 no_copy : (g m : ℕ) → copy_at [] g m ≡ None
 no_copy g m = ap (λ t. option_map copy_of (t g m)) waiting_at-nil

@@ -12,7 +12,7 @@ use Rattle.hla_machine.specs.Machine.{after_retraction_arrival}
 use Rattle.hla_machine.proofs.Basics.Bags.{key_parts}
 use Rattle.hla_accounts.specs.declared.account.Account.{Account}
 use Rattle.hla_accounts.specs.Accounts.{AreKept, account_at, central_with, copy_at, offers_from, times_listed}
-use Rattle.hla_accounts.proofs.Changes.OneAccount.{field, field_same, kept_changed, due_changed}
+use Rattle.hla_accounts.proofs.AfterSteps.OneAccount.{field, field_same, kept_changed, due_changed}
 
 pub on_ok : {X E P Q : Type 0} (r : Result X E) → (P → Q) → OnOk r P → OnOk r Q
 on_ok (Ok x) f p = f p

@@ -13,7 +13,7 @@ use Rattle.hla_machine.specs.Directory.{Directory}
 use Rattle.hla_accounts.specs.declared.account.Account.{Account}
 use Rattle.hla_accounts.specs.declared.offers.Offer.{Offer}
 use Rattle.hla_accounts.specs.Accounts.{AreKept, account_at, central_with, copy_at, offers_from, times_listed}
-use Rattle.hla_accounts.proofs.Changes.OneAccount.{field, field_same, kept_changed}
+use Rattle.hla_accounts.proofs.AfterSteps.OneAccount.{field, field_same, kept_changed}
 
 -- ---- without the first
 abbrev pub is_from : ℕ → Offer → Bool
