@@ -7,7 +7,8 @@ use Rattle.hla_fed_file.specs.Fault.{kind_name_of}
 use Rattle.hla_fed_file.specs.declared.fault.FedFault.{FedFault}
 use Rattle.hla_commands.specs.FaultName.{kind_name}
 use Rattle.hla_transcript.specs.Listed.{IsListed, StopsListing}
-use Rattle.hla_script.specs.Playing.{IsPlayedFrom, StopsBy}
+use Rattle.hla_script.specs.Playing.{IsPlayedFrom, IsPlayedWhole, StopsBy}
+use Rattle.hla_script.specs.Keeping.{FollowNext}
 use Rattle.hla_commands.specs.declared.lines.ScriptFault.{ScriptFault}
 use Rattle.hla_machine.specs.declared.step.Record.{Record}
 use Rattle.hla_checker.specs.Faults.{IsWholeRun, IsRunUpTo, IsNoStep}
@@ -114,15 +115,16 @@ ListCause unlisted.Memory out = Unit {0}
 -- ---- given the bytes
 -- `out` and `out'` are the standard output before and after, `err` and `err'` the standard error
 
--- a script is played over a FED file
+-- a script is played over a FED file: the records of what it printed follow the next-state function, and are a run of the machine
 pub data EndsPlaying (fed script : List ℕ) (out out' err err' : Stream) (status : ℕ) : Type 0 where
-  Played : (records : _) → IsPlayedFrom fed script out.bytes out'.bytes records → out'.has_failed ≡ false → err' ≡ err → status ≡ 0 → EndsPlaying fed script out out' err err' status
+  Played : (records : List Record) → IsPlayedFrom fed script out.bytes out'.bytes records → FollowNext records → IsWholeRun records → out'.has_failed ≡ false → err' ≡ err → status ≡ 0 → EndsPlaying fed script out out' err err' status
   PlayStopped : (why : PlayFault) → StopsBy fed script out.bytes out'.bytes why → PlayCause why out' → Complains err err' (play_stop_line why) → status ≡ 1 → EndsPlaying fed script out out' err err' status
 
 -- ---- what the central machine says of a script's records
--- the records that a script over a FED file makes, whatever its transcript is written to
+-- the records that a script over a FED file makes, whatever its transcript is written to: no line ran out of memory, and they follow
+-- the next-state function
 abbrev pub HasRecords : List ℕ → List ℕ → List Record → Type 0
-HasRecords fed script records = IsPlayedFrom fed script None None records
+HasRecords fed script records = IsPlayedWhole fed script None None records × FollowNext records
 
 -- why there are none: as why it is not played, but that no write fails
 abbrev pub StopsCheck : List ℕ → List ℕ → PlayFault → Type 0

@@ -112,6 +112,7 @@ impl<L: Ledger + Naming, B: FederateAmbassador, W: Publisher<L>> Locked<L, B, W>
         ensures share { MatchResult result (λ _. mine.new.amount ≡ mine.old.amount + 1)
             (λ _. mine.new.amount ≡ mine.old.amount) }
         ensures parts { mine.new.parts ≡ mine.old.parts }
+        ensures ended { self.new.ended ≡ self.old.ended }
     {
         let answer = self
             .shared
@@ -146,6 +147,7 @@ impl<L: Ledger + Naming, B: FederateAmbassador, W: Publisher<L>> Locked<L, B, W>
         ensures share { MatchResult result (λ _. mine.new.amount ≡ mine.old.amount + 1)
             (λ _. mine.new.amount ≡ mine.old.amount) }
         ensures parts { mine.new.parts ≡ mine.old.parts }
+        ensures ended { self.new.ended ≡ self.old.ended }
     {
         let stepped = self.shared.create(actor, name, fed, mine)?;
         noted(&mut self.board, &stepped.own);
@@ -177,6 +179,7 @@ impl<L: Ledger + Naming, B: FederateAmbassador, W: Publisher<L>> Locked<L, B, W>
         ensures share { MatchResult result (λ _. mine.new.amount ≡ mine.old.amount + 1)
             (λ _. mine.new.amount ≡ mine.old.amount) }
         ensures parts { mine.new.parts ≡ mine.old.parts }
+        ensures ended { self.new.ended ≡ self.old.ended }
     {
         let stepped = self.shared.destroy(actor, name, mine)?;
         noted(&mut self.board, &stepped.own);
@@ -214,6 +217,7 @@ impl<L: Ledger + Naming, B: FederateAmbassador, W: Publisher<L>> Locked<L, B, W>
         ensures share { MatchResult result (λ _. mine.new.amount ≡ mine.old.amount + 1)
             (λ _. mine.new.amount ≡ mine.old.amount) }
         ensures parts { mine.new.parts ≡ mine.old.parts }
+        ensures ended { self.new.ended ≡ self.old.ended }
     {
         match self.shared.join(actor, execution, name, inner, mine) {
             Ok(joined) => {
@@ -254,6 +258,7 @@ impl<L: Ledger + Naming, B: FederateAmbassador, W: Publisher<L>> Locked<L, B, W>
         ensures share { MatchResult result (λ _. mine.new.amount ≡ mine.old.amount + 1)
             (λ _. mine.new.amount ≡ mine.old.amount) }
         ensures parts { mine.new.parts ≡ mine.old.parts }
+        ensures ended { self.new.ended ≡ self.old.ended }
     {
         let resigned = self
             .shared
@@ -267,6 +272,7 @@ impl<L: Ledger + Naming, B: FederateAmbassador, W: Publisher<L>> Locked<L, B, W>
         ensures told { result ≡ self.new.posted.published }
         ensures begins { self.old.ended ≡ false → IsPrefix result self.new.held.history }
         ensures held { self.new.held ≡ self.old.held }
+        ensures ended { self.new.ended ≡ self.old.ended }
     {
         let _ = caught_up(&mut self.board);
         self.board.tell()
@@ -281,6 +287,7 @@ impl<L: Ledger + Naming, B: FederateAmbassador, W: Publisher<L>> Locked<L, B, W>
         ensures counted { MatchResult result (λ _. self.new.posted.monitors ≡ self.old.posted.monitors + 1)
             (λ _. self.new.posted.monitors ≡ self.old.posted.monitors) }
         ensures held { self.new.held ≡ self.old.held }
+        ensures ended { self.new.ended ≡ self.old.ended }
     {
         let _ = caught_up(&mut self.board);
         self.board.monitor()
@@ -302,6 +309,7 @@ impl<L: Ledger + Naming, B: FederateAmbassador, W: Publisher<L>> Locked<L, B, W>
         ensures differs { IfErr result (λ u. DiffersFirst self.old.held.history lefts.items seat u.place) }
         ensures back { IfErr result (λ u. (u.seat ≡ seat) × (u.rest ≡ rest) × (u.lefts ≡ lefts)) }
         ensures same { OnErr result (self.new ≡ self.old) }
+        ensures ended { OnOk result (self.new.ended ≡ true) }
     {
         let settled = settle(&mut self.shared, seat, rest, lefts, handed);
         if settled.is_ok() {

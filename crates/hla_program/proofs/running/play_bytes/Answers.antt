@@ -11,4 +11,4 @@ pub returns-then-has_failed : goal.returns-then-has_failed
 returns-then-has_failed g c = PlayStopped stop.Write tt (sym c.has_failed.ensures ∙ c.if-has_failed.true) c.tell_play_stop-then-has_failed.ensures.line c.tell_play_stop-then-has_failed.ensures.status
 
 pub returns : goal.returns
-returns g c = Played c.in-Ok.records (played_kept c.args.fed.now c.args.script.now _ _ _ c.in-Ok.records c.in-Ok.ensures.played c.flush.ensures.bytes) (sym c.has_failed.ensures ∙ c.if-has_failed.false) refl refl
+returns g c = Played c.in-Ok.records (played_kept c.args.fed.now c.args.script.now _ _ _ c.in-Ok.records c.in-Ok.ensures.played c.flush.ensures.bytes) c.in-Ok.ensures.next c.in-Ok.ensures.run (sym c.has_failed.ensures ∙ c.if-has_failed.false) refl refl
