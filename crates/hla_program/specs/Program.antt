@@ -7,7 +7,7 @@ use Rattle.hla_fed_file.specs.Fault.{kind_name_of}
 use Rattle.hla_fed_file.specs.declared.fault.FedFault.{FedFault}
 use Rattle.hla_commands.specs.FaultName.{kind_name}
 use Rattle.hla_transcript.specs.Listed.{IsListed, StopsListing}
-use Rattle.hla_script.specs.Playing.{IsPlayedFrom, StopsBy}
+use Rattle.hla_script.specs.Playing.{IsPlayedFrom, IsPlayedWhole, StopsBy}
 use Rattle.hla_script.specs.Keeping.{FollowNext}
 use Rattle.hla_commands.specs.declared.lines.ScriptFault.{ScriptFault}
 use Rattle.hla_machine.specs.declared.step.Record.{Record}
@@ -121,9 +121,10 @@ pub data EndsPlaying (fed script : List ℕ) (out out' err err' : Stream) (statu
   PlayStopped : (why : PlayFault) → StopsBy fed script out.bytes out'.bytes why → PlayCause why out' → Complains err err' (play_stop_line why) → status ≡ 1 → EndsPlaying fed script out out' err err' status
 
 -- ---- what the central machine says of a script's records
--- the records that a script over a FED file makes, whatever its transcript is written to: they follow the next-state function
+-- the records that a script over a FED file makes, whatever its transcript is written to: no line ran out of memory, and they follow
+-- the next-state function
 abbrev pub HasRecords : List ℕ → List ℕ → List Record → Type 0
-HasRecords fed script records = IsPlayedFrom fed script None None records × FollowNext records
+HasRecords fed script records = IsPlayedWhole fed script None None records × FollowNext records
 
 -- why there are none: as why it is not played, but that no write fails
 abbrev pub StopsCheck : List ℕ → List ℕ → PlayFault → Type 0

@@ -9,18 +9,18 @@ use crate::finding::{Finding, finding_of, tell_finding};
 use crate::telling::tell_play_stop;
 use hla_base::List;
 use hla_machine::Record;
-use hla_script::{PlayFault, Watched, play};
+use hla_script::{PlayFault, Watched, play_whole};
 use std::alloc::Global;
 use std::io;
 use std::io::Write;
 
-/// The records of a script that is played over a FED file, without its transcript.
+/// The records of a script that is played over a FED file, without its transcript; `Memory` where any line ran out of it.
 fn records_of(alloc: Global, fed: &[u8], script: &[u8]) -> Result<List<Record>, PlayFault>
     ensures ok { IfOk result (HasRecords fed.now script.now) }
     ensures run { IfOk result IsWholeRun }
     ensures err { IfErr result (StopsCheck fed.now script.now) }
 {
-    match play(alloc, fed, script, &mut Watched::new(io::sink())) {
+    match play_whole(alloc, fed, script, &mut Watched::new(io::sink())) {
         Ok(records) => Ok(records),
         // What is thrown away is always taken: no write fails.
         Err(PlayFault::Write) => Err(PlayFault::Memory),

@@ -80,7 +80,8 @@ pub record Leaver : Type 0 where
   pub caller : Caller
   pub heard : Option (List Callback)
 
--- what is seen of the infrastructure: how many callers it has handed out, and itself as a caller
+-- what is seen of the infrastructure: how many callers it has handed out, how many of them are couriers, and itself as a caller
 pub record Office : Type 0 where
   pub handed : ℕ
+  pub couriers : ℕ
   pub own : Caller

@@ -119,6 +119,7 @@ impl<L: Ledger + Naming, B: FederateAmbassador, W: Publisher<L>> Locked<L, B, W>
         ensures share { MatchResult result (λ _. mine.new.amount ≡ mine.old.amount + 1)
             (λ _. mine.new.amount ≡ mine.old.amount) }
         ensures parts { mine.new.parts ≡ mine.old.parts }
+        ensures ended { self.new.ended ≡ self.old.ended }
     {
         let answer = self
             .shared
@@ -154,6 +155,7 @@ impl<L: Ledger + Naming, B: FederateAmbassador, W: Publisher<L>> Locked<L, B, W>
         ensures share { MatchResult result (λ _. mine.new.amount ≡ mine.old.amount + 1)
             (λ _. mine.new.amount ≡ mine.old.amount) }
         ensures parts { mine.new.parts ≡ mine.old.parts }
+        ensures ended { self.new.ended ≡ self.old.ended }
     {
         let stepped = self.shared.create(actor, name, fed, mine)?;
         note_record(&mut self.board, &stepped.own);
@@ -186,6 +188,7 @@ impl<L: Ledger + Naming, B: FederateAmbassador, W: Publisher<L>> Locked<L, B, W>
         ensures share { MatchResult result (λ _. mine.new.amount ≡ mine.old.amount + 1)
             (λ _. mine.new.amount ≡ mine.old.amount) }
         ensures parts { mine.new.parts ≡ mine.old.parts }
+        ensures ended { self.new.ended ≡ self.old.ended }
     {
         let stepped = self.shared.destroy(actor, name, mine)?;
         note_record(&mut self.board, &stepped.own);
@@ -226,6 +229,7 @@ impl<L: Ledger + Naming, B: FederateAmbassador, W: Publisher<L>> Locked<L, B, W>
         ensures share { MatchResult result (λ _. mine.new.amount ≡ mine.old.amount + 1)
             (λ _. mine.new.amount ≡ mine.old.amount) }
         ensures parts { mine.new.parts ≡ mine.old.parts }
+        ensures ended { self.new.ended ≡ self.old.ended }
     {
         match self.shared.join(actor, execution, name, inner, mine) {
             Ok(joined) => {
@@ -267,6 +271,7 @@ impl<L: Ledger + Naming, B: FederateAmbassador, W: Publisher<L>> Locked<L, B, W>
         ensures share { MatchResult result (λ _. mine.new.amount ≡ mine.old.amount + 1)
             (λ _. mine.new.amount ≡ mine.old.amount) }
         ensures parts { mine.new.parts ≡ mine.old.parts }
+        ensures ended { self.new.ended ≡ self.old.ended }
     {
         let resigned = self
             .shared
@@ -280,6 +285,7 @@ impl<L: Ledger + Naming, B: FederateAmbassador, W: Publisher<L>> Locked<L, B, W>
         ensures told { result ≡ self.new.posted.published }
         ensures begins { self.old.ended ≡ false → IsPrefix result self.new.held.history }
         ensures held { self.new.held ≡ self.old.held }
+        ensures ended { self.new.ended ≡ self.old.ended }
     {
         let _ = catch_up_board(&mut self.board);
         self.board.tell()
@@ -294,6 +300,7 @@ impl<L: Ledger + Naming, B: FederateAmbassador, W: Publisher<L>> Locked<L, B, W>
         ensures counted { MatchResult result (λ _. self.new.posted.monitors ≡ self.old.posted.monitors + 1)
             (λ _. self.new.posted.monitors ≡ self.old.posted.monitors) }
         ensures held { self.new.held ≡ self.old.held }
+        ensures ended { self.new.ended ≡ self.old.ended }
     {
         let _ = catch_up_board(&mut self.board);
         self.board.monitor()
@@ -315,6 +322,7 @@ impl<L: Ledger + Naming, B: FederateAmbassador, W: Publisher<L>> Locked<L, B, W>
         ensures differs { IfErr result (λ u. DiffersFirst self.old.held.history lefts.items seat u.place) }
         ensures back { IfErr result (λ u. (u.seat ≡ seat) × (u.rest ≡ rest) × (u.lefts ≡ lefts)) }
         ensures same { OnErr result (self.new ≡ self.old) }
+        ensures ended { OnOk result (self.new.ended ≡ true) }
     {
         let settled = settle(&mut self.shared, seat, rest, lefts, handed);
         if settled.is_ok() {

@@ -1,7 +1,7 @@
 //! The run-time infrastructure.
 
 ghost use Rattle.std.specs.Prelude.{◌≡◌, ◌+◌, ◌<◌, ◌≤◌, ◌⊎◌, [], true, IfOk, IfErr, OnOk, MatchResult};
-ghost use Rattle.hla_base.specs.Limits.{ledger_parts, max_callers, max_history_limit};
+ghost use Rattle.hla_base.specs.Limits.{ledger_parts, max_callers, max_couriers, max_history_limit};
 ghost use Rattle.hla_machine.specs.declared.step.Act.TheVariants as act;
 ghost use Rattle.hla_machine.specs.declared.step.Answer.TheVariants as answer;
 ghost use Rattle.hla_machine.specs.declared.step.Outcome.TheVariants as outcome;
@@ -42,7 +42,7 @@ impl<L: Ledger + Naming, B: FederateAmbassador, W: Publisher<L>> Model for Rti<L
 
     ghost Value = { Office };
 
-    ghost view = { λ r. record { handed = r.handed; own = r.seat } };
+    ghost view = { λ r. record { handed = r.handed; couriers = r.couriers; own = r.seat } };
 
     ghost invariant = { λ r. (r.rest.parts + r.handed ≡ max_callers) × (r.rest.amount ≡ 0) × (r.seat.number ≡ 0) };
 }
@@ -61,7 +61,7 @@ impl<L: Ledger + Naming, B: FederateAmbassador, W: Publisher<L>> Rti<L, B, W> {
         requires parts { blank.parts ≡ L.parts }
         requires all { blank.parts ≡ ledger_parts }
         requires board { board ≡ record { whole = true; shown = []; published = []; monitors = 0 } }
-        ensures ok { IfOk result (λ r. r ≡ record { handed = 0; own = new_caller 0 }) }
+        ensures ok { IfOk result (λ r. r ≡ record { handed = 0; couriers = 0; own = new_caller 0 }) }
         ensures limit { OnOk result (history_limit ≤ max_history_limit) }
         ensures err { IfErr result (λ e. ((e ≡ Fault.LimitReached) × (max_history_limit < history_limit))
             ⊎ ((e ≡ Fault.OutOfMemory) × (history_limit ≤ max_history_limit))) }
@@ -102,6 +102,7 @@ impl<L: Ledger + Naming, B: FederateAmbassador, W: Publisher<L>> Rti<L, B, W> {
         ensures answered { HasAnswered self.old.own name (act.Create (catalogue_from fed.now))
             (said nothing result) self.new.own }
         ensures handed { self.new.handed ≡ self.old.handed }
+        ensures couriers { self.new.couriers ≡ self.old.couriers }
     {
         done_in(self.seat.create(rt, &self.shared, name, fed))
     }
@@ -112,6 +113,7 @@ impl<L: Ledger + Naming, B: FederateAmbassador, W: Publisher<L>> Rti<L, B, W> {
     pub fn destroy(&mut self, rt: &impl Wait, name: ExecutionName) -> Result<(), Fault>
         ensures answered { HasAnswered self.old.own name act.Destroy (said nothing result) self.new.own }
         ensures handed { self.new.handed ≡ self.old.handed }
+        ensures couriers { self.new.couriers ≡ self.old.couriers }
     {
         done_in(self.seat.destroy(rt, &self.shared, name))
     }
@@ -122,8 +124,12 @@ impl<L: Ledger + Naming, B: FederateAmbassador, W: Publisher<L>> Rti<L, B, W> {
         ensures courier { IfOk result (λ c. c ≡ new_caller self.new.handed) }
         ensures handed { MatchResult result (λ _. self.new.handed ≡ self.old.handed + 1)
             (λ _. self.new.handed ≡ self.old.handed) }
+        ensures couriers { MatchResult result (λ _. self.new.couriers ≡ self.old.couriers + 1)
+            (λ _. self.new.couriers ≡ self.old.couriers) }
         ensures own { self.new.own ≡ self.old.own }
-        ensures err { IfErr result (λ e. (e ≡ Fault.LimitReached) ⊎ (e ≡ Fault.OutOfMemory)) }
+        ensures err { IfErr result (λ e.
+            ((e ≡ Fault.LimitReached) × ((max_couriers ≤ self.old.couriers) ⊎ (max_callers ≤ self.old.handed)))
+            ⊎ (e ≡ Fault.OutOfMemory)) }
     {
         if self.couriers >= MAX_COURIERS || self.handed >= MAX_CALLERS {
             return Err(Fault::LimitReached);
@@ -182,10 +188,11 @@ impl<L: Ledger + Naming, B: FederateAmbassador, W: Publisher<L>> Rti<L, B, W> {
         }) }
         ensures handed { MatchResult result (λ _. self.new.handed ≡ self.old.handed + 1)
             (λ _. self.new.handed ≡ self.old.handed) }
+        ensures couriers { self.new.couriers ≡ self.old.couriers }
         ensures refused { IfErr result (λ e.
             (HasActed self.old.own execution (act.Step (step.Join name)) (outcome.Refused e.0) self.new.own
             ⊎ HasNotActed self.old.own e.0 self.new.own)
-            ⊎ ((e.0 ≡ Fault.LimitReached) × (self.new.own ≡ self.old.own))) }
+            ⊎ ((e.0 ≡ Fault.LimitReached) × (max_callers ≤ self.old.handed) × (self.new.own ≡ self.old.own))) }
         ensures returned { IfErr result (λ e. e.1 ≡ ambassador) }
     {
         if self.handed >= MAX_CALLERS {
@@ -232,7 +239,7 @@ pub fn open_rti<L: Ledger + Naming, B: FederateAmbassador, R: Wait + Drop>(
     requires parts { blank.parts ≡ L.parts }
     requires all { blank.parts ≡ ledger_parts }
     requires book { opened.seen.book ≡ L.book }
-    ensures ok { IfOk result (λ r. r ≡ record { handed = 0; own = new_caller 0 }) }
+    ensures ok { IfOk result (λ r. r ≡ record { handed = 0; couriers = 0; own = new_caller 0 }) }
     ensures limit { OnOk result (history_limit ≤ max_history_limit) }
     ensures err { IfErr result
         (λ e. ((e ≡ Fault.LimitReached) × (max_history_limit < history_limit))

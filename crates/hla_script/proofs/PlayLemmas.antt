@@ -1,7 +1,7 @@
 -- What a line adds.
 use Rattle.std.proofs.Common.{◌≡◌, ◌<◌, ℕ, List, [], ◌∷◌, ◌++◌, length, Result, Ok, Err, Option, refl, sym, ap, ◌∙◌, append_assoc, subst, inl, inr}
 use Rattle.std.proofs.lemmas.List.{append-nil}
-use Rattle.std.specs.Prelude.{OnOk}
+use Rattle.std.specs.Prelude.{Bool, true, false, ◌≢◌, OnOk, IfOk}
 use Rattle.hla_base.specs.Limits.{max_history}
 use Rattle.hla_base.specs.declared.fault.Fault.{Fault}
 use Rattle.hla_base.specs.declared.fault.Fault.TheVariants as fault
@@ -17,32 +17,39 @@ use Rattle.hla_requests.specs.declared.lookups.AskFault.TheVariants as stop
 use Rattle.hla_requests.specs.declared.steps.Request.{Request}
 use Rattle.hla_requests.specs.Members.{members}
 use Rattle.hla_requests.specs.Requests.{Asks, request_of}
-use Rattle.hla_script.specs.Playing.{LineEnds, WithoutStep, Full, OutOfMemory, Recorded, record_of, IsAdmitted, HasNoRoom, IsAnswered, IsPlayed, Plays, transcript}
+use Rattle.hla_script.specs.Playing.{LineEnds, WithoutStep, Full, OutOfMemory, Recorded, record_of, IsAdmitted, HasNoRoom, IsAnsweredAs, IsPlayedAs, IsPlayedFrom, IsPlayedAll, IsPlayedWhole, AreRemembered, Plays, transcript}
+use Rattle.hla_script.specs.declared.player.PlayFault.{PlayFault}
 use Rattle.hla_transcript.specs.Printed.{line_text}
 use Rattle.hla_transcript.proofs.WriteLemmas.{appends_none, appends_more}
 use Rattle.std.specs.Io.KnownBytes.{Appends}
 
 -- a line that adds no record
-pub adds_none : {U : Type 0} (c : CatalogueValue) (line : Line) (before : List Record) (old new : List ℕ) (given : Result U Fault) (e : Fault) → LineEnds c before line.command (outcome.Refused e) []
-    → OnOk given (new ≡ old ++ line_text c line.number (outcome.Refused e)) → OnOk given (IsAnswered c line before before old new)
-adds_none c line before old new (Ok u) e ends printed = record { ended = outcome.Refused e; added = []; ends = ends; records = sym (append-nil before); text = printed }
-adds_none c line before old new (Err k) e ends printed = tt
+pub adds_none : (c : CatalogueValue) (line : Line) (before : List Record) (old new : List ℕ) (given : Result Bool Fault) (e : Fault) → LineEnds c before line.command (outcome.Refused e) []
+    → OnOk given (new ≡ old ++ line_text c line.number (outcome.Refused e)) → IfOk given (λ whole. whole ≡ true → e ≢ fault.OutOfMemory) → IfOk given (λ whole. IsAnsweredAs whole c line before before old new)
+adds_none c line before old new (Ok whole) e ends printed remembered = record {
+  answered = record { ended = outcome.Refused e; added = []; ends = ends; records = sym (append-nil before); text = printed };
+  remembered = λ is same. remembered is (cc same);
+}
+adds_none c line before old new (Err k) e ends printed remembered = tt
 
 -- the same, printed with an equal catalogue
-pub adds_none_in : {U : Type 0} (c other : CatalogueValue) (line : Line) (before : List Record) (old new : List ℕ) (given : Result U Fault) (e : Fault) → other ≡ c → LineEnds c before line.command (outcome.Refused e) []
-    → OnOk given (new ≡ old ++ line_text other line.number (outcome.Refused e)) → OnOk given (IsAnswered c line before before old new)
+pub adds_none_in : (c other : CatalogueValue) (line : Line) (before : List Record) (old new : List ℕ) (given : Result Bool Fault) (e : Fault) → other ≡ c → LineEnds c before line.command (outcome.Refused e) []
+    → OnOk given (new ≡ old ++ line_text other line.number (outcome.Refused e)) → IfOk given (λ whole. whole ≡ true → e ≢ fault.OutOfMemory) → IfOk given (λ whole. IsAnsweredAs whole c line before before old new)
 adds_none_in c other line before old new given e same ends printed =
     adds_none c line before old new given e ends (subst (λ (t : CatalogueValue). OnOk given (new ≡ old ++ line_text t line.number (outcome.Refused e))) same printed)
 
 -- a line that adds one
 pub adds_one : (c other : CatalogueValue) (line : Line) (before : List Record) (asked : Request) (r : Record) (old new : List ℕ) → other ≡ c → IsAdmitted c before line.command asked
-    → (r.outcome ≡ outcome.Refused fault.OutOfMemory → ⊥) → r ≡ record_of c asked r.outcome r.choice → new ≡ old ++ line_text other line.number r.outcome → IsAnswered c line before (before ++ r ∷ []) old new
+    → (r.outcome ≡ outcome.Refused fault.OutOfMemory → ⊥) → r ≡ record_of c asked r.outcome r.choice → new ≡ old ++ line_text other line.number r.outcome → IsAnsweredAs true c line before (before ++ r ∷ []) old new
 adds_one c other line before asked r old new same admitted remembered is printed = record {
-  ended = r.outcome;
-  added = r ∷ [];
-  ends = Recorded asked r.choice admitted remembered (ap (λ (x : Record). x ∷ []) is);
-  records = refl;
-  text = printed ∙ ap (λ (t : CatalogueValue). old ++ line_text t line.number r.outcome) same;
+  answered = record {
+    ended = r.outcome;
+    added = r ∷ [];
+    ends = Recorded asked r.choice admitted remembered (ap (λ (x : Record). x ∷ []) is);
+    records = refl;
+    text = printed ∙ ap (λ (t : CatalogueValue). old ++ line_text t line.number r.outcome) same;
+  };
+  remembered = λ whole. remembered;
 }
 
 -- ---- why a line is not admitted
@@ -87,19 +94,39 @@ transcript_more (k ∷ ls) (p ∷ os) c before middle l o played =
 pair_same : {X Y : Type 0} (x x' : X) (y y' : Y) → x ≡ x' → y ≡ y' → ◌≡◌ {A = X × Y} (x, y) (x', y')
 pair_same x x' y y' e f = rw (e, f) refl
 
+-- of outcomes that had memory, with one more
+remembered_more : (os : List Outcome) (o : Outcome) → AreRemembered os → (o ≡ outcome.Refused fault.OutOfMemory → ⊥) → AreRemembered (os ++ o ∷ [])
+unfolding AreRemembered
+remembered_more [] o are is = (is, tt)
+remembered_more (p ∷ os) o are is = (are.0, remembered_more os o are.1 is)
+
 -- one more line is played and written
-pub played_more : (c other : CatalogueValue) (ls : List Line) (l : Line) (rs after : List Record) (empty text written : List ℕ) (a b d : Option (List ℕ)) → other ≡ c → empty ≡ [] → IsPlayed c ls a b rs → IsAnswered other l rs after empty text → written ≡ text → Appends b d written
-    → IsPlayed c (ls ++ l ∷ []) a d after
-played_more c other ls l rs after empty text written a b d same none played line is writes =
-    let answered : IsAnswered c l rs after [] text = subst (λ (p : CatalogueValue × List ℕ). IsAnswered p.0 l rs after p.1 text) (pair_same other c empty [] same none) line in
+pub played_more : (whole remembered : Bool) → (whole ≡ true → remembered ≡ true) → (c other : CatalogueValue) (ls : List Line) (l : Line) (rs after : List Record) (empty text written : List ℕ) (a b d : Option (List ℕ)) → other ≡ c → empty ≡ [] → IsPlayedAs whole c ls a b rs → IsAnsweredAs remembered other l rs after empty text → written ≡ text → Appends b d written
+    → IsPlayedAs whole c (ls ++ l ∷ []) a d after
+played_more whole remembered goes_on c other ls l rs after empty text written a b d same none so_far line is writes =
+    let played = so_far.played in
+    let answered : IsAnsweredAs remembered c l rs after [] text = subst (λ (p : CatalogueValue × List ℕ). IsAnsweredAs remembered p.0 l rs after p.1 text) (pair_same other c empty [] same none) line in
+    let now = answered.answered in
     let os = played.outcomes in
     record {
-      outcomes = os ++ answered.ended ∷ [];
-      plays = subst (λ (x : List Record). Plays c [] (ls ++ l ∷ []) (os ++ answered.ended ∷ []) x) (sym answered.records) (plays_more ls os c [] rs l answered.ended answered.added played.plays answered.ends);
-      writes = appends_more a b d (transcript c ls os) written _ played.writes writes (ap (λ (t : List ℕ). transcript c ls os ++ t) (is ∙ answered.text) ∙ transcript_more ls os c [] rs l answered.ended played.plays);
+      played = record {
+        outcomes = os ++ now.ended ∷ [];
+        plays = subst (λ (x : List Record). Plays c [] (ls ++ l ∷ []) (os ++ now.ended ∷ []) x) (sym now.records) (plays_more ls os c [] rs l now.ended now.added played.plays now.ends);
+        writes = appends_more a b d (transcript c ls os) written _ played.writes writes (ap (λ (t : List ℕ). transcript c ls os ++ t) (is ∙ now.text) ∙ transcript_more ls os c [] rs l now.ended played.plays);
+      };
+      remembered = λ all. remembered_more os now.ended (so_far.remembered all) (answered.remembered (goes_on all));
     }
 
 -- at first nothing is played
-pub played_nothing : (c : CatalogueValue) (a : Option (List ℕ)) → IsPlayed c [] a a []
-unfolding transcript
-played_nothing c a = record { outcomes = []; plays = refl; writes = appends_none a }
+pub played_nothing : (whole : Bool) (c : CatalogueValue) (a : Option (List ℕ)) → IsPlayedAs whole c [] a a []
+unfolding transcript AreRemembered
+played_nothing whole c a = record { played = record { outcomes = []; plays = refl; writes = appends_none a }; remembered = λ all. tt }
+
+-- ---- a script that is played, whole or not
+pub played_from : (fed script : List ℕ) (old new : Option (List ℕ)) (given : Result (List Record) PlayFault) → IfOk given (IsPlayedAll false fed script old new) → IfOk given (IsPlayedFrom fed script old new)
+played_from fed script old new (Ok records) all = all.from
+played_from fed script old new (Err e) all = tt
+
+pub played_whole : (fed script : List ℕ) (old new : Option (List ℕ)) (given : Result (List Record) PlayFault) → IfOk given (IsPlayedAll true fed script old new) → IfOk given (IsPlayedWhole fed script old new)
+played_whole fed script old new (Ok records) all = record { from = all.from; remembered = all.remembered refl }
+played_whole fed script old new (Err e) all = tt

@@ -81,6 +81,16 @@ pub record IsPlayed (c : CatalogueValue) (lines : List Line) (old new : Option (
   pub plays : Plays c [] lines outcomes records
   pub writes : Appends old new (transcript c lines outcomes)
 
+-- no line ran out of memory
+unfoldable pub AreRemembered : List Outcome → Type 0
+AreRemembered [] = Unit {0}
+AreRemembered (o ∷ os) = (o ≢ outcome.Refused fault.OutOfMemory) × AreRemembered os
+
+-- the lines have led from no records to these, and no line ran out of memory where that was asked for
+pub record IsPlayedAs (whole : Bool) (c : CatalogueValue) (lines : List Line) (old new : Option (List ℕ)) (records : List Record) : Type 0 where
+  pub played : IsPlayed c lines old new records
+  pub remembered : whole ≡ true → AreRemembered played.outcomes
+
 -- a line has led from some records to others, and a text has grown by its outcome
 pub record IsAnswered (c : CatalogueValue) (line : Line) (before after : List Record) (old new : List ℕ) : Type 0 where
   pub ended : Outcome
@@ -88,6 +98,11 @@ pub record IsAnswered (c : CatalogueValue) (line : Line) (before after : List Re
   pub ends : LineEnds c before line.command ended added
   pub records : after ≡ before ++ added
   pub text : new ≡ old ++ line_text c line.number ended
+
+-- the same, and it had the memory for what it asks where that is said
+pub record IsAnsweredAs (whole : Bool) (c : CatalogueValue) (line : Line) (before after : List Record) (old new : List ℕ) : Type 0 where
+  pub answered : IsAnswered c line before after old new
+  pub remembered : whole ≡ true → answered.ended ≢ outcome.Refused fault.OutOfMemory
 
 -- ---- a script over a FED file
 -- the FED file describes a catalogue, the script asks for these lines, and they were played
@@ -97,6 +112,16 @@ pub record IsPlayedFrom (fed script : List ℕ) (old new : Option (List ℕ)) (r
   pub describes : Describes fed catalogue
   pub says : script_of script ≡ Ok lines
   pub played : IsPlayed catalogue lines old new records
+
+-- the same, and no line ran out of memory
+pub record IsPlayedWhole (fed script : List ℕ) (old new : Option (List ℕ)) (records : List Record) : Type 0 where
+  pub from : IsPlayedFrom fed script old new records
+  pub remembered : AreRemembered from.played.outcomes
+
+-- the same, and no line ran out of memory where that was asked for
+pub record IsPlayedAll (whole : Bool) (fed script : List ℕ) (old new : Option (List ℕ)) (records : List Record) : Type 0 where
+  pub from : IsPlayedFrom fed script old new records
+  pub remembered : whole ≡ true → AreRemembered from.played.outcomes
 
 -- why a script was not played to its end: the FED file is tested first, and a text at fault prints nothing
 abbrev pub StopsBy : List ℕ → List ℕ → Option (List ℕ) → Option (List ℕ) → PlayFault → Type 0

@@ -1,8 +1,8 @@
 //! The records of what a script does.
 
-ghost use Rattle.std.specs.Prelude.{◌≡◌, ◌≢◌, ◌+◌, ◌++◌, ◌∷◌, ◌≤◌, ◌<◌, [], OnOk, OnErr, IfOk, IfErr, length, codes, vec_len, vec_capacity};
+ghost use Rattle.std.specs.Prelude.{true, ◌≡◌, ◌≢◌, ◌+◌, ◌++◌, ◌∷◌, ◌≤◌, ◌<◌, [], OnOk, OnErr, IfOk, IfErr, length, codes, vec_len, vec_capacity};
 ghost use Rattle.hla_base.specs.Limits.{max_history};
-ghost use Rattle.hla_script.specs.Playing.{IsAnswered, LineEnds, IsAdmitted, HasNoRoom};
+ghost use Rattle.hla_script.specs.Playing.{IsAnsweredAs, LineEnds, IsAdmitted, HasNoRoom};
 ghost use Rattle.hla_requests.specs.Members.{members};
 ghost use Rattle.hla_transcript.specs.Printed.{line_text};
 ghost use Rattle.hla_script.specs.Keeping.{standing, IsKept};
@@ -16,19 +16,23 @@ use hla_machine::{Outcome, Record};
 use hla_requests::{AskFault, Request};
 use hla_transcript::{Text, print_line};
 
-/// Prints a line that adds no record.
+/// Prints a line that adds no record; whether it had the memory for what it asks.
 fn print_refusal(
     text: &mut Text,
     catalogue: &Catalogue,
     number: usize,
     fault: Fault,
-) -> Result<(), Fault>
-    ensures { OnOk result (text.new ≡ text.old ++ line_text catalogue.now number (outcome.Refused fault)) }
+) -> Result<bool, Fault>
+    ensures text { OnOk result (text.new ≡ text.old ++ line_text catalogue.now number (outcome.Refused fault)) }
+    ensures remembered { IfOk result (λ whole. whole ≡ true → fault ≢ Fault.OutOfMemory) }
 {
     let refused = Outcome::Refused(fault);
     let printed = print_line(text, catalogue, number as u64, &refused);
     drop(refused);
-    printed
+    match printed {
+        Ok(()) => Ok(!matches!(fault, Fault::OutOfMemory)),
+        Err(fault) => Err(fault),
+    }
 }
 
 /// Why there is no room for one more record.
@@ -95,7 +99,7 @@ pub fn play_line(
     records: &mut Vec<Record>,
     line: &Line<'_>,
     text: &mut Text,
-) -> Result<(), Fault>
+) -> Result<bool, Fault>
     requires name { execution.old.name ≡ codes "play" }
     requires kept { IsKept records.old.items (standing execution.old.creates execution.old.federation)
         execution.old.members.items }
@@ -103,8 +107,8 @@ pub fn play_line(
     ensures catalogue { execution.new.catalogue ≡ execution.old.catalogue }
     ensures kept { OnOk result (IsKept records.new.items
         (standing execution.new.creates execution.new.federation) execution.new.members.items) }
-    ensures answered { OnOk result (IsAnswered execution.old.catalogue line.now records.old.items
-        records.new.items text.old text.new) }
+    ensures answered { IfOk result (λ whole. IsAnsweredAs whole execution.old.catalogue line.now
+        records.old.items records.new.items text.old text.new) }
 {
     let request = match request_with_room(execution, records, &line.command) {
         Ok(request) => request,
@@ -122,7 +126,7 @@ pub fn play_line(
                 return Err(fault);
             }
             records.push_reserved(record);
-            Ok(())
+            Ok(true)
         }
         Err(_) => print_refusal(text, &execution.catalogue, line.number, Fault::OutOfMemory),
     }

@@ -9,4 +9,4 @@ pub use hla_commands::{
     Call, Command, Declaration, Line, NameValuePair, Script, ScriptFault, ScriptFaultKind, parse,
 };
 pub use hla_transcript::{ListFault, Watched, list};
-pub use player::{PlayFault, play};
+pub use player::{PlayFault, play, play_whole};

@@ -3,12 +3,12 @@
 //! Here and in the modules below what is large goes to `drop` by name: such a call is proved once, and what goes out of scope
 //! is taken apart, variant by variant, in the proof of each function that lets it.
 
-ghost use Rattle.std.specs.Prelude.{◌≡◌, ◌||◌, [], IfOk, IfErr};
+ghost use Rattle.std.specs.Prelude.{◌≡◌, ◌||◌, ◌&&◌, not, [], IfOk, IfErr};
 ghost use Rattle.std.specs.Io.KnownBytes.{Appends};
 ghost use Rattle.hla_machine.specs.Runs as machine;
 ghost use Rattle.hla_machine.specs.Runs.{AreRun};
 ghost use Rattle.hla_components.specs.Executions.{Federations, no_federations, AreNext};
-ghost use Rattle.hla_script.specs.Playing.{IsPlayed, IsPlayedFrom, StopsBy, is_unwritten_transcript, is_cut_off};
+ghost use Rattle.hla_script.specs.Playing.{IsPlayedAs, IsPlayedFrom, IsPlayedWhole, IsPlayedAll, StopsBy, is_unwritten_transcript, is_cut_off};
 
 use crate::execution::Execution;
 use crate::history::play_line;
@@ -64,15 +64,24 @@ fn without_spare_room(mut records: Vec<Record>) -> List<Record>
     List::from_vec(records)
 }
 
-/// Plays the lines of a script one after another, and writes how each ended.
+/// Whether a line ends the play.
+fn ends_play(is_whole: bool, is_remembered: bool) -> bool
+    ensures { result ≡ (is_whole && not is_remembered) }
+{
+    is_whole && !is_remembered
+}
+
+/// Plays the lines of a script one after another, and writes how each ended. `Memory` where there was none for a text, or,
+/// where it is to be played whole, for what a line asks; `Write` where the writer has failed.
 fn play_lines<W: Write>(
     alloc: Global,
     catalogue: Catalogue,
     script: &Script<'_>,
+    is_whole: bool,
     out: &mut Watched<W>,
 ) -> Result<List<Record>, StopFault>
-    ensures played { IfOk result (λ records. IsPlayed catalogue script.now (W.contents out.old.inner)
-        (W.contents out.new.inner) records) }
+    ensures played { IfOk result (IsPlayedAs is_whole catalogue script.now (W.contents out.old.inner)
+        (W.contents out.new.inner)) }
     ensures next { IfOk result (λ records. (x : Federations) × AreNext no_federations records x) }
     ensures failure { out.new.has_failed ≡ (out.old.has_failed || is_cut_off result) }
 {
@@ -84,10 +93,14 @@ fn play_lines<W: Write>(
     let mut text = Text::new(alloc);
     for line in script.as_slice() {
         text.clear();
-        let Ok(()) = play_line(&mut execution, &mut records, line, &mut text) else {
+        let Ok(is_remembered) = play_line(&mut execution, &mut records, line, &mut text) else {
             drop(execution);
             return Err(StopFault::Memory);
         };
+        if ends_play(is_whole, is_remembered) {
+            drop(execution);
+            return Err(StopFault::Memory);
+        }
         let Ok(()) = write_whole(out, text.as_slice()) else {
             drop(execution);
             return Err(StopFault::Write);
@@ -95,6 +108,38 @@ fn play_lines<W: Write>(
     }
     drop(execution);
     Ok(without_spare_room(records))
+}
+
+/// Plays a script over a FED file as `play` does, and, where it is to be played whole, ends with `Memory` at the first line that
+/// runs out of memory.
+fn play_from<W: Write>(
+    alloc: Global,
+    fed: &[u8],
+    script: &[u8],
+    is_whole: bool,
+    out: &mut Watched<W>,
+) -> Result<List<Record>, PlayFault>
+    ensures played { IfOk result (IsPlayedAll is_whole fed.now script.now (W.contents out.old.inner)
+        (W.contents out.new.inner)) }
+    ensures next { IfOk result (λ records. (x : Federations) × AreNext no_federations records x) }
+    ensures run { IfOk result (λ records. (y : machine.Executions) × AreRun machine.no_executions records y) }
+    ensures stopped { IfErr result (StopsBy fed.now script.now (W.contents out.old.inner)
+        (W.contents out.new.inner)) }
+    ensures failure { out.new.has_failed ≡ (out.old.has_failed || is_unwritten_transcript result) }
+{
+    let catalogue = match read(alloc, fed) {
+        Ok(catalogue) => catalogue,
+        Err(fault) => return Err(PlayFault::Fed(fault)),
+    };
+    let lines = match parse(alloc, script) {
+        Ok(lines) => lines,
+        Err(fault) => return Err(PlayFault::Script(fault)),
+    };
+    match play_lines(alloc, catalogue, &lines, is_whole, out) {
+        Ok(records) => Ok(records),
+        Err(StopFault::Write) => Err(PlayFault::Write),
+        Err(StopFault::Memory) => Err(PlayFault::Memory),
+    }
 }
 
 /// Plays a script over a FED file: does what its lines ask for, one after another, in an execution named `play`, writes
@@ -128,17 +173,28 @@ pub fn play<W: Write>(
     // A write has failed where that is answered, and nowhere else.
     ensures failure { out.new.has_failed ≡ (out.old.has_failed || is_unwritten_transcript result) }
 {
-    let catalogue = match read(alloc, fed) {
-        Ok(catalogue) => catalogue,
-        Err(fault) => return Err(PlayFault::Fed(fault)),
-    };
-    let lines = match parse(alloc, script) {
-        Ok(lines) => lines,
-        Err(fault) => return Err(PlayFault::Script(fault)),
-    };
-    match play_lines(alloc, catalogue, &lines, out) {
-        Ok(records) => Ok(records),
-        Err(StopFault::Write) => Err(PlayFault::Write),
-        Err(StopFault::Memory) => Err(PlayFault::Memory),
-    }
+    play_from(alloc, fed, script, false, out)
+}
+
+/// Plays a script over a FED file as `play` does, but for want of memory: at the first line that runs out of it this ends with
+/// `Memory`, and what was written before stays. So each outcome has another cause, and there is a record of each line that makes
+/// a step, up to where the history is full.
+pub fn play_whole<W: Write>(
+    alloc: Global,
+    fed: &[u8],
+    script: &[u8],
+    out: &mut Watched<W>,
+) -> Result<List<Record>, PlayFault>
+    // As of `play`, and no outcome is a refusal for memory.
+    ensures played { IfOk result (IsPlayedWhole fed.now script.now (W.contents out.old.inner)
+        (W.contents out.new.inner)) }
+    ensures next { IfOk result (λ records. (x : Federations) × AreNext no_federations records x) }
+    ensures run { IfOk result (λ records. (y : machine.Executions) × AreRun machine.no_executions records y) }
+
+    // As of `play`.
+    ensures stopped { IfErr result (StopsBy fed.now script.now (W.contents out.old.inner)
+        (W.contents out.new.inner)) }
+    ensures failure { out.new.has_failed ≡ (out.old.has_failed || is_unwritten_transcript result) }
+{
+    play_from(alloc, fed, script, true, out)
 }

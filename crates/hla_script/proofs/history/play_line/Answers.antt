@@ -7,7 +7,7 @@ use Rattle.hla_script.proofs.history.play_line.Goals as goal
 
 pub returns-in-Err-clause-answered : goal.returns-in-Err-clause-answered
 returns-in-Err-clause-answered c =
-    rw c.request_with_room.ensures.records (adds_none c.args.execution.now.catalogue c.args.line.now c.args.records.now.items _ _ c.print_refusal.result c.in-Err.fault c.in-Err.ensures.refused c.print_refusal.ensures)
+    rw c.request_with_room.ensures.records (adds_none c.args.execution.now.catalogue c.args.line.now c.args.records.now.items _ _ c.print_refusal.result c.in-Err.fault c.in-Err.ensures.refused c.print_refusal.ensures.text c.print_refusal.ensures.remembered)
 
 pub returns-in_default-clause-kept : goal.returns-in_default-clause-kept
 returns-in_default-clause-kept c =
@@ -23,4 +23,4 @@ pub returns-in-Err-act-clause-answered : goal.returns-in-Err-act-clause-answered
 returns-in-Err-act-clause-answered c =
     rw c.request_with_room.ensures.records
     (adds_none_in c.args.execution.now.catalogue _ c.args.line.now c.args.records.now.items _ _ c.print_refusal-in-Err-act.result fault.OutOfMemory c.act.ensures.catalogue (OutOfMemory c.in-Ok.request c.in-Ok.ensures.admitted refl refl)
-    c.print_refusal-in-Err-act.ensures)
+    c.print_refusal-in-Err-act.ensures.text c.print_refusal-in-Err-act.ensures.remembered)

@@ -1,8 +1,6 @@
-use Rattle.hla_components.specs.Executions.{central_executions}
-use Rattle.hla_components.proofs.Refinement.Executions.{runs_from_none}
+use Rattle.std.proofs.Common.{refl}
+use Rattle.hla_script.proofs.PlayLemmas.{played_from}
 use Rattle.hla_script.proofs.player.play.Goals as goal
 
-pub returns-in-Ok-play_lines-clause-run : goal.returns-in-Ok-play_lines-clause-run
-returns-in-Ok-play_lines-clause-run g c =
-    let is = c.in-Ok-play_lines.ensures.next in
-    (central_executions is.0, runs_from_none c.in-Ok-play_lines.records is.0 is.1)
+pub returns-clause-played : goal.returns-clause-played
+returns-clause-played g c = played_from _ _ _ _ c.play_from.result c.play_from.ensures.played

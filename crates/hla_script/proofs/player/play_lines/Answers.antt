@@ -1,7 +1,8 @@
+use Rattle.std.specs.Prelude.{not, ◌&&◌}
 use Rattle.std.proofs.Common.{refl, Bool, true, false, ◌||◌, ◌≡◌, ◌++◌, ◌∷◌, [], ◌+◌, List, take, sym, ◌∙◌, ap, subst}
 use Rattle.std.proofs.lemmas.List.{take_more, take_all}
 use Rattle.hla_commands.specs.declared.lines.Line.{Line}
-use Rattle.hla_script.specs.Playing.{IsPlayed}
+use Rattle.hla_script.specs.Playing.{IsPlayedAs}
 use Rattle.hla_script.proofs.PlayLemmas.{played_nothing, played_more}
 use Rattle.hla_script.proofs.KeepLemmas.{keeps_nothing}
 use Rattle.hla_script.proofs.player.play_lines.Goals as goal
@@ -10,12 +11,17 @@ or_none : (b : Bool) → (b || false) ≡ b
 or_none true = refl
 or_none false = refl
 
+goes_on : (whole remembered : Bool) → (whole && not remembered) ≡ false → whole ≡ true → remembered ≡ true
+goes_on true true none is = refl
+goes_on true false none is = sym none
+goes_on false b none is = cc
+
 pub loop-line-init : goal.loop-line-init
 loop-line-init g c = record {
   name = c.new-execution.ensures.name ∙ c.in-Ok.ensures.ok;
   catalogue = c.new-execution.ensures.catalogue;
   kept = rw (c.no_records-records.ensures, c.new-execution.ensures.creates, c.new-execution.ensures.federation, c.new-execution.ensures.members) keeps_nothing;
-  played = rw c.no_records-records.ensures (played_nothing c.args.catalogue (g.W.Write.contents c.args.out.now.inner));
+  played = rw c.no_records-records.ensures (played_nothing c.args.is_whole c.args.catalogue (g.W.Write.contents c.args.out.now.inner));
   sound = refl;
 }
 
@@ -31,7 +37,7 @@ loop-line-preserved g c =
       catalogue = c.in-Ok-play_line.ensures.catalogue ∙ kept.catalogue;
       kept = c.in-Ok-play_line.ensures.kept;
       played = rw more
-          (played_more c.args.catalogue c.loop-line.execution.catalogue (take i items) line c.loop-line.records.items _ c.clear.new.self c.play_line.new.text c.as_slice.result.now _ _ _ kept.catalogue c.clear.ensures kept.played c.in-Ok-play_line.ensures.answered
+          (played_more c.args.is_whole c.in-Ok-play_line.is_remembered (goes_on c.args.is_whole c.in-Ok-play_line.is_remembered (sym c.ends_play.ensures ∙ c.if-ends_play.false)) c.args.catalogue c.loop-line.execution.catalogue (take i items) line c.loop-line.records.items _ c.clear.new.self c.play_line.new.text c.as_slice.result.now _ _ _ kept.catalogue c.clear.ensures kept.played c.in-Ok-play_line.ensures.answered
           c.as_slice.ensures c.in-Ok-write_whole.ensures.ok);
       sound = c.in-Ok-write_whole.ensures.failure ∙ or_none _ ∙ kept.sound;
     }
@@ -40,7 +46,7 @@ pub returns-clause-played : goal.returns-clause-played
 returns-clause-played g c =
     let items = c.as_slice-line-items.result.now in
     let all : take c.loop-line.line-index items ≡ c.args.script.now = take_all c.loop-line.line-index items c.loop-line-test.false ∙ c.as_slice-line-items.ensures in
-    let played = subst (λ (ls : List Line). IsPlayed c.args.catalogue ls (g.W.Write.contents c.args.out.now.inner) (g.W.Write.contents c.loop-line.out.inner) c.loop-line.records.items) all c.loop-line.invariant.played in
+    let played = subst (λ (ls : List Line). IsPlayedAs c.args.is_whole c.args.catalogue ls (g.W.Write.contents c.args.out.now.inner) (g.W.Write.contents c.loop-line.out.inner) c.loop-line.records.items) all c.loop-line.invariant.played in
     rw c.without_spare_room.ensures played
 
 pub returns-in_default-play_line-clause-failure : goal.returns-in_default-play_line-clause-failure

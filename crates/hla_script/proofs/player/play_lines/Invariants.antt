@@ -1,5 +1,5 @@
 use Rattle.std.proofs.Common.{◌≡◌, take, codes}
-use Rattle.hla_script.specs.Playing.{IsPlayed}
+use Rattle.hla_script.specs.Playing.{IsPlayedAs}
 use Rattle.hla_script.specs.Keeping.{standing, IsKept}
 use Rattle.hla_script.proofs.player.play_lines.Given as goal
 
@@ -8,6 +8,6 @@ invariant-loop-line g l = record {
   name : l.execution.name ≡ codes "play";
   catalogue : l.execution.catalogue ≡ l.fn.catalogue;
   kept : IsKept l.records.items (standing l.execution.creates l.execution.federation) l.execution.members.items;
-  played : IsPlayed l.fn.catalogue (take l.line-index l.line-items) (g.W.Write.contents l.fn.out.inner) (g.W.Write.contents l.out.inner) l.records.items;
+  played : IsPlayedAs l.fn.is_whole l.fn.catalogue (take l.line-index l.line-items) (g.W.Write.contents l.fn.out.inner) (g.W.Write.contents l.out.inner) l.records.items;
   sound : l.out.has_failed ≡ l.fn.out.has_failed;
 }

@@ -1,0 +1,6 @@
+use Rattle.std.proofs.Common.{refl}
+use Rattle.hla_script.proofs.PlayLemmas.{played_whole}
+use Rattle.hla_script.proofs.player.play_whole.Goals as goal
+
+pub returns-clause-played : goal.returns-clause-played
+returns-clause-played g c = played_whole _ _ _ _ c.play_from.result c.play_from.ensures.played
