@@ -38,6 +38,7 @@ pub struct Rti<L: Ledger + Naming, B: FederateAmbassador, W: Publisher<L>> {
 
 impl<L: Ledger + Naming, B: FederateAmbassador, W: Publisher<L>> Model for Rti<L, B, W> {
     ghost use Rattle.std.specs.Prelude.{◌≡◌, ◌+◌};
+    ghost use Rattle.hla_base.specs.Limits.{max_callers};
     ghost use Rattle.hla_rti.specs.Callers.{Office};
 
     ghost Value = { Office };
