@@ -1,6 +1,6 @@
 //! Reading scripts.
 
-ghost use Rattle.std.specs.Prelude.{◌≡◌, true};
+ghost use Rattle.std.specs.Prelude.{◌≡◌, [], true};
 ghost use Rattle.std.specs.List.{list_all};
 ghost use Rattle.hla_commands.specs.Reading.{Means, Reads};
 ghost use Rattle.hla_commands.specs.Script.{command_in, command_by, command_of, is_plain, is_text, script_of, ParsesAs};
@@ -13,6 +13,9 @@ use crate::words::{Word, Words};
 use bstr::ByteSlice;
 use hla_base::{List, MAX_SCRIPT, MAX_SCRIPT_LINE};
 use std::alloc::Global;
+
+/// The bytes of a usual line of a script, or some fewer.
+const USUAL_LINE: usize = 24;
 
 /// A command by its first word.
 fn command_by<'a>(
@@ -110,6 +113,17 @@ fn command<'a>(
     }
 }
 
+/// No lines, and room for those that a text of so many bytes mostly has, so that few are moved while they grow; where that was
+/// refused, it is taken as they come.
+fn room_for<'a>(alloc: Global, bytes: usize) -> Script<'a>
+    ensures { result ≡ [] }
+{
+    match Vec::with_capacity(alloc, bytes / USUAL_LINE) {
+        Ok(lines) => List::from_vec(lines),
+        Err(_) => List::new(alloc),
+    }
+}
+
 /// Reads a script whole, or answers its first fault, with its line: `TooLarge` where the script (at line 1) or a line is too
 /// long, `BadByte` where a byte may not stand in a line, and of the words of a command `UnknownWord`, `MissingWord`,
 /// `BadNumber`, `BadWord` or `ExtraWord`. `OutOfMemory` is answered only where a growth was refused; it may come before any
@@ -125,7 +139,7 @@ pub fn parse<'a>(alloc: Global, text: &'a [u8]) -> Result<Script<'a>, ScriptFaul
         });
     }
     let is_tested = is_text(text);
-    let mut found = List::new(alloc);
+    let mut found = room_for(alloc, text.len());
     let mut number = 0;
     let mut lines = text.lines();
     while let Some(line) = lines.next() {
