@@ -43,7 +43,7 @@ fn filled(alloc: Global, events: u32, random: &mut Random) -> Result<TsoQueue, F
 
 /// Takes the first event and puts one in behind it, again and again. `OutOfMemory` where a growth was refused.
 pub fn run(alloc: Global, events: u32) -> Result<Counts, Fault> {
-    let mut random = Random::first();
+    let mut random = Random::new();
     let mut queue = filled(alloc, events, &mut random)?;
     for hold in 0..HOLDS {
         if let Some(least) = queue.take_least() {

@@ -1,5 +1,5 @@
-//! Figures of the library's own calls, with no script in between, and workloads of what users wait for. Counts and digests are printed
-//! on standard output and are the same at each run; seconds and rates are printed on standard error.
+//! Figures of the library's own calls, with no script in between. Counts are printed on standard output and are the same at each
+//! run; seconds and rates are printed on standard error.
 //!
 //!     hla_bench lockstep FEDERATES EVENTS ROUNDS
 //!     hla_bench phold FEDERATES POPULATION LOOKAHEAD DELIVERED
@@ -12,15 +12,9 @@
 //!     hla_bench run THREADS ROUNDS
 //!     hla_bench watch THREADS ROUNDS
 //!     hla_bench check FEDERATES EVENTS ROUNDS
-//!     hla_bench workload federation|check|steps|scripts|small FEDERATES AMOUNT ROUNDS SEED
-//!     hla_bench workload threads FEDERATES ROUNDS SEED
-//!     hla_bench each
-//!
-//! `each` does a little of what the others do much of: a benchmark and all workloads.
 #![tactic(auto)]
 
 mod advancing;
-mod brought;
 mod counts;
 mod holding;
 mod lockstep;
@@ -30,10 +24,8 @@ mod random;
 mod reading;
 mod sharing;
 mod updating;
-mod workload;
 
 use crate::counts::Counts;
-use crate::workload::{Workload, digest_of, workload_of};
 use hla_base::Fault;
 use hla_checker::check_run;
 use hla_machine::Record;
@@ -94,20 +86,10 @@ enum Benchmark {
     },
 }
 
-/// What the command line asks for.
-#[derive(Clone, Copy)]
-enum Asked {
-    Benchmark(Benchmark),
-    Workload(Workload),
-    Each,
-}
-
 const USAGE: &str =
     "usage: hla_bench lockstep FEDERATES EVENTS ROUNDS | phold FEDERATES POPULATION LOOKAHEAD DELIVERED | \
     updates RECEIVERS UPDATES | queue EVENTS | fed BYTES | bare FEDERATES ROUNDS | lent FEDERATES ROUNDS | \
-    locked FEDERATES ROUNDS | run THREADS ROUNDS | watch THREADS ROUNDS | check FEDERATES EVENTS ROUNDS | \
-    workload federation|check|steps|scripts|small FEDERATES AMOUNT ROUNDS SEED | \
-    workload threads FEDERATES ROUNDS SEED | each";
+    locked FEDERATES ROUNDS | run THREADS ROUNDS | watch THREADS ROUNDS | check FEDERATES EVENTS ROUNDS";
 
 /// The words behind the first two, each as a number; none where one is no number of 32 bits.
 fn numbers_of(alloc: Global, words: &mut Args) -> Option<Vec<u32>> {
@@ -174,29 +156,13 @@ fn shared_benchmark(name: &str, numbers: &[u32]) -> Option<Benchmark> {
     }
 }
 
-/// The benchmark that a name and the words behind it ask for.
-fn benchmark_of(alloc: Global, name: &str, words: &mut Args) -> Option<Benchmark> {
-    let numbers = numbers_of(alloc, words)?;
-    let numbers = numbers.as_slice();
-    bare_benchmark(name, numbers).or_else(|| shared_benchmark(name, numbers))
-}
-
-/// The workload that words ask for.
-fn workload_in(alloc: Global, words: &mut Args) -> Option<Workload> {
-    let name = words.next()?;
-    let numbers = numbers_of(alloc, words)?;
-    workload_of(name.as_str(), numbers.as_slice())
-}
-
 /// What the words of the command line ask for, if they ask for anything.
-fn asked_for(alloc: Global, words: &mut Args) -> Option<Asked> {
+fn asked_for(alloc: Global, words: &mut Args) -> Option<Benchmark> {
     let _program = words.next()?;
     let name = words.next()?;
-    match name.as_str() {
-        "workload" => workload_in(alloc, words).map(Asked::Workload),
-        "each" => Some(Asked::Each),
-        name => benchmark_of(alloc, name, words).map(Asked::Benchmark),
-    }
+    let numbers = numbers_of(alloc, words)?;
+    let (name, numbers) = (name.as_str(), numbers.as_slice());
+    bare_benchmark(name, numbers).or_else(|| shared_benchmark(name, numbers))
 }
 
 /// The records that a benchmark is about; none where it is about other things.
@@ -325,53 +291,13 @@ fn prepare<R: Runtime + AllocGlobal + Threads + Wait + Sync>(
     }
 }
 
-/// Runs a workload, and prints its digest; the status.
-fn play<R: Runtime + AllocGlobal + Threads + Wait + Sync>(
-    rt: &R,
-    workload: Workload,
-) -> io::Result<u8> {
-    match digest_of(rt, rt.alloc(), workload) {
-        Ok(value) => {
-            println!(rt; "digest {value:016x}")?;
-            Ok(0)
-        }
-        Err(fault) => stopped(rt, fault),
-    }
-}
-
-/// A benchmark and all workloads, each small; the status.
-fn run_each<R: Runtime + AllocGlobal + Threads + Wait + Sync>(rt: &R) -> io::Result<u8> {
-    let first = prepare(
-        rt,
-        Benchmark::Lockstep {
-            federates: 3,
-            events: 2,
-            rounds: 5,
-        },
-    )?;
-    let all = [
-        ("small", [3, 2, 3, 1].as_slice()),
-        ("threads", [2, 4, 1].as_slice()),
-    ];
-    let mut status = first;
-    for (name, numbers) in all {
-        status = match workload_of(name, numbers) {
-            Some(workload) => status.max(play(rt, workload)?),
-            None => 1,
-        };
-    }
-    Ok(status)
-}
-
 /// Runs what the command line asks for; the status.
 fn run<R: Runtime + AllocGlobal + Threads + Wait + Sync>(rt: &R) -> io::Result<u8> {
     let mut words = env::args(rt)?;
     let asked = asked_for(rt.alloc(), &mut words);
     drop(words);
     match asked {
-        Some(Asked::Benchmark(benchmark)) => prepare(rt, benchmark),
-        Some(Asked::Workload(workload)) => play(rt, workload),
-        Some(Asked::Each) => run_each(rt),
+        Some(asked) => prepare(rt, asked),
         None => {
             eprintln!(rt; "{USAGE}")?;
             Ok(2)

@@ -4,14 +4,14 @@
 //! scope is taken apart, variant by variant, at each end of the function that lets it.
 
 use crate::advancing::name_of;
-use crate::brought::{Brought, Visit, brought_by};
 use crate::counts::Counts;
 use hla_base::{
     AttributeNo, ClassNo, Fault, FederateNo, HandleValuePair, List, Plain, SharedList, Ticks, Value,
 };
+use hla_callbacks::Callback;
 use hla_catalogue::Catalogue;
 use hla_federation::{Federation, Foreseen};
-use hla_machine::{Act, Answer, Choice, Outcome, Record, Service, Step};
+use hla_machine::{Act, Answer, Carried, Choice, Outcome, Record, Service, Step};
 use std::alloc::Global;
 use std::mem;
 
@@ -83,6 +83,34 @@ impl History {
             }
         }
     }
+}
+
+/// What a step brought, as far as it is counted.
+#[derive(Clone, Copy)]
+enum Brought {
+    Nothing,
+    Message,
+    Grant(Ticks),
+    Other,
+}
+
+/// What an answer says that a step brought.
+fn brought_by(answer: &Answer) -> Brought {
+    match answer {
+        Answer::Ticked(
+            Some(Callback::ReceiveInteraction { .. } | Callback::ReflectAttributeValues { .. }),
+        ) => Brought::Message,
+        Answer::Ticked(Some(Callback::TimeAdvanceGrant { time })) => Brought::Grant(*time),
+        Answer::Ticked(None) | Answer::Carried(Carried::Nothing) => Brought::Nothing,
+        _ => Brought::Other,
+    }
+}
+
+/// What ticks brought a federate until they brought a grant or nothing.
+#[derive(Clone, Copy)]
+pub struct Visit {
+    pub received: u64,
+    pub grant: Option<Ticks>,
 }
 
 impl Meter {
@@ -282,10 +310,10 @@ impl Meter {
         let mut received = 0u64;
         for _ in 0..u64::MAX {
             match self.step(Step::Tick { federate })? {
-                Brought::Event => received = received.wrapping_add(1),
+                Brought::Message => received = received.wrapping_add(1),
                 Brought::Grant(time) => return Ok(self.visited(received, Some(time))),
                 Brought::Nothing => break,
-                Brought::Sent(_) | Brought::Other => {}
+                Brought::Other => {}
             }
         }
         Ok(self.visited(received, None))
@@ -295,9 +323,6 @@ impl Meter {
     fn visited(&mut self, received: u64, grant: Option<Ticks>) -> Visit {
         self.counts.received = self.counts.received.wrapping_add(received);
         self.counts.grants = self.counts.grants.wrapping_add(u64::from(grant.is_some()));
-        Visit {
-            events: received,
-            grant,
-        }
+        Visit { received, grant }
     }
 }

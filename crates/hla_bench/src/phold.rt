@@ -93,7 +93,7 @@ impl Hold {
     fn visit(&mut self, meter: &mut Meter, federate: FederateNo) -> Result<(), Fault> {
         let visit = meter.visit(federate)?;
         if let Some(time) = visit.grant {
-            self.send_all(meter, federate, visit.events, time)?;
+            self.send_all(meter, federate, visit.received, time)?;
             meter.call(federate, Service::NextEventRequest { time: MAX_TIME })?;
         }
         meter.announce(federate)?;
@@ -134,7 +134,7 @@ pub fn run(
     let mut hold = Hold {
         federates,
         lookahead,
-        random: Random::first(),
+        random: Random::new(),
     };
     let played = hold.play(&mut meter, population, delivered);
     meter.end(played)

@@ -1,28 +1,15 @@
-//! Numbers without order, the same for the same seed.
+//! Numbers without order, the same at each run.
 
-ghost use Rattle.std.specs.Prelude.{◌<◌};
-
-/// A linear congruential generator modulo 2^64.
+/// A linear congruential generator modulo 2^64, from 1 on.
 #[derive(Clone, Copy)]
 pub struct Random {
     state: u64,
 }
 
 impl Random {
-    /// From 1 on.
-    pub fn first() -> Random {
+    /// The first of them.
+    pub fn new() -> Random {
         Random { state: 1 }
-    }
-
-    /// The numbers of a seed, and of a place where there are several generators to a seed.
-    pub fn new(seed: u32, place: u32) -> Random {
-        let mut random = Random {
-            state: (u64::from(seed) << 32) | u64::from(place),
-        };
-        for _ in 0..4 {
-            let _mixed = random.next();
-        }
-        random
     }
 
     /// The next number, below 2^31.
@@ -32,20 +19,5 @@ impl Random {
             .wrapping_mul(6_364_136_223_846_793_005)
             .wrapping_add(1_442_695_040_888_963_407);
         self.state >> 33
-    }
-
-    /// The next number, below another.
-    pub fn below(&mut self, end: u64) -> u64
-        requires { 0 < end }
-        ensures { result < end }
-    {
-        self.next() % end
-    }
-
-    /// Whether it comes once in so many times.
-    pub fn is_once_in(&mut self, times: u64) -> bool
-        requires { 0 < times }
-    {
-        self.below(times) == 0
     }
 }

@@ -1,14 +1,14 @@
 //! A federation in one process whose answers go into a digest, and whose records may be kept.
 
-use crate::brought::{Brought, Visit, brought_by};
+use crate::digest::Digest;
 use crate::random::Random;
-use crate::reading::catalogue;
-use crate::workload::digest::Digest;
-use crate::workload::values::chosen_values;
+use crate::values::chosen_values;
 use hla_base::{ClassNo, EventHandle, Fault, FederateNo, List, ObjectNo, Plain, SharedList, Ticks};
+use hla_callbacks::Callback;
 use hla_catalogue::Catalogue;
+use hla_fed_file::read;
 use hla_federation::{Federation, Foreseen};
-use hla_machine::{Act, Answer, Choice, Outcome, Record, Service, Step};
+use hla_machine::{Act, Answer, Carried, Choice, Outcome, Record, Service, Step};
 use std::alloc::Global;
 use std::mem;
 
@@ -20,6 +20,44 @@ pub struct Arena {
     pub random: Random,
     pub digest: Digest,
     history: Option<List<Record>>,
+}
+
+/// What a step brought, as far as a player asks.
+#[derive(Clone, Copy)]
+pub enum Brought {
+    Nothing,
+    Event,
+    Grant(Ticks),
+    Sent(EventHandle),
+    Other,
+}
+
+/// What an answer says that a step brought.
+fn brought_by(answer: &Answer) -> Brought {
+    match answer {
+        Answer::Ticked(
+            Some(Callback::ReceiveInteraction { .. } | Callback::ReflectAttributeValues { .. }),
+        ) => Brought::Event,
+        Answer::Ticked(Some(Callback::TimeAdvanceGrant { time })) => Brought::Grant(*time),
+        Answer::Ticked(None) | Answer::Carried(Carried::Nothing) => Brought::Nothing,
+        Answer::Sent(Some(event)) => Brought::Sent(*event),
+        _ => Brought::Other,
+    }
+}
+
+/// What ticks brought a federate until they brought a grant or nothing.
+#[derive(Clone, Copy)]
+pub struct Visit {
+    pub events: u64,
+    pub grant: Option<Ticks>,
+}
+
+/// The catalogue of a FED text that has no faults.
+fn catalogue_of(alloc: Global, fed: &[u8]) -> Result<Catalogue, Fault> {
+    match read(alloc, fed) {
+        Ok(catalogue) => Ok(catalogue),
+        Err(_) => Err(Fault::ErrorReadingFED),
+    }
 }
 
 /// The record of an act.
@@ -59,7 +97,7 @@ impl Arena {
         random: Random,
         is_recorded: bool,
     ) -> Result<Arena, Fault> {
-        let catalogue = catalogue(alloc, fed)?;
+        let catalogue = catalogue_of(alloc, fed)?;
         let history = if is_recorded {
             match history_of(alloc, &catalogue) {
                 Ok(records) => Some(records),

@@ -1,9 +1,9 @@
 //! Recorded runs that are checked: with much that waits, with hundreds of events for each federate, and with updates for many.
 
-use crate::workload::digest::Digest;
-use crate::workload::plays::{by_events, by_updates, in_step, opened};
-use crate::workload::sizes::Sizes;
-use crate::workload::stage::Arena;
+use crate::digest::Digest;
+use crate::plays::{by_events, by_updates, in_step, opened};
+use crate::sizes::Sizes;
+use crate::stage::Arena;
 use hla_base::Fault;
 use hla_checker::{CheckFault, check_run};
 use hla_machine::{Answer, Outcome, Record};

@@ -3,11 +3,10 @@
 ghost use Rattle.std.specs.Prelude.{◌≡◌};
 ghost use Rattle.hla_base.specs.Limits.{ledger_parts};
 
-use crate::advancing::{HISTORY_LIMIT, name_of};
+use crate::digest::Digest;
+use crate::federates::{Carrier, FED, Field, Player, prepare, register};
 use crate::random::Random;
-use crate::workload::digest::Digest;
-use crate::workload::federates::{Carrier, FED, Field, Player, prepare, register};
-use crate::workload::sizes::Sizes;
+use crate::sizes::Sizes;
 use hla_base::{ExecutionName, Fault, FederateNo, LEDGER_PARTS, List};
 use hla_callbacks::Recorder;
 use hla_machine::Record;
@@ -21,18 +20,28 @@ use std::sync::{Barrier, Wait};
 use std::thread;
 use std::thread::Threads;
 
+/// How many records the history may hold.
+const HISTORY_LIMIT: usize = 1_048_576;
+
 /// What a thread has.
 #[derive(Drop)]
-enum Runner<L: Ledger + Naming, W: Publisher<L>> {
+enum Party<L: Ledger + Naming, W: Publisher<L>> {
     Player(Player<L, W>),
     Carrier(Carrier<L, W>),
 }
 
 /// What all threads leave behind.
 #[derive(Drop)]
-struct Leavings<L: Ledger> {
+struct Rest<L: Ledger> {
     lefts: List<Left<L, Recorder>>,
     digest: Digest,
+}
+
+/// The name of the federate of a number.
+fn name_of(alloc: Global, federate: FederateNo) -> Result<List<u8>, Fault> {
+    let mut name = List::new(alloc);
+    name.push(b'@'.wrapping_add(federate.to_le_bytes()[0]))?;
+    Ok(name)
 }
 
 /// Joins a federate.
@@ -69,11 +78,11 @@ fn add_player<L: Ledger + Naming, W: Publisher<L>>(
     rti: &mut Rti<L, Recorder, W>,
     number: FederateNo,
     seed: u32,
-    parties: &mut List<Runner<L, W>>,
+    parties: &mut List<Party<L, W>>,
 ) -> Result<(), Fault> {
     let mut player = join(rt, field, rti, number, Random::new(seed, number))?;
     match prepare(rt, field, &mut player.federate) {
-        Ok(()) => parties.push(Runner::Player(player)),
+        Ok(()) => parties.push(Party::Player(player)),
         Err(fault) => {
             drop(player);
             Err(fault)
@@ -85,10 +94,10 @@ fn add_player<L: Ledger + Naming, W: Publisher<L>>(
 fn register_all<L: Ledger + Naming, W: Publisher<L>>(
     rt: &impl Wait,
     field: &Field,
-    parties: &mut Vec<Runner<L, W>>,
+    parties: &mut Vec<Party<L, W>>,
 ) -> Result<(), Fault> {
     for party in parties.iter_mut() {
-        if let Runner::Player(player) = party {
+        if let Party::Player(player) = party {
             if player.federate.number() != field.federates {
                 player.first = register(rt, field, &mut player.federate)?;
             }
@@ -102,7 +111,7 @@ fn add_carrier<L: Ledger + Naming, W: Publisher<L>>(
     rt: &impl Wait,
     field: &Field,
     rti: &mut Rti<L, Recorder, W>,
-    parties: &mut Vec<Runner<L, W>>,
+    parties: &mut Vec<Party<L, W>>,
 ) -> Result<(), Fault> {
     let mut carrier = Carrier {
         courier: rti.courier()?,
@@ -110,7 +119,7 @@ fn add_carrier<L: Ledger + Naming, W: Publisher<L>>(
         fault: None,
     };
     match carrier.exchange(rt, field) {
-        Ok(()) => match parties.push(Runner::Carrier(carrier)) {
+        Ok(()) => match parties.push(Party::Carrier(carrier)) {
             Ok(()) => Ok(()),
             Err(_) => Err(Fault::OutOfMemory),
         },
@@ -127,7 +136,7 @@ fn join_all<L: Ledger + Naming, W: Publisher<L>>(
     field: &Field,
     rti: &mut Rti<L, Recorder, W>,
     seed: u32,
-    parties: &mut List<Runner<L, W>>,
+    parties: &mut List<Party<L, W>>,
 ) -> Result<(), Fault> {
     rti.create(rt, field.execution, FED)?;
     for number in 1..=field.federates {
@@ -142,7 +151,7 @@ fn all_parties<L: Ledger + Naming, W: Publisher<L>>(
     field: &Field,
     rti: &mut Rti<L, Recorder, W>,
     seed: u32,
-) -> Result<Vec<Runner<L, W>>, Fault> {
+) -> Result<Vec<Party<L, W>>, Fault> {
     let mut parties = List::new(field.alloc);
     if let Err(fault) = join_all(rt, field, rti, seed, &mut parties) {
         drop(parties);
@@ -163,22 +172,22 @@ fn all_parties<L: Ledger + Naming, W: Publisher<L>>(
 fn live<L: Ledger + Naming, W: Publisher<L>>(
     rt: &impl Wait,
     field: &Field,
-    party: Runner<L, W>,
-) -> Runner<L, W> {
+    party: Party<L, W>,
+) -> Party<L, W> {
     match party {
-        Runner::Player(player) => Runner::Player(player.live(rt, field)),
-        Runner::Carrier(carrier) => Runner::Carrier(carrier.live(rt, field)),
+        Party::Player(player) => Party::Player(player.live(rt, field)),
+        Party::Carrier(carrier) => Party::Carrier(carrier.live(rt, field)),
     }
 }
 
 /// Adds what one who has lived leaves behind, or says what stopped it.
 fn add_rest<L: Ledger + Naming, W: Publisher<L>>(
-    rest: &mut Leavings<L>,
-    party: Runner<L, W>,
+    rest: &mut Rest<L>,
+    party: Party<L, W>,
 ) -> Result<(), Fault> {
     let (left, digest, fault) = match party {
-        Runner::Player(player) => (player.federate.leave(), player.digest, player.fault),
-        Runner::Carrier(carrier) => (carrier.courier.leave(), carrier.digest, carrier.fault),
+        Party::Player(player) => (player.federate.leave(), player.digest, player.fault),
+        Party::Carrier(carrier) => (carrier.courier.leave(), carrier.digest, carrier.fault),
     };
     rest.digest.add(digest.value());
     match fault {
@@ -192,8 +201,8 @@ fn add_rest<L: Ledger + Naming, W: Publisher<L>>(
 
 /// Adds what all who have lived leave behind, up to the first that was stopped.
 fn add_all<L: Ledger + Naming, W: Publisher<L>>(
-    rest: &mut Leavings<L>,
-    all: Vec<Runner<L, W>>,
+    rest: &mut Rest<L>,
+    all: Vec<Party<L, W>>,
 ) -> Result<(), Fault> {
     for party in all {
         add_rest(rest, party)?;
@@ -207,12 +216,12 @@ fn play<L: Ledger + Naming + Send + Sync, W: Publisher<L> + Send, R: Threads + W
     field: &Field,
     rti: &mut Rti<L, Recorder, W>,
     seed: u32,
-) -> Result<Leavings<L>, Fault> {
+) -> Result<Rest<L>, Fault> {
     let parties = all_parties(rt, field, rti, seed)?;
     let Ok(all) = thread::map_vec(rt, parties, &|party| live(rt, field, party)) else {
         return Err(Fault::OutOfMemory);
     };
-    let mut rest = Leavings {
+    let mut rest = Rest {
         lefts: List::new(field.alloc),
         digest: Digest::new(),
     };
@@ -241,11 +250,11 @@ fn add_records(digest: &mut Digest, records: &[Record]) {
 fn close<L: Ledger + Naming, W: Publisher<L>>(
     rt: &impl Wait,
     rti: Rti<L, Recorder, W>,
-    rest: Result<Leavings<L>, Fault>,
+    rest: Result<Rest<L>, Fault>,
 ) -> Result<Digest, Fault>
     requires { L.parts ≡ ledger_parts }
 {
-    let Leavings { lefts, mut digest } = match rest {
+    let Rest { lefts, mut digest } = match rest {
         Ok(rest) => rest,
         Err(fault) => {
             drop(rti);

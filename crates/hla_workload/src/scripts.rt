@@ -1,9 +1,9 @@
 //! Scripts that are played, and of which every second one is checked.
 
+use crate::digest::Digest;
 use crate::random::Random;
-use crate::workload::digest::Digest;
-use crate::workload::sizes::Sizes;
-use crate::workload::texts::{FED, Text, by_updates, in_step};
+use crate::sizes::Sizes;
+use crate::texts::{FED, Text, by_updates, in_step};
 use hla_base::{Fault, List};
 use hla_checker::check_run;
 use hla_machine::Record;

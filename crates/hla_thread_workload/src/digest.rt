@@ -1,9 +1,9 @@
-//! A digest of a text of outcomes.
+//! A number that stands for a text of outcomes.
 
 /// Lines whose words do not depend on which thread came first are taken whole, in their order; of the others their number alone, since
 /// it is by chance whose object a federate discovers first.
 #[derive(Clone, Copy)]
-pub struct LineDigest {
+pub struct Digest {
     value: u64,
 }
 
@@ -28,10 +28,10 @@ fn number_of(line: &[u8]) -> &[u8] {
     }
 }
 
-impl LineDigest {
+impl Digest {
     /// Of nothing.
-    pub fn new() -> LineDigest {
-        LineDigest {
+    pub fn new() -> Digest {
+        Digest {
             value: 0xcbf2_9ce4_8422_2325,
         }
     }

@@ -1,4 +1,4 @@
-use Rattle.hla_bench.proofs.workload.threads.run.Given as goal
+use Rattle.hla_workload.proofs.running.run.Given as goal
 
 -- the ledger that was just made
 abbrev pub ghosts-run_at-L-Ledger : goal.ghosts-run_at-L-Ledger

@@ -7,9 +7,9 @@
 //! Federates of even numbers advance by Time Advance Request, those of odd ones by Next Event Request. The last federate falls behind: it is
 //! constrained, sends nothing, and asks for its time only when the others are done.
 
+use crate::digest::Digest;
 use crate::random::Random;
-use crate::workload::digest::Digest;
-use crate::workload::values::{ATTRIBUTES, chosen_values};
+use crate::values::{ATTRIBUTES, chosen_values};
 use hla_base::{ExecutionName, Fault, FederateNo, List, ObjectNo, Ticks};
 use hla_callbacks::{Callback, Recorder};
 use hla_machine::Carried;

@@ -1,10 +1,9 @@
 //! What federates of a federation in one process do: in step, by events, and with one that updates its objects for all others.
 
-use crate::brought::Brought;
 use crate::random::Random;
-use crate::workload::sizes::Sizes;
-use crate::workload::stage::Arena;
-use crate::workload::values::ATTRIBUTES;
+use crate::sizes::Sizes;
+use crate::stage::{Arena, Brought};
+use crate::values::ATTRIBUTES;
 use hla_base::{EventHandle, Fault, FederateNo, MAX_TIME, Ticks};
 use hla_machine::Service;
 use std::alloc::Global;
