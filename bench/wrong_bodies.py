@@ -120,7 +120,7 @@ def tried(folder, edit, alone):
                 groups.append([it])
                 continue
             print(f"{folder.name}: {it[0]}: {'refused' if is_refused else 'NOT REFUSED'}: {found[by[0]][:120] if by else 'elsewhere'}", flush=True)
-            yield it[0], is_refused, f"{by[0][0]}, {by[0][2] or 'an item'}" if by else "elsewhere"
+            yield it[0], is_refused, f"in {by[0][0]}, {by[0][2] or 'an item'}" if by else "elsewhere"
 
 
 def edits_of(name):
@@ -137,7 +137,7 @@ def write(name, results):
     commit = subprocess.run(["git", "rev-parse", "--short", "HEAD"], cwd=BENCH, capture_output=True, text=True).stdout.strip()
     missing = sum(not is_refused for _, is_refused, _ in results)
     others[name] = [f"{name}: {len(results)} wrong bodies tried at {commit}, {missing} not refused"]
-    others[name] += [f"{name}: {title}: {'refused in ' + where if is_refused else 'NOT REFUSED'}" for title, is_refused, where in results]
+    others[name] += [f"{name}: {title}: {'refused ' + where if is_refused else 'NOT REFUSED'}" for title, is_refused, where in results]
     RECORD.write_text("".join(line + "\n" for crate in sorted(others) for line in others[crate]))
 
 
