@@ -8,3 +8,5 @@ pub mod Changes
 pub mod Steps
 -- Over lists of steps
 pub mod Runs
+-- Over histories
+pub mod Histories

@@ -15,6 +15,7 @@ use Rattle.hla_machine.specs.declared.step.Step.{Step}
 use Rattle.hla_machine.specs.declared.step.Record.{Record}
 use Rattle.hla_machine.specs.Runs as machine
 use Rattle.hla_machine.specs.Runs.{create_fault, destroy_fault, AreRun}
+use Rattle.hla_machine.specs.Histories.{AreDiscoveredInTurn}
 use Rattle.hla_components.specs.Components.{Components, new_components}
 use Rattle.hla_components.specs.CentralOf.{central}
 use Rattle.hla_components.specs.Next.{next}
@@ -84,3 +85,7 @@ AreNext x (r ∷ rs) y = IsNext x r × AreNext (after_record x r) rs y
 -- such records from no executions are a run of the machine
 abbrev pub EachNextIsARun : Type 0
 EachNextIsARun = (records : List Record) (x : Federations) → AreNext no_federations records x → AreRun machine.no_executions records (central_executions x)
+
+-- and in each execution each object is discovered first, and once
+abbrev pub EachHistoryDiscoversInTurn : Type 0
+EachHistoryDiscoversInTurn = (records : List Record) (x : Federations) → AreNext no_federations records x → AreDiscoveredInTurn records

@@ -1,6 +1,6 @@
 //! The theorem over definitions: whatever the steps, the components are a run of the central machine.
 
-ghost use Rattle.hla_components.specs.Executions.{EachNextIsARun};
+ghost use Rattle.hla_components.specs.Executions.{EachHistoryDiscoversInTurn, EachNextIsARun};
 ghost use Rattle.hla_components.specs.Headline.{EachListIsARun, EachListIsLawful, EachListKeepsTheInvariant, EachFederationIsSafe, PicksNeverFall, PicksRise, EachReceiverWaits, EachHearsOthers, EachHearsOnce, OnlyTheJoinedAreGiven, EachHearsInOrder, EachRegistrationDiffers, EachDiscoversBefore, EachListDiscoversInTurn, EachDiscoversFirst, EachDiscoversOnce, EachEpochCounts, NothingIsGivenInThePast, ComponentsGrantAfterAllBefore};
 
 /// Each list of steps of the components, with what they answer and choose, is a run of the central machine.
@@ -112,4 +112,10 @@ pub fn each_discovers_first()
 /// From a new execution on: no federate is given the discovery of an object twice.
 pub fn each_discovers_once()
     ensures { EachDiscoversOnce }
+{}
+
+/// Of records of all executions: in each execution, from its creation on, each federate is given the discovery of an object before
+/// anything is said of it, and once.
+pub fn each_history_discovers_in_turn()
+    ensures { EachHistoryDiscoversInTurn }
 {}

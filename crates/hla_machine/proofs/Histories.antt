@@ -8,3 +8,5 @@ pub mod Registrations
 pub mod Lawful
 -- Records of all executions, cut to one of them
 pub mod Projections
+-- Records of all executions are lawful, execution by execution
+pub mod Histories

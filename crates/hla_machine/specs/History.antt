@@ -1,5 +1,7 @@
 -- What a federate is given over a run
-use Rattle.std.specs.Prelude.{ℕ, ◌+◌, ◌≡◌, ◌<◌, ◌⊎◌, true, false, Option, None, Some, List, [], ◌∷◌, ◌++◌}
+use Rattle.std.specs.Prelude.{ℕ, ◌+◌, ◌≡◌, ◌≢◌, ◌<◌, ◌⊎◌, cond, true, false, Option, None, Some, List, [], ◌∷◌, ◌++◌}
+use Rattle.hla_base.specs.declared.content.Content.{Content}
+use Rattle.hla_base.specs.declared.content.Content.TheVariants as content
 use Rattle.hla_base.specs.declared.number.EventHandle.{EventHandle}
 use Rattle.hla_base.specs.declared.row.AdvanceRequest.{AdvanceRequest}
 use Rattle.hla_base.specs.declared.row.TimeRow.{TimeRow}
@@ -7,6 +9,7 @@ use Rattle.hla_base.specs.Rows.{is_flush, is_strict, is_advancing}
 use Rattle.hla_catalogue.specs.CatalogueValue.{CatalogueValue}
 use Rattle.hla_callbacks.specs.declared.callback.Callback.{Callback}
 use Rattle.hla_callbacks.specs.declared.callback.Callback.TheVariants as callback
+use Rattle.hla_callbacks.specs.declared.callback.Delivery.{Delivery}
 use Rattle.hla_callbacks.specs.declared.callback.Delivery.TheVariants as delivery
 use Rattle.hla_machine.specs.declared.service.Service.{Service}
 use Rattle.hla_machine.specs.declared.service.Service.TheVariants as service
@@ -17,7 +20,8 @@ use Rattle.hla_machine.specs.declared.step.Answer.TheVariants as answer
 use Rattle.hla_machine.specs.declared.step.Outcome.{Outcome}
 use Rattle.hla_machine.specs.declared.step.Outcome.TheVariants as outcome
 use Rattle.hla_machine.specs.Directory.{Directory, Outgoing, is_receiver, content_for, objects_of, update_sent, interaction_sent, deletion_sent, deletions_sent}
-use Rattle.hla_machine.specs.Central.{Central, Copy, Tso, new_central, demoted_copy}
+use Rattle.hla_machine.specs.Central.{Central, Copy, Ro, Tso, new_central, demoted_copy}
+use Rattle.hla_machine.specs.Sends.{is_ordered, kept_stamp}
 use Rattle.hla_machine.specs.Callbacks.{IsCopy}
 use Rattle.hla_machine.specs.Machine.{Allowed, after}
 use Rattle.hla_machine.specs.Runs.{Happening, IsRun}
@@ -133,15 +137,42 @@ messages_of d f (service.DeleteObjectInstance object stamp) = deletion_sent d ob
 messages_of d f (service.Resign DeleteObjects) = deletions_sent (objects_of d f)
 messages_of d f s = []
 
--- f's message with serial m lies in the bag for each federate that receives it, with what it says to that one, and for no other
-pub record IsSentTo (d : Directory) (bag : ℕ → ℕ → ℕ → Option Copy) (f m : ℕ) (out : Outgoing) : Type 0 where
-  pub receivers : (g : ℕ) → is_receiver d f out.body g ≡ true → (k : Copy) × (bag f m g ≡ Some k) × (content_for d out.body g ≡ Some k.content)
+-- the stamp that a call gives its messages, if it gives one
+abbrev pub stamp_given : Service → Option ℕ
+stamp_given (service.UpdateAttributeValues object values stamp) = stamp
+stamp_given (service.SendInteraction class values stamp) = stamp
+stamp_given (service.DeleteObjectInstance object stamp) = stamp
+stamp_given s = None
+
+-- the copy goes in time-stamp order, with the stamp that was given, where its order says so, there is a stamp and its sender
+-- regulates, and else in receive order
+abbrev pub GoesInOrder : TimeRow → Option ℕ → Outgoing → Copy → Type 0
+GoesInOrder r stamp out k = (k.order ≡ cond (is_ordered r stamp out) Tso Ro) × (k.stamp ≡ kept_stamp r stamp out)
+
+-- f's message with serial m lies in the bag for each federate that receives it, with what it says to that one and in its order,
+-- and for no other
+pub record IsSentTo (d : Directory) (r : TimeRow) (stamp : Option ℕ) (bag : ℕ → ℕ → ℕ → Option Copy) (f m : ℕ) (out : Outgoing) : Type 0 where
+  pub receivers : (g : ℕ) → is_receiver d f out.body g ≡ true → (k : Copy) × (bag f m g ≡ Some k) × (content_for d out.body g ≡ Some k.content) × GoesInOrder r stamp out k
   pub others : (g : ℕ) → is_receiver d f out.body g ≡ false → bag f m g ≡ None
 
 -- so does each of f's messages from serial m on
-abbrev pub AreSentTo : Directory → (ℕ → ℕ → ℕ → Option Copy) → ℕ → ℕ → List Outgoing → Type 0
-AreSentTo d bag f m [] = Unit {0}
-AreSentTo d bag f m (out ∷ outs) = IsSentTo d bag f m out × AreSentTo d bag f (m + 1) outs
+abbrev pub AreSentTo : Directory → TimeRow → Option ℕ → (ℕ → ℕ → ℕ → Option Copy) → ℕ → ℕ → List Outgoing → Type 0
+AreSentTo d r stamp bag f m [] = Unit {0}
+AreSentTo d r stamp bag f m (out ∷ outs) = IsSentTo d r stamp bag f m out × AreSentTo d r stamp bag f (m + 1) outs
+
+-- ---- what a callback tells
+-- a copy is given so: in receive order where it was sent so, in time-stamp order only where it was sent so, and with its stamp
+abbrev pub IsGivenAs : Delivery → Copy → Type 0
+IsGivenAs delivery.Receive k = k.order ≡ Ro
+IsGivenAs (delivery.Demoted s) k = (k.order ≢ Ro) × (k.stamp ≡ s)
+IsGivenAs (delivery.TimeStamp s) k = (k.order ≡ Tso) × (k.stamp ≡ s)
+
+-- the callback tells what the copy says
+abbrev pub TellsCopy : Callback → Copy → Type 0
+TellsCopy (callback.ReflectAttributeValues object values event d) k = (k.content ≡ content.Reflection object values) × IsGivenAs d k
+TellsCopy (callback.ReceiveInteraction class values event d) k = (k.content ≡ content.Interaction class values) × IsGivenAs d k
+TellsCopy (callback.RemoveObjectInstance object event d) k = (k.content ≡ content.Removal object) × IsGivenAs d k
+TellsCopy x k = ⊥
 
 -- the message that e names was sent to f, and is under way or waits for it; it does from its sending on
 abbrev pub IsOnItsWay : Central → ℕ → EventHandle → Type 0

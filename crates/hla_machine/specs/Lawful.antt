@@ -11,9 +11,10 @@ use Rattle.hla_machine.specs.declared.step.Step.TheVariants.{Call}
 use Rattle.hla_machine.specs.declared.step.Answer.{Answer}
 use Rattle.hla_machine.specs.declared.step.Answer.TheVariants as answer
 use Rattle.hla_machine.specs.declared.step.Outcome.TheVariants as outcome
-use Rattle.hla_machine.specs.Central.{Central}
+use Rattle.hla_machine.specs.Central.{Central, Copy}
+use Rattle.hla_machine.specs.Callbacks.{IsCopy}
 use Rattle.hla_machine.specs.Runs.{Happening, IsRun}
-use Rattle.hla_machine.specs.History.{GivesCallback, SpeaksOf, Hears, HearsPlain, Picks, IsGranted, IsInNoFlush, IsInStrict, IsInOneAdvance, IsBefore, next_state, WaitsInOrder, IsPickedOrMoved, messages_of, AreSentTo, IsOnItsWay, IsSettled, HasHistory, central_after, Occurs, OccurAfter, OccursLater}
+use Rattle.hla_machine.specs.History.{GivesCallback, SpeaksOf, Hears, HearsPlain, Picks, IsGranted, IsInNoFlush, IsInStrict, IsInOneAdvance, IsBefore, next_state, WaitsInOrder, IsPickedOrMoved, messages_of, stamp_given, AreSentTo, Names, TellsCopy, IsOnItsWay, IsSettled, HasHistory, central_after, Occurs, OccurAfter, OccursLater}
 use Rattle.hla_machine.specs.Laws.{IsSafe, IsAhead}
 
 pub record IsLawful (c : Central) (happenings : List Happening) : Type 0 where
@@ -28,14 +29,18 @@ pub record IsLawful (c : Central) (happenings : List Happening) : Type 0 where
   -- what one federate sent in receive order is given in the order in which it was sent
   pub in_order : (now : Central) (h : Happening) (between : List Happening) (then : Central) (i : Happening) (f : ℕ) (e x : EventHandle) →
       OccurAfter c happenings now h between then i → HearsPlain h f e → HearsPlain i f x → e.sender ≡ x.sender → e.serial < x.serial
-  -- each message of a call that is done is sent to each federate that receives it, with what it says to that one, and to no other
+  -- each message of a call that is done is sent to each federate that receives it, with what it says to that one, and to no other: in
+  -- time-stamp order just where its order says so, its sender regulates and there is a stamp, which it then has
   pub sent : (now : Central) (h : Happening) (f : ℕ) (service : Service) (a : Answer) → Occurs c happenings now h → h.step ≡ Call f service → h.outcome ≡ outcome.Done a →
-      AreSentTo now.directory (next_state now h).bag f (now.serial f) (messages_of now.directory f service)
+      AreSentTo now.directory (now.row f) (stamp_given service) (next_state now h).bag f (now.serial f) (messages_of now.directory f service)
   -- what was sent to a federate stays on its way, until the federate is given it, or it is retracted, or the federate resigns
   pub reaches : (now : Central) (between : List Happening) (then : Central) (h : Happening) (f : ℕ) (e : EventHandle) →
       OccursLater c happenings now between then h → IsOnItsWay now f e → IsOnItsWay then f e ⊎ IsSettled now between f e
   -- what a federate is given was on its way to it
   pub from : (now : Central) (h : Happening) (f : ℕ) (e : EventHandle) → Occurs c happenings now h → Hears h f e → IsOnItsWay now f e
+  -- and is told what the copy said that was on its way to it, whenever that was looked at
+  pub tells : (now : Central) (between : List Happening) (then : Central) (h : Happening) (f : ℕ) (e : EventHandle) (k : Copy) (x : Callback) →
+      OccursLater c happenings now between then h → IsCopy now f e k → GivesCallback h.step h.outcome f x → Names x e → TellsCopy x k
   -- ---- objects
   -- two registrations give different numbers and different names
   pub differ : (now : Central) (h : Happening) (between : List Happening) (then : Central) (i : Happening) (a b : ℕ) (n p : List ℕ) →

@@ -28,3 +28,5 @@ pub mod Services
 pub mod Steps
 -- What records of all executions say of one of them
 pub mod Projection
+-- What all records keep, execution by execution
+pub mod Histories

@@ -1,5 +1,6 @@
 //! What the machine guarantees, over definitions alone.
 
+ghost use Rattle.hla_machine.specs.Histories.{EachHistoryIsLawful};
 ghost use Rattle.hla_machine.specs.Projection.{EachExecutionIsARun};
 ghost use Rattle.hla_machine.specs.Lawful.{EachRunIsLawful};
 ghost use Rattle.hla_machine.specs.Laws.{EachRunIsSafe, NothingIsInThePast, StampsNeverFall, KeysRise, ReceiversWait, NobodyHearsItself, EachMessageOnce, GivenToTheJoined, SendersOrder, RegistrationsDiffer, DiscoveredBefore, GrantedAfterAllBefore};
@@ -81,4 +82,10 @@ pub fn discovered_before()
 /// each a named field, of the moments of that one run.
 pub fn each_run_is_lawful()
     ensures { EachRunIsLawful }
+{}
+
+/// Records that are a run of all executions are lawful: behind each of them, what they say of an execution that is there keeps
+/// all these laws from its creation on.
+pub fn each_history_is_lawful()
+    ensures { EachHistoryIsLawful }
 {}

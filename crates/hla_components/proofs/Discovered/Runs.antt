@@ -204,7 +204,7 @@ list_discovers_in_turn s steps is =
     in_turn (central s) (happenings s steps) (central (state_after s steps)) (led_history s is) (is_run s steps inv) (each_informed s steps inv) (led_discovers s is)
 
 -- ---- from a new execution on
-happenings_appended : (s : Components) (xs ys : List Step) → happenings s (xs ++ ys) ≡ happenings s xs ++ happenings (state_after s xs) ys
+pub happenings_appended : (s : Components) (xs ys : List Step) → happenings s (xs ++ ys) ≡ happenings s xs ++ happenings (state_after s xs) ys
 happenings_appended s [] ys = refl
 happenings_appended s (x ∷ xs) ys = ap (λ (hs : List Happening). happening x (next s x) ∷ hs) (happenings_appended (next s x).state xs ys)
 

@@ -1,5 +1,5 @@
 -- Each message of a call is sent to each federate that receives it, and to no other
-use Rattle.std.proofs.Common.{◌≡◌, ◌⊎◌, ⊎_elim, ℕ, ◌+◌, ◌≤◌, ◌<◌, eqb, ◌&&◌, Bool, true, false, refl, sym, ◌∙◌, le_trans, subst, inl, inr, arith, eq-eqb, List, [], ◌∷◌, Option, Some, None, is_some, option_map}
+use Rattle.std.proofs.Common.{◌≡◌, ◌⊎◌, ⊎_elim, ℕ, ◌+◌, ◌≤◌, ◌<◌, cond, eqb, ◌&&◌, Bool, true, false, refl, sym, ◌∙◌, le_trans, subst, inl, inr, arith, eq-eqb, List, [], ◌∷◌, Option, Some, None, is_some, option_map}
 use Rattle.std.proofs.lemmas.Bool.{and_parts}
 use Rattle.std.proofs.lemmas.Bool.Decides.{nat_tests}
 use Rattle.hla_base.specs.declared.content.Content.{Content}
@@ -15,11 +15,12 @@ use Rattle.hla_machine.specs.declared.step.Outcome.{Outcome}
 use Rattle.hla_machine.specs.declared.step.Outcome.TheVariants as outcome
 use Rattle.hla_machine.specs.declared.step.Choice.{Choice}
 use Rattle.hla_machine.specs.Directory.{Directory, Outgoing, is_receiver, content_for, objects_of, update_sent, interaction_sent, deletion_sent, deletions_sent}
-use Rattle.hla_machine.specs.Central.{Central, Copy, with_copies, is_key}
-use Rattle.hla_machine.specs.Sends.{copy_for, after_message, after_messages}
+use Rattle.hla_base.specs.declared.row.TimeRow.{TimeRow}
+use Rattle.hla_machine.specs.Central.{Central, Copy, CopyOrder, Ro, Tso, with_copies, is_key}
+use Rattle.hla_machine.specs.Sends.{copy_for, is_ordered, kept_stamp, after_message, after_messages}
 use Rattle.hla_machine.specs.CentralInvariant.{CentralInv}
 use Rattle.hla_machine.specs.Machine.{after_leaving, after_call, after}
-use Rattle.hla_machine.specs.History.{messages_of, IsSentTo, AreSentTo}
+use Rattle.hla_machine.specs.History.{messages_of, stamp_given, GoesInOrder, IsSentTo, AreSentTo}
 use Rattle.hla_machine.proofs.Copies.Fates.{copies_stay}
 
 -- nothing lies in the bag from f's next serial on
@@ -58,65 +59,66 @@ copy_here joined bag f m copy g none = rw (eq-eqb f f refl, eq-eqb m m refl, non
     end true None = refl
     end true (Some k) = refl
 
-made_copy : (b : Bool) (x : Option Content) (make : Content → Copy) → (b && is_some x) ≡ true → ((y : Content) → (make y).content ≡ y) → (k : Copy) × (when b (option_map make x) ≡ Some k) × (x ≡ Some k.content)
-made_copy true (Some x) make e same = (make x, refl, λ i. Some (sym (same x) i))
-made_copy true None make e same = absurd (cc)
-made_copy false x make e same = absurd (cc)
+made_copy : (b : Bool) (x : Option Content) (o : CopyOrder) (s : ℕ) → (b && is_some x) ≡ true
+    → (k : Copy) × (when b (option_map (λ (y : Content). let k : Copy = record { order = o; stamp = s; content = y } in k) x) ≡ Some k) × (x ≡ Some k.content) × ((k.order ≡ o) × (k.stamp ≡ s))
+made_copy true (Some x) o s e = (record { order = o; stamp = s; content = x }, refl, refl, (refl, refl))
+made_copy true None o s e = absurd (cc)
+made_copy false x o s e = absurd (cc)
 
 unmade_copy : (b : Bool) (x : Option Content) (make : Content → Copy) → (b && is_some x) ≡ false → when b (option_map make x) ≡ None
 unmade_copy true (Some x) make e = absurd (cc)
 unmade_copy true None make e = refl
 unmade_copy false x make e = refl
 
-message_sent : (c : Central) (f : ℕ) (stamp : Option ℕ) (out : Outgoing) → NoneAhead c f → IsSentTo c.directory (after_message c f stamp out).bag f (c.serial f) out
+message_sent : (c : Central) (f : ℕ) (stamp : Option ℕ) (out : Outgoing) → NoneAhead c f → IsSentTo c.directory (c.row f) stamp (after_message c f stamp out).bag f (c.serial f) out
 message_sent c f stamp out none = record {
   receivers = λ g is.
-      let w = made_copy (is_other c.directory.joined f g) (content_for c.directory out.body g) _ is (λ y. refl) in
-      (w.0, copy_here c.directory.joined c.bag f (c.serial f) (copy_for c.directory (c.row f) stamp out) g (none (c.serial f) g (omega arith)) ∙ w.1, w.2);
+      let w = made_copy (is_other c.directory.joined f g) (content_for c.directory out.body g) (cond (is_ordered (c.row f) stamp out) Tso Ro) (kept_stamp (c.row f) stamp out) is in
+      (w.0, copy_here c.directory.joined c.bag f (c.serial f) (copy_for c.directory (c.row f) stamp out) g (none (c.serial f) g (omega arith)) ∙ w.1, w.2, w.3);
   others = λ g is. copy_here c.directory.joined c.bag f (c.serial f) (copy_for c.directory (c.row f) stamp out) g (none (c.serial f) g (omega arith)) ∙ unmade_copy (is_other c.directory.joined f g) (content_for c.directory out.body g) _ is;
 }
 
-sent_in : (d : Directory) (to bag : ℕ → ℕ → ℕ → Option Copy) (f m : ℕ) (out : Outgoing) → ((g : ℕ) → to f m g ≡ bag f m g) → IsSentTo d bag f m out → IsSentTo d to f m out
-sent_in d to bag f m out same is = record {
-  receivers = λ g r. let w = is.receivers g r in (w.0, same g ∙ w.1, w.2);
-  others = λ g r. same g ∙ is.others g r;
+sent_in : (d : Directory) (r : TimeRow) (stamp : Option ℕ) (to bag : ℕ → ℕ → ℕ → Option Copy) (f m : ℕ) (out : Outgoing) → ((g : ℕ) → to f m g ≡ bag f m g) → IsSentTo d r stamp bag f m out → IsSentTo d r stamp to f m out
+sent_in d r stamp to bag f m out same is = record {
+  receivers = λ g q. let w = is.receivers g q in (w.0, same g ∙ w.1, w.2, w.3);
+  others = λ g q. same g ∙ is.others g q;
 }
 
-messages_sent : (c : Central) (f : ℕ) (stamp : Option ℕ) (outs : List Outgoing) → NoneAhead c f → AreSentTo c.directory (after_messages c f stamp outs).bag f (c.serial f) outs
+messages_sent : (c : Central) (f : ℕ) (stamp : Option ℕ) (outs : List Outgoing) → NoneAhead c f → AreSentTo c.directory (c.row f) stamp (after_messages c f stamp outs).bag f (c.serial f) outs
 messages_sent c f stamp [] none = tt
 messages_sent c f stamp (out ∷ outs) none =
     let d = after_message c f stamp out in
     let serial : d.serial f ≡ c.serial f + 1 = upd_same c.serial f (c.serial f + 1) in (
-      sent_in c.directory (after_messages d f stamp outs).bag d.bag f (c.serial f) out (λ g. messages_same d f stamp outs (c.serial f) g (subst (λ (n : ℕ). c.serial f < n) (sym serial) (omega arith))) (message_sent c f stamp out none),
-      subst (λ (n : ℕ). AreSentTo c.directory (after_messages d f stamp outs).bag f n outs) serial (messages_sent d f stamp outs (message_none c f stamp out none)),
+      sent_in c.directory (c.row f) stamp (after_messages d f stamp outs).bag d.bag f (c.serial f) out (λ g. messages_same d f stamp outs (c.serial f) g (subst (λ (n : ℕ). c.serial f < n) (sym serial) (omega arith))) (message_sent c f stamp out none),
+      subst (λ (n : ℕ). AreSentTo c.directory (c.row f) stamp (after_messages d f stamp outs).bag f n outs) serial (messages_sent d f stamp outs (message_none c f stamp out none)),
     )
 
 own : (joined : ℕ → Bool) (f g : ℕ) → is_other joined f g ≡ true → f ≡ g → ⊥
 own joined f g other same = grind (arith, nat_tests)
 
 -- the sender receives nothing of its own, so its leaving takes none of it
-left_sent : (d : Directory) (b : Central) (f m : ℕ) (outs : List Outgoing) → AreSentTo d b.bag f m outs → AreSentTo d (after_leaving b f).bag f m outs
-left_sent d b f m [] are = tt
-left_sent d b f m (out ∷ outs) are = (
+left_sent : (d : Directory) (r : TimeRow) (stamp : Option ℕ) (b : Central) (f m : ℕ) (outs : List Outgoing) → AreSentTo d r stamp b.bag f m outs → AreSentTo d r stamp (after_leaving b f).bag f m outs
+left_sent d r stamp b f m [] are = tt
+left_sent d r stamp b f m (out ∷ outs) are = (
   record {
-    receivers = λ g r. let w = are.0.receivers g r in (w.0, upd_other (b.bag f m) f None g (differs g r) ∙ w.1, w.2);
-    others = by_number f (λ g. is_receiver d f out.body g ≡ false → upd (b.bag f m) f None g ≡ None) (λ _. upd_same (b.bag f m) f None) (λ g ne r. upd_other (b.bag f m) f None g ne ∙ are.0.others g r);
+    receivers = λ g q. let w = are.0.receivers g q in (w.0, upd_other (b.bag f m) f None g (differs g q) ∙ w.1, w.2, w.3);
+    others = by_number f (λ g. is_receiver d f out.body g ≡ false → upd (b.bag f m) f None g ≡ None) (λ _. upd_same (b.bag f m) f None) (λ g ne q. upd_other (b.bag f m) f None g ne ∙ are.0.others g q);
   },
-  left_sent d b f (m + 1) outs are.1,
+  left_sent d r stamp b f (m + 1) outs are.1,
 )
   where
     differs : (g : ℕ) → is_receiver d f out.body g ≡ true → f ≡ g → ⊥
-    differs g r same = let p = and_parts _ _ r in own d.joined f g p.0 same
+    differs g q same = let p = and_parts _ _ q in own d.joined f g p.0 same
 
-call_sent : (c : Central) (f : ℕ) (s : Service) (o : Choice) → CentralInv c → AreSentTo c.directory (after_call c f s o).bag f (c.serial f) (messages_of c.directory f s)
+call_sent : (c : Central) (f : ℕ) (s : Service) (o : Choice) → CentralInv c → AreSentTo c.directory (c.row f) (stamp_given s) (after_call c f s o).bag f (c.serial f) (messages_of c.directory f s)
 call_sent c f (service.UpdateAttributeValues object values stamp) o laws = messages_sent c f stamp (update_sent c.directory object values) (none_ahead c f laws)
 call_sent c f (service.SendInteraction class values stamp) o laws = messages_sent c f stamp (interaction_sent c.directory class values) (none_ahead c f laws)
 call_sent c f (service.DeleteObjectInstance object stamp) o laws = messages_sent c f stamp (deletion_sent c.directory object) (none_ahead c f laws)
 call_sent c f (service.Resign DeleteObjects) o laws =
-    let outs = deletions_sent (objects_of c.directory f) in left_sent c.directory (after_messages c f None outs) f (c.serial f) outs (messages_sent c f None outs (none_ahead c f laws))
+    let outs = deletions_sent (objects_of c.directory f) in left_sent c.directory (c.row f) None (after_messages c f None outs) f (c.serial f) outs (messages_sent c f None outs (none_ahead c f laws))
 call_sent c f s o laws = tt
 
-pub sent_by_call : (c : Central) (step : Step) (out : Outcome) (o : Choice) (f : ℕ) (s : Service) (a : Answer) → CentralInv c → step ≡ Call f s → out ≡ outcome.Done a → AreSentTo c.directory (after c step out o).bag f (c.serial f) (messages_of c.directory f s)
+pub sent_by_call : (c : Central) (step : Step) (out : Outcome) (o : Choice) (f : ℕ) (s : Service) (a : Answer) → CentralInv c → step ≡ Call f s → out ≡ outcome.Done a → AreSentTo c.directory (c.row f) (stamp_given s) (after c step out o).bag f (c.serial f) (messages_of c.directory f s)
 sent_by_call c step out o f s a laws is_call is_done =
-    subst (λ (step : Step). AreSentTo c.directory (after c step out o).bag f (c.serial f) (messages_of c.directory f s)) (sym is_call)
-    (subst (λ (out : Outcome). AreSentTo c.directory (after c (Call f s) out o).bag f (c.serial f) (messages_of c.directory f s)) (sym is_done) (call_sent c f s o laws))
+    subst (λ (step : Step). AreSentTo c.directory (c.row f) (stamp_given s) (after c step out o).bag f (c.serial f) (messages_of c.directory f s)) (sym is_call)
+    (subst (λ (out : Outcome). AreSentTo c.directory (c.row f) (stamp_given s) (after c (Call f s) out o).bag f (c.serial f) (messages_of c.directory f s)) (sym is_done) (call_sent c f s o laws))

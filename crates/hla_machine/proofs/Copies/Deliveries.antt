@@ -29,35 +29,35 @@ use Rattle.hla_machine.specs.declared.step.Outcome.TheVariants as outcome
 use Rattle.hla_machine.specs.declared.step.Choice.{Choice}
 use Rattle.hla_machine.specs.declared.step.Choice.TheVariants as choice
 use Rattle.hla_machine.specs.Directory.{Outgoing, deletion_sent, deletions_sent, objects_of, update_sent, interaction_sent}
-use Rattle.hla_machine.specs.Central.{Central, new_central, Copy, Ro, at_key, demoted_copy}
+use Rattle.hla_machine.specs.Central.{Central, new_central, Copy, Ro, Tso, Demoted, at_key, demoted_copy}
 use Rattle.hla_machine.specs.Callbacks.{IsCopy, IsFirstRo, IsDiscovered, MayDeliver, MayPickUp, with_demoted, after_delivery, after_constraint, after_pick}
 use Rattle.hla_machine.specs.CentralInvariant.{CentralInv}
 use Rattle.hla_machine.specs.Sends.{copy_for, after_message, after_messages}
 use Rattle.hla_machine.specs.Machine.{MayEnd, after_leaving, after_enter, after_cease, after_call, after_carry, after_done, after}
 use Rattle.hla_machine.specs.Runs.{Happening, IsRun}
-use Rattle.hla_machine.specs.History.{GivesCallback, Names, NamesPlain, SpeaksOf, Hears, HearsPlain, IsOnItsWay, Happens, HappenAfter, next_state}
+use Rattle.hla_machine.specs.History.{GivesCallback, Names, NamesPlain, SpeaksOf, Hears, HearsPlain, IsOnItsWay, IsGivenAs, TellsCopy, Happens, HappenAfter, HappensLater, next_state}
 use Rattle.hla_machine.proofs.Basics.Bags.{at_key_here}
-use Rattle.hla_machine.proofs.Upkeep.CentralInvariant.{IsThinner, thin_same, thin_removed, thin_demoted, thin_moved, copies_cases, laws_after, laws_start}
+use Rattle.hla_machine.proofs.Upkeep.CentralInvariant.{IsThinner, IsLaterCopy, copy_itself, later_copy, thin_same, thin_removed, thin_demoted, thin_moved, copies_cases, laws_after, laws_start}
 use Rattle.hla_machine.proofs.Upkeep.Ahead.{given_of}
 
 -- ---- what a step brings into the bag
--- what is in the bag after a step was there before, in receive order if it is so now, or is new and another's; serials grow
+-- what is in the bag after a step was there before, or is new and another's; serials grow
 pub record Brought (c d : Central) : Type 0 where
   pub serials : (g : ℕ) → c.serial g ≤ d.serial g
-  pub bag : (g m f : ℕ) (k : Copy) → d.bag g m f ≡ Some k → ((j : Copy) × (c.bag g m f ≡ Some j) × (k.order ≡ Ro → j.order ≡ Ro)) ⊎ ((c.serial g ≤ m) × (g ≢ f))
+  pub bag : (g m f : ℕ) (k : Copy) → d.bag g m f ≡ Some k → ((j : Copy) × (c.bag g m f ≡ Some j) × IsLaterCopy k j) ⊎ ((c.serial g ≤ m) × (g ≢ f))
 
 calm : (c d : Central) → d.serial ≡ c.serial → IsThinner d.bag c.bag → Brought c d
 calm c d same thin = record {
   serials = λ g. subst (λ (t : ℕ → ℕ). c.serial g ≤ t g) (sym same) (omega arith);
-  bag = λ g m f k is. let t = thin g m f k is in inl (t.0, t.1, t.4);
+  bag = λ g m f k is. let t = thin g m f k is in inl t;
 }
 
 more : (c d e : Central) → Brought c d → Brought d e → Brought c e
 more c d e a b = record {
   serials = λ g. le_trans (a.serials g) (b.serials g);
   bag = λ g m f k is. ⊎_elim
-      (λ (old : (j : Copy) × (d.bag g m f ≡ Some j) × (k.order ≡ Ro → j.order ≡ Ro)). ⊎_elim
-      (λ (older : (i : Copy) × (c.bag g m f ≡ Some i) × (old.0.order ≡ Ro → i.order ≡ Ro)). inl (older.0, older.1, λ o. older.2 (old.2 o)))
+      (λ (old : (j : Copy) × (d.bag g m f ≡ Some j) × IsLaterCopy k j). ⊎_elim
+      (λ (older : (i : Copy) × (c.bag g m f ≡ Some i) × IsLaterCopy old.0 i). inl (older.0, older.1, later_copy k old.0 older.0 old.2 older.2))
       (λ (new : (c.serial g ≤ m) × (g ≢ f)). inr new)
       (a.bag g m f old.0 old.1))
       (λ (new : (d.serial g ≤ m) × (g ≢ f)). inr (le_trans (a.serials g) new.0, new.1))
@@ -74,7 +74,7 @@ message_brings c f stamp out = record {
       (λ (new : (f ≡ g) × (c.serial f ≡ m) × (is_other c.directory.joined f l ≡ true) × (copy_for c.directory (c.row f) stamp out l ≡ Some k)).
       let differs = other_differs c.directory.joined f l new.2 in
       inr (subst (λ (g : ℕ). (c.serial g ≤ m) × (g ≢ l)) new.0 (omega (arith, new.1), differs)))
-      (λ (old : c.bag g m l ≡ Some k). inl (k, old, λ o. o))
+      (λ (old : c.bag g m l ≡ Some k). inl (k, old, copy_itself k))
       (copies_cases c.bag c.directory.joined f (c.serial f) (copy_for c.directory (c.row f) stamp out) g m l k is);
 }
 
@@ -191,7 +191,7 @@ others_step : (c : Central) (h : Happening) → MayEnd c h.step h.outcome h.choi
 others_step c h may w = record {
   laws = laws_after c h.step h.outcome h.choice may w.laws;
   others = λ g m k is. ⊎_elim
-      (λ (old : (j : Copy) × (c.bag g m g ≡ Some j) × (k.order ≡ Ro → j.order ≡ Ro)). w.others g m old.0 old.1)
+      (λ (old : (j : Copy) × (c.bag g m g ≡ Some j) × IsLaterCopy k j). w.others g m old.0 old.1)
       (λ (new : (c.serial g ≤ m) × (g ≢ g)). new.1 refl)
       ((step_brings c h.step h.outcome h.choice).bag g m g k is);
 }
@@ -210,10 +210,10 @@ absent_run c (h ∷ hs) d f e run none low =
     let b = step_brings c h.step h.outcome h.choice in
     absent_run (next_state c h) hs d f e run.1 (still ((next_state c h).bag e.sender e.serial f) (λ k is. b.bag e.sender e.serial f k is)) (le_trans low (b.serials e.sender))
   where
-    still : (o : Option Copy) → ((k : Copy) → o ≡ Some k → ((j : Copy) × (c.bag e.sender e.serial f ≡ Some j) × (k.order ≡ Ro → j.order ≡ Ro)) ⊎ ((c.serial e.sender ≤ e.serial) × (e.sender ≢ f))) → o ≡ None
+    still : (o : Option Copy) → ((k : Copy) → o ≡ Some k → ((j : Copy) × (c.bag e.sender e.serial f ≡ Some j) × IsLaterCopy k j) ⊎ ((c.serial e.sender ≤ e.serial) × (e.sender ≢ f))) → o ≡ None
     still None from = refl
     still (Some k) from = ⊎_elim
-        (λ (old : (j : Copy) × (c.bag e.sender e.serial f ≡ Some j) × (k.order ≡ Ro → j.order ≡ Ro)). let both : None ≡ Some old.0 = sym none ∙ old.1 in absurd (cc))
+        (λ (old : (j : Copy) × (c.bag e.sender e.serial f ≡ Some j) × IsLaterCopy k j). let both : None ≡ Some old.0 = sym none ∙ old.1 in absurd (cc))
         (λ (new : (c.serial e.sender ≤ e.serial) × (e.sender ≢ f)). absurd (omega (arith, new.0, low)))
         (from k refl)
 
@@ -268,15 +268,15 @@ names_of_plain k e is = absurd is
 hears_of_plain : (h : Happening) (f : ℕ) (e : EventHandle) → HearsPlain h f e → Hears h f e
 hears_of_plain h f e p = record { given = p.given; gives = p.gives; names = names_of_plain p.given e p.names }
 
--- what waits in receive order, and was sent before, waited so before
-back_run : (c : Central) (hs : List Happening) (d : Central) (f : ℕ) (e : EventHandle) → IsRun c hs d → e.serial < c.serial e.sender → (k : Copy) → IsCopy d f e k → k.order ≡ Ro
-    → (j : Copy) × IsCopy c f e j × (j.order ≡ Ro)
-back_run c [] d f e run low k is ro = (k, subst (λ (d : Central). IsCopy d f e k) (sym run) is, ro)
-back_run c (h ∷ hs) d f e run low k is ro =
+-- what waits, and was sent before, waited before, and said the same
+back_run : (c : Central) (hs : List Happening) (d : Central) (f : ℕ) (e : EventHandle) → IsRun c hs d → e.serial < c.serial e.sender → (k : Copy) → IsCopy d f e k
+    → (j : Copy) × IsCopy c f e j × IsLaterCopy k j
+back_run c [] d f e run low k is = (k, subst (λ (d : Central). IsCopy d f e k) (sym run) is, copy_itself k)
+back_run c (h ∷ hs) d f e run low k is =
     let b = step_brings c h.step h.outcome h.choice in
-    let w = back_run (next_state c h) hs d f e run.1 (le_trans low (b.serials e.sender)) k is ro in
+    let w = back_run (next_state c h) hs d f e run.1 (le_trans low (b.serials e.sender)) k is in
     ⊎_elim
-    (λ (old : (j : Copy) × (c.bag e.sender e.serial f ≡ Some j) × (w.0.order ≡ Ro → j.order ≡ Ro)). (old.0, old.1, old.2 w.2))
+    (λ (old : (j : Copy) × (c.bag e.sender e.serial f ≡ Some j) × IsLaterCopy w.0 j). (old.0, old.1, later_copy k w.0 old.0 w.2 old.2))
     (λ (new : (c.serial e.sender ≤ e.serial) × (e.sender ≢ f)). absurd (omega (arith, new.0, low)))
     (b.bag e.sender e.serial f w.0 w.1)
 
@@ -291,9 +291,9 @@ no_turn c h between d i f e x later first second same before =
     let b = plain_pick d f second.given x i.choice gi.may second.names in
     let used = w.laws.unused e.sender e.serial f a.copy a.was in
     let low : x.serial < c.serial x.sender = subst (λ (g : ℕ). x.serial < c.serial g) same (omega (arith, used, before)) in
-    let old = back_run c (h ∷ between) d f x (later.first.allowed, later.run) low b.copy b.was b.plain in
+    let old = back_run c (h ∷ between) d f x (later.first.allowed, later.run) low b.copy b.was in
     let own : c.bag e.sender x.serial f ≡ Some old.0 = subst (λ (g : ℕ). c.bag g x.serial f ≡ Some old.0) (sym same) old.1 in
-    a.first x.serial old.0 before own old.2
+    a.first x.serial old.0 before own (old.2.ro b.plain)
 
 -- nor is one of them given twice
 no_twin : (c : Central) (h : Happening) (between : List Happening) (d : Central) (i : Happening) (f : ℕ) (e x : EventHandle) → HappenAfter c h between d i → HearsPlain h f e → HearsPlain i f x
@@ -325,3 +325,38 @@ none_waits c f k h o may is g = absurd is
 
 pub discovered_before : (c : Central) (h : Happening) (f : ℕ) (k : Callback) (object : ℕ) → Happens c h → GivesCallback h.step h.outcome f k → SpeaksOf k object → (g : ℕ) → All (λ (d : Discovery). d.object ≢ object) (c.discoveries g f)
 discovered_before c h f k object is gives speaks g = none_waits c f k object h.choice (given_of c h f k is.allowed.0 gives).may speaks g
+
+-- ---- what is told
+given_as : (c : Central) (f : ℕ) (x : Content) (e : EventHandle) (d : Delivery) → MayDeliver c f x e d → (k : Copy) × IsCopy c f e k × (k.content ≡ x) × IsGivenAs d k
+given_as c f x e delivery.Receive may = (_, may.2, refl, refl)
+given_as c f x e (delivery.Demoted s) may = (_, may.2, refl, ((λ o. let wrong : Demoted ≡ Ro = o in cc), refl))
+given_as c f x e (delivery.TimeStamp s) may = (_, may.2, refl, (refl, refl))
+
+-- a callback tells what an earlier state of its copy said, too
+given_earlier : (d : Delivery) (k j : Copy) → IsLaterCopy k j → IsGivenAs d k → IsGivenAs d j
+given_earlier delivery.Receive k j late is = late.ro is
+given_earlier (delivery.Demoted s) k j late is = (λ o. is.0 (late.still_ro o), sym late.stamp ∙ is.1)
+given_earlier (delivery.TimeStamp s) k j late is = (late.tso is.0, sym late.stamp ∙ is.1)
+
+told_earlier : (x : Callback) (k j : Copy) → IsLaterCopy k j → TellsCopy x k → TellsCopy x j
+told_earlier (callback.ReflectAttributeValues object values event d) k j late is = (sym late.content ∙ is.0, given_earlier d k j late is.1)
+told_earlier (callback.ReceiveInteraction class values event d) k j late is = (sym late.content ∙ is.0, given_earlier d k j late is.1)
+told_earlier (callback.RemoveObjectInstance object event d) k j late is = (sym late.content ∙ is.0, given_earlier d k j late is.1)
+told_earlier x k j late is = is
+
+told_pick : (c : Central) (f : ℕ) (x : Callback) (e : EventHandle) (o : Choice) → MayPickUp c f x o → Names x e → (k : Copy) × IsCopy c f e k × TellsCopy x k
+told_pick c f (callback.ReflectAttributeValues object values event d) e o may is = let w = given_as c f (content.Reflection object values) event d may in (w.0, subst (λ (e : EventHandle). IsCopy c f e w.0) is w.1, (w.2, w.3))
+told_pick c f (callback.ReceiveInteraction class values event d) e o may is = let w = given_as c f (content.Interaction class values) event d may in (w.0, subst (λ (e : EventHandle). IsCopy c f e w.0) is w.1, (w.2, w.3))
+told_pick c f (callback.RemoveObjectInstance object event d) e o may is = let w = given_as c f (content.Removal object) event d may in (w.0, subst (λ (e : EventHandle). IsCopy c f e w.0) is w.1, (w.2, w.3))
+told_pick c f x e o may is = absurd is
+
+pub told_as_sent : (c : Central) (between : List Happening) (d : Central) (h : Happening) (f : ℕ) (e : EventHandle) (k : Copy) (x : Callback) → HappensLater c between d h → IsCopy c f e k
+    → GivesCallback h.step h.outcome f x → Names x e → TellsCopy x k
+told_as_sent c between d h f e k x is way gives names =
+    let w = others_run (new_central is.catalogue) is.before c is.start (others_start is.catalogue) in
+    let g = given_of d h f x is.allowed.0 gives in
+    let told = told_pick d f x e h.choice g.may names in
+    let old = back_run c between d f e is.run (w.laws.unused e.sender e.serial f k way) told.0 told.1 in
+    let both : Some old.0 ≡ Some k = sym old.1 ∙ way in
+    let same : old.0 ≡ k = cc in
+    subst (λ (k : Copy). TellsCopy x k) same (told_earlier x told.0 old.0 old.2 told.2)

@@ -38,14 +38,28 @@ use Rattle.hla_base.proofs.Tables.{upd_each, by_number, upd_same, upd_other, upd
 use Rattle.hla_retraction.specs.SentEvents.{SentEvent, no_event}
 use Rattle.hla_machine.proofs.Basics.Bags.{option_map-some, or_else-cases, by_key, key_parts, at_key_here, at_key_else, copies_here, copies_else, at3_else}
 
+-- what became of a copy: it says the same, with the same stamp, and has at most been moved from time-stamp order to receive order
+pub record IsLaterCopy (k j : Copy) : Type 0 where
+  pub content : k.content ≡ j.content
+  pub stamp : k.stamp ≡ j.stamp
+  pub tso : k.order ≡ Tso → j.order ≡ Tso
+  pub ro : k.order ≡ Ro → j.order ≡ Ro
+  pub still_ro : j.order ≡ Ro → k.order ≡ Ro
+
+pub copy_itself : (k : Copy) → IsLaterCopy k k
+copy_itself k = record { content = refl; stamp = refl; tso = λ t. t; ro = λ t. t; still_ro = λ t. t }
+
+pub later_copy : (k j i : Copy) → IsLaterCopy k j → IsLaterCopy j i → IsLaterCopy k i
+later_copy k j i a b = record { content = a.content ∙ b.content; stamp = a.stamp ∙ b.stamp; tso = λ t. b.tso (a.tso t); ro = λ t. b.ro (a.ro t); still_ro = λ t. a.still_ro (b.still_ro t) }
+
 -- no copies but those of before, perhaps demoted
 abbrev pub IsThinner : (ℕ → ℕ → ℕ → Option Copy) → (ℕ → ℕ → ℕ → Option Copy) → Type 0
-IsThinner b a = (g m f : ℕ) (k : Copy) → b g m f ≡ Some k → (j : Copy) × (a g m f ≡ Some j) × (k.stamp ≡ j.stamp) × (k.order ≡ Tso → j.order ≡ Tso) × (k.order ≡ Ro → j.order ≡ Ro)
+IsThinner b a = (g m f : ℕ) (k : Copy) → b g m f ≡ Some k → (j : Copy) × (a g m f ≡ Some j) × IsLaterCopy k j
 
 pub thinner_laws : (c : Central) (row : ℕ → TimeRow) (bag : ℕ → ℕ → ℕ → Option Copy) → CentralInv c → IsThinner bag c.bag → CentralInv (record c { row = row; bag = bag })
 thinner_laws c row bag laws thin = record {
-  stamped = λ g m f k is fine tso. let t = thin g m f k is in t.2 ∙ laws.stamped g m f t.0 t.1 fine (t.3 tso);
-  plain = λ g m f k is ro. let t = thin g m f k is in t.2 ∙ laws.plain g m f t.0 t.1 (t.4 ro);
+  stamped = λ g m f k is fine tso. let t = thin g m f k is in t.2.stamp ∙ laws.stamped g m f t.0 t.1 fine (t.2.tso tso);
+  plain = λ g m f k is ro. let t = thin g m f k is in t.2.stamp ∙ laws.plain g m f t.0 t.1 (t.2.ro ro);
   followed = λ g m f k is r. let t = thin g m f k is in laws.followed g m f t.0 t.1 r;
   told = λ g m f k is fine. let t = thin g m f k is in laws.told g m f t.0 t.1 fine;
   marked = laws.marked;
@@ -54,39 +68,41 @@ thinner_laws c row bag laws thin = record {
 }
 
 pub thin_same : (a : ℕ → ℕ → ℕ → Option Copy) → IsThinner a a
-thin_same a g m f k is = (k, is, refl, (λ t. t), (λ t. t))
+thin_same a g m f k is = (k, is, copy_itself k)
 
 pub thin_removed : (a : ℕ → ℕ → ℕ → Option Copy) (g m f : ℕ) → IsThinner (at_key a g m f None) a
 thin_removed a g m f = by_key g m _
     (by_number f _ (λ k is. let n : None ≡ Some k = rw at_key_here at is in absurd (cc))
-    (λ l ne k is. let k2 : (is_key g m g m ≡ false) ⊎ (f ≢ l) = inr ne in (k, rw at_key_else at is, refl, (λ t. t), (λ t. t))))
-    (λ h n other l k is. let k2 : (is_key g m h n ≡ false) ⊎ (f ≢ l) = inl other in (k, rw at_key_else at is, refl, (λ t. t), (λ t. t)))
+    (λ l ne k is. let k2 : (is_key g m g m ≡ false) ⊎ (f ≢ l) = inr ne in (k, rw at_key_else at is, copy_itself k)))
+    (λ h n other l k is. let k2 : (is_key g m h n ≡ false) ⊎ (f ≢ l) = inl other in (k, rw at_key_else at is, copy_itself k))
 
 never_tso : (o : CopyOrder) → demoted_order o ≡ Tso → o ≡ Tso
 never_tso Ro h = absurd (cc)
 never_tso Tso h = refl
 never_tso Demoted h = absurd (cc)
 
-still_ro : (o : CopyOrder) → demoted_order o ≡ Ro → o ≡ Ro
-still_ro Ro h = refl
-still_ro Tso h = absurd (cc)
-still_ro Demoted h = absurd (cc)
+was_ro : (o : CopyOrder) → demoted_order o ≡ Ro → o ≡ Ro
+was_ro Ro h = refl
+was_ro Tso h = absurd (cc)
+was_ro Demoted h = absurd (cc)
 
-thin_map : (o : Option Copy) (k : Copy) → option_map demoted_copy o ≡ Some k → (j : Copy) × (o ≡ Some j) × (k.stamp ≡ j.stamp) × (k.order ≡ Tso → j.order ≡ Tso) × (k.order ≡ Ro → j.order ≡ Ro)
-thin_map o k is = let w = option_map-some demoted_copy o k is in
-    (w.0, w.1, subst (λ (x : Copy). x.stamp ≡ w.0.stamp) w.2 refl, subst (λ (x : Copy). x.order ≡ Tso → w.0.order ≡ Tso) w.2 (never_tso w.0.order), subst (λ (x : Copy). x.order ≡ Ro → w.0.order ≡ Ro) w.2 (still_ro w.0.order))
+demoted_later : (j : Copy) → IsLaterCopy (demoted_copy j) j
+demoted_later j = record { content = refl; stamp = refl; tso = never_tso j.order; ro = was_ro j.order; still_ro = λ e. rw e refl }
+
+thin_map : (o : Option Copy) (k : Copy) → option_map demoted_copy o ≡ Some k → (j : Copy) × (o ≡ Some j) × IsLaterCopy k j
+thin_map o k is = let w = option_map-some demoted_copy o k is in (w.0, w.1, subst (λ (x : Copy). IsLaterCopy x w.0) w.2 (demoted_later w.0))
 
 pub thin_demoted : (a : ℕ → ℕ → ℕ → Option Copy) (g m f : ℕ) → IsThinner (at_key a g m f (option_map demoted_copy (a g m f))) a
 thin_demoted a g m f = by_key g m _
     (by_number f _ (λ k is. thin_map (a g m f) k (rw at_key_here at is))
-    (λ l ne k is. let k2 : (is_key g m g m ≡ false) ⊎ (f ≢ l) = inr ne in (k, rw at_key_else at is, refl, (λ t. t), (λ t. t))))
-    (λ h n other l k is. let k2 : (is_key g m h n ≡ false) ⊎ (f ≢ l) = inl other in (k, rw at_key_else at is, refl, (λ t. t), (λ t. t)))
+    (λ l ne k is. let k2 : (is_key g m g m ≡ false) ⊎ (f ≢ l) = inr ne in (k, rw at_key_else at is, copy_itself k)))
+    (λ h n other l k is. let k2 : (is_key g m h n ≡ false) ⊎ (f ≢ l) = inl other in (k, rw at_key_else at is, copy_itself k))
 
 pub thin_moved : (a : ℕ → ℕ → ℕ → Option Copy) (f : ℕ) (events : List EventHandle) → IsThinner (with_demoted a f events) a
 unfolding with_demoted
 thin_moved a f events g m l k is = ⊎_elim
     (λ (y : (eqb f l && is_among events g m) ≡ true). thin_map (a g m l) k (rw y at is))
-    (λ (n : (eqb f l && is_among events g m) ≡ false). (k, rw n at is, refl, (λ t. t), (λ t. t)))
+    (λ (n : (eqb f l && is_among events g m) ≡ false). (k, rw n at is, copy_itself k))
     (cases_Bool (eqb f l && is_among events g m))
 
 row_laws : (c : Central) (row : ℕ → TimeRow) → CentralInv c → CentralInv (record c { row = row })
