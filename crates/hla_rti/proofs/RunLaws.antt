@@ -16,6 +16,8 @@ use Rattle.hla_machine.specs.declared.step.Step.TheVariants.{Join, Call, Carry, 
 use Rattle.hla_machine.specs.Central.{Central}
 use Rattle.hla_machine.specs.Machine.{MayAnswer, Allowed, after}
 use Rattle.hla_machine.specs.Runs.{Executions, no_executions, set_execution, create_fault, destroy_fault, EndsAs, AllowedIn, AllowedAct, after_step_in, after_act, AreRun}
+use Rattle.hla_machine.specs.Histories.{AreLawful}
+use Rattle.hla_machine.proofs.Histories.Histories.{history_lawful}
 use Rattle.hla_components.specs.Executions.{central_executions}
 use Rattle.hla_components.proofs.Refinement.Executions.{runs_from_none}
 use Rattle.hla_history.specs.Closing.{Replays}
@@ -77,3 +79,7 @@ run_as_given (r ∷ rs) x y h = one_as_given x r.execution r.act r.outcome r.cho
 -- a history that replays is a run of the machine
 pub replayed_run : (rs : List Record) → Replays rs → (y : Executions) × AreRun no_executions rs y
 replayed_run rs is = (central_executions is.0, run_as_given rs no_executions (central_executions is.0) (runs_from_none (map given_record rs) is.0 is.1))
+
+-- and lawful
+pub replayed_lawful : (rs : List Record) → Replays rs → AreLawful rs
+replayed_lawful rs is = let run = replayed_run rs is in history_lawful rs run.0 run.1

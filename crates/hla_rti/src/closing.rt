@@ -4,6 +4,7 @@ ghost use Rattle.std.specs.Prelude.{◌≡◌, ◌≢◌, ◌+◌, ◌≤◌, �
 ghost use Rattle.hla_base.specs.Limits.{ledger_parts, max_callers};
 ghost use Rattle.std.specs.List.{list_any};
 ghost use Rattle.hla_history.specs.Closing.{Replays};
+ghost use Rattle.hla_machine.specs.Histories.{AreDiscoveredInTurn, AreLawful};
 ghost use Rattle.hla_machine.specs.Runs.{Executions, no_executions, AreRun};
 ghost use Rattle.hla_rti.specs.Callers.{Leaver};
 ghost use Rattle.hla_rti.specs.Close.{AllHere, AllAgree, DiffersFirst};
@@ -39,12 +40,15 @@ impl Model for Closed {
 }
 
 impl Closed {
-    /// The records.
-    #[tactic(auto, using(crate::proofs::RunLaws::replayed_run))]
+    /// The records. Behind each of them, of each execution that is there, each law of the machine holds from its creation on, as a
+    /// named field of `IsLawful`; and each federate is given the discovery of an object before anything is said of it, and once.
+    #[tactic(auto, using(crate::proofs::RunLaws::replayed_run, crate::proofs::RunLaws::replayed_lawful, crate::proofs::TurnLaws::replayed_in_turn))]
     pub fn records(&self) -> &[Record]
         ensures records { result.now ≡ self.now }
         ensures replays { Replays self.now }
         ensures run { (y : Executions) × AreRun no_executions self.now y }
+        ensures laws { AreLawful self.now }
+        ensures discoveries { AreDiscoveredInTurn self.now }
     {
         self.records.as_slice()
     }

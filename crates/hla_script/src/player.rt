@@ -5,6 +5,7 @@
 
 ghost use Rattle.std.specs.Prelude.{◌≡◌, ◌||◌, ◌&&◌, not, [], IfOk, IfErr};
 ghost use Rattle.std.specs.Io.KnownBytes.{Appends};
+ghost use Rattle.hla_machine.specs.Histories.{AreDiscoveredInTurn, AreLawful};
 ghost use Rattle.hla_machine.specs.Runs as machine;
 ghost use Rattle.hla_machine.specs.Runs.{AreRun};
 ghost use Rattle.hla_components.specs.Executions.{Federations, no_federations, AreNext};
@@ -123,6 +124,8 @@ fn play_from<W: Write>(
         (W.contents out.new.inner)) }
     ensures next { IfOk result (λ records. (x : Federations) × AreNext no_federations records x) }
     ensures run { IfOk result (λ records. (y : machine.Executions) × AreRun machine.no_executions records y) }
+    ensures laws { IfOk result AreLawful }
+    ensures discoveries { IfOk result AreDiscoveredInTurn }
     ensures stopped { IfErr result (StopsBy fed.now script.now (W.contents out.old.inner)
         (W.contents out.new.inner)) }
     ensures failure { out.new.has_failed ≡ (out.old.has_failed || is_unwritten_transcript result) }
@@ -166,6 +169,11 @@ pub fn play<W: Write>(
     // So they are a run of the central machine from no executions.
     ensures run { IfOk result (λ records. (y : machine.Executions) × AreRun machine.no_executions records y) }
 
+    // So behind each of them each law of the machine holds, of each execution that is there, from its creation on; and each
+    // federate is given the discovery of an object before anything is said of it, and once.
+    ensures laws { IfOk result AreLawful }
+    ensures discoveries { IfOk result AreDiscoveredInTurn }
+
     // The first fault of the FED file, or else that of the script, with nothing written.
     ensures stopped { IfErr result (StopsBy fed.now script.now (W.contents out.old.inner)
         (W.contents out.new.inner)) }
@@ -190,6 +198,8 @@ pub fn play_whole<W: Write>(
         (W.contents out.new.inner)) }
     ensures next { IfOk result (λ records. (x : Federations) × AreNext no_federations records x) }
     ensures run { IfOk result (λ records. (y : machine.Executions) × AreRun machine.no_executions records y) }
+    ensures laws { IfOk result AreLawful }
+    ensures discoveries { IfOk result AreDiscoveredInTurn }
 
     // As of `play`.
     ensures stopped { IfErr result (StopsBy fed.now script.now (W.contents out.old.inner)

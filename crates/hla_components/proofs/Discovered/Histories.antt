@@ -112,7 +112,7 @@ records_tell x [] y name o next tells = subst (λ (y : Federations). TellsOfStep
 records_tell x (r ∷ rs) y name o next tells = records_tell (after_record x r) rs y name (story_after name o r) next.1 (one_record x r name o next.0 tells)
 
 -- where a beginning of the records leads
-first_records : (x : Federations) (before rest : List Record) (y : Federations) → AreNext x (before ++ rest) y → (z : Federations) × AreNext x before z
+pub first_records : (x : Federations) (before rest : List Record) (y : Federations) → AreNext x (before ++ rest) y → (z : Federations) × AreNext x before z
 first_records x [] rest y next = (x, refl)
 first_records x (r ∷ rs) rest y next = let w = first_records (after_record x r) rs rest y next.1 in (w.0, (next.0, w.1))
 
