@@ -1,12 +1,14 @@
 -- What a federate is given over a run
-use Rattle.std.specs.Prelude.{ℕ, ◌+◌, ◌≡◌, ◌≢◌, ◌<◌, ◌⊎◌, cond, true, false, Option, None, Some, List, [], ◌∷◌, ◌++◌}
+use Rattle.std.specs.Prelude.{ℕ, ◌+◌, ◌≡◌, ◌≢◌, ◌<◌, ◌⊎◌, Bool, true, false, Option, None, Some, List, [], ◌∷◌, ◌++◌}
 use Rattle.hla_base.specs.declared.content.Content.{Content}
 use Rattle.hla_base.specs.declared.content.Content.TheVariants as content
 use Rattle.hla_base.specs.declared.number.EventHandle.{EventHandle}
 use Rattle.hla_base.specs.declared.row.AdvanceRequest.{AdvanceRequest}
 use Rattle.hla_base.specs.declared.row.TimeRow.{TimeRow}
-use Rattle.hla_base.specs.Rows.{is_flush, is_strict, is_advancing}
+use Rattle.hla_base.specs.Rows.{is_enabled, is_flush, is_strict, is_advancing}
 use Rattle.hla_catalogue.specs.CatalogueValue.{CatalogueValue}
+use Rattle.hla_catalogue.specs.declared.declared.Order.{Order}
+use Rattle.hla_catalogue.specs.declared.declared.Order.TheVariants.{Timestamp}
 use Rattle.hla_callbacks.specs.declared.callback.Callback.{Callback}
 use Rattle.hla_callbacks.specs.declared.callback.Callback.TheVariants as callback
 use Rattle.hla_callbacks.specs.declared.callback.Delivery.{Delivery}
@@ -21,7 +23,6 @@ use Rattle.hla_machine.specs.declared.step.Outcome.{Outcome}
 use Rattle.hla_machine.specs.declared.step.Outcome.TheVariants as outcome
 use Rattle.hla_machine.specs.Directory.{Directory, Outgoing, is_receiver, content_for, objects_of, update_sent, interaction_sent, deletion_sent, deletions_sent}
 use Rattle.hla_machine.specs.Central.{Central, Copy, Ro, Tso, new_central, demoted_copy}
-use Rattle.hla_machine.specs.Sends.{is_ordered, kept_stamp}
 use Rattle.hla_machine.specs.Callbacks.{IsCopy}
 use Rattle.hla_machine.specs.Machine.{Allowed, after}
 use Rattle.hla_machine.specs.Runs.{Happening, IsRun}
@@ -144,15 +145,16 @@ stamp_given (service.SendInteraction class values stamp) = stamp
 stamp_given (service.DeleteObjectInstance object stamp) = stamp
 stamp_given s = None
 
--- the copy goes in time-stamp order, with the stamp that was given, where its order says so, there is a stamp and its sender
--- regulates, and else in receive order
-abbrev pub GoesInOrder : TimeRow → Option ℕ → Outgoing → Copy → Type 0
-GoesInOrder r stamp out k = (k.order ≡ cond (is_ordered r stamp out) Tso Ro) × (k.stamp ≡ kept_stamp r stamp out)
+-- a copy goes in time-stamp order, with the stamp that was given, where its order is that, its sender regulates and there is a
+-- stamp; and else in receive order
+abbrev pub GoesAs : Order → Bool → Option ℕ → Copy → Type 0
+GoesAs Timestamp true (Some s) k = (k.order ≡ Tso) × (k.stamp ≡ s)
+GoesAs order regulates stamp k = k.order ≡ Ro
 
 -- f's message with serial m lies in the bag for each federate that receives it, with what it says to that one and in its order,
 -- and for no other
 pub record IsSentTo (d : Directory) (r : TimeRow) (stamp : Option ℕ) (bag : ℕ → ℕ → ℕ → Option Copy) (f m : ℕ) (out : Outgoing) : Type 0 where
-  pub receivers : (g : ℕ) → is_receiver d f out.body g ≡ true → (k : Copy) × (bag f m g ≡ Some k) × (content_for d out.body g ≡ Some k.content) × GoesInOrder r stamp out k
+  pub receivers : (g : ℕ) → is_receiver d f out.body g ≡ true → (k : Copy) × (bag f m g ≡ Some k) × (content_for d out.body g ≡ Some k.content) × GoesAs out.order (is_enabled r.regulating) stamp k
   pub others : (g : ℕ) → is_receiver d f out.body g ≡ false → bag f m g ≡ None
 
 -- so does each of f's messages from serial m on

@@ -1,8 +1,6 @@
 -- How a task ends
-use Rattle.std.specs.Prelude.{◌≡◌, ◌+◌, ℕ, Bool, true, false, ◌&&◌, ◌⊎◌, List, ◌++◌, length, take, Option, None, Some, MatchBool, codes, decimal}
-use Rattle.std.specs.Str.{bytes_eq}
+use Rattle.std.specs.Prelude.{◌≡◌, ℕ, Bool, true, false, ◌⊎◌, List, ◌++◌, length, take, Option, None, Some, codes, decimal}
 use Rattle.std.specs.Io.KnownBytes.{Appends}
-use Rattle.hla_base.specs.Limits.{max_fed_file, max_script}
 use Rattle.hla_fed_file.specs.Fault.{kind_name_of}
 use Rattle.hla_fed_file.specs.declared.fault.FedFault.{FedFault}
 use Rattle.hla_commands.specs.FaultName.{kind_name}
@@ -21,13 +19,10 @@ use Rattle.hla_run.specs.Running.{IsRunFrom, IsSeen, StopsRun}
 use Rattle.hla_run.specs.declared.fault.RunFault.{RunFault}
 use Rattle.hla_run.specs.declared.fault.RunFault.TheVariants as unran
 use Rattle.hla_tasks.specs.Tasks.{NamedTask, Play, Check, Running, Listing}
-use Rattle.hla_program.specs.declared.script_task.ScriptTask.{ScriptTask}
-use Rattle.hla_program.specs.declared.script_task.ScriptTask.TheVariants as wanted
 use Rattle.hla_program.specs.declared.finding.Finding.{Finding}
 use Rattle.hla_program.specs.declared.finding.Finding.TheVariants.{Run, Differs}
-use Rattle.hla_program.specs.Parts.{first_part, second_part}
+use Rattle.hla_program.specs.Texts.{AreRead, IsUnread, IsTakenOf, IsStoppedOf, file_limit}
 use Rattle.hla_transcript.specs.Watching.{Stream}
-use Rattle.hla_program.specs.Streams.{IsTaken, LoadStops}
 use Rattle.hla_program.specs.declared.input.LoadFault.{LoadFault}
 use Rattle.hla_program.specs.declared.input.LoadFault.TheVariants as unread
 
@@ -186,56 +181,25 @@ pub data EndsRunning (is_watched : Bool) (fed script : List ℕ) (out out' err e
       → EndsJudging (length records) seen told out' err err' status → EndsRunning is_watched fed script out out' err err' status
   RunStopped : (why : RunFault) → StopsRun fed script out.bytes out'.bytes why → RunCause why out' → Complains err err' (run_stop_line why) → status ≡ run_stop_status why → EndsRunning is_watched fed script out out' err err' status
 
--- what is asked for is done with a script over a FED file
-abbrev pub EndsScript : ScriptTask → List ℕ → List ℕ → Stream → Stream → Stream → Stream → ℕ → Type 0
-EndsScript wanted.Play fed script out out' err err' status = EndsPlaying fed script out out' err err' status
-EndsScript wanted.Check fed script out out' err err' status = EndsChecking fed script out out' err err' status
-EndsScript (wanted.Run is_watched) fed script out out' err err' status = EndsRunning is_watched fed script out out' err err' status
-
 -- a FED file is listed
 pub data EndsListing (fed : List ℕ) (out out' err err' : Stream) (status : ℕ) : Type 0 where
   Listed : IsListed fed out.bytes out'.bytes → out'.has_failed ≡ false → err' ≡ err → status ≡ 0 → EndsListing fed out out' err err' status
   ListStopped : (why : ListFault) → StopsListing fed out.bytes out'.bytes why → ListCause why out' → Complains err err' (list_stop_line why) → status ≡ 1 → EndsListing fed out out' err err' status
 
--- ---- given readers
--- one byte more is taken of a file than it may have, so that one that has more is too large
-abbrev pub file_limit : ℕ
-file_limit = max_fed_file + 1
-
--- of both files in one input, and the line between them
-abbrev pub shared_limit : ℕ
-shared_limit = max_fed_file + max_script + 4
-
--- both files stand in one input, which is told by the name `-`
-pub data EndsShared (task : ScriptTask) (input input' out out' err err' : Stream) (status : ℕ) : Type 0 where
-  SharedRead : (bytes : List ℕ) → IsTaken shared_limit input input' bytes → EndsScript task (first_part bytes) (second_part bytes) out out' err err' status → EndsShared task input input' out out' err err' status
-  SharedUnread : (why : LoadFault) → LoadStops input input' why → out' ≡ out → Complains err err' (load_stop_line (codes "-") why) → status ≡ 1 → EndsShared task input input' out out' err err' status
-
--- the FED file is read before the script
-pub data EndsFiles (task : ScriptTask) (fed_name : List ℕ) (fed fed' : Stream) (script_name : List ℕ) (script script' out out' err err' : Stream) (status : ℕ) : Type 0 where
-  FilesRead : (fed_bytes script_bytes : List ℕ) → IsTaken file_limit fed fed' fed_bytes → IsTaken file_limit script script' script_bytes → EndsScript task fed_bytes script_bytes out out' err err' status → EndsFiles task fed_name fed fed' script_name script script' out out' err err' status
-  FedUnread : (why : LoadFault) → LoadStops fed fed' why → script' ≡ script → out' ≡ out → Complains err err' (load_stop_line fed_name why) → status ≡ 1 → EndsFiles task fed_name fed fed' script_name script script' out out' err err' status
-  ScriptUnread : (fed_bytes : List ℕ) → IsTaken file_limit fed fed' fed_bytes → (why : LoadFault) → LoadStops script script' why → out' ≡ out → Complains err err' (load_stop_line script_name why) → status ≡ 1 → EndsFiles task fed_name fed fed' script_name script script' out out' err err' status
-
-pub data EndsListingFile (name : List ℕ) (file file' out out' err err' : Stream) (status : ℕ) : Type 0 where
-  FileRead : (bytes : List ℕ) → IsTaken file_limit file file' bytes → EndsListing bytes out out' err err' status → EndsListingFile name file file' out out' err err' status
-  FileUnread : (why : LoadFault) → LoadStops file file' why → out' ≡ out → Complains err err' (load_stop_line name why) → status ≡ 1 → EndsListingFile name file file' out out' err err' status
-
 -- ---- given the bytes of each file by its name
--- a file that was just opened
-abbrev pub opened_stream : Option (List ℕ) → Stream
-opened_stream bytes = record { bytes = bytes; has_failed = false }
+-- what is to be done with a FED file and a script is done, by their names; or one of them was not read
+pub data EndsNamed (bytes_of : List ℕ → Option (List ℕ)) (Ends : List ℕ → List ℕ → Type 0) (fed_name script_name : List ℕ) (out out' err err' : Stream) (status : ℕ) : Type 0 where
+  TextsRead : (fed script : List ℕ) → AreRead bytes_of fed_name script_name fed script → Ends fed script → EndsNamed bytes_of Ends fed_name script_name out out' err err' status
+  TextUnread : (name : List ℕ) (why : LoadFault) → IsUnread bytes_of fed_name script_name name why → out' ≡ out → Complains err err' (load_stop_line name why) → status ≡ 1 → EndsNamed bytes_of Ends fed_name script_name out out' err err' status
 
--- what is asked for is done with a script over a FED file, by their names; `-` is the standard input, which holds both files where both names are `-`
-abbrev pub EndsNamed : (List ℕ → Option (List ℕ)) → ScriptTask → List ℕ → List ℕ → Stream → Stream → Stream → Stream → ℕ → Type 0
-EndsNamed bytes_of task fed script out out' err err' status =
-    MatchBool (bytes_eq fed (codes "-") && bytes_eq script (codes "-"))
-    ((input' : Stream) × EndsShared task (opened_stream (bytes_of (codes "-"))) input' out out' err err' status)
-    ((fed' : Stream) × ((script' : Stream) × EndsFiles task fed (opened_stream (bytes_of fed)) fed' script (opened_stream (bytes_of script)) script' out out' err err' status))
+-- a FED file is listed, by its name; or it was not read
+pub data EndsListingNamed (bytes_of : List ℕ → Option (List ℕ)) (name : List ℕ) (out out' err err' : Stream) (status : ℕ) : Type 0 where
+  FileRead : (bytes : List ℕ) → IsTakenOf file_limit (bytes_of name) bytes → EndsListing bytes out out' err err' status → EndsListingNamed bytes_of name out out' err err' status
+  FileUnread : (why : LoadFault) → IsStoppedOf (bytes_of name) why → out' ≡ out → Complains err err' (load_stop_line name why) → status ≡ 1 → EndsListingNamed bytes_of name out out' err err' status
 
 -- what is asked for is done with the files that it names
 abbrev pub EndsTask : (List ℕ → Option (List ℕ)) → NamedTask → Stream → Stream → Stream → Stream → ℕ → Type 0
-EndsTask bytes_of (Play fed script) out out' err err' status = EndsNamed bytes_of wanted.Play fed script out out' err err' status
-EndsTask bytes_of (Check fed script) out out' err err' status = EndsNamed bytes_of wanted.Check fed script out out' err err' status
-EndsTask bytes_of (Running fed script is_watched) out out' err err' status = EndsNamed bytes_of (wanted.Run is_watched) fed script out out' err err' status
-EndsTask bytes_of (Listing fed) out out' err err' status = (file' : Stream) × EndsListingFile fed (opened_stream (bytes_of fed)) file' out out' err err' status
+EndsTask bytes_of (Play fed script) out out' err err' status = EndsNamed bytes_of (λ f s. EndsPlaying f s out out' err err' status) fed script out out' err err' status
+EndsTask bytes_of (Check fed script) out out' err err' status = EndsNamed bytes_of (λ f s. EndsChecking f s out out' err err' status) fed script out out' err err' status
+EndsTask bytes_of (Running fed script is_watched) out out' err err' status = EndsNamed bytes_of (λ f s. EndsRunning is_watched f s out out' err err' status) fed script out out' err err' status
+EndsTask bytes_of (Listing fed) out out' err err' status = EndsListingNamed bytes_of fed out out' err err' status

@@ -1,5 +1,5 @@
 -- Each message of a call is sent to each federate that receives it, and to no other
-use Rattle.std.proofs.Common.{◌≡◌, ◌⊎◌, ⊎_elim, ℕ, ◌+◌, ◌≤◌, ◌<◌, cond, eqb, ◌&&◌, Bool, true, false, refl, sym, ◌∙◌, le_trans, subst, inl, inr, arith, eq-eqb, List, [], ◌∷◌, Option, Some, None, is_some, option_map}
+use Rattle.std.proofs.Common.{◌≡◌, ◌⊎◌, ⊎_elim, ℕ, ◌+◌, ◌≤◌, ◌<◌, cond, eqb, ◌&&◌, Bool, true, false, refl, sym, ◌∙◌, le_trans, subst, inl, inr, arith, eq-eqb, List, [], ◌∷◌, Option, Some, None, is_some, option_map, unwrap_or}
 use Rattle.std.proofs.lemmas.Bool.{and_parts}
 use Rattle.std.proofs.lemmas.Bool.Decides.{nat_tests}
 use Rattle.hla_base.specs.declared.content.Content.{Content}
@@ -14,13 +14,16 @@ use Rattle.hla_machine.specs.declared.step.Answer.{Answer}
 use Rattle.hla_machine.specs.declared.step.Outcome.{Outcome}
 use Rattle.hla_machine.specs.declared.step.Outcome.TheVariants as outcome
 use Rattle.hla_machine.specs.declared.step.Choice.{Choice}
-use Rattle.hla_machine.specs.Directory.{Directory, Outgoing, is_receiver, content_for, objects_of, update_sent, interaction_sent, deletion_sent, deletions_sent}
+use Rattle.hla_base.specs.Rows.{is_enabled}
+use Rattle.hla_catalogue.specs.declared.declared.Order.{Order}
+use Rattle.hla_catalogue.specs.declared.declared.Order.TheVariants.{Receive, Timestamp}
+use Rattle.hla_machine.specs.Directory.{Directory, Outgoing, is_of_order, is_receiver, content_for, objects_of, update_sent, interaction_sent, deletion_sent, deletions_sent}
 use Rattle.hla_base.specs.declared.row.TimeRow.{TimeRow}
 use Rattle.hla_machine.specs.Central.{Central, Copy, CopyOrder, Ro, Tso, with_copies, is_key}
 use Rattle.hla_machine.specs.Sends.{copy_for, is_ordered, kept_stamp, after_message, after_messages}
 use Rattle.hla_machine.specs.CentralInvariant.{CentralInv}
 use Rattle.hla_machine.specs.Machine.{after_leaving, after_call, after}
-use Rattle.hla_machine.specs.History.{messages_of, stamp_given, GoesInOrder, IsSentTo, AreSentTo}
+use Rattle.hla_machine.specs.History.{messages_of, stamp_given, GoesAs, IsSentTo, AreSentTo}
 use Rattle.hla_machine.proofs.Copies.Fates.{copies_stay}
 
 -- nothing lies in the bag from f's next serial on
@@ -70,11 +73,19 @@ unmade_copy true (Some x) make e = absurd (cc)
 unmade_copy true None make e = refl
 unmade_copy false x make e = refl
 
+-- a copy is made in its order
+goes_as : (o : Order) (regulates : Bool) (stamp : Option ℕ) (k : Copy) → (let b = is_of_order Timestamp o && is_some stamp && regulates in k.order ≡ cond b Tso Ro → k.stamp ≡ cond b (unwrap_or stamp 0) 0 → GoesAs o regulates stamp k)
+goes_as Receive regulates stamp k order kept = order
+goes_as Timestamp false None k order kept = order
+goes_as Timestamp true None k order kept = order
+goes_as Timestamp false (Some s) k order kept = order
+goes_as Timestamp true (Some s) k order kept = (order, kept)
+
 message_sent : (c : Central) (f : ℕ) (stamp : Option ℕ) (out : Outgoing) → NoneAhead c f → IsSentTo c.directory (c.row f) stamp (after_message c f stamp out).bag f (c.serial f) out
 message_sent c f stamp out none = record {
   receivers = λ g is.
       let w = made_copy (is_other c.directory.joined f g) (content_for c.directory out.body g) (cond (is_ordered (c.row f) stamp out) Tso Ro) (kept_stamp (c.row f) stamp out) is in
-      (w.0, copy_here c.directory.joined c.bag f (c.serial f) (copy_for c.directory (c.row f) stamp out) g (none (c.serial f) g (omega arith)) ∙ w.1, w.2, w.3);
+      (w.0, copy_here c.directory.joined c.bag f (c.serial f) (copy_for c.directory (c.row f) stamp out) g (none (c.serial f) g (omega arith)) ∙ w.1, w.2, goes_as out.order (is_enabled (c.row f).regulating) stamp w.0 w.3.0 w.3.1);
   others = λ g is. copy_here c.directory.joined c.bag f (c.serial f) (copy_for c.directory (c.row f) stamp out) g (none (c.serial f) g (omega arith)) ∙ unmade_copy (is_other c.directory.joined f g) (content_for c.directory out.body g) _ is;
 }
 
