@@ -6,11 +6,11 @@ use Rattle.hla_rti.specs.Callers.{Leaver}
 use Rattle.hla_rti.specs.Close.{AllHere}
 
 -- without_caller the first caller of this number
-without_caller : ℕ → List Leaver → List Leaver
+pub without_caller : ℕ → List Leaver → List Leaver
 without_caller n [] = []
 without_caller n (c ∷ cs) = cond (c.caller.number == n) cs (c ∷ without_caller n cs)
 
-shorter : (n : ℕ) (cs : List Leaver) → list_any (λ (c : Leaver). c.caller.number == n) cs ≡ true → length (without_caller n cs) + 1 ≡ length cs
+pub shorter : (n : ℕ) (cs : List Leaver) → list_any (λ (c : Leaver). c.caller.number == n) cs ≡ true → length (without_caller n cs) + 1 ≡ length cs
 unfolding without_caller
 shorter n [] is = absurd (let no : false ≡ true = is in cc)
 shorter n (c ∷ cs) is = go (shorter n cs) (c.caller.number == n) refl
@@ -21,7 +21,7 @@ shorter n (c ∷ cs) is = go (shorter n cs) (c.caller.number == n) refl
         let there : list_any (λ (d : Leaver). d.caller.number == n) cs ≡ true = sym (ap (λ (t : Bool). t || list_any (λ (d : Leaver). d.caller.number == n) cs) e) ∙ is in
         omega (arith, ih there)
 
-others : (n m : ℕ) (cs : List Leaver) → m ≢ n
+pub others : (n m : ℕ) (cs : List Leaver) → m ≢ n
     → list_any (λ (c : Leaver). c.caller.number == m) (without_caller n cs) ≡ list_any (λ (c : Leaver). c.caller.number == m) cs
 unfolding without_caller
 others n m [] ne = refl

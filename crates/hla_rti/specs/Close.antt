@@ -1,5 +1,5 @@
 -- When all callers have come back, and whether their transcripts are the history's
-use Rattle.std.specs.Prelude.{◌≡◌, ℕ, ◌≤◌, ◌<◌, ◌⊎◌, ◌==◌, List, Option, Some, true, slice_get, length}
+use Rattle.std.specs.Prelude.{◌≡◌, ℕ, ◌+◌, ◌≤◌, ◌<◌, ◌⊎◌, ◌==◌, List, [], ◌∷◌, Option, Some, true, slice_get, length, All}
 use Rattle.std.specs.List.{list_any}
 use Rattle.hla_machine.specs.declared.step.Record.{Record}
 use Rattle.hla_history.specs.Closing.{records_by}
@@ -38,3 +38,12 @@ StandBefore table lefts k = (j : ℕ) (l : Leaver) → j < k → slice_get lefts
 -- those of all do
 abbrev pub AllStand : List (Option (List Record)) → List Leaver → Caller → Type 0
 AllStand table lefts own = StandBefore table lefts (length lefts) × Stands table own
+
+-- how many records the transcripts of all have
+abbrev pub transcripts_length : List Leaver → ℕ
+transcripts_length [] = 0
+transcripts_length (l ∷ ls) = length l.caller.transcript + transcripts_length ls
+
+-- each record is of a caller that was handed out, or of the infrastructure itself
+abbrev pub AreOfCallers : ℕ → List Record → Type 0
+AreOfCallers handed records = All (λ (r : Record). r.actor ≤ handed) records

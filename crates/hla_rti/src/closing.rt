@@ -7,7 +7,7 @@ ghost use Rattle.hla_history.specs.Closing.{Replays};
 ghost use Rattle.hla_machine.specs.Histories.{AreDiscoveredInTurn, AreLawful};
 ghost use Rattle.hla_machine.specs.Runs.{Executions, no_executions, AreRun};
 ghost use Rattle.hla_rti.specs.Callers.{Leaver};
-ghost use Rattle.hla_rti.specs.Close.{AllHere, AllAgree, DiffersFirst};
+ghost use Rattle.hla_rti.specs.Close.{AllHere, AllAgree, AreOfCallers, DiffersFirst, transcripts_length};
 
 use crate::comparing::first_differing;
 use crate::rti::Rti;
@@ -96,6 +96,7 @@ fn all_here<L: Ledger, B: FederateAmbassador>(handed: u32, lefts: &[Left<L, B>])
 fn merged<L: Ledger, B: FederateAmbassador>(mut all: Share<L>, lefts: Vec<Left<L, B>>) -> Share<L>
     ensures parts { result.parts ≡ all.parts + vec_len lefts }
     ensures bound { all.parts ≤ L.parts → result.parts ≤ L.parts }
+    ensures amount { result.amount ≡ all.amount + transcripts_length lefts.items }
 {
     for left in lefts {
         all.merge(left.into_share());
@@ -123,9 +124,12 @@ pub fn settle<L: Ledger, B: FederateAmbassador>(
 ) -> Result<Closed, Unsettled<L, B>>
     requires parts { L.parts ≡ ledger_parts }
     requires rest { rest.parts + handed ≡ max_callers }
+    requires unused { rest.amount ≡ 0 }
+    requires own { seat.number ≡ 0 }
     requires here { AllHere handed lefts.items }
     ensures records { IfOk result (λ c. c ≡ shared.old.history) }
     ensures agree { OnOk result (AllAgree shared.old.history lefts.items seat) }
+    ensures theirs { IfOk result (AreOfCallers handed) }
     ensures differs { IfErr result (λ u. DiffersFirst shared.old.history lefts.items seat u.place) }
     ensures back { IfErr result (λ u. (u.seat ≡ seat) × (u.rest ≡ rest) × (u.lefts ≡ lefts)) }
     ensures same { OnErr result (shared.new ≡ shared.old) }
@@ -149,10 +153,12 @@ pub fn settle<L: Ledger, B: FederateAmbassador>(
 impl<L: Ledger + Naming, B: FederateAmbassador, W: Publisher<L>> Rti<L, B, W> {
     /// Takes all callers back, and answers the records of the whole history, where each transcript is just the records of its
     /// caller, in order. Else `Missing` where a caller that was handed out is not in the list, and then `Transcript` with the
-    /// place of the first that differs; then the infrastructure and the list come back, and nothing has changed.
+    /// place of the first that differs; then the infrastructure and the list come back, and nothing has changed. Each record is of
+    /// one of the callers, or of the infrastructure itself.
     pub fn close(self, rt: &impl Wait, lefts: Vec<Left<L, B>>) -> Result<Closed, NotClosed<L, B, W>>
         requires { L.parts ≡ ledger_parts }
         ensures agree { IfOk result (λ c. AllAgree c lefts.items self.own) }
+        ensures theirs { IfOk result (AreOfCallers self.handed) }
         ensures here { OnOk result (AllHere self.handed lefts.items) }
         ensures missing { IfErr result
             (λ n. n.fault ≡ CloseFault.Missing → AllHere self.handed lefts.items → ⊥) }

@@ -13,7 +13,7 @@ ghost use Rattle.hla_history.specs.Forms.{NoAnswer, AFederate, EndsInForm, step_
 ghost use Rattle.hla_history.specs.Hosts.{IsPlain, with_record};
 ghost use Rattle.hla_history.specs.Hosting.{held_of};
 ghost use Rattle.hla_history.specs.Writing.{step_record, chosen_in};
-ghost use Rattle.hla_rti.specs.Close.{AllHere, AllAgree, DiffersFirst};
+ghost use Rattle.hla_rti.specs.Close.{AllHere, AllAgree, AreOfCallers, DiffersFirst};
 ghost use Rattle.hla_rti.specs.Locked.{IsPosted};
 
 use crate::closing::{Closed, Unsettled, settle};
@@ -316,9 +316,12 @@ impl<L: Ledger + Naming, B: FederateAmbassador, W: Publisher<L>> Locked<L, B, W>
     ) -> Result<Closed, Unsettled<L, B>>
         requires parts { L.parts ≡ ledger_parts }
         requires rest { rest.parts + handed ≡ max_callers }
+        requires unused { rest.amount ≡ 0 }
+        requires own { seat.number ≡ 0 }
         requires here { AllHere handed lefts.items }
         ensures records { IfOk result (λ c. c ≡ self.old.held.history) }
         ensures agree { OnOk result (AllAgree self.old.held.history lefts.items seat) }
+        ensures theirs { IfOk result (AreOfCallers handed) }
         ensures differs { IfErr result (λ u. DiffersFirst self.old.held.history lefts.items seat u.place) }
         ensures back { IfErr result (λ u. (u.seat ≡ seat) × (u.rest ≡ rest) × (u.lefts ≡ lefts)) }
         ensures same { OnErr result (self.new ≡ self.old) }

@@ -1,6 +1,6 @@
 //! A caller of the run-time infrastructure.
 
-ghost use Rattle.std.specs.Prelude.{◌≡◌, ◌==◌, ◌↔◌, ◌⊎◌, [], None, Some, Err, option_map, is_some, slice_get, not, IsTrue, IfOk, IfErr};
+ghost use Rattle.std.specs.Prelude.{◌≡◌, ◌==◌, ◌↔◌, ◌⊎◌, [], None, Some, Err, length, option_map, is_some, slice_get, not, IsTrue, IfOk, IfErr};
 ghost use Rattle.hla_machine.specs.declared.service.Service.TheVariants as service;
 ghost use Rattle.hla_machine.specs.declared.step.Act.TheVariants as act;
 ghost use Rattle.hla_machine.specs.declared.step.Answer.TheVariants as answer;
@@ -101,6 +101,7 @@ impl<L: Ledger, B: FederateAmbassador> Left<L, B> {
     pub(crate) fn into_share(self) -> Share<L>
         ensures parts { result.parts ≡ 1 }
         ensures amount { result.amount ≡ self.caller.share }
+        ensures acts { result.amount ≡ length self.caller.transcript }
     {
         self.seat.into_share()
     }
@@ -331,6 +332,7 @@ impl<L: Ledger> Seat<L> {
     pub(crate) fn into_share(self) -> Share<L>
         ensures parts { result.parts ≡ 1 }
         ensures amount { result.amount ≡ self.share }
+        ensures acts { result.amount ≡ length self.transcript }
     {
         self.share
     }
