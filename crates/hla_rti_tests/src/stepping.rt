@@ -120,7 +120,7 @@ fn join<L: Ledger>(
     shared: &mut Shared<L, Recorder>,
     share: &mut Share<L>,
     letter: u8,
-    fails_after: usize,
+    fails_after: u32,
 ) -> Result<(), Fail>
     requires { 0 < share.old.parts }
     ensures { share.new.parts ≡ share.old.parts }
