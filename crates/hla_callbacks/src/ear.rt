@@ -7,8 +7,8 @@ use crate::callback::Callback;
 use hla_base::Fault;
 use std::marker::Model;
 
-/// Holds the ambassador of one federate, and gives it callbacks as values. Contracts see what it has heard, and whether it
-/// has room for one callback more.
+/// Holds the ambassador of one federate, and gives it callbacks as values. Contracts see what it has heard, whether it has
+/// room for one callback more, and its tag.
 #[derive(Drop)]
 pub struct Ear<B: FederateAmbassador> {
     ambassador: B,
@@ -19,7 +19,11 @@ impl<B: FederateAmbassador> Model for Ear<B> {
 
     ghost Value = { Hearing };
 
-    ghost view = { λ e. record { heard = B.heard e.ambassador; room = B.room e.ambassador } };
+    ghost view = { λ e. record {
+      heard = B.heard e.ambassador;
+      room = B.room e.ambassador;
+      tag = B.tag e.ambassador;
+    } };
 }
 
 impl<B: FederateAmbassador> Ear<B> {
@@ -27,6 +31,7 @@ impl<B: FederateAmbassador> Ear<B> {
     pub fn new(ambassador: B) -> Ear<B>
         ensures heard { result.heard ≡ B.heard ambassador }
         ensures room { result.room ≡ B.room ambassador }
+        ensures tag { result.tag ≡ B.tag ambassador }
     {
         Ear { ambassador }
     }
@@ -35,6 +40,7 @@ impl<B: FederateAmbassador> Ear<B> {
     pub fn into_inner(self) -> B
         ensures heard { B.heard result ≡ self.heard }
         ensures room { B.room result ≡ self.room }
+        ensures tag { B.tag result ≡ self.tag }
     {
         self.ambassador
     }
@@ -43,6 +49,7 @@ impl<B: FederateAmbassador> Ear<B> {
     pub fn make_room(&mut self) -> Result<(), Fault>
         ensures heard { self.new.heard ≡ self.old.heard }
         ensures room { OnOk result (self.new.room ≡ true) }
+        ensures tag { self.new.tag ≡ self.old.tag }
         ensures err { IfErr result (λ e. e ≡ Fault.OutOfMemory) }
     {
         self.ambassador.make_room()
@@ -52,7 +59,8 @@ impl<B: FederateAmbassador> Ear<B> {
     /// the ambassador failed in it. The callback counts as heard either way.
     pub fn give(&mut self, callback: Callback) -> Result<(), FederateFault>
         requires { self.old.room ≡ true }
-        ensures { self.new.heard ≡ self.old.heard ++ callback ∷ [] }
+        ensures heard { self.new.heard ≡ self.old.heard ++ callback ∷ [] }
+        ensures tag { self.new.tag ≡ self.old.tag }
     {
         let to = &mut self.ambassador;
         match callback {

@@ -9,12 +9,14 @@ use std::alloc::Global;
 use std::marker::Model;
 
 /// A federate ambassador that writes down what it hears, and fails in one callback where it is told to. Contracts see what
-/// it has heard, and whether it has room for one callback more.
+/// it has heard, whether it has room for one callback more, and its tag.
 #[derive(Drop)]
 pub struct Recorder {
     callbacks: Vec<Callback>,
     /// How many callbacks it hears before the one in which it fails.
     fails_after: Option<usize>,
+    /// What tells it from others.
+    tag: u32,
 }
 
 impl Model for Recorder {
@@ -26,28 +28,48 @@ impl Model for Recorder {
     ghost view = { λ r. record {
       heard = r.callbacks.items;
       room = nat_lt (vec_len r.callbacks) (vec_capacity r.callbacks);
+      tag = r.tag;
     } };
 }
 
 impl Recorder {
-    /// A recorder that has heard nothing, and never fails; it takes no memory.
+    /// A recorder that has heard nothing, and never fails; its tag is 0, and it takes no memory.
     pub fn new(alloc: Global) -> Recorder
-        ensures { result.heard ≡ [] }
+        ensures heard { result.heard ≡ [] }
+        ensures tag { result.tag ≡ 0 }
+    {
+        Recorder::tagged(alloc, 0)
+    }
+
+    /// A recorder that has heard nothing, and never fails, with a tag that tells it from others; it takes no memory.
+    pub fn tagged(alloc: Global, tag: u32) -> Recorder
+        ensures heard { result.heard ≡ [] }
+        ensures tag { result.tag ≡ tag }
     {
         Recorder {
             callbacks: Vec::new(alloc),
             fails_after: None,
+            tag,
         }
     }
 
-    /// A recorder that has heard nothing, and fails in the callback after this many; it takes no memory.
+    /// A recorder that has heard nothing, and fails in the callback after this many; its tag is 0, and it takes no memory.
     pub fn failing(alloc: Global, fails_after: usize) -> Recorder
-        ensures { result.heard ≡ [] }
+        ensures heard { result.heard ≡ [] }
+        ensures tag { result.tag ≡ 0 }
     {
         Recorder {
             callbacks: Vec::new(alloc),
             fails_after: Some(fails_after),
+            tag: 0,
         }
+    }
+
+    /// The tag that it was made with.
+    pub fn tag(&self) -> u32
+        ensures { result ≡ self.now.tag }
+    {
+        self.tag
     }
 
     /// What it has heard, in order.
@@ -60,7 +82,8 @@ impl Recorder {
     /// Writes a callback down, for which there is room.
     fn hear(&mut self, callback: Callback) -> Result<(), FederateFault>
         requires { self.old.room ≡ true }
-        ensures { self.new.heard ≡ self.old.heard ++ callback ∷ [] }
+        ensures heard { self.new.heard ≡ self.old.heard ++ callback ∷ [] }
+        ensures tag { self.new.tag ≡ self.old.tag }
     {
         let fails = self.fails_after == Some(self.callbacks.len());
         self.callbacks.push_reserved(callback);
@@ -72,6 +95,8 @@ impl FederateAmbassador for Recorder {
     ghost heard = { λ r. r.heard };
 
     ghost room = { λ r. r.room };
+
+    ghost tag = { λ r. r.tag };
 
     fn make_room(&mut self) -> Result<(), Fault> {
         match self.callbacks.reserve(1) {

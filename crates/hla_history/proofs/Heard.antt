@@ -1,4 +1,4 @@
--- What one ear's change does to the table of what is heard
+-- What one ear's change does to the tables of what is heard and of whose it is
 pub mod Ears
 -- How a step of an execution keeps its ears
 pub mod Hosting

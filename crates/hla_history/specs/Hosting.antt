@@ -32,6 +32,14 @@ heard_in (Some e) = Some e.heard
 abbrev pub heard_of : List (Option Hearing) → List (Option (List Callback))
 heard_of ears = map heard_in ears
 
+-- which ambassador an ear has
+abbrev pub tag_in : Option Hearing → Option ℕ
+tag_in None = None
+tag_in (Some e) = Some e.tag
+
+abbrev pub tags_of : List (Option Hearing) → List (Option ℕ)
+tags_of ears = map tag_in ears
+
 -- what is heard by ears that stand by number
 abbrev pub heard_table : List (Option (List Callback)) → HeardTable
 heard_table heard = λ f. get_or heard f None
@@ -41,6 +49,7 @@ pub record HostedValue : Type 0 where
   pub name : List ℕ
   pub federation : FederationValue
   pub heard : List (Option (List Callback))
+  pub tags : List (Option ℕ)
 
 abbrev pub host_of : HostedValue → Host
 host_of h = record { components = components_hosted h.federation; heard = heard_table h.heard }

@@ -4,6 +4,8 @@ pub mod Heard
 pub mod Hosts
 -- One execution under the lock, as its code keeps it
 pub mod Hosting
+-- Whose ambassador stands at each federate
+pub mod Tags
 -- Of which form the answer of each step is, whatever the state
 pub mod Forms
 -- Creating and destroying executions, and the ambassadors that come back

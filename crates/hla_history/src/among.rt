@@ -9,6 +9,7 @@ ghost use Rattle.hla_machine.specs.declared.step.Choice.TheVariants as choice;
 ghost use Rattle.hla_machine.specs.declared.step.Outcome.TheVariants as outcome;
 ghost use Rattle.hla_history.specs.Hosts.{Host, IsPlain, HasAmbassadors, hosts_after_step};
 ghost use Rattle.hla_history.specs.Hosting.{HostedValue, table_of, EndsIn};
+ghost use Rattle.hla_history.specs.Tags.{tags_among};
 ghost use Rattle.hla_history.specs.Writing.{step_record, chosen_in};
 
 use crate::host::Hosted;
@@ -115,6 +116,7 @@ pub(crate) fn step_among_into<B: FederateAmbassador>(
     ensures hosts { IfOk result (λ out. table_of executions.new.items
         ≡ hosts_after_step (table_of executions.old.items) execution.now
         (table_of executions.old.items execution.now) step out) }
+    ensures tags { tags_among executions.new.items ≡ tags_among executions.old.items }
     ensures len { vec_len history.new
         ≡ (if is_ok result then vec_len history.old + 1 else vec_len history.old) }
     ensures capacity { vec_capacity history.new ≡ vec_capacity history.old }

@@ -1,16 +1,19 @@
 //! Creating and destroying executions under the lock.
 
-ghost use Rattle.std.specs.Prelude.{◌≡◌, ◌∷◌, ◌++◌, [], ◌||◌, not, ltb, is_some, filter, IfOk, IfErr, OnOk, OnErr};
+ghost use Rattle.std.specs.Prelude.{◌≡◌, ◌∷◌, ◌++◌, [], true, ◌||◌, None, Some, not, ltb, is_some, option_map, filter, IfOk, IfErr, OnOk, OnErr};
 ghost use Rattle.std.specs.Str.{bytes_eq};
 ghost use Rattle.hla_base.specs.Limits.{max_executions, max_creates};
 ghost use Rattle.hla_base.specs.RowRefusals.{first_fault, test_for};
 ghost use Rattle.hla_base.specs.declared.fault.Fault.TheVariants as fault;
 ghost use Rattle.hla_machine.specs.Runs.{EndsAs};
 ghost use Rattle.hla_machine.specs.declared.step.Act.TheVariants as act;
+ghost use Rattle.hla_machine.specs.declared.step.Answer.TheVariants as answer;
 ghost use Rattle.hla_machine.specs.declared.step.Choice.TheVariants as choice;
+ghost use Rattle.hla_machine.specs.declared.step.Outcome.TheVariants as outcome;
 ghost use Rattle.hla_history.specs.Creating.{catalogue_from, creation_fault, destruction_fault};
 ghost use Rattle.hla_history.specs.Hosts.{hosts_after, new_host};
 ghost use Rattle.hla_history.specs.Hosting.{HostedValue, host_of, hosts_of, table_of};
+ghost use Rattle.hla_history.specs.Tags.{no_tags, tag_table, tags_among, tags_after_act};
 
 use crate::among::place_of;
 use crate::counts::Counts;
@@ -63,8 +66,11 @@ fn add<B: FederateAmbassador>(
     name: &ExecutionName,
     catalogue: Catalogue,
 ) -> Result<(), Fault>
-    ensures added { OnOk result ((h : HostedValue) × (executions.new.items ≡ executions.old.items ++ h ∷ [])
-        × (h.name ≡ name.now) × (host_of h ≡ new_host catalogue)) }
+    ensures added { OnOk result ((h : HostedValue)
+        × (executions.new.items ≡ executions.old.items ++ h ∷ [])
+        × (h.name ≡ name.now)
+        × (host_of h ≡ new_host catalogue)
+        × (tag_table h.tags ≡ no_tags)) }
     ensures err { IfErr result (λ e. e ≡ Fault.OutOfMemory) }
     ensures unchanged { OnErr result (executions.new.items ≡ executions.old.items) }
 {
@@ -74,6 +80,52 @@ fn add<B: FederateAmbassador>(
     let hosted = Hosted::new(*executions.allocator(), name, catalogue)?;
     executions.push_reserved(hosted);
     Ok(())
+}
+
+/// Adds an execution that nobody has joined, for what its FED file was read as, and makes the record of its creation.
+/// `OutOfMemory`, and none added, where a growth was refused.
+fn add_recorded<B: FederateAmbassador>(
+    executions: &mut Vec<Hosted<B>>,
+    actor: u32,
+    name: &ExecutionName,
+    catalogue: Option<Catalogue>,
+) -> Result<(Record, Stepped), Fault>
+    requires { is_some catalogue ≡ true }
+    ensures record { IfOk result (λ p. p.0 ≡ record {
+      actor = actor;
+      execution = name.now;
+      act = act.Create catalogue;
+      outcome = outcome.Done answer.Done;
+      choice = choice.None;
+    }) }
+    ensures own { IfOk result (λ p. p.1.own ≡ p.0) }
+    ensures answer { IfOk result (λ p. p.1.answer ≡ p.0.outcome) }
+    ensures added { OnOk result ((h : HostedValue)
+        × (executions.new.items ≡ executions.old.items ++ h ∷ [])
+        × (h.name ≡ name.now)
+        × (option_map new_host catalogue ≡ Some (host_of h))
+        × (tag_table h.tags ≡ no_tags)) }
+    ensures err { IfErr result (λ e. e ≡ Fault.OutOfMemory) }
+    ensures unchanged { OnErr result (executions.new.items ≡ executions.old.items) }
+{
+    let Some(declared) = &catalogue else {
+        unreachable!()
+    };
+    let declared = declared.copy()?;
+    let made = recorded(
+        *executions.allocator(),
+        actor,
+        name,
+        Act::Create { catalogue },
+        Outcome::Done(Answer::Done),
+    )?;
+    match add(executions, name, declared) {
+        Ok(()) => Ok(made),
+        Err(fault) => {
+            drop(made);
+            Err(fault)
+        }
+    }
 }
 
 /// Creates an execution that nobody has joined, for what its FED file was read as.
@@ -99,6 +151,7 @@ pub(crate) fn create_among<B: FederateAmbassador>(
     ensures hosts { IfOk result (λ p. hosts_of counts.new.creates counts.new.present executions.new.items
         ≡ hosts_after (hosts_of counts.old.creates counts.old.present executions.old.items)
         name (act.Create catalogue) p.0.outcome) }
+    ensures tags { tags_among executions.new.items ≡ tags_among executions.old.items }
     ensures err { IfErr result (λ e. e ≡ Fault.OutOfMemory) }
     ensures unchanged { OnErr result (executions.new.items ≡ executions.old.items) }
     ensures counts { OnErr result (counts.new ≡ counts.old) }
@@ -116,21 +169,7 @@ pub(crate) fn create_among<B: FederateAmbassador>(
             Ok(refused)
         }
         None => {
-            let Some(declared) = &catalogue else {
-                unreachable!()
-            };
-            let declared = declared.copy()?;
-            let made = recorded(
-                *executions.allocator(),
-                actor,
-                &name,
-                Act::Create { catalogue },
-                Outcome::Done(Answer::Done),
-            )?;
-            if let Err(fault) = add(executions, &name, declared) {
-                drop(made);
-                return Err(fault);
-            }
+            let made = add_recorded(executions, actor, &name, catalogue)?;
             counts.creates += 1;
             counts.present += 1;
             Ok(made)
@@ -187,6 +226,8 @@ pub(crate) fn destroy_among<B: FederateAmbassador>(
         (λ p. hosts_of counts.new.creates counts.new.present executions.new.items
         ≡ hosts_after
         (hosts_of counts.old.creates counts.old.present executions.old.items) name act.Destroy p.0.outcome) }
+    ensures tags { IfOk result (λ p. tags_among executions.new.items
+        ≡ tags_after_act (tags_among executions.old.items) name act.Destroy p.0.outcome None) }
     ensures err { IfErr result (λ e. e ≡ Fault.OutOfMemory) }
     ensures unchanged { OnErr result (executions.new.items ≡ executions.old.items) }
     ensures counts { OnErr result (counts.new ≡ counts.old) }

@@ -4,7 +4,7 @@ ghost use Rattle.std.specs.Prelude.{◌≡◌, ◌++◌, ◌∷◌, [], true, So
 ghost use Rattle.hla_callbacks.specs.Hearing.{Hearing};
 ghost use Rattle.hla_history.specs.Heard.{callback_in, failed_outcome, given_outcome};
 ghost use Rattle.hla_history.specs.Hosts.{with_callback};
-ghost use Rattle.hla_history.specs.Hosting.{heard_of, heard_table, heard_then_of, IsReady, CanDeliver};
+ghost use Rattle.hla_history.specs.Hosting.{heard_of, tags_of, heard_table, heard_then_of, IsReady, CanDeliver};
 
 use hla_base::{Fault, FederateNo};
 use hla_callbacks::{Callback, Ear, FederateAmbassador, FederateFault};
@@ -16,6 +16,7 @@ fn make_room_at<B: FederateAmbassador>(
     federate: FederateNo,
 ) -> Result<(), Fault>
     ensures heard { heard_of ears.new.items ≡ heard_of ears.old.items }
+    ensures tags { tags_of ears.new.items ≡ tags_of ears.old.items }
     ensures len { vec_len ears.new ≡ vec_len ears.old }
     ensures room { OnOk result ((e : Hearing) → slice_get ears.new.items federate ≡ Some (Some e)
         → e.room ≡ true) }
@@ -40,6 +41,7 @@ pub(crate) fn ready<B: FederateAmbassador>(
     step: &Step,
 ) -> Result<(), Fault>
     ensures heard { heard_of ears.new.items ≡ heard_of ears.old.items }
+    ensures tags { tags_of ears.new.items ≡ tags_of ears.old.items }
     ensures len { vec_len ears.new ≡ vec_len ears.old }
     ensures ready { OnOk result (IsReady step.now ears.new.items) }
     ensures err { IfErr result (λ e. e ≡ Fault.OutOfMemory) }
@@ -62,6 +64,7 @@ fn give_at<B: FederateAmbassador>(
     requires { (e : Hearing) × (slice_get ears.old.items federate ≡ Some (Some e)) × (e.room ≡ true) }
     ensures heard { heard_table (heard_of ears.new.items)
         ≡ with_callback (heard_table (heard_of ears.old.items)) federate (Some callback) }
+    ensures tags { tags_of ears.new.items ≡ tags_of ears.old.items }
     ensures len { vec_len ears.new ≡ vec_len ears.old }
 {
     match &mut ears[federate as usize] {
@@ -92,6 +95,7 @@ pub(crate) fn fails_at<B: FederateAmbassador>(
     requires { CanDeliver callback act.now ears.old.items }
     ensures heard { heard_table (heard_of ears.new.items)
         ≡ heard_then_of (heard_table (heard_of ears.old.items)) act.now callback }
+    ensures tags { tags_of ears.new.items ≡ tags_of ears.old.items }
     ensures len { vec_len ears.new ≡ vec_len ears.old }
 {
     let Some(callback) = callback else {

@@ -2,7 +2,7 @@
 
 ghost use Rattle.std.specs.Prelude.{◌≡◌, ◌<◌, ◌++◌, ◌∷◌, [], IfOk, IfErr, OnOk, OnErr, vec_len, vec_capacity};
 ghost use Rattle.hla_history.specs.Heard.{callback_in};
-ghost use Rattle.hla_history.specs.Hosting.{components_hosted, components_after, heard_of, heard_table, heard_then_of, CanDeliver, IsStepAct};
+ghost use Rattle.hla_history.specs.Hosting.{components_hosted, components_after, heard_of, tags_of, heard_table, heard_then_of, CanDeliver, IsStepAct};
 
 use crate::delivering::fails_at;
 use crate::preparing::{advance, copied_callback};
@@ -78,6 +78,7 @@ pub(crate) fn carry_out<B: FederateAmbassador>(
     ensures copied { OnOk result (transcript.new.items ≡ transcript.old.items ++ made.now ∷ []) }
     ensures heard { OnOk result (heard_table (heard_of ears.new.items)
         ≡ heard_then_of (heard_table (heard_of ears.old.items)) made.now.act (callback_in made.now.outcome)) }
+    ensures tags { tags_of ears.new.items ≡ tags_of ears.old.items }
     ensures len { vec_len ears.new ≡ vec_len ears.old }
     ensures err { IfErr result (λ e. e ≡ Fault.OutOfMemory) }
     ensures unchanged { OnErr result (federation.new ≡ federation.old) }

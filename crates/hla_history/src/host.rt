@@ -12,6 +12,7 @@ ghost use Rattle.hla_history.specs.Creating.{is_accepted, heard_from};
 ghost use Rattle.hla_history.specs.Heard.{given_outcome};
 ghost use Rattle.hla_history.specs.Hosting.{components_hosted, host_of};
 ghost use Rattle.hla_history.specs.Hosts.{IsPlain, HasAmbassadors, host_after, new_host};
+ghost use Rattle.hla_history.specs.Tags.{no_tags, tag_table, tag_table_after};
 ghost use Rattle.hla_history.specs.Writing.{step_record};
 
 use crate::delivering::ready;
@@ -27,7 +28,8 @@ use hla_machine::{Outcome, Record, ResignAction, Service, Step};
 use std::alloc::Global;
 use std::marker::Model;
 
-/// An execution by name, with an ear for each joined federate. Contracts see its components, and what each ear has heard.
+/// An execution by name, with an ear for each joined federate. Contracts see its components, what each ear has heard, and
+/// whose ambassador it has.
 #[derive(Drop)]
 pub(crate) struct Hosted<B: FederateAmbassador> {
     name: SharedList<u8>,
@@ -38,11 +40,16 @@ pub(crate) struct Hosted<B: FederateAmbassador> {
 
 impl<B: FederateAmbassador> Model for Hosted<B> {
     ghost use Rattle.std.specs.Prelude.{◌≡◌, vec_len};
-    ghost use Rattle.hla_history.specs.Hosting.{HostedValue, components_hosted, heard_of};
+    ghost use Rattle.hla_history.specs.Hosting.{HostedValue, components_hosted, heard_of, tags_of};
 
     ghost Value = { HostedValue };
 
-    ghost view = { λ h. record { name = h.name; federation = h.federation; heard = heard_of h.ears.items } };
+    ghost view = { λ h. record {
+      name = h.name;
+      federation = h.federation;
+      heard = heard_of h.ears.items;
+      tags = tags_of h.ears.items;
+    } };
 
     ghost invariant = { λ h. vec_len h.ears ≡ (components_hosted h.federation).directory.next_federate };
 }
@@ -56,6 +63,7 @@ impl<B: FederateAmbassador> Hosted<B> {
     ) -> Result<Hosted<B>, Fault>
         ensures name { IfOk result (λ h. h.name ≡ name.now) }
         ensures host { IfOk result (λ h. host_of h ≡ new_host catalogue) }
+        ensures tags { IfOk result (λ h. tag_table h.tags ≡ no_tags) }
         ensures err { IfErr result (λ e. e ≡ Fault.OutOfMemory) }
     {
         let Ok(mut ears) = Vec::with_capacity(alloc, MAX_JOINS + 1) else {
@@ -112,6 +120,7 @@ impl<B: FederateAmbassador> Hosted<B> {
             ≡ (next (components_hosted self.old.federation) step).outcome) }
         ensures name { self.new.name ≡ self.old.name }
         ensures host { IfOk result (λ out. host_of self.new ≡ host_after (host_of self.old) step out) }
+        ensures tags { self.new.tags ≡ self.old.tags }
         ensures len { vec_len history.new
             ≡ (if is_ok result then vec_len history.old + 1 else vec_len history.old) }
         ensures capacity { vec_capacity history.new ≡ vec_capacity history.old }
@@ -157,6 +166,10 @@ impl<B: FederateAmbassador> Hosted<B> {
         ensures name { self.new.name ≡ self.old.name }
         ensures host { IfOk result
             (λ p. host_of self.new ≡ host_after (host_of self.old) (step.Join name) p.0.outcome) }
+        ensures tags { IfOk result
+            (λ p. tag_table self.new.tags
+            ≡ tag_table_after (tag_table self.old.tags)
+            (step.Join name) p.0.outcome (Some (B.tag inner))) }
         ensures err { IfErr result (λ e. e.0 ≡ Fault.OutOfMemory) }
         ensures returned { IfErr result (λ e. e.1 ≡ inner) }
         ensures unchanged { OnErr result (self.new ≡ self.old) }
@@ -199,9 +212,15 @@ impl<B: FederateAmbassador> Hosted<B> {
         ensures heard { IfOk result
             (λ p. IfSome p.2
             (λ b. heard_from (Some (host_of self.old)) federate ≡ Some (B.heard b))) }
+        ensures tag { IfOk result
+            (λ p. IfSome p.2 (λ b. tag_table self.old.tags federate ≡ Some (B.tag b))) }
         ensures name { self.new.name ≡ self.old.name }
         ensures host { IfOk result (λ p. host_of self.new
             ≡ host_after (host_of self.old) (step.Call federate (service.Resign action)) p.0.outcome) }
+        ensures tags { IfOk result
+            (λ p. tag_table self.new.tags
+            ≡ tag_table_after (tag_table self.old.tags)
+            (step.Call federate (service.Resign action)) p.0.outcome None) }
         ensures err { IfErr result (λ e. e ≡ Fault.OutOfMemory) }
         ensures unchanged { OnErr result (self.new ≡ self.old) }
     {

@@ -7,6 +7,7 @@ ghost use Rattle.hla_machine.specs.declared.step.Step.TheVariants as step;
 ghost use Rattle.hla_history.specs.Creating.{is_accepted, heard_from};
 ghost use Rattle.hla_history.specs.Hosts.{Host, HasAmbassadors, hosts_after_step};
 ghost use Rattle.hla_history.specs.Hosting.{table_of, EndsIn};
+ghost use Rattle.hla_history.specs.Tags.{tags_among, tags_after_act};
 
 use crate::among::{place_of, refused_step};
 use crate::host::Hosted;
@@ -40,6 +41,9 @@ pub(crate) fn join_among<B: FederateAmbassador>(
     ensures hosts { IfOk result (λ p. table_of executions.new.items
         ≡ hosts_after_step (table_of executions.old.items) execution
         (table_of executions.old.items execution) (step.Join name) p.0.outcome) }
+    ensures tags { IfOk result (λ p. tags_among executions.new.items
+        ≡ tags_after_act (tags_among executions.old.items) execution
+        (act.Step (step.Join name)) p.0.outcome (Some (B.tag inner))) }
     ensures err { IfErr result (λ e. e.0 ≡ Fault.OutOfMemory) }
     ensures returned { IfErr result (λ e. e.1 ≡ inner) }
     ensures unchanged { OnErr result (executions.new.items ≡ executions.old.items) }
@@ -85,9 +89,15 @@ pub(crate) fn resign_among<B: FederateAmbassador>(
     ensures heard { IfOk result
         (λ p. IfSome p.2
         (λ b. heard_from (table_of executions.old.items execution) federate ≡ Some (B.heard b))) }
+    ensures tag { IfOk result
+        (λ p. IfSome p.2
+        (λ b. tags_among executions.old.items execution federate ≡ Some (B.tag b))) }
     ensures hosts { IfOk result (λ p. table_of executions.new.items
         ≡ hosts_after_step (table_of executions.old.items) execution
         (table_of executions.old.items execution) (step.Call federate (service.Resign action)) p.0.outcome) }
+    ensures tags { IfOk result (λ p. tags_among executions.new.items
+        ≡ tags_after_act (tags_among executions.old.items) execution
+        (act.Step (step.Call federate (service.Resign action))) p.0.outcome None) }
     ensures err { IfErr result (λ e. e ≡ Fault.OutOfMemory) }
     ensures unchanged { OnErr result (executions.new.items ≡ executions.old.items) }
 {

@@ -3,7 +3,7 @@
 ghost use Rattle.std.specs.Prelude.{◌≡◌, ◌<◌, ◌+◌, ◌++◌, ◌∷◌, [], true, None, Some, is_some, IfSome, if◌then◌else◌, get_or, slice_get, slice_set, vec_len, vec_capacity};
 ghost use Rattle.hla_callbacks.specs.Hearing.{Hearing};
 ghost use Rattle.hla_history.specs.Creating.{is_accepted};
-ghost use Rattle.hla_history.specs.Hosting.{heard_of};
+ghost use Rattle.hla_history.specs.Hosting.{heard_of, tags_of};
 
 use hla_base::FederateNo;
 use hla_callbacks::{Ear, FederateAmbassador};
@@ -20,6 +20,9 @@ pub(crate) fn seat<B: FederateAmbassador>(
     ensures heard { heard_of ears.new.items
         ≡ (if is_accepted answer.now then heard_of ears.old.items ++ Some (B.heard inner)
         ∷ [] else heard_of ears.old.items) }
+    ensures tags { tags_of ears.new.items
+        ≡ (if is_accepted answer.now then tags_of ears.old.items ++ Some (B.tag inner)
+        ∷ [] else tags_of ears.old.items) }
     ensures len { vec_len ears.new
         ≡ (if is_accepted answer.now then vec_len ears.old + 1 else vec_len ears.old) }
 {
@@ -50,9 +53,14 @@ pub(crate) fn unseat<B: FederateAmbassador>(
         → (e : Hearing) × (slice_get ears.old.items federate ≡ Some (Some e)) }
     ensures back { is_some result ≡ is_accepted answer.now }
     ensures at { IfSome result (λ b. get_or (heard_of ears.old.items) federate None ≡ Some (B.heard b)) }
+    ensures tag { IfSome result
+        (λ b. get_or (tags_of ears.old.items) federate None ≡ Some (B.tag b)) }
     ensures heard { heard_of ears.new.items
         ≡ (if is_accepted answer.now then slice_set
         (heard_of ears.old.items) federate None else heard_of ears.old.items) }
+    ensures tags { tags_of ears.new.items
+        ≡ (if is_accepted answer.now then slice_set
+        (tags_of ears.old.items) federate None else tags_of ears.old.items) }
     ensures len { vec_len ears.new ≡ vec_len ears.old }
 {
     match answer {

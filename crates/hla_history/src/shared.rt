@@ -10,6 +10,7 @@ ghost use Rattle.hla_history.specs.Creating.{catalogue_from, is_accepted, heard_
 ghost use Rattle.hla_history.specs.Forms.{NoAnswer, AFederate, EndsInForm, step_form};
 ghost use Rattle.hla_history.specs.Hosts.{IsPlain, IsLockKept, with_record};
 ghost use Rattle.hla_history.specs.Hosting.{held_of, hosts_of};
+ghost use Rattle.hla_history.specs.Tags.{tags_held, tags_after};
 ghost use Rattle.hla_history.specs.Writing.{step_record, chosen_in};
 
 use crate::among::step_among_into;
@@ -29,7 +30,7 @@ use std::sync::ledger::{Book, Ledger, Share};
 
 /// All executions by name, the ambassadors of their joined federates, and the history of the acts that led there; to be
 /// kept under one lock. Contracts see the history, how many records it may hold, and the executions with what each
-/// ambassador has heard; `held_of` leads from there to a table by name.
+/// ambassador has heard and whose it is; `held_of` and `tags_held` lead from there to tables by name.
 #[derive(Drop)]
 pub struct Shared<L: Ledger, B: FederateAmbassador> {
     history: Vec<Record>,
@@ -116,6 +117,7 @@ impl<L: Ledger, B: FederateAmbassador> Shared<L, B> {
         }) }
         ensures form { IfOk result (λ s. EndsInForm (step_form step) s.answer) }
         ensures recorded { IfOk result (λ s. held_of self.new ≡ with_record (held_of self.old) s.own) }
+        ensures tags { tags_held self.new ≡ tags_held self.old }
         ensures full { result ≡ Err Fault.HistoryFull ↔ (length self.old.history ≡ self.old.limit) }
         ensures refused { IfErr result (λ e. (e ≡ Fault.HistoryFull) ⊎ (e ≡ Fault.OutOfMemory)) }
         ensures unchanged { OnErr result (self.new ≡ self.old) }
@@ -164,6 +166,7 @@ impl<L: Ledger, B: FederateAmbassador> Shared<L, B> {
             ≡ with_record (held_of self.old)
             (step_record actor execution.now step out
             (chosen_in ((held_of self.old).hosts.host execution.now) step))) }
+        ensures tags { tags_held self.new ≡ tags_held self.old }
         ensures full { result ≡ Err Fault.HistoryFull ↔ (length self.old.history ≡ self.old.limit) }
         ensures refused { IfErr result (λ e. (e ≡ Fault.HistoryFull) ⊎ (e ≡ Fault.OutOfMemory)) }
         ensures unchanged { OnErr result (self.new ≡ self.old) }
@@ -208,6 +211,7 @@ impl<L: Ledger, B: FederateAmbassador> Shared<L, B> {
         }) }
         ensures form { IfOk result (λ s. EndsInForm NoAnswer s.answer) }
         ensures recorded { IfOk result (λ s. held_of self.new ≡ with_record (held_of self.old) s.own) }
+        ensures tags { tags_held self.new ≡ tags_held self.old }
         ensures full { result ≡ Err Fault.HistoryFull ↔ (length self.old.history ≡ self.old.limit) }
         ensures refused { IfErr result (λ e. (e ≡ Fault.HistoryFull) ⊎ (e ≡ Fault.OutOfMemory)) }
         ensures unchanged { OnErr result (self.new ≡ self.old) }
@@ -250,6 +254,8 @@ impl<L: Ledger, B: FederateAmbassador> Shared<L, B> {
         }) }
         ensures form { IfOk result (λ s. EndsInForm NoAnswer s.answer) }
         ensures recorded { IfOk result (λ s. held_of self.new ≡ with_record (held_of self.old) s.own) }
+        ensures tags { IfOk result
+            (λ s. tags_held self.new ≡ tags_after (tags_held self.old) s.own None) }
         ensures full { result ≡ Err Fault.HistoryFull ↔ (length self.old.history ≡ self.old.limit) }
         ensures refused { IfErr result (λ e. (e ≡ Fault.HistoryFull) ⊎ (e ≡ Fault.OutOfMemory)) }
         ensures unchanged { OnErr result (self.new ≡ self.old) }
@@ -288,6 +294,8 @@ impl<L: Ledger, B: FederateAmbassador> Shared<L, B> {
           choice = p.0.own.choice;
         }) }
         ensures recorded { IfOk result (λ p. held_of self.new ≡ with_record (held_of self.old) p.0.own) }
+        ensures tags { IfOk result (λ p. tags_held self.new
+            ≡ tags_after (tags_held self.old) p.0.own (Some (B.tag inner))) }
         ensures form { IfOk result (λ p. EndsInForm AFederate p.0.answer) }
         ensures back { IfOk result (λ p. p.1 ≡ (if is_accepted p.0.answer then None else Some inner)) }
         ensures full { result ≡ Err (Fault.HistoryFull, inner) ↔ (length self.old.history ≡ self.old.limit) }
@@ -335,7 +343,11 @@ impl<L: Ledger, B: FederateAmbassador> Shared<L, B> {
         ensures back { IfOk result (λ p. is_some p.1 ≡ is_accepted p.0.answer) }
         ensures heard { IfOk result (λ p. IfSome p.1 (λ b.
             heard_from ((held_of self.old).hosts.host execution) federate ≡ Some (B.heard b))) }
+        ensures tag { IfOk result (λ p. IfSome p.1 (λ b.
+            tags_held self.old execution federate ≡ Some (B.tag b))) }
         ensures recorded { IfOk result (λ p. held_of self.new ≡ with_record (held_of self.old) p.0.own) }
+        ensures tags { IfOk result (λ p. tags_held self.new
+            ≡ tags_after (tags_held self.old) p.0.own None) }
         ensures full { result ≡ Err Fault.HistoryFull ↔ (length self.old.history ≡ self.old.limit) }
         ensures refused { IfErr result (λ e. (e ≡ Fault.HistoryFull) ⊎ (e ≡ Fault.OutOfMemory)) }
         ensures unchanged { OnErr result (self.new ≡ self.old) }

@@ -28,6 +28,7 @@ use Rattle.hla_history.specs.Creating.{creation_fault, destruction_fault}
 use Rattle.hla_history.specs.Heard.{given_outcome, given_record}
 use Rattle.hla_history.specs.Hosts.{Host, Hosts, new_host, set_host, hosts_after, federations_of, IsLockKept}
 use Rattle.hla_history.specs.Hosting.{HostedValue, components_hosted, heard_table, host_of, hosts_of, table_of}
+use Rattle.hla_history.specs.Tags.{no_tags, tag_table, tags_in, tags_among, tags_after_act}
 use Rattle.hla_history.proofs.Records.Kept.{kept_more}
 use Rattle.hla_history.proofs.Executions.Places.{apart_back}
 
@@ -40,6 +41,13 @@ pub new_hosted : (f : FederationValue) (heard : List (Option (List Callback))) (
     → record { components = components_hosted f; heard = heard_table heard } ≡ new_host c
 unfolding components_hosted
 new_hosted f heard c is silent = λ i. record { components = is i; heard = (ap heard_table silent ∙ (λ j f. none_heard f j)) i }
+
+none_tagged : (f : ℕ) → tag_table (None ∷ []) f ≡ None
+none_tagged zero = refl
+none_tagged (suc f) = refl
+
+pub new_tags : (tags : List (Option ℕ)) → tags ≡ None ∷ [] → tag_table tags ≡ no_tags
+new_tags tags is = ap tag_table is ∙ (λ i f. none_tagged f i)
 
 pub new_length : (f : FederationValue) (c : CatalogueValue) → state_of f ≡ new_components c → (components_hosted f).directory.next_federate ≡ 1
 unfolding components_hosted
@@ -80,6 +88,16 @@ module _ (hs : List HostedValue) (name : List ℕ) (new : HostedValue) (absent :
       ap (λ (o : Option HostedValue). option_map host_of o) (find-append (λ (h : HostedValue). bytes_eq other h.name) hs (new ∷ []))
       ∙ pushed_point other (bytes_eq name other) refl) i
 
+untagged_point : (new : HostedValue) (o : Option HostedValue) (b : Bool) → tag_table new.tags ≡ no_tags → tags_in (option_or o (cond b (Some new) None)) ≡ tags_in o
+untagged_point new (Some h) b untagged = refl
+untagged_point new None true untagged = untagged
+untagged_point new None false untagged = refl
+
+pub created_tags : (hs hs' : List HostedValue) (new : HostedValue) → hs' ≡ hs ++ new ∷ [] → tag_table new.tags ≡ no_tags → tags_among hs' ≡ tags_among hs
+created_tags hs hs' new pushed untagged = ap tags_among pushed ∙ (λ i other. (
+    ap tags_in (find-append (λ (h : HostedValue). bytes_eq other h.name) hs (new ∷ []))
+    ∙ untagged_point new (find (λ (h : HostedValue). bytes_eq other h.name) hs) (bytes_eq other new.name) untagged) i)
+
 -- ---- those of one name taken out
 module _ (name other : List ℕ) where
   removed_true : bytes_eq name other ≡ true → (hs : List HostedValue) → find (λ (h : HostedValue). bytes_eq other h.name) (filter (λ (h : HostedValue). not (bytes_eq name h.name)) hs) ≡ None
@@ -114,6 +132,19 @@ module _ (name other : List ℕ) where
       ≡ cond b None (option_map host_of (find (λ (h : HostedValue). bytes_eq other h.name) hs))
   removed_point hs true test = ap (λ (o : Option HostedValue). option_map host_of o) (removed_true test hs)
   removed_point hs false test = ap (λ (o : Option HostedValue). option_map host_of o) (removed_false test hs)
+
+  untagged_removed : (hs : List HostedValue) (b : Bool) → bytes_eq name other ≡ b
+      → tags_in (find (λ (h : HostedValue). bytes_eq other h.name) (filter (λ (h : HostedValue). not (bytes_eq name h.name)) hs))
+      ≡ cond b no_tags (tags_in (find (λ (h : HostedValue). bytes_eq other h.name) hs))
+  untagged_removed hs true test = ap tags_in (removed_true test hs)
+  untagged_removed hs false test = ap tags_in (removed_false test hs)
+
+pub destroyed_tags : (hs hs' : List HostedValue) (name : List ℕ) (out : Outcome)
+    → hs' ≡ filter (λ (h : HostedValue). not (bytes_eq name h.name)) hs → out ≡ outcome.Done answer.Done
+    → tags_among hs' ≡ tags_after_act (tags_among hs) name act.Destroy out None
+destroyed_tags hs hs' name out removed done =
+    ap tags_among removed ∙ (λ i other. untagged_removed name other hs (bytes_eq name other) refl i)
+    ∙ sym (ap (λ (o : Outcome). tags_after_act (tags_among hs) name act.Destroy o None) done)
 
 pub table_removed : (hs : List HostedValue) (name : List ℕ) → table_of (filter (λ (h : HostedValue). not (bytes_eq name h.name)) hs) ≡ set_host (table_of hs) name None
 table_removed hs name = λ i other. removed_point name other hs (bytes_eq name other) refl i
@@ -162,7 +193,7 @@ refused_create x name (Some c) e out is = ap (λ (o : Outcome). hosts_after x na
 pub refused_destroy : (x : Hosts) (name : List ℕ) (e : Fault) (out : Outcome) → out ≡ outcome.Refused e → x ≡ hosts_after x name act.Destroy out
 refused_destroy x name e out is = ap (λ (o : Outcome). hosts_after x name act.Destroy o) (sym is)
 
-pub created_hosts : (creates present creates' present' : ℕ) (hs hs' : List HostedValue) (new : HostedValue) (name : List ℕ) (catalogue : Option CatalogueValue) (c : CatalogueValue) (out : Outcome)
+created_hosts : (creates present creates' present' : ℕ) (hs hs' : List HostedValue) (new : HostedValue) (name : List ℕ) (catalogue : Option CatalogueValue) (c : CatalogueValue) (out : Outcome)
     → catalogue ≡ Some c → hs' ≡ hs ++ new ∷ [] → new.name ≡ name → host_of new ≡ new_host c → table_of hs name ≡ None
     → creates' ≡ creates + 1 → present' ≡ present + 1 → out ≡ outcome.Done answer.Done
     → hosts_of creates' present' hs' ≡ hosts_after (hosts_of creates present hs) name (act.Create catalogue) out
@@ -171,6 +202,15 @@ created_hosts creates present creates' present' hs hs' new name catalogue c out 
     (λ i. record { creates = more i; present = more_now i; host = table i })
     ∙ ap (λ (o : Outcome). hosts_after (hosts_of creates present hs) name (act.Create (Some c)) o) (sym done)
     ∙ ap (λ (k : Option CatalogueValue). hosts_after (hosts_of creates present hs) name (act.Create k) out) (sym read)
+
+pub created_recorded : (creates present creates' present' : ℕ) (hs hs' : List HostedValue) (new : HostedValue) (name : List ℕ) (catalogue : Option CatalogueValue) (out : Outcome)
+    → hs' ≡ hs ++ new ∷ [] → new.name ≡ name → option_map new_host catalogue ≡ Some (host_of new) → table_of hs name ≡ None
+    → creates' ≡ creates + 1 → present' ≡ present + 1 → out ≡ outcome.Done answer.Done
+    → hosts_of creates' present' hs' ≡ hosts_after (hosts_of creates present hs) name (act.Create catalogue) out
+created_recorded creates present creates' present' hs hs' new name None out pushed same fresh absent more more_now done = cc
+created_recorded creates present creates' present' hs hs' new name (Some c) out pushed same fresh absent more more_now done =
+    let made : new_host c ≡ host_of new = cc in
+    created_hosts creates present creates' present' hs hs' new name (Some c) c out refl pushed same (sym made) absent more more_now done
 
 pub destroyed_hosts : (creates present creates' present' : ℕ) (hs hs' : List HostedValue) (name : List ℕ) (out : Outcome)
     → hs' ≡ filter (λ (h : HostedValue). not (bytes_eq name h.name)) hs → creates' ≡ creates → present' ≡ present - 1 → out ≡ outcome.Done answer.Done

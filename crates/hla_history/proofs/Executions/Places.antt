@@ -6,11 +6,15 @@ use Rattle.std.proofs.lemmas.Option.{get_or_from_slice_get}
 use Rattle.std.specs.List.{position, position_or_len}
 use Rattle.std.specs.Str.{bytes_eq}
 use Rattle.std.proofs.lemmas.Slice.Eq.{bytes_eq-Decides}
+use Rattle.hla_base.specs.declared.fault.Fault.{Fault}
 use Rattle.hla_base.specs.declared.fault.Fault.TheVariants as fault
 use Rattle.hla_callbacks.specs.declared.callback.Callback.{Callback}
 use Rattle.hla_machine.specs.declared.step.Step.{Step}
-use Rattle.hla_machine.specs.declared.step.Step.TheVariants.{Join}
+use Rattle.hla_machine.specs.declared.step.Step.TheVariants.{Join, Call}
+use Rattle.hla_machine.specs.declared.service.Service.TheVariants as service
+use Rattle.hla_machine.specs.declared.service.ResignAction.{ResignAction}
 use Rattle.hla_machine.specs.declared.step.Act.{Act}
+use Rattle.hla_machine.specs.declared.step.Act.TheVariants as act
 use Rattle.hla_machine.specs.declared.step.Outcome.{Outcome}
 use Rattle.hla_machine.specs.declared.step.Outcome.TheVariants as outcome
 use Rattle.hla_machine.specs.declared.step.Choice.{Choice}
@@ -21,6 +25,7 @@ use Rattle.hla_history.specs.Creating.{heard_from}
 use Rattle.hla_history.specs.Heard.{given_outcome}
 use Rattle.hla_history.specs.Hosts.{Host, HostTable, set_host, host_after, hosts_after_step}
 use Rattle.hla_history.specs.Hosting.{HostedValue, host_of, table_of, EndsIn}
+use Rattle.hla_history.specs.Tags.{TagTable, Tags, tag_table, tags_in, tags_among, tag_table_after, set_tags, tags_after_act, tags_after}
 use Rattle.hla_history.proofs.Steps.NextLaws.{next_real}
 
 -- two names are equal the same way round
@@ -92,6 +97,18 @@ map_cond : (b : Bool) (new : HostedValue) (o : Option HostedValue) → option_ma
 map_cond true new o = refl
 map_cond false new o = refl
 
+tags_cond : (b : Bool) (new : HostedValue) (o : Option HostedValue) → tags_in (cond b (Some new) o) ≡ cond b (tag_table new.tags) (tags_in o)
+tags_cond true new o = refl
+tags_cond false new o = refl
+
+-- an execution's own tags in their place
+set_back_point : (t : Tags) (name other : List ℕ) (b : Bool) → bytes_eq name other ≡ b → cond b (t name) (t other) ≡ t other
+set_back_point t name other true test = ap t ((bytes_eq-Decides name other).0 test)
+set_back_point t name other false test = refl
+
+set_back : (t : Tags) (name : List ℕ) → set_tags t name (t name) ≡ t
+set_back t name = λ i other. set_back_point t name other (bytes_eq name other) refl i
+
 placed : (hs : List HostedValue) (k p n : ℕ) (b : Bool) → nat_lt p n ≡ b → cond b (Some p) None ≡ Some k → (k ≡ p) × (p < n)
 placed hs k p n true test is = (let e : p ≡ k = cc in sym e, let t = test in grind (arith, nat_tests))
 placed hs k p n false test is = cc
@@ -129,6 +146,47 @@ module _ (hs : List HostedValue) (name : List ℕ) (k : ℕ) (v : HostedValue) (
       ap (λ n. option_map host_of (find (λ (x : HostedValue). bytes_eq other x.name) (set hs n new))) place_is.0
       ∙ ap (λ (o : Option HostedValue). option_map host_of o) (find_set name other new same hs place_is.1)
       ∙ map_cond (bytes_eq name other) new (find (λ (x : HostedValue). bytes_eq other x.name) hs)) i
+
+  -- ---- and its tags
+  tags_there : tags_among hs name ≡ tag_table v.tags
+  tags_there =
+      let there = find_there name hs place_is.1 in
+      let same : v ≡ there.0 = at ∙ get_or_from_slice_get hs k there.0 v (ap (λ n. slice_get hs n) place_is.0 ∙ there.1) in
+      ap tags_in (there.2 ∙ ap (λ (x : HostedValue). Some x) (sym same))
+
+  tags_with : (new : HostedValue) → new.name ≡ name → tags_among (set hs k new) ≡ set_tags (tags_among hs) name (tag_table new.tags)
+  tags_with new same = λ i other. (
+      ap (λ n. tags_in (find (λ (x : HostedValue). bytes_eq other x.name) (set hs n new))) place_is.0
+      ∙ ap tags_in (find_set name other new same hs place_is.1)
+      ∙ tags_cond (bytes_eq name other) new (find (λ (x : HostedValue). bytes_eq other x.name) hs)) i
+
+  pub tags_step : (new : HostedValue) (step : Step) (out : Outcome) (given : Option ℕ) → new.name ≡ name → tag_table new.tags ≡ tag_table_after (tag_table v.tags) step out given
+      → tags_among (set hs k new) ≡ tags_after_act (tags_among hs) name (act.Step step) out given
+  tags_step new step out given same after =
+      tags_with new same
+      ∙ ap (λ (t : TagTable). set_tags (tags_among hs) name t) (after ∙ ap (λ (t : TagTable). tag_table_after t step out given) (sym tags_there))
+
+  pub tags_stay : (new : HostedValue) → new.name ≡ name → new.tags ≡ v.tags → tags_among (set hs k new) ≡ tags_among hs
+  tags_stay new same stay =
+      tags_with new same ∙ ap (λ (t : TagTable). set_tags (tags_among hs) name t) (ap tag_table stay ∙ sym tags_there) ∙ set_back (tags_among hs) name
+
+  -- the ambassador that comes out
+  pub tag_there : {B : Type 0} (f : ℕ) (tag : B → ℕ) (back : Option B) → IfSome back (λ b. tag_table v.tags f ≡ Some (tag b)) → IfSome back (λ b. tags_among hs name f ≡ Some (tag b))
+  tag_there f tag None there = there
+  tag_there f tag (Some b) there = ap (λ (t : TagTable). t f) tags_there ∙ there
+
+pub tags_unjoined : (t : Tags) (name called : List ℕ) (out : Outcome) (e : Fault) (given : Option ℕ) → out ≡ outcome.Refused e → t ≡ tags_after_act t name (act.Step (Join called)) out given
+tags_unjoined t name called out e given is =
+    sym (ap (λ (o : Outcome). tags_after_act t name (act.Step (Join called)) o given) is ∙ set_back t name)
+
+pub tags_unresigned : (t : Tags) (name : List ℕ) (f : ℕ) (way : ResignAction) (out : Outcome) (e : Fault) (given : Option ℕ) → out ≡ outcome.Refused e
+    → t ≡ tags_after_act t name (act.Step (Call f (service.Resign way))) out given
+tags_unresigned t name f way out e given is =
+    sym (ap (λ (o : Outcome). tags_after_act t name (act.Step (Call f (service.Resign way))) o given) is ∙ set_back t name)
+
+pub tags_recorded : (t t' : Tags) (r own : Record) (actor : ℕ) (name : List ℕ) (a : Act) (chosen : Choice) (given : Option ℕ) → t' ≡ tags_after_act t name a r.outcome given
+    → r ≡ record { actor = actor; execution = name; act = a; outcome = r.outcome; choice = chosen } → own ≡ r → t' ≡ tags_after t own given
+tags_recorded t t' r own actor name a chosen given after is same = after ∙ sym (ap (λ (x : Record). tags_after t x given) (same ∙ is))
 
 -- ---- a step of one among several
 pub record_named : (r : Record) (actor : ℕ) (n name : List ℕ) (a : Act) (chosen : Choice) → r ≡ record { actor = actor; execution = n; act = a; outcome = r.outcome; choice = chosen } → n ≡ name

@@ -1,4 +1,4 @@
--- What one ear's change does to the table of what is heard.
+-- What one ear's change does to the tables of what is heard and of whose it is.
 use Rattle.std.proofs.Common.{◌≡◌, ◌≢◌, ℕ, ◌<◌, eqb, cond, Bool, true, false, List, [], ◌∷◌, ◌++◌, length, Option, Some, None, option_map, set, get_or, refl, sym, ◌∙◌, ap, arith}
 use Rattle.std.specs.Prelude.{slice_get}
 use Rattle.std.proofs.lemmas.Bool.Decides.{nat_tests}
@@ -9,9 +9,9 @@ use Rattle.std.proofs.Math.ListN.{length-set}
 use Rattle.hla_base.specs.Tables.{upd}
 use Rattle.hla_callbacks.specs.declared.callback.Callback.{Callback}
 use Rattle.hla_callbacks.specs.Hearing.{Hearing}
-use Rattle.hla_history.specs.Hosting.{heard_in, heard_of, heard_table}
+use Rattle.hla_history.specs.Hosting.{heard_in, heard_of, heard_table, tag_in, tags_of}
 
-set_point : (hs : List (Option (List Callback))) (f : ℕ) (t : Option (List Callback)) → f < length hs
+set_point : {X : Type 0} (hs : List (Option X)) (f : ℕ) (t : Option X) → f < length hs
     → (g : ℕ) (b : Bool) → eqb f g ≡ b → get_or (set hs f t) g None ≡ cond b t (get_or hs g None)
 set_point hs f t lt g true test =
     let same : f ≡ g = grind (arith, nat_tests) in
@@ -21,7 +21,7 @@ set_point hs f t lt g false test =
     get_or-set_other hs f g t None (λ e. apart (sym e))
 
 -- the table with another entry at f
-pub table_set : (hs : List (Option (List Callback))) (f : ℕ) (t : Option (List Callback)) → f < length hs → heard_table (set hs f t) ≡ upd (heard_table hs) f t
+pub table_set : {X : Type 0} (hs : List (Option X)) (f : ℕ) (t : Option X) → f < length hs → (λ (g : ℕ). get_or (set hs f t) g None) ≡ upd (λ (g : ℕ). get_or hs g None) f t
 unfolding upd
 table_set hs f t lt = λ i g. set_point hs f t lt g (eqb f g) refl i
 
@@ -41,6 +41,11 @@ pub same_heard : (xs : List (Option Hearing)) (f : ℕ) (v : Option Hearing) (e 
 same_heard xs f v e e' is at same =
     map-set_same heard_in xs f (Some e') v (ap (λ h. Some h) same ∙ ap heard_in (sym is) ∙ ap heard_in at)
 
+pub same_tags : (xs : List (Option Hearing)) (f : ℕ) (v : Option Hearing) (e e' : Hearing)
+    → v ≡ Some e → v ≡ get_or xs f v → e'.tag ≡ e.tag → tags_of (set xs f (Some e')) ≡ tags_of xs
+same_tags xs f v e e' is at same =
+    map-set_same tag_in xs f (Some e') v (ap (λ n. Some n) same ∙ ap tag_in (sym is) ∙ ap tag_in at)
+
 pub at_set : {X : Type 0} (xs : List X) (f : ℕ) (y : X) → f < length xs → slice_get (set xs f y) f ≡ Some y
 at_set xs f y lt =
     let l : f < length (set xs f y) = rw (length-set xs f y) lt in
@@ -59,3 +64,8 @@ pub cleared : (xs : List (Option Hearing)) (f : ℕ) (v : Option Hearing) (b : B
 cleared xs f v b is out =
     ap (λ (o : Option Hearing). heard_of (set xs f o)) is ∙ map-set heard_in xs f None
     ∙ sym (ap (λ (t : Bool). cond t (set (heard_of xs) f None) (heard_of xs)) out)
+
+pub cleared_tags : (xs : List (Option Hearing)) (f : ℕ) (v : Option Hearing) (b : Bool) → v ≡ None → b ≡ true → tags_of (set xs f v) ≡ cond b (set (tags_of xs) f None) (tags_of xs)
+cleared_tags xs f v b is out =
+    ap (λ (o : Option Hearing). tags_of (set xs f o)) is ∙ map-set tag_in xs f None
+    ∙ sym (ap (λ (t : Bool). cond t (set (tags_of xs) f None) (tags_of xs)) out)

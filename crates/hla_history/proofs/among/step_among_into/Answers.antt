@@ -4,7 +4,7 @@ use Rattle.std.specs.Str.{bytes_eq}
 use Rattle.hla_history.specs.Hosts.{Host}
 use Rattle.hla_history.specs.Hosting.{HostedValue, host_of, table_of}
 use Rattle.hla_history.specs.Writing.{chosen_in}
-use Rattle.hla_history.proofs.Executions.Places.{no_place, found_there, table_with, ends_there, ends_nowhere, hosts_there, hosts_nowhere}
+use Rattle.hla_history.proofs.Executions.Places.{no_place, found_there, table_with, tags_stay, ends_there, ends_nowhere, hosts_there, hosts_nowhere}
 use Rattle.hla_history.proofs.Records.Written.{where_ok, written_nowhere, written_there}
 use Rattle.hla_history.proofs.among.step_among_into.Goals as goal
 
@@ -63,3 +63,10 @@ returns-in-Some-clause-hosts g c =
     where_ok c.step_into.result (λ out is. hosts_there (table_of c.args.executions.now.items) _ c.args.execution.now (host_of c.index_mut.result.now) (host_of c.step_into.new.self) c.args.step out
     (table_with c.args.executions.now.items c.args.execution.now c.in-Some.place c.index_mut.result.now at c.index_mut.ensures.value c.step_into.new.self (c.step_into.ensures.name ∙ there.1))
     there.0 is) c.step_into.ensures.host
+
+pub returns-in-Some-clause-tags : goal.returns-in-Some-clause-tags
+returns-in-Some-clause-tags g c =
+    let at = ap (λ (hs : List HostedValue). position (λ (h : HostedValue). bytes_eq c.args.execution.now h.name) hs) (sym c.as_slice.ensures.value) ∙ sym c.place_of.ensures ∙ c.in-Some.is in
+    let there = found_there c.args.executions.now.items c.args.execution.now c.in-Some.place c.index_mut.result.now at c.index_mut.ensures.value in
+    tags_stay c.args.executions.now.items c.args.execution.now c.in-Some.place c.index_mut.result.now at c.index_mut.ensures.value c.step_into.new.self
+    (c.step_into.ensures.name ∙ there.1) c.step_into.ensures.tags

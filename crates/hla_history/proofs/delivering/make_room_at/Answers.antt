@@ -1,5 +1,5 @@
 use Rattle.std.proofs.Common.{◌<◌, length, rules}
-use Rattle.hla_history.proofs.Heard.Ears.{same_heard, room_at, none_at}
+use Rattle.hla_history.proofs.Heard.Ears.{same_heard, same_tags, room_at, none_at}
 use Rattle.hla_history.proofs.delivering.make_room_at.Goals as goal
 
 pub returns-in_err-make_room-in-Some-clause-heard : goal.returns-in_err-make_room-in-Some-clause-heard
@@ -9,6 +9,14 @@ returns-in_err-make_room-in-Some-clause-heard g c =
 pub returns-in_ok-make_room-in-Some-clause-heard : goal.returns-in_ok-make_room-in-Some-clause-heard
 returns-in_ok-make_room-in-Some-clause-heard g c =
     same_heard c.args.ears.now.items c.args.federate c.index_mut.result.now c.in-Some.ear c.make_room.new.self c.in-Some.is c.index_mut.ensures.value c.make_room.ensures.heard
+
+pub returns-in_err-make_room-in-Some-clause-tags : goal.returns-in_err-make_room-in-Some-clause-tags
+returns-in_err-make_room-in-Some-clause-tags g c =
+    same_tags c.args.ears.now.items c.args.federate c.index_mut.result.now c.in-Some.ear c.make_room.new.self c.in-Some.is c.index_mut.ensures.value c.make_room.ensures.tag
+
+pub returns-in_ok-make_room-in-Some-clause-tags : goal.returns-in_ok-make_room-in-Some-clause-tags
+returns-in_ok-make_room-in-Some-clause-tags g c =
+    same_tags c.args.ears.now.items c.args.federate c.index_mut.result.now c.in-Some.ear c.make_room.new.self c.in-Some.is c.index_mut.ensures.value c.make_room.ensures.tag
 
 pub returns-in_ok-make_room-in-Some-clause-room : goal.returns-in_ok-make_room-in-Some-clause-room
 returns-in_ok-make_room-in-Some-clause-room g c = λ e is.

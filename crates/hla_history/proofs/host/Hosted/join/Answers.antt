@@ -1,12 +1,13 @@
-use Rattle.std.proofs.Common.{List, Option, ◌++◌, ◌∷◌, [], Some, ◌∙◌, ap, cond, length, arith, ◌≡◌}
+use Rattle.std.proofs.Common.{ℕ, List, Option, ◌++◌, ◌∷◌, [], Some, ◌∙◌, ap, cond, length, arith, ◌≡◌}
 use Rattle.hla_callbacks.specs.declared.callback.Callback.{Callback}
 use Rattle.hla_machine.specs.declared.step.Outcome.{Outcome}
 use Rattle.hla_machine.specs.declared.step.Record.{Record}
 use Rattle.hla_history.specs.Creating.{is_accepted}
 use Rattle.hla_history.specs.Hosts.{host_after}
-use Rattle.hla_history.specs.Hosting.{HostedValue, components_hosted, heard_of, host_of}
+use Rattle.hla_history.specs.Hosting.{HostedValue, components_hosted, heard_of, tags_of, host_of}
+use Rattle.hla_history.specs.Tags.{tag_table, tag_table_after}
 use Rattle.hla_machine.specs.declared.step.Step.TheVariants.{Join}
-use Rattle.hla_history.proofs.Heard.Seats.{host_joins, len_joins, heard_length}
+use Rattle.hla_history.proofs.Heard.Seats.{host_joins, tags_join, len_joins, heard_length, tags_length}
 use Rattle.hla_history.proofs.host.Hosted.join.Goals as goal
 
 pub invariant_of-self-in-Ok-taken : goal.invariant_of-self-in-Ok-taken
@@ -24,5 +25,17 @@ returns-in-Ok-taken-clause-host g c =
     let within : length c.self.inside.ears.items ≡ (components_hosted c.self.inside.federation).directory.next_federate = omega (arith, c.self.inside.ears.ok.0, c.self.invariant) in
     host_joins (components_hosted c.self.inside.federation) (components_hosted c.taken.new.federation) c.args.name c.in-Ok-taken.made.1.answer answered c.in-Ok-taken.ensures.state
     (heard_of c.self.inside.ears.items) (heard_of c.seat-back.new.ears.items) (heard_length c.self.inside.ears.items _ within) heard
-    ∙ ap (λ (o : Outcome). host_after (host_of (record { name = c.self.inside.name; federation = c.self.inside.federation; heard = heard_of c.self.inside.ears.items })) (Join c.args.name) o) c.in-Ok-taken.ensures.answer
+    ∙ ap (λ (o : Outcome). host_after (host_of (record { name = c.self.inside.name; federation = c.self.inside.federation; heard = heard_of c.self.inside.ears.items; tags = tags_of c.self.inside.ears.items })) (Join c.args.name) o) c.in-Ok-taken.ensures.answer
     ∙ ap (λ (h : HostedValue). host_after (host_of h) (Join c.args.name) c.in-Ok-taken.made.0.outcome) c.self.view_is
+
+pub returns-in-Ok-taken-clause-tags : goal.returns-in-Ok-taken-clause-tags
+returns-in-Ok-taken-clause-tags g c =
+    let tag : ℕ = g.B.FederateAmbassador.tag c.args.inner in
+    let answered = c.in-Ok-taken.ensures.answer ∙ ap (λ (r : Record). r.outcome) c.in-Ok-taken.ensures.record in
+    let tags = c.seat-back.ensures.tags
+    ∙ ap (λ (ts : List (Option ℕ)). cond (is_accepted c.in-Ok-taken.made.1.answer) (ts ++ Some tag ∷ []) ts) (ap tags_of c.reserve.ensures.items) in
+    let within : length c.self.inside.ears.items ≡ (components_hosted c.self.inside.federation).directory.next_federate = omega (arith, c.self.inside.ears.ok.0, c.self.invariant) in
+    tags_join (components_hosted c.self.inside.federation) (components_hosted c.taken.new.federation) c.args.name c.in-Ok-taken.made.1.answer answered c.in-Ok-taken.ensures.state
+    (tags_of c.self.inside.ears.items) (tags_of c.seat-back.new.ears.items) tag (tags_length c.self.inside.ears.items _ within) tags
+    ∙ ap (λ (o : Outcome). tag_table_after (tag_table (tags_of c.self.inside.ears.items)) (Join c.args.name) o (Some tag)) c.in-Ok-taken.ensures.answer
+    ∙ ap (λ (h : HostedValue). tag_table_after (tag_table h.tags) (Join c.args.name) c.in-Ok-taken.made.0.outcome (Some tag)) c.self.view_is

@@ -1,6 +1,6 @@
 use Rattle.std.proofs.Common.{◌≡◌, ◌∙◌, ap, sym, arith, vec_len, None, ◌++◌, ◌∷◌, []}
-use Rattle.hla_history.specs.Hosting.{heard_of}
-use Rattle.hla_history.proofs.Executions.Creations.{new_hosted, new_length}
+use Rattle.hla_history.specs.Hosting.{heard_of, tags_of}
+use Rattle.hla_history.proofs.Executions.Creations.{new_hosted, new_tags, new_length}
 use Rattle.hla_history.proofs.host.Hosted.new.Goals as goal
 
 pub invariant_of-result : goal.invariant_of-result
@@ -12,3 +12,7 @@ pub returns-clause-host : goal.returns-clause-host
 returns-clause-host g c =
     new_hosted c.new.result (heard_of c.push_reserved.new.self.items) c.args.catalogue c.new.ensures
     (ap heard_of (c.push_reserved.ensures.items ∙ ap (λ xs. xs ++ None ∷ []) c.in-Ok.ensures.items))
+
+pub returns-clause-tags : goal.returns-clause-tags
+returns-clause-tags g c =
+    new_tags (tags_of c.push_reserved.new.self.items) (ap tags_of (c.push_reserved.ensures.items ∙ ap (λ xs. xs ++ None ∷ []) c.in-Ok.ensures.items))
