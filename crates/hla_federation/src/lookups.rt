@@ -20,10 +20,7 @@ impl Parts {
         requires { MayCall self.now federate }
         ensures { Answers self.now (step.Call federate (service.GetObjectClassHandle name.now)) result }
     {
-        match self.catalogue.object_class(name) {
-            Some(number) => Ok(Answer::Handle(number)),
-            None => Err(Fault::NameNotFound),
-        }
+        Ok(Answer::Handle(self.object_class_handle(federate, name)?))
     }
 
     /// Get Interaction Class Handle. `NameNotFound` where no interaction class has the name. It takes no memory.
@@ -35,10 +32,7 @@ impl Parts {
         requires { MayCall self.now federate }
         ensures { Answers self.now (step.Call federate (service.GetInteractionClassHandle name.now)) result }
     {
-        match self.catalogue.interaction_class(name) {
-            Some(number) => Ok(Answer::Handle(number)),
-            None => Err(Fault::NameNotFound),
-        }
+        Ok(Answer::Handle(self.interaction_class_handle(federate, name)?))
     }
 
     /// Get Attribute Handle. `ObjectClassNotDefined` where the FED file has no such class; `NameNotFound` where the class
@@ -52,13 +46,7 @@ impl Parts {
         requires { MayCall self.now federate }
         ensures { Answers self.now (step.Call federate (service.GetAttributeHandle name.now class)) result }
     {
-        if let Some(fault) = self.object_class_fault(class) {
-            return Err(fault);
-        }
-        match self.catalogue.attribute(class, name) {
-            Some(number) => Ok(Answer::Handle(number)),
-            None => Err(Fault::NameNotFound),
-        }
+        Ok(Answer::Handle(self.attribute_handle(federate, name, class)?))
     }
 
     /// Get Parameter Handle. `InteractionClassNotDefined` where the FED file has no such class; `NameNotFound` where the
@@ -72,13 +60,7 @@ impl Parts {
         requires { MayCall self.now federate }
         ensures { Answers self.now (step.Call federate (service.GetParameterHandle name.now class)) result }
     {
-        if let Some(fault) = self.interaction_class_fault(class) {
-            return Err(fault);
-        }
-        match self.catalogue.parameter(class, name) {
-            Some(number) => Ok(Answer::Handle(number)),
-            None => Err(Fault::NameNotFound),
-        }
+        Ok(Answer::Handle(self.parameter_handle(federate, name, class)?))
     }
 
     /// Get Object Instance Handle. `ObjectNotKnown` where no object of this name is there that is known to the federate. It
@@ -91,10 +73,7 @@ impl Parts {
         requires { MayCall self.now federate }
         ensures { Answers self.now (step.Call federate (service.GetObjectInstanceHandle name.now)) result }
     {
-        match self.registry.object_named(federate, name) {
-            Some(number) => Ok(Answer::Handle(number)),
-            None => Err(Fault::ObjectNotKnown),
-        }
+        Ok(Answer::Handle(self.object_handle(federate, name)?))
     }
 
     /// Get Object Instance Name. `ObjectNotKnown` where the object is not there, or not known to the federate; else

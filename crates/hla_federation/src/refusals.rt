@@ -12,13 +12,13 @@ ghost use Rattle.hla_machine.specs.declared.step.Step.TheVariants as step;
 ghost use Rattle.hla_components.specs.Next.{components_seen};
 ghost use Rattle.hla_federation.specs.Steps.Sending.{TellsBadStamp};
 ghost use Rattle.hla_federation.specs.Steps.Soundness.{MayCall};
-ghost use Rattle.hla_federation.specs.Steps.State.{state_of};
+ghost use Rattle.hla_federation.specs.Steps.State.{state_of, GivesHandle};
 
 use crate::heading::is_timestamp;
 use crate::parts::Parts;
 use hla_base::{
-    AttributeNo, ClassNo, Fault, FederateNo, HandleValuePair, List, MAX_FEDERATE_NAME, MAX_JOINS,
-    MAX_NAME, MAX_OBJECTS, MAX_SERIAL, MAX_TIME, ObjectNo, Ticks,
+    AttributeNo, ClassNo, EventHandle, Fault, FederateNo, HandleValuePair, List, MAX_FEDERATE_NAME,
+    MAX_JOINS, MAX_NAME, MAX_OBJECTS, MAX_SERIAL, MAX_TIME, ObjectNo, ParameterNo, Ticks,
 };
 use hla_catalogue::Order;
 use hla_machine::ResignAction;
@@ -147,6 +147,85 @@ impl Parts {
             None
         } else {
             Some(Fault::ObjectNotKnown)
+        }
+    }
+
+    /// The object class of this name, or why it is not told.
+    pub fn object_class_handle(&self, federate: FederateNo, name: &[u8]) -> Result<ClassNo, Fault>
+        requires { MayCall self.now federate }
+        ensures { GivesHandle self.now (step.Call federate (service.GetObjectClassHandle name.now)) result }
+    {
+        match self.catalogue.object_class(name) {
+            Some(number) => Ok(number),
+            None => Err(Fault::NameNotFound),
+        }
+    }
+
+    /// The interaction class of this name, or why it is not told.
+    pub fn interaction_class_handle(
+        &self,
+        federate: FederateNo,
+        name: &[u8],
+    ) -> Result<ClassNo, Fault>
+        requires { MayCall self.now federate }
+        ensures { GivesHandle self.now (step.Call federate (service.GetInteractionClassHandle name.now))
+            result }
+    {
+        match self.catalogue.interaction_class(name) {
+            Some(number) => Ok(number),
+            None => Err(Fault::NameNotFound),
+        }
+    }
+
+    /// The attribute of this name that a class has, or why it is not told.
+    pub fn attribute_handle(
+        &self,
+        federate: FederateNo,
+        name: &[u8],
+        class: ClassNo,
+    ) -> Result<AttributeNo, Fault>
+        requires { MayCall self.now federate }
+        ensures { GivesHandle self.now (step.Call federate (service.GetAttributeHandle name.now class))
+            result }
+    {
+        if let Some(fault) = self.object_class_fault(class) {
+            return Err(fault);
+        }
+        match self.catalogue.attribute(class, name) {
+            Some(number) => Ok(number),
+            None => Err(Fault::NameNotFound),
+        }
+    }
+
+    /// The parameter of this name that a class has, or why it is not told.
+    pub fn parameter_handle(
+        &self,
+        federate: FederateNo,
+        name: &[u8],
+        class: ClassNo,
+    ) -> Result<ParameterNo, Fault>
+        requires { MayCall self.now federate }
+        ensures { GivesHandle self.now (step.Call federate (service.GetParameterHandle name.now class))
+            result }
+    {
+        if let Some(fault) = self.interaction_class_fault(class) {
+            return Err(fault);
+        }
+        match self.catalogue.parameter(class, name) {
+            Some(number) => Ok(number),
+            None => Err(Fault::NameNotFound),
+        }
+    }
+
+    /// The object of this name that a federate knows, or why it is not told.
+    pub fn object_handle(&self, federate: FederateNo, name: &[u8]) -> Result<ObjectNo, Fault>
+        requires { MayCall self.now federate }
+        ensures { GivesHandle self.now (step.Call federate (service.GetObjectInstanceHandle name.now))
+            result }
+    {
+        match self.registry.object_named(federate, name) {
+            Some(number) => Ok(number),
+            None => Err(Fault::ObjectNotKnown),
         }
     }
 
@@ -400,6 +479,25 @@ impl Parts {
             Some(Fault::LimitReached)
         } else {
             None
+        }
+    }
+
+    /// Why a federate may not retract a message, if it may not: it is another's, or may be retracted no more.
+    pub fn retract_fault(&self, federate: FederateNo, event: EventHandle) -> Option<Fault>
+        requires { MayCall self.now federate }
+        ensures { result ≡ refusal (components_seen (state_of self.now))
+            (step.Call federate (service.Retract event)) }
+    {
+        let state = self.members.local(federate).state();
+        let may_retract = self.members.sent(federate).may_retract(
+            state.is_regulation_enabled(),
+            state.least_stamp(),
+            event.serial,
+        );
+        if event.sender == federate && may_retract {
+            None
+        } else {
+            Some(Fault::InvalidRetractionHandle)
         }
     }
 

@@ -2,11 +2,9 @@
 
 ghost use Rattle.std.specs.Prelude.{◌≡◌, ◌<◌, [], OnOk, OnErr, IfErr};
 ghost use Rattle.hla_base.specs.declared.fault.Fault.TheVariants.{OutOfMemory};
-ghost use Rattle.hla_machine.specs.Refusals.{refusal};
 ghost use Rattle.hla_machine.specs.Sends.{is_told};
 ghost use Rattle.hla_machine.specs.declared.service.Service.TheVariants as service;
 ghost use Rattle.hla_machine.specs.declared.step.Step.TheVariants as step;
-ghost use Rattle.hla_components.specs.Next.{components_seen};
 ghost use Rattle.hla_members.specs.Members.{members_of, with_retraction_sent};
 ghost use Rattle.hla_federation.specs.Steps.Sending.{HasAdded, retraction_to};
 ghost use Rattle.hla_federation.specs.Steps.Soundness.{MayCall};
@@ -19,25 +17,6 @@ use hla_members::{Direction, Outbox};
 use hla_null_message::Message;
 
 impl Parts {
-    /// Why a federate may not retract a message, if it may not: it is another's, or may be retracted no more.
-    pub fn retract_fault(&self, federate: FederateNo, event: EventHandle) -> Option<Fault>
-        requires { MayCall self.now federate }
-        ensures { result ≡ refusal (components_seen (state_of self.now))
-            (step.Call federate (service.Retract event)) }
-    {
-        let state = self.members.local(federate).state();
-        let may_retract = self.members.sent(federate).may_retract(
-            state.is_regulation_enabled(),
-            state.least_stamp(),
-            event.serial,
-        );
-        if event.sender == federate && may_retract {
-            None
-        } else {
-            Some(Fault::InvalidRetractionHandle)
-        }
-    }
-
     /// Whether a federate is told of a retraction: it is joined, another one than the sender, and was sent the message.
     fn is_told(&self, sender: FederateNo, serial: Serial, peer: FederateNo) -> bool
         requires some { 0 < sender }

@@ -1,20 +1,19 @@
 //! What lies under the lock: the history with its executions, and the board beside it.
 
-ghost use Rattle.std.specs.Prelude.{◌≡◌, ◌+◌, ◌<◌, ◌⊎◌, ◌↔◌, ◌++◌, ◌∷◌, [], List, length, true, false, None, Some, is_some, Err, IfOk, IfErr, IfSome, OnOk, OnErr, MatchResult, if◌then◌else◌, vec_len, vec_capacity};
+ghost use Rattle.std.specs.Prelude.{◌≡◌, ◌+◌, ◌<◌, ◌++◌, ◌∷◌, [], List, true, false, None, Some, is_some, IfOk, IfErr, IfSome, OnOk, OnErr, MatchResult, if◌then◌else◌, vec_len, vec_capacity};
 ghost use Rattle.hla_base.specs.Limits.{ledger_parts, max_callers, max_monitors};
 ghost use mathlib.Core.List.{IsPrefix};
 ghost use Rattle.hla_machine.specs.declared.service.Service.TheVariants as service;
 ghost use Rattle.hla_machine.specs.declared.step.Act.TheVariants as act;
-ghost use Rattle.hla_machine.specs.declared.step.Choice.TheVariants as choice;
 ghost use Rattle.hla_machine.specs.declared.step.Record.{Record as Entry};
 ghost use Rattle.hla_machine.specs.declared.step.Step.TheVariants as step;
 ghost use Rattle.hla_history.specs.Creating.{catalogue_from, is_accepted, heard_from};
 ghost use Rattle.hla_history.specs.Forms.{NoAnswer, AFederate, EndsInForm, step_form};
-ghost use Rattle.hla_history.specs.Hosts.{IsPlain, with_record};
+ghost use Rattle.hla_history.specs.Hosts.{IsPlain};
 ghost use Rattle.hla_history.specs.Hosting.{held_of};
-ghost use Rattle.hla_history.specs.Writing.{step_record, chosen_in};
+ghost use Rattle.hla_history.specs.Writing.{step_record};
 ghost use Rattle.hla_rti.specs.Close.{AllHere, AllAgree, AreOfCallers, DiffersFirst};
-ghost use Rattle.hla_rti.specs.Locked.{IsPosted};
+ghost use Rattle.hla_rti.specs.Locked.{choiceless_record, own_record, IsPosted, IsRecorded, IsNotRecorded, CountsRecord};
 
 use crate::closing::{Closed, Unsettled, settle};
 use crate::seat::{Left, Seat};
@@ -101,25 +100,15 @@ impl<L: Ledger + Naming, B: FederateAmbassador, W: Publisher<L>> Locked<L, B, W>
         requires part { 0 < mine.old.parts }
         requires plain { IsPlain step }
         requires room { vec_len transcript.old < vec_capacity transcript.old }
-        ensures asked { IfOk result
-            (λ out. transcript.new.items
-            ≡ transcript.old.items
-            ++ step_record actor execution.now step out
-            (chosen_in ((held_of self.old.held).hosts.host execution.now) step) ∷ []) }
+        ensures asked { IfOk result (λ out. transcript.new.items
+            ≡ transcript.old.items ++ own_record self.old actor execution.now step out ∷ []) }
         ensures form { IfOk result (λ out. EndsInForm (step_form step) out) }
-        ensures recorded { IfOk result
-            (λ out. held_of self.new.held
-            ≡ with_record (held_of self.old.held)
-            (step_record actor execution.now step out
-            (chosen_in ((held_of self.old.held).hosts.host execution.now) step))) }
-        ensures full { result ≡ Err Fault.HistoryFull ↔ (length self.old.held.history ≡ self.old.held.limit) }
-        ensures refused { IfErr result (λ e. (e ≡ Fault.HistoryFull) ⊎ (e ≡ Fault.OutOfMemory)) }
-        ensures unchanged { OnErr result (self.new ≡ self.old) }
+        ensures recorded { IfOk result (λ out. IsRecorded self.old
+            (own_record self.old actor execution.now step out) self.new) }
+        ensures refused { IfErr result (λ e. IsNotRecorded self.old e self.new) }
         ensures unwritten { OnErr result (transcript.new.items ≡ transcript.old.items) }
-        ensures share { MatchResult result (λ _. mine.new.amount ≡ mine.old.amount + 1)
-            (λ _. mine.new.amount ≡ mine.old.amount) }
+        ensures share { CountsRecord result mine.old.amount mine.new.amount }
         ensures parts { mine.new.parts ≡ mine.old.parts }
-        ensures ended { self.new.ended ≡ self.old.ended }
     {
         let answer = self
             .shared
@@ -139,23 +128,13 @@ impl<L: Ledger + Naming, B: FederateAmbassador, W: Publisher<L>> Locked<L, B, W>
         mine: &mut Share<L>,
     ) -> Result<Stepped, Fault>
         requires { 0 < mine.old.parts }
-        ensures asked { IfOk result (λ s. s.own ≡ record {
-          actor = actor;
-          execution = name;
-          act = act.Create (catalogue_from fed.now);
-          outcome = s.answer;
-          choice = choice.None;
-        }) }
+        ensures asked { IfOk result (λ s. s.own
+            ≡ choiceless_record actor name (act.Create (catalogue_from fed.now)) s.answer) }
         ensures form { IfOk result (λ s. EndsInForm NoAnswer s.answer) }
-        ensures recorded { IfOk result
-            (λ s. held_of self.new.held ≡ with_record (held_of self.old.held) s.own) }
-        ensures full { result ≡ Err Fault.HistoryFull ↔ (length self.old.held.history ≡ self.old.held.limit) }
-        ensures refused { IfErr result (λ e. (e ≡ Fault.HistoryFull) ⊎ (e ≡ Fault.OutOfMemory)) }
-        ensures unchanged { OnErr result (self.new ≡ self.old) }
-        ensures share { MatchResult result (λ _. mine.new.amount ≡ mine.old.amount + 1)
-            (λ _. mine.new.amount ≡ mine.old.amount) }
+        ensures recorded { IfOk result (λ s. IsRecorded self.old s.own self.new) }
+        ensures refused { IfErr result (λ e. IsNotRecorded self.old e self.new) }
+        ensures share { CountsRecord result mine.old.amount mine.new.amount }
         ensures parts { mine.new.parts ≡ mine.old.parts }
-        ensures ended { self.new.ended ≡ self.old.ended }
     {
         let stepped = self.shared.create(actor, name, fed, mine)?;
         note_record(&mut self.board, &stepped.own);
@@ -172,23 +151,12 @@ impl<L: Ledger + Naming, B: FederateAmbassador, W: Publisher<L>> Locked<L, B, W>
         mine: &mut Share<L>,
     ) -> Result<Stepped, Fault>
         requires { 0 < mine.old.parts }
-        ensures asked { IfOk result (λ s. s.own ≡ record {
-          actor = actor;
-          execution = name;
-          act = act.Destroy;
-          outcome = s.answer;
-          choice = choice.None;
-        }) }
+        ensures asked { IfOk result (λ s. s.own ≡ choiceless_record actor name act.Destroy s.answer) }
         ensures form { IfOk result (λ s. EndsInForm NoAnswer s.answer) }
-        ensures recorded { IfOk result
-            (λ s. held_of self.new.held ≡ with_record (held_of self.old.held) s.own) }
-        ensures full { result ≡ Err Fault.HistoryFull ↔ (length self.old.held.history ≡ self.old.held.limit) }
-        ensures refused { IfErr result (λ e. (e ≡ Fault.HistoryFull) ⊎ (e ≡ Fault.OutOfMemory)) }
-        ensures unchanged { OnErr result (self.new ≡ self.old) }
-        ensures share { MatchResult result (λ _. mine.new.amount ≡ mine.old.amount + 1)
-            (λ _. mine.new.amount ≡ mine.old.amount) }
+        ensures recorded { IfOk result (λ s. IsRecorded self.old s.own self.new) }
+        ensures refused { IfErr result (λ e. IsNotRecorded self.old e self.new) }
+        ensures share { CountsRecord result mine.old.amount mine.new.amount }
         ensures parts { mine.new.parts ≡ mine.old.parts }
-        ensures ended { self.new.ended ≡ self.old.ended }
     {
         let stepped = self.shared.destroy(actor, name, mine)?;
         note_record(&mut self.board, &stepped.own);
@@ -209,27 +177,15 @@ impl<L: Ledger + Naming, B: FederateAmbassador, W: Publisher<L>> Locked<L, B, W>
     ) -> Result<(Stepped, Option<B>), (Fault, B)>
         requires part { 0 < mine.old.parts }
         requires fresh { B.heard inner ≡ [] }
-        ensures asked { IfOk result (λ p. p.0.own ≡ record {
-          actor = actor;
-          execution = execution;
-          act = act.Step (step.Join name);
-          outcome = p.0.answer;
-          choice = p.0.own.choice;
-        }) }
-        ensures recorded { IfOk result
-            (λ p. held_of self.new.held ≡ with_record (held_of self.old.held) p.0.own) }
+        ensures asked { IfOk result (λ p. p.0.own
+            ≡ step_record actor execution (step.Join name) p.0.answer p.0.own.choice) }
+        ensures recorded { IfOk result (λ p. IsRecorded self.old p.0.own self.new) }
         ensures form { IfOk result (λ p. EndsInForm AFederate p.0.answer) }
         ensures back { IfOk result (λ p. p.1 ≡ (if is_accepted p.0.answer then None else Some inner)) }
-        ensures full { result
-            ≡ Err (Fault.HistoryFull, inner) ↔
-            (length self.old.held.history ≡ self.old.held.limit) }
-        ensures refused { IfErr result (λ e. (e.0 ≡ Fault.HistoryFull) ⊎ (e.0 ≡ Fault.OutOfMemory)) }
+        ensures refused { IfErr result (λ e. IsNotRecorded self.old e.0 self.new) }
         ensures returned { IfErr result (λ e. e.1 ≡ inner) }
-        ensures unchanged { OnErr result (self.new ≡ self.old) }
-        ensures share { MatchResult result (λ _. mine.new.amount ≡ mine.old.amount + 1)
-            (λ _. mine.new.amount ≡ mine.old.amount) }
+        ensures share { CountsRecord result mine.old.amount mine.new.amount }
         ensures parts { mine.new.parts ≡ mine.old.parts }
-        ensures ended { self.new.ended ≡ self.old.ended }
     {
         match self.shared.join(actor, execution, name, inner, mine) {
             Ok(joined) => {
@@ -252,26 +208,17 @@ impl<L: Ledger + Naming, B: FederateAmbassador, W: Publisher<L>> Locked<L, B, W>
         mine: &mut Share<L>,
     ) -> Result<(Stepped, Option<B>), Fault>
         requires { 0 < mine.old.parts }
-        ensures asked { IfOk result (λ p. p.0.own ≡ record {
-          actor = actor;
-          execution = execution;
-          act = act.Step (step.Call federate (service.Resign action));
-          outcome = p.0.answer;
-          choice = p.0.own.choice;
-        }) }
+        ensures asked { IfOk result (λ p. p.0.own
+            ≡ step_record actor execution (step.Call federate (service.Resign action)) p.0.answer
+            p.0.own.choice) }
         ensures form { IfOk result (λ p. EndsInForm NoAnswer p.0.answer) }
         ensures back { IfOk result (λ p. is_some p.1 ≡ is_accepted p.0.answer) }
         ensures heard { IfOk result (λ p. IfSome p.1 (λ b.
             heard_from ((held_of self.old.held).hosts.host execution) federate ≡ Some (B.heard b))) }
-        ensures recorded { IfOk result
-            (λ p. held_of self.new.held ≡ with_record (held_of self.old.held) p.0.own) }
-        ensures full { result ≡ Err Fault.HistoryFull ↔ (length self.old.held.history ≡ self.old.held.limit) }
-        ensures refused { IfErr result (λ e. (e ≡ Fault.HistoryFull) ⊎ (e ≡ Fault.OutOfMemory)) }
-        ensures unchanged { OnErr result (self.new ≡ self.old) }
-        ensures share { MatchResult result (λ _. mine.new.amount ≡ mine.old.amount + 1)
-            (λ _. mine.new.amount ≡ mine.old.amount) }
+        ensures recorded { IfOk result (λ p. IsRecorded self.old p.0.own self.new) }
+        ensures refused { IfErr result (λ e. IsNotRecorded self.old e self.new) }
+        ensures share { CountsRecord result mine.old.amount mine.new.amount }
         ensures parts { mine.new.parts ≡ mine.old.parts }
-        ensures ended { self.new.ended ≡ self.old.ended }
     {
         let resigned = self
             .shared

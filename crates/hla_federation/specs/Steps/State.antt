@@ -1,5 +1,5 @@
 -- The components and wires that a federation's parts stand for
-use Rattle.std.specs.Prelude.{ℕ, ◌+◌, ◌≡◌, ◌≤◌, true, false, None, length, Result, Ok, Err}
+use Rattle.std.specs.Prelude.{ℕ, ◌+◌, ◌≡◌, ◌≤◌, true, false, Some, None, length, Result, Ok, Err}
 use Rattle.hla_base.specs.declared.fault.Fault.{Fault}
 use Rattle.hla_base.specs.Limits.{forever, max_joins}
 use Rattle.hla_lbts.specs.Peers.{PeersValue, peers_of}
@@ -11,10 +11,12 @@ use Rattle.hla_machine.specs.declared.service.Service.{Service}
 use Rattle.hla_machine.specs.declared.service.Service.TheVariants as service
 use Rattle.hla_machine.specs.declared.step.Step.{Step}
 use Rattle.hla_machine.specs.declared.step.Answer.{Answer}
+use Rattle.hla_machine.specs.declared.step.Answer.TheVariants as answer
 use Rattle.hla_machine.specs.declared.step.Outcome.TheVariants as outcome
 use Rattle.hla_machine.specs.Directory.{Directory, default_name}
+use Rattle.hla_machine.specs.Refusals.{refusal}
 use Rattle.hla_components.specs.Components.{Components}
-use Rattle.hla_components.specs.Next.{next, answer_outcome}
+use Rattle.hla_components.specs.Next.{next, answer_outcome, components_seen}
 use Rattle.hla_federation.specs.Steps.Memory.{IsRefusedWith}
 use Rattle.hla_members.specs.Members.{MemberTables, members_of}
 use Rattle.hla_federation.specs.FederationValue.{FederationValue}
@@ -107,6 +109,11 @@ EndsChosen old step (Err e) new = IsRefusedWith (state_of old) step e × (new �
 -- a step that only asks leaves all as it is
 abbrev pub Answers : FederationValue → Step → Result Answer Fault → Type 0
 Answers v step result = Ends v step result v
+
+-- a look-up gives the handle that it answers, or the fault with which it is refused
+abbrev pub GivesHandle : FederationValue → Step → Result ℕ Fault → Type 0
+GivesHandle v step (Ok handle) = next (state_of v) step ≡ answer_outcome (answer.Handle handle) (state_of v)
+GivesHandle v step (Err e) = refusal (components_seen (state_of v)) step ≡ Some e
 
 -- the support services that look names and numbers up
 abbrev pub IsLookUp : Service → Type 0

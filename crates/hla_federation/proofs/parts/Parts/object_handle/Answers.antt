@@ -1,4 +1,4 @@
-use Rattle.std.proofs.Common.{ℕ, refl, sym, ap, ◌∙◌, inl, Option}
+use Rattle.std.proofs.Common.{ℕ, refl, sym, ap, ◌∙◌, Option}
 use Rattle.hla_machine.specs.declared.service.Service.TheVariants as service
 use Rattle.hla_machine.specs.declared.step.Step.TheVariants.{Call}
 use Rattle.hla_declaration.specs.Declarations as declared
@@ -10,7 +10,7 @@ use Rattle.hla_federation.specs.Steps.State.{state_from}
 use Rattle.hla_federation.proofs.Steps.Doing.{does_next}
 use Rattle.hla_base.specs.Tables.{numbers_below}
 use Rattle.hla_members.proofs.Finding.{any_found, none_found}
-use Rattle.hla_federation.proofs.parts.Parts.get_object_instance_handle.Goals as goal
+use Rattle.hla_federation.proofs.parts.Parts.object_handle.Goals as goal
 
 pub returns-in-Some : goal.returns-in-Some
 returns-in-Some c =
@@ -24,4 +24,4 @@ pub returns-in-None : goal.returns-in-None
 returns-in-None c =
     let joined = rw (← c.self.view_is) at c.requires.joined in
     let none = none_found _ (numbers_below (registry_of c.self.inside.registry).next_object) (sym c.object_named.ensures ∙ c.in-None.is) in
-    rw (← c.self.view_is) (inl (rw (joined, none) refl), refl)
+    rw (← c.self.view_is) (rw (joined, none) refl)
