@@ -1,5 +1,5 @@
 -- A history that has as many records as the transcripts of all callers has no other records.
-use Rattle.std.proofs.Common.{◌≡◌, ℕ, zero, suc, Bool, true, false, ◌&&◌, ◌||◌, ◌==◌, ltb, ◌+◌, ◌≤◌, ◌<◌, ◌≢◌, cond, List, [], ◌∷◌, Option, Some, length, filter, refl, sym, ◌∙◌, ap, subst, arith, zero-le}
+use Rattle.std.proofs.Common.{◌≡◌, ℕ, zero, suc, Bool, true, false, ◌&&◌, ◌||◌, ◌==◌, ltb, ◌+◌, ◌≤◌, ◌<◌, ◌≢◌, cond, List, [], ◌∷◌, ◌++◌, Option, Some, length, filter, refl, sym, ◌∙◌, ap, subst, arith, zero-le}
 use Rattle.std.specs.Prelude.{slice_get}
 use Rattle.std.specs.List.{All, list_any}
 use Rattle.std.proofs.lemmas.Bool.Decides.{nat_tests}
@@ -97,6 +97,11 @@ module _ (rs : List Record) where
       let rest : AllHere n (without_caller (suc n) cs) = λ m low high. (let ne : m ≢ suc n = omega arith in others (suc n) m cs ne ∙ here m low (omega arith)) in
       let fewer : length (without_caller (suc n) cs) ≡ n = omega (arith, shorter (suc n) cs top, same) in
       omega (arith, length_without (suc n) cs all top, all_counted n (without_caller (suc n) cs) rest fewer (agree_without (suc n) cs all))
+
+-- one transcript more
+pub transcripts_appended : (ls : List Leaver) (l : Leaver) → transcripts_length (ls ++ l ∷ []) ≡ transcripts_length ls + length l.caller.transcript
+transcripts_appended [] l = omega arith
+transcripts_appended (x ∷ xs) l = omega (arith, transcripts_appended xs l)
 
 -- each record is of a caller that was handed out, or of the infrastructure itself
 pub nobody_else : (rs : List Record) (handed : ℕ) (cs : List Leaver) (own : Caller) → AllHere handed cs → length cs ≤ handed → AllAgree rs cs own → own.number ≡ 0

@@ -93,6 +93,7 @@ fn all_here<L: Ledger, B: FederateAmbassador>(handed: u32, lefts: &[Left<L, B>])
 }
 
 /// The shares of all, put together.
+#[tactic(auto, using(crate::proofs::Whole::transcripts_appended))]
 fn merged<L: Ledger, B: FederateAmbassador>(mut all: Share<L>, lefts: Vec<Left<L, B>>) -> Share<L>
     ensures parts { result.parts ≡ all.parts + vec_len lefts }
     ensures bound { all.parts ≤ L.parts → result.parts ≤ L.parts }
