@@ -4,9 +4,10 @@ ghost use Rattle.std.specs.Prelude.{◌≡◌};
 ghost use Rattle.hla_base.specs.Limits.{ledger_parts};
 
 use hla_base::LEDGER_PARTS;
+use hla_callbacks::Recorder;
 use hla_checker::check_run;
 use hla_monitor::{Naming, Opened};
-use hla_run::{OpenGate, Ran, run_in_order, run_scripts};
+use hla_run::{OpenGate, Ran, recorders, run_in_order, run_scripts};
 use hla_script::Watched;
 use std::alloc::Global;
 use std::marker::Brand;
@@ -37,14 +38,18 @@ fn prints_expected<L: Ledger + Naming, R: Wait>(
     requires all { blank.parts ≡ ledger_parts }
     requires book { opened.seen.book ≡ L.book }
 {
+    let Ok(own) = recorders(alloc, example.script) else {
+        return false;
+    };
     let mut transcript = Vec::new(alloc);
-    let ran = run_in_order::<L, R, &mut Vec<u8>>(
+    let ran = run_in_order::<L, Recorder, R, &mut Vec<u8>>(
         rt,
         alloc,
         blank,
         opened,
         example.fed,
         example.script,
+        own,
         &mut Watched::new(&mut transcript),
     );
     match ran {
@@ -97,14 +102,18 @@ fn ends_on_threads<L: Ledger + Naming + Send + Sync, R: Threads + Wait + Sync>(
     requires all { blank.parts ≡ ledger_parts }
     requires book { opened.seen.book ≡ L.book }
 {
+    let Ok(own) = recorders(alloc, example.script) else {
+        return false;
+    };
     let mut transcript = Vec::new(alloc);
-    let ran = run_scripts::<L, OpenGate, R, &mut Vec<u8>>(
+    let ran = run_scripts::<L, Recorder, OpenGate, R, &mut Vec<u8>>(
         rt,
         alloc,
         blank,
         opened,
         example.fed,
         example.script,
+        own,
         &OpenGate,
         true,
         &mut Watched::new(&mut transcript),

@@ -1,5 +1,5 @@
 -- A line that is told, and bytes that are kept.
-use Rattle.std.proofs.Common.{◌≡◌, ℕ, Bool, true, false, ◌||◌, not, List, take, Option, None, Some, Result, Ok, Err, IfOk, OnOk, OnErr, is_ok, refl, subst, inl, inr, ◌∙◌}
+use Rattle.std.proofs.Common.{◌≡◌, ◌≤◌, arith, ℕ, Bool, true, false, ◌||◌, not, List, take, Option, None, Some, Result, Ok, Err, IfOk, OnOk, OnErr, is_ok, refl, subst, inl, inr, ◌∙◌}
 use Rattle.std.specs.Io.KnownBytes.{Appends, Keeps}
 use Rattle.hla_transcript.specs.Listed.{IsListed, is_failed_listing}
 use Rattle.hla_transcript.specs.declared.listing.ListFault.{ListFault}
@@ -8,7 +8,7 @@ use Rattle.hla_script.specs.declared.player.PlayFault.{PlayFault}
 use Rattle.hla_script.specs.declared.player.PlayFault.TheVariants as unplayed
 use Rattle.hla_script.specs.Playing.{IsPlayedFrom, is_failed_transcript}
 use Rattle.hla_transcript.specs.Watching.{Stream}
-use Rattle.hla_run.specs.Running.{is_failed_text}
+use Rattle.hla_run.specs.Running.{StopsRun, is_failed_text}
 use Rattle.hla_run.specs.declared.fault.RunFault.{RunFault}
 use Rattle.hla_run.specs.declared.fault.RunFault.TheVariants as unran
 use Rattle.hla_program.specs.Program.{WritesLine, Whole, Cut, Complains, PlayCause, RunCause, ListCause, memory_line}
@@ -67,6 +67,17 @@ run_cause unran.Write old new failure = failure ∙ or-true old
 run_cause unran.Memory old new failure = tt
 run_cause (unran.Close e) old new failure = tt
 run_cause unran.Monitor old new failure = tt
+run_cause unran.Ambassadors old new failure = tt
+
+-- with fewer ambassadors it stops as well
+pub stops_with_fewer : (fed script : List ℕ) (n m : ℕ) (old new : Option (List ℕ)) (why : RunFault) → n ≤ m → StopsRun fed script m old new why → StopsRun fed script n old new why
+stops_with_fewer fed script n m old new (unran.Fed e) fewer stops = stops
+stops_with_fewer fed script n m old new (unran.Script e) fewer stops = stops
+stops_with_fewer fed script n m old new unran.Write fewer stops = stops
+stops_with_fewer fed script n m old new unran.Memory fewer stops = stops
+stops_with_fewer fed script n m old new (unran.Close e) fewer stops = stops
+stops_with_fewer fed script n m old new unran.Monitor fewer stops = stops
+stops_with_fewer fed script n m old new unran.Ambassadors fewer stops = ((stops.0.0, omega (arith, fewer, stops.0.1)), stops.1)
 
 pub list_cause : (why : ListFault) (old : Bool) (new : Stream) → new.has_failed ≡ (old || is_failed_listing why) → ListCause why new
 list_cause (unlisted.Fed e) old new failure = tt

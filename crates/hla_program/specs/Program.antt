@@ -15,6 +15,7 @@ use Rattle.hla_transcript.specs.declared.listing.ListFault.{ListFault}
 use Rattle.hla_transcript.specs.declared.listing.ListFault.TheVariants as unlisted
 use Rattle.hla_script.specs.declared.player.PlayFault.{PlayFault}
 use Rattle.hla_script.specs.declared.player.PlayFault.TheVariants as unplayed
+use Rattle.hla_run.specs.Joining.{script_joins}
 use Rattle.hla_run.specs.Running.{IsRunFrom, IsSeen, StopsRun}
 use Rattle.hla_run.specs.declared.fault.RunFault.{RunFault}
 use Rattle.hla_run.specs.declared.fault.RunFault.TheVariants as unran
@@ -66,6 +67,7 @@ run_stop_line unran.Write = unwritten_line
 run_stop_line unran.Memory = memory_line
 run_stop_line (unran.Close e) = transcripts_line
 run_stop_line unran.Monitor = monitor_line
+run_stop_line unran.Ambassadors = memory_line
 
 -- why a FED file was not listed
 abbrev pub list_stop_line : ListFault → List ℕ
@@ -101,6 +103,7 @@ RunCause unran.Write out = out.has_failed ≡ true
 RunCause unran.Memory out = Unit {0}
 RunCause (unran.Close e) out = Unit {0}
 RunCause unran.Monitor out = Unit {0}
+RunCause unran.Ambassadors out = Unit {0}
 
 abbrev pub ListCause : ListFault → Stream → Type 0
 ListCause (unlisted.Fed e) out = Unit {0}
@@ -168,6 +171,7 @@ run_stop_status unran.Write = 1
 run_stop_status unran.Memory = 1
 run_stop_status (unran.Close e) = 3
 run_stop_status unran.Monitor = 3
+run_stop_status unran.Ambassadors = 1
 
 -- that so many records are a run of the machine is told, and what a monitor read last; or there was no memory to judge them
 pub data EndsJudging (count : ℕ) (seen : Option Status) (out out' err err' : Stream) (status : ℕ) : Type 0 where
@@ -175,11 +179,12 @@ pub data EndsJudging (count : ℕ) (seen : Option Status) (out out' err err' : S
   Unjudged : out' ≡ out → WritesLine err err' memory_line → status ≡ 1 → EndsJudging count seen out out' err err' status
 
 -- a script is run over a FED file, each federate on a thread: how its lines came out is written, and behind it the number of the
--- records, which are a run of the machine, and what a monitor read last
+-- records, which are a run of the machine, and what a monitor read last; there is an ambassador for each line that joins, so that too
+-- few of them never stop it
 pub data EndsRunning (is_watched : Bool) (fed script : List ℕ) (out out' err err' : Stream) (status : ℕ) : Type 0 where
   Ran : (told : Stream) → IsRunFrom fed script out.bytes told.bytes → told.has_failed ≡ out.has_failed → (records : List Record) → IsWholeRun records → (seen : Option Status) → IsSeen is_watched records seen
       → EndsJudging (length records) seen told out' err err' status → EndsRunning is_watched fed script out out' err err' status
-  RunStopped : (why : RunFault) → StopsRun fed script out.bytes out'.bytes why → RunCause why out' → Complains err err' (run_stop_line why) → status ≡ run_stop_status why → EndsRunning is_watched fed script out out' err err' status
+  RunStopped : (why : RunFault) → StopsRun fed script (script_joins script) out.bytes out'.bytes why → RunCause why out' → Complains err err' (run_stop_line why) → status ≡ run_stop_status why → EndsRunning is_watched fed script out out' err err' status
 
 -- a FED file is listed
 pub data EndsListing (fed : List ℕ) (out out' err err' : Stream) (status : ℕ) : Type 0 where

@@ -127,7 +127,8 @@ fn tell_miscounted<E: Write>(errors: &mut Watched<E>) -> u8
     DIFFERS
 }
 
-/// Says why a script was not run to its end, and answers the status.
+/// Says why a script was not run to its end, and answers the status. Too few ambassadors would be told as want of memory, but the
+/// program has enough of them.
 pub fn tell_run_stop<E: Write>(alloc: Global, errors: &mut Watched<E>, fault: RunFault) -> u8
     ensures line { Complains (stream_of E.contents errors.old) (stream_of E.contents errors.new)
         (run_stop_line fault) }
@@ -140,6 +141,7 @@ pub fn tell_run_stop<E: Write>(alloc: Global, errors: &mut Watched<E>, fault: Ru
         RunFault::Memory => tell_out_of_memory(errors),
         RunFault::Close(_) => tell_differing(errors),
         RunFault::Monitor => tell_miscounted(errors),
+        RunFault::Ambassadors => tell_out_of_memory(errors),
     }
 }
 

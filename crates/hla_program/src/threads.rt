@@ -1,17 +1,20 @@
 //! A script run on threads, and its records judged by the central machine.
 
-ghost use Rattle.std.specs.Prelude.{◌≡◌, IfSome, length};
+ghost use Rattle.std.specs.Prelude.{◌≡◌, ◌||◌, IfOk, IfErr, OnOk, IfSome, length};
 ghost use Rattle.hla_base.specs.Limits.{ledger_parts};
 ghost use Rattle.hla_transcript.specs.Watching.{stream_of};
 ghost use Rattle.hla_checker.specs.Faults.{IsWholeRun};
+ghost use Rattle.hla_run.specs.Joining.{script_joins};
+ghost use Rattle.hla_run.specs.Running.{IsRunFrom, IsSeen, StopsRun, is_unwritten_run};
 ghost use Rattle.hla_program.specs.Program.{EndsJudging, EndsRunning};
 ghost use Rattle.hla_program.specs.declared.finding.Finding.TheVariants as found;
 
 use crate::finding::{Finding, finding_of, tell_finding};
 use crate::telling::{tell_out_of_memory, tell_run_stop};
+use hla_callbacks::Recorder;
 use hla_monitor::{Naming, Opened, Status};
 use hla_rti::Closed;
-use hla_run::{OpenGate, Ran, run_scripts};
+use hla_run::{OpenGate, Ran, RunFault, recorders, run_scripts};
 use hla_script::Watched;
 use std::alloc::Global;
 use std::io::Write;
@@ -57,6 +60,40 @@ fn judge<W: Write, E: Write>(
     }
 }
 
+/// Runs a script over a FED file, each federate on a thread of its own and with a recorder for its ambassador, of which there are
+/// always enough.
+fn run_recorded<L: Ledger + Naming + Send + Sync, R: Threads + Wait + Sync, W: Write>(
+    means: Means<'_, R>,
+    is_watched: bool,
+    fed: &[u8],
+    script: &[u8],
+    out: &mut Watched<W>,
+) -> Result<Ran, RunFault>
+    requires name { means.blank.name ≡ L.name }
+    requires parts { means.blank.parts ≡ L.parts }
+    requires all { means.blank.parts ≡ ledger_parts }
+    requires book { means.opened.seen.book ≡ L.book }
+    ensures written { OnOk result (IsRunFrom fed.now script.now (W.contents out.old.inner)
+        (W.contents out.new.inner)) }
+    ensures seen { IfOk result (λ r. IsSeen is_watched r.closed r.seen) }
+    ensures stopped { IfErr result (StopsRun fed.now script.now (script_joins script.now)
+        (W.contents out.old.inner) (W.contents out.new.inner)) }
+    ensures failure { out.new.has_failed ≡ (out.old.has_failed || is_unwritten_run result) }
+{
+    let Means {
+        rt,
+        alloc,
+        blank,
+        opened,
+    } = means;
+    match recorders(alloc, script) {
+        Ok(own) => run_scripts::<L, Recorder, OpenGate, R, W>(
+            rt, alloc, blank, opened, fed, script, own, &OpenGate, is_watched, out,
+        ),
+        Err(_) => Err(RunFault::Memory),
+    }
+}
+
 /// Runs a script over a FED file, each federate on a thread of its own, has the records of the history judged, and answers the
 /// status. 0: how its lines came out is on `out` and behind it `ok N`, for N records that are a run of the central machine, and
 /// where it is watched `monitor S G`, for the steps and grants that a monitor read last; and nothing on `errors`. 3 with one line
@@ -84,15 +121,8 @@ pub(crate) fn run_bytes<
         (stream_of W.contents out.old) (stream_of W.contents out.new)
         (stream_of E.contents errors.old) (stream_of E.contents errors.new) result }
 {
-    let Means {
-        rt,
-        alloc,
-        blank,
-        opened,
-    } = means;
-    let ran = run_scripts::<L, OpenGate, R, W>(
-        rt, alloc, blank, opened, fed, script, &OpenGate, is_watched, out,
-    );
+    let alloc = means.alloc;
+    let ran = run_recorded::<L, R, W>(means, is_watched, fed, script, out);
     let Ran { closed, seen } = match ran {
         Ok(ran) => ran,
         Err(fault) => return tell_run_stop(alloc, errors, fault),

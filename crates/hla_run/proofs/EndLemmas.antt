@@ -21,12 +21,13 @@ run_told fed script c lines old new describes says told = record {
 }
 
 -- of a run that stops behind the reading nothing more is said
-pub stops_late : (fed script : List ℕ) (old new : Option (List ℕ)) (e : RunFault) → IsPastReading e → StopsRun fed script old new e
-stops_late fed script old new (stop.Fed e) late = absurd late
-stops_late fed script old new (stop.Script e) late = absurd late
-stops_late fed script old new stop.Write late = tt
-stops_late fed script old new stop.Memory late = tt
-stops_late fed script old new (stop.Close e) late = tt
-stops_late fed script old new stop.Monitor late = tt
+pub stops_late : (fed script : List ℕ) (ambassadors : ℕ) (old new : Option (List ℕ)) (e : RunFault) → IsPastReading e → StopsRun fed script ambassadors old new e
+stops_late fed script ambassadors old new (stop.Fed e) late = absurd late
+stops_late fed script ambassadors old new (stop.Script e) late = absurd late
+stops_late fed script ambassadors old new stop.Ambassadors late = absurd late
+stops_late fed script ambassadors old new stop.Write late = tt
+stops_late fed script ambassadors old new stop.Memory late = tt
+stops_late fed script ambassadors old new (stop.Close e) late = tt
+stops_late fed script ambassadors old new stop.Monitor late = tt
 
 pub ruleset ends = (run_told, stops_late)

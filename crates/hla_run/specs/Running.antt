@@ -1,5 +1,5 @@
 -- What a run of a script writes
-use Rattle.std.specs.Prelude.{◌≡◌, ◌≤◌, ℕ, List, [], length, take, Option, None, Some, Ok, Err, Bool, true, false, Result, slice_index_or}
+use Rattle.std.specs.Prelude.{◌≡◌, ◌≤◌, ◌<◌, ℕ, List, [], length, take, Option, None, Some, Ok, Err, Bool, true, false, Result, slice_index_or}
 use Rattle.std.specs.List.{flat_map, enumerate_from}
 use Rattle.std.specs.Io.KnownBytes.{Appends}
 use Rattle.hla_catalogue.specs.CatalogueValue.{CatalogueValue}
@@ -12,6 +12,7 @@ use Rattle.hla_monitor.specs.declared.status.Status.{Status}
 use Rattle.hla_commands.specs.declared.lines.Line.{Line}
 use Rattle.hla_commands.specs.Script.{script_of, ParsesAs}
 use Rattle.hla_transcript.specs.Printed.{line_text}
+use Rattle.hla_run.specs.Joining.{script_joins}
 use Rattle.hla_run.specs.declared.fault.RunFault.{RunFault}
 use Rattle.hla_run.specs.declared.fault.RunFault.TheVariants as stop
 
@@ -53,28 +54,32 @@ abbrev pub IsSeen : Bool → List Record → Option Status → Type 0
 IsSeen is_watched records None = is_watched ≡ false
 IsSeen is_watched records (Some s) = (is_watched ≡ true) × CountsBeginning records s
 
--- a text is at fault: the FED file is tested first
-abbrev pub IsUnread : List ℕ → List ℕ → RunFault → Type 0
-IsUnread fed script (stop.Fed e) = reading.ReadsAs (Err e) (reading.reading_of fed)
-IsUnread fed script (stop.Script e) = ((c : CatalogueValue) × Describes fed c) × ParsesAs (Err e) (script_of script)
-IsUnread fed script stop.Write = ⊥
-IsUnread fed script stop.Memory = ⊥
-IsUnread fed script (stop.Close e) = ⊥
-IsUnread fed script stop.Monitor = ⊥
+-- a text is at fault, or ambassadors are missing: the FED file is tested first,
+-- then the script, and then whether there are as many ambassadors as lines that join
+abbrev pub IsUnread : List ℕ → List ℕ → ℕ → RunFault → Type 0
+IsUnread fed script ambassadors (stop.Fed e) = reading.ReadsAs (Err e) (reading.reading_of fed)
+IsUnread fed script ambassadors (stop.Script e) = ((c : CatalogueValue) × Describes fed c) × ParsesAs (Err e) (script_of script)
+IsUnread fed script ambassadors stop.Ambassadors = ((c : CatalogueValue) × Describes fed c) × (ambassadors < script_joins script)
+IsUnread fed script ambassadors stop.Write = ⊥
+IsUnread fed script ambassadors stop.Memory = ⊥
+IsUnread fed script ambassadors (stop.Close e) = ⊥
+IsUnread fed script ambassadors stop.Monitor = ⊥
 
--- why a script was not run to its end: a text at fault writes nothing
-abbrev pub StopsRun : List ℕ → List ℕ → Option (List ℕ) → Option (List ℕ) → RunFault → Type 0
-StopsRun fed script old new (stop.Fed e) = IsUnread fed script (stop.Fed e) × Appends old new []
-StopsRun fed script old new (stop.Script e) = IsUnread fed script (stop.Script e) × Appends old new []
-StopsRun fed script old new stop.Write = Unit {0}
-StopsRun fed script old new stop.Memory = Unit {0}
-StopsRun fed script old new (stop.Close e) = Unit {0}
-StopsRun fed script old new stop.Monitor = Unit {0}
+-- why a script was not run to its end, for which there were so many ambassadors: before any step nothing is written
+abbrev pub StopsRun : List ℕ → List ℕ → ℕ → Option (List ℕ) → Option (List ℕ) → RunFault → Type 0
+StopsRun fed script ambassadors old new (stop.Fed e) = IsUnread fed script ambassadors (stop.Fed e) × Appends old new []
+StopsRun fed script ambassadors old new (stop.Script e) = IsUnread fed script ambassadors (stop.Script e) × Appends old new []
+StopsRun fed script ambassadors old new stop.Ambassadors = IsUnread fed script ambassadors stop.Ambassadors × Appends old new []
+StopsRun fed script ambassadors old new stop.Write = Unit {0}
+StopsRun fed script ambassadors old new stop.Memory = Unit {0}
+StopsRun fed script ambassadors old new (stop.Close e) = Unit {0}
+StopsRun fed script ambassadors old new stop.Monitor = Unit {0}
 
--- a run ends so only once both texts are read
+-- a run ends so only once both texts are read, and there are ambassadors enough
 abbrev pub IsPastReading : RunFault → Type 0
 IsPastReading (stop.Fed e) = ⊥
 IsPastReading (stop.Script e) = ⊥
+IsPastReading stop.Ambassadors = ⊥
 IsPastReading stop.Write = Unit {0}
 IsPastReading stop.Memory = Unit {0}
 IsPastReading (stop.Close e) = Unit {0}
@@ -84,6 +89,7 @@ IsPastReading stop.Monitor = Unit {0}
 abbrev pub is_failed_text : RunFault → Bool
 is_failed_text (stop.Fed e) = false
 is_failed_text (stop.Script e) = false
+is_failed_text stop.Ambassadors = false
 is_failed_text stop.Write = true
 is_failed_text stop.Memory = false
 is_failed_text (stop.Close e) = false

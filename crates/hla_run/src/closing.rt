@@ -8,7 +8,7 @@ ghost use Rattle.hla_run.specs.Running.{IsPastReading, told_text, is_unwritten_r
 use crate::fault::{RunFault, close_fault};
 use crate::outcomes::Outcomes;
 use crate::texts::write_outcomes;
-use hla_callbacks::Recorder;
+use hla_callbacks::FederateAmbassador;
 use hla_catalogue::Catalogue;
 use hla_commands::Line;
 use hla_monitor::{Naming, Publisher};
@@ -22,11 +22,11 @@ use std::sync::ledger::Ledger;
 /// Writes how those lines came out that were done, and closes. `Memory` where a growth was refused for the text; `Write` only
 /// where the writer has failed, and then a part of the text may be written; `Close` where the infrastructure does not close.
 /// After a fault the infrastructure is let go.
-pub fn close_told<L: Ledger + Naming, P: Publisher<L>, W: Write>(
+pub fn close_told<L: Ledger + Naming, B: FederateAmbassador, P: Publisher<L>, W: Write>(
     rt: &impl Wait,
     alloc: Global,
-    rti: Rti<L, Recorder, P>,
-    lefts: Vec<Left<L, Recorder>>,
+    rti: Rti<L, B, P>,
+    lefts: Vec<Left<L, B>>,
     catalogue: &Catalogue,
     lines: &[Line<'_>],
     outcomes: &Outcomes,

@@ -16,6 +16,8 @@ pub enum RunFault {
     Fed(FedFault),
     /// The script is refused.
     Script(ScriptFault),
+    /// There are fewer ambassadors than lines that join.
+    Ambassadors,
     /// A write failed.
     Write,
     /// A growth was refused outside the steps.

@@ -5,7 +5,7 @@ use crate::outcomes::{LineOutcome, outcome_of_tick};
 use crate::player::{Acted, Deed, Player, do_deed};
 use crate::resting::{LineWait, Rested, RestingRoom};
 use hla_base::{ExecutionName, Fault, FederateNo, List};
-use hla_callbacks::Recorder;
+use hla_callbacks::FederateAmbassador;
 use hla_catalogue::Catalogue;
 use hla_commands::{Call, Command, Line};
 use hla_machine::{Answer, Carried, Outcome};
@@ -33,11 +33,11 @@ pub struct Stage<'a, G: Gate> {
 
 /// A federate that joined under a name, with a courier that brings all federates what they send each other.
 #[derive(Drop)]
-pub struct Life<L: Ledger + Naming, P: Publisher<L>> {
+pub struct Life<L: Ledger + Naming, B: FederateAmbassador, P: Publisher<L>> {
     pub name: List<u8>,
     pub number: FederateNo,
-    pub player: Player<L, P>,
-    pub courier: Courier<L, Recorder, P>,
+    pub player: Player<L, B, P>,
+    pub courier: Courier<L, B, P>,
     /// How its lines came out, those that are done.
     pub told: Vec<LineOutcome>,
     /// Whether a growth was refused; then its last lines may not be done.
@@ -45,9 +45,9 @@ pub struct Life<L: Ledger + Naming, P: Publisher<L>> {
 }
 
 /// Carries each wire that leads from a federate once. Answers whether anything was there.
-fn carry_from<L: Ledger + Naming, P: Publisher<L>>(
+fn carry_from<L: Ledger + Naming, B: FederateAmbassador, P: Publisher<L>>(
     rt: &impl Wait,
-    courier: &mut Courier<L, Recorder, P>,
+    courier: &mut Courier<L, B, P>,
     execution: ExecutionName,
     from: FederateNo,
     joined: FederateNo,
@@ -64,9 +64,9 @@ fn carry_from<L: Ledger + Naming, P: Publisher<L>>(
 
 /// Has each federate announce its promise, and then carries each wire once, by rising numbers. A refusal is in the records. Answers
 /// whether anything was announced or carried.
-fn exchange<L: Ledger + Naming, P: Publisher<L>>(
+fn exchange<L: Ledger + Naming, B: FederateAmbassador, P: Publisher<L>>(
     rt: &impl Wait,
-    courier: &mut Courier<L, Recorder, P>,
+    courier: &mut Courier<L, B, P>,
     execution: ExecutionName,
     joined: FederateNo,
 ) -> bool {
@@ -84,9 +84,9 @@ fn exchange<L: Ledger + Naming, P: Publisher<L>>(
 
 /// Has the federates exchange what they have for each other, so often, or until there is nothing more: then one exchange is
 /// as good as many.
-fn exchange_often<L: Ledger + Naming, P: Publisher<L>>(
+fn exchange_often<L: Ledger + Naming, B: FederateAmbassador, P: Publisher<L>>(
     rt: &impl Wait,
-    courier: &mut Courier<L, Recorder, P>,
+    courier: &mut Courier<L, B, P>,
     execution: ExecutionName,
     joined: FederateNo,
     exchanges: u64,
@@ -100,10 +100,10 @@ fn exchange_often<L: Ledger + Naming, P: Publisher<L>>(
 
 /// What a thread does after a tick with nothing: it rests until a bout has ended. Where all others do so, too, are held or have
 /// ended, it leads the bout, and has the federates exchange what they have for each other.
-fn after_nothing<L: Ledger + Naming, P: Publisher<L>, G: Gate>(
+fn after_nothing<L: Ledger + Naming, B: FederateAmbassador, P: Publisher<L>, G: Gate>(
     rt: &impl Wait,
     stage: &Stage<G>,
-    courier: &mut Courier<L, Recorder, P>,
+    courier: &mut Courier<L, B, P>,
     seen: u64,
     wait: &mut LineWait,
 ) {
@@ -117,11 +117,11 @@ fn after_nothing<L: Ledger + Naming, P: Publisher<L>, G: Gate>(
 }
 
 /// Ticks until a callback comes or a tick is refused, at most `MAX_TICKS` times, once a bout.
-fn called_back<L: Ledger + Naming, P: Publisher<L>, G: Gate>(
+fn called_back<L: Ledger + Naming, B: FederateAmbassador, P: Publisher<L>, G: Gate>(
     rt: &impl Wait,
     stage: &Stage<G>,
-    federate: &mut Federate<L, Recorder, P>,
-    courier: &mut Courier<L, Recorder, P>,
+    federate: &mut Federate<L, B, P>,
+    courier: &mut Courier<L, B, P>,
 ) -> Outcome {
     let mut wait = LineWait::new();
     for _ in 0..MAX_TICKS {
@@ -137,13 +137,13 @@ fn called_back<L: Ledger + Naming, P: Publisher<L>, G: Gate>(
 }
 
 /// Does what a line asks of the federate; one that has resigned does nothing any more.
-fn done<L: Ledger + Naming, P: Publisher<L>, G: Gate>(
+fn done<L: Ledger + Naming, B: FederateAmbassador, P: Publisher<L>, G: Gate>(
     rt: &impl Wait,
     stage: &Stage<G>,
-    player: Player<L, P>,
-    courier: &mut Courier<L, Recorder, P>,
+    player: Player<L, B, P>,
+    courier: &mut Courier<L, B, P>,
     call: &Call<'_>,
-) -> Acted<L, P> {
+) -> Acted<L, B, P> {
     let mut federate = match player {
         Player::Joined(federate) => federate,
         Player::Gone(left) => {
@@ -165,7 +165,7 @@ fn done<L: Ledger + Naming, P: Publisher<L>, G: Gate>(
     }
 }
 
-impl<L: Ledger + Naming, P: Publisher<L>> Life<L, P> {
+impl<L: Ledger + Naming, B: FederateAmbassador, P: Publisher<L>> Life<L, B, P> {
     /// Does the line at a place of the script, between the two calls of the gate. A thread that is in one of these counts as held:
     /// others don't wait for it.
     fn next<G: Gate>(
@@ -175,7 +175,7 @@ impl<L: Ledger + Naming, P: Publisher<L>> Life<L, P> {
         place: usize,
         line: usize,
         call: &Call<'_>,
-    ) -> Life<L, P> {
+    ) -> Life<L, B, P> {
         let Life {
             name,
             number,
@@ -202,11 +202,11 @@ impl<L: Ledger + Naming, P: Publisher<L>> Life<L, P> {
 }
 
 /// Does the federate's lines of the script, in order.
-pub fn live<L: Ledger + Naming, P: Publisher<L>, G: Gate>(
+pub fn live<L: Ledger + Naming, B: FederateAmbassador, P: Publisher<L>, G: Gate>(
     rt: &impl Wait,
     stage: &Stage<G>,
-    mut life: Life<L, P>,
-) -> Life<L, P> {
+    mut life: Life<L, B, P>,
+) -> Life<L, B, P> {
     for (place, line) in stage.lines.iter().enumerate() {
         if let Command::Federate { name, call } = &line.command {
             if name.as_slice() == life.name.as_slice() {

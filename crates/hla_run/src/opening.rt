@@ -1,12 +1,14 @@
 //! What is done before the federates' threads begin, and after they have ended.
 
-ghost use Rattle.std.specs.Prelude.{◌≡◌, length, IfOk, OnOk};
+ghost use Rattle.std.specs.Prelude.{◌≡◌, ◌+◌, ◌<◌, ◌≤◌, length, IfOk, OnOk};
+ghost use Rattle.hla_run.specs.Joining.{joins, joins_by};
 
+use crate::joining::Ambassadors;
 use crate::life::Life;
 use crate::outcomes::{LineOutcome, Outcomes, outcome_of_done};
 use crate::player::Player;
 use hla_base::{ExecutionName, Fault, List};
-use hla_callbacks::Recorder;
+use hla_callbacks::FederateAmbassador;
 use hla_commands::{Command, Line};
 use hla_machine::{Answer, Outcome};
 use hla_monitor::{Naming, Publisher};
@@ -25,17 +27,22 @@ fn copied(alloc: Global, name: &[u8]) -> Result<List<u8>, Fault>
     }
 }
 
-/// Joins a federate, and gives it a courier. An error is want of memory outside the steps.
-fn joined<L: Ledger + Naming, P: Publisher<L>>(
+/// Joins a federate with the next ambassador, and gives it a courier. An error is want of memory outside the steps.
+fn joined<L: Ledger + Naming, B: FederateAmbassador, P: Publisher<L>>(
     rt: &impl Wait,
     alloc: Global,
-    rti: &mut Rti<L, Recorder, P>,
+    rti: &mut Rti<L, B, P>,
     execution: ExecutionName,
     name: &[u8],
-    lives: &mut Vec<Life<L, P>>,
-) -> Result<Outcome, Fault> {
+    ambassadors: &mut Ambassadors<B>,
+    lives: &mut Vec<Life<L, B, P>>,
+) -> Result<Outcome, Fault>
+    requires { 0 < ambassadors.old }
+    ensures { OnOk result (ambassadors.new + 1 ≡ ambassadors.old) }
+{
     let own = copied(alloc, name)?;
-    let federate = match rti.join(rt, copied(alloc, name)?, execution, Recorder::new(alloc)) {
+    let name = copied(alloc, name)?;
+    let federate = match rti.join(rt, name, execution, ambassadors.take_first()) {
         Ok(federate) => federate,
         Err((fault, _)) => return Ok(Outcome::Refused(fault)),
     };
@@ -61,41 +68,60 @@ fn joined<L: Ledger + Naming, P: Publisher<L>>(
 }
 
 /// Does a line that creates the execution or joins a federate. An error is want of memory outside the steps.
-fn opened<L: Ledger + Naming, P: Publisher<L>>(
+fn opened<L: Ledger + Naming, B: FederateAmbassador, P: Publisher<L>>(
     rt: &impl Wait,
     alloc: Global,
-    rti: &mut Rti<L, Recorder, P>,
+    rti: &mut Rti<L, B, P>,
     execution: ExecutionName,
     fed: &[u8],
     command: &Command<'_>,
-    lives: &mut Vec<Life<L, P>>,
-) -> Result<Option<Outcome>, Fault> {
+    ambassadors: &mut Ambassadors<B>,
+    lives: &mut Vec<Life<L, B, P>>,
+) -> Result<Option<Outcome>, Fault>
+    requires { joins_by command.now ≤ ambassadors.old }
+    ensures { OnOk result (ambassadors.new + joins_by command.now ≡ ambassadors.old) }
+{
     match command {
         Command::Create => Ok(Some(outcome_of_done(rti.create(rt, execution, fed)))),
-        Command::Join { name } => match joined(rt, alloc, rti, execution, name.as_slice(), lives) {
-            Ok(outcome) => Ok(Some(outcome)),
-            Err(fault) => Err(fault),
-        },
+        Command::Join { name } => {
+            let name = name.as_slice();
+            match joined(rt, alloc, rti, execution, name, ambassadors, lives) {
+                Ok(outcome) => Ok(Some(outcome)),
+                Err(fault) => Err(fault),
+            }
+        }
         _ => Ok(None),
     }
 }
 
 /// Does the lines that create and join, in the order of the script: the federates that joined. `OutOfMemory` where a growth
 /// was refused outside the steps; what was done before stays done and noted.
-pub fn open<L: Ledger + Naming, P: Publisher<L>>(
+pub fn open<L: Ledger + Naming, B: FederateAmbassador, P: Publisher<L>>(
     rt: &impl Wait,
     alloc: Global,
-    rti: &mut Rti<L, Recorder, P>,
+    rti: &mut Rti<L, B, P>,
     execution: ExecutionName,
     fed: &[u8],
     lines: &[Line<'_>],
+    mut ambassadors: Ambassadors<B>,
     outcomes: &mut Outcomes,
-) -> Result<Vec<Life<L, P>>, Fault>
+) -> Result<Vec<Life<L, B, P>>, Fault>
+    requires { joins lines.now ≤ ambassadors }
     ensures { OnOk result (length outcomes.new ≡ length outcomes.old) }
 {
     let mut lives = Vec::new(alloc);
     for (place, line) in lines.iter().enumerate() {
-        if let Some(outcome) = opened(rt, alloc, rti, execution, fed, &line.command, &mut lives)? {
+        let opened = opened(
+            rt,
+            alloc,
+            rti,
+            execution,
+            fed,
+            &line.command,
+            &mut ambassadors,
+            &mut lives,
+        )?;
+        if let Some(outcome) = opened {
             outcomes.note(LineOutcome { place, outcome });
         }
     }
@@ -103,9 +129,9 @@ pub fn open<L: Ledger + Naming, P: Publisher<L>>(
 }
 
 /// Does the lines that destroy, in the order of the script.
-pub fn destroy<L: Ledger + Naming, P: Publisher<L>>(
+pub fn destroy<L: Ledger + Naming, B: FederateAmbassador, P: Publisher<L>>(
     rt: &impl Wait,
-    rti: &mut Rti<L, Recorder, P>,
+    rti: &mut Rti<L, B, P>,
     execution: ExecutionName,
     lines: &[Line<'_>],
     outcomes: &mut Outcomes,
@@ -121,13 +147,16 @@ pub fn destroy<L: Ledger + Naming, P: Publisher<L>>(
 }
 
 /// Whether a federate has joined under a name.
-fn has_joined<L: Ledger + Naming, P: Publisher<L>>(lives: &[Life<L, P>], name: &[u8]) -> bool {
+fn has_joined<L: Ledger + Naming, B: FederateAmbassador, P: Publisher<L>>(
+    lives: &[Life<L, B, P>],
+    name: &[u8],
+) -> bool {
     lives.iter().any(|l| l.name.as_slice() == name)
 }
 
 /// Notes of the lines of federates that have not joined that they make no step.
-pub fn refuse_strangers<L: Ledger + Naming, P: Publisher<L>>(
-    lives: &[Life<L, P>],
+pub fn refuse_strangers<L: Ledger + Naming, B: FederateAmbassador, P: Publisher<L>>(
+    lives: &[Life<L, B, P>],
     lines: &[Line<'_>],
     outcomes: &mut Outcomes,
 )

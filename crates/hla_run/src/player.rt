@@ -2,7 +2,7 @@
 
 use crate::outcomes::{outcome_of, outcome_of_tick};
 use hla_base::Fault;
-use hla_callbacks::Recorder;
+use hla_callbacks::FederateAmbassador;
 use hla_catalogue::Catalogue;
 use hla_commands::Call;
 use hla_machine::{Answer, Outcome, ResignAction, Service};
@@ -15,15 +15,15 @@ use std::sync::ledger::Ledger;
 
 /// A federate of a script: joined, or what it left behind when it resigned.
 #[derive(Drop)]
-pub enum Player<L: Ledger + Naming, P: Publisher<L>> {
-    Joined(Federate<L, Recorder, P>),
-    Gone(Left<L, Recorder>),
+pub enum Player<L: Ledger + Naming, B: FederateAmbassador, P: Publisher<L>> {
+    Joined(Federate<L, B, P>),
+    Gone(Left<L, B>),
 }
 
 /// A federate of a script, and how the line that it has done came out.
 #[derive(Drop)]
-pub struct Acted<L: Ledger + Naming, P: Publisher<L>> {
-    pub player: Player<L, P>,
+pub struct Acted<L: Ledger + Naming, B: FederateAmbassador, P: Publisher<L>> {
+    pub player: Player<L, B, P>,
     pub outcome: Outcome,
 }
 
@@ -49,11 +49,11 @@ impl Deed {
 }
 
 /// Resigns: the federate is gone where it is not refused.
-fn resign<L: Ledger + Naming, P: Publisher<L>>(
+fn resign<L: Ledger + Naming, B: FederateAmbassador, P: Publisher<L>>(
     rt: &impl Wait,
-    federate: Federate<L, Recorder, P>,
+    federate: Federate<L, B, P>,
     action: ResignAction,
-) -> Acted<L, P> {
+) -> Acted<L, B, P> {
     match federate.resign(rt, action) {
         Ok(left) => Acted {
             player: Player::Gone(left),
@@ -67,11 +67,11 @@ fn resign<L: Ledger + Naming, P: Publisher<L>>(
 }
 
 /// Calls a service.
-fn serve<L: Ledger + Naming, P: Publisher<L>>(
+fn serve<L: Ledger + Naming, B: FederateAmbassador, P: Publisher<L>>(
     rt: &impl Wait,
-    mut federate: Federate<L, Recorder, P>,
+    mut federate: Federate<L, B, P>,
     service: Service,
-) -> Acted<L, P> {
+) -> Acted<L, B, P> {
     if let Service::Resign { action } = &service {
         let action = *action;
         drop(service);
@@ -85,11 +85,11 @@ fn serve<L: Ledger + Naming, P: Publisher<L>>(
 }
 
 /// Does what a line asks of a joined federate; a tick picks up one callback.
-pub fn do_deed<L: Ledger + Naming, P: Publisher<L>>(
+pub fn do_deed<L: Ledger + Naming, B: FederateAmbassador, P: Publisher<L>>(
     rt: &impl Wait,
-    mut federate: Federate<L, Recorder, P>,
+    mut federate: Federate<L, B, P>,
     deed: Deed,
-) -> Acted<L, P> {
+) -> Acted<L, B, P> {
     match deed {
         Deed::Tick => {
             let outcome = outcome_of_tick(federate.tick(rt));
@@ -106,9 +106,9 @@ pub fn do_deed<L: Ledger + Naming, P: Publisher<L>>(
     }
 }
 
-impl<L: Ledger + Naming, P: Publisher<L>> Player<L, P> {
+impl<L: Ledger + Naming, B: FederateAmbassador, P: Publisher<L>> Player<L, B, P> {
     /// Ends the caller: what it leaves behind. A federate that has not resigned stays joined.
-    pub fn leave(self) -> Left<L, Recorder> {
+    pub fn leave(self) -> Left<L, B> {
         match self {
             Player::Joined(federate) => federate.leave(),
             Player::Gone(left) => left,

@@ -1,12 +1,15 @@
 //! Running a script, each federate on a thread of its own.
 
-ghost use Rattle.std.specs.Prelude.{◌≡◌, ◌||◌, IfOk, OnOk, IfErr, length, vec_len};
+ghost use Rattle.std.specs.Prelude.{◌≡◌, ◌||◌, ◌≤◌, [], IfOk, OnOk, IfErr, length, vec_len};
+ghost use Rattle.std.specs.List.{All};
 ghost use Rattle.hla_base.specs.Limits.{ledger_parts};
+ghost use Rattle.hla_run.specs.Joining.{joins, script_joins};
 ghost use Rattle.hla_run.specs.Running.{AreTold, IsPastReading, IsRunFrom, IsSeen, StopsRun, is_unwritten_run};
 
 use crate::closing::close_told;
 use crate::fault::RunFault;
 use crate::gate::Gate;
+use crate::joining::Ambassadors;
 use crate::life::{Life, Stage, live};
 use crate::opening::{destroy, open, refuse_strangers};
 use crate::outcomes::Outcomes;
@@ -14,7 +17,7 @@ use crate::resting::RestingRoom;
 use crate::texts::{Texts, read_texts};
 use crate::watching::{Ran, last_read, to_the_end, watcher};
 use hla_base::{ExecutionName, Fault, MAX_HISTORY};
-use hla_callbacks::Recorder;
+use hla_callbacks::FederateAmbassador;
 use hla_catalogue::Catalogue;
 use hla_commands::Line;
 use hla_monitor::{Naming, Opened, Publisher};
@@ -28,9 +31,9 @@ use std::thread;
 use std::thread::Threads;
 
 /// Puts what a federate and its courier leave behind at the end of a list, and notes how its lines came out.
-fn gathered<L: Ledger + Naming, P: Publisher<L>>(
-    life: Life<L, P>,
-    lefts: &mut Vec<Left<L, Recorder>>,
+fn gathered<L: Ledger + Naming, B: FederateAmbassador, P: Publisher<L>>(
+    life: Life<L, B, P>,
+    lefts: &mut Vec<Left<L, B>>,
     outcomes: &mut Outcomes,
 ) -> Result<(), Fault>
     ensures { length outcomes.new ≡ length outcomes.old }
@@ -53,11 +56,11 @@ fn gathered<L: Ledger + Naming, P: Publisher<L>>(
 }
 
 /// What all leave behind.
-fn gathered_all<L: Ledger + Naming, P: Publisher<L>>(
+fn gathered_all<L: Ledger + Naming, B: FederateAmbassador, P: Publisher<L>>(
     alloc: Global,
-    lives: Vec<Life<L, P>>,
+    lives: Vec<Life<L, B, P>>,
     outcomes: &mut Outcomes,
-) -> Result<Vec<Left<L, Recorder>>, Fault>
+) -> Result<Vec<Left<L, B>>, Fault>
     ensures { OnOk result (length outcomes.new ≡ length outcomes.old) }
 {
     let mut lefts = Vec::new(alloc);
@@ -68,7 +71,9 @@ fn gathered_all<L: Ledger + Naming, P: Publisher<L>>(
 }
 
 /// The number of federates that have joined; each has the number of its joining.
-fn number_of<L: Ledger + Naming, P: Publisher<L>>(lives: &[Life<L, P>]) -> u32 {
+fn number_of<L: Ledger + Naming, B: FederateAmbassador, P: Publisher<L>>(
+    lives: &[Life<L, B, P>],
+) -> u32 {
     match lives.last() {
         Some(life) => life.number,
         None => 0,
@@ -79,23 +84,26 @@ fn number_of<L: Ledger + Naming, P: Publisher<L>>(lives: &[Life<L, P>]) -> u32 {
 /// its own, and then those that destroy. What all leave behind; an error is want of memory outside the steps.
 fn ran<
     L: Ledger + Naming + Send + Sync,
+    B: FederateAmbassador + Send,
     P: Publisher<L> + Send,
     G: Gate + Sync,
     R: Threads + Wait + Sync,
 >(
     rt: &R,
     alloc: Global,
-    rti: &mut Rti<L, Recorder, P>,
+    rti: &mut Rti<L, B, P>,
     fed: &[u8],
     catalogue: &Catalogue,
     lines: &[Line<'_>],
+    ambassadors: Ambassadors<B>,
     gate: &G,
     outcomes: &mut Outcomes,
-) -> Result<Vec<Left<L, Recorder>>, Fault>
+) -> Result<Vec<Left<L, B>>, Fault>
+    requires { joins lines.now ≤ ambassadors }
     ensures { OnOk result (length outcomes.new ≡ length outcomes.old) }
 {
     let execution = ExecutionName::new(b"play")?;
-    let lives = open(rt, alloc, rti, execution, fed, lines, outcomes)?;
+    let lives = open(rt, alloc, rti, execution, fed, lines, ambassadors, outcomes)?;
     refuse_strangers(lives.as_slice(), lines, outcomes);
     let stage = Stage {
         alloc,
@@ -118,6 +126,7 @@ fn ran<
 /// monitor is there from before the first step on, and reads the counts once all is done.
 fn told_on_threads<
     L: Ledger + Naming + Send + Sync,
+    B: FederateAmbassador + Send,
     P: Publisher<L> + Send,
     G: Gate + Sync,
     R: Threads + Wait + Sync,
@@ -125,15 +134,17 @@ fn told_on_threads<
 >(
     rt: &R,
     alloc: Global,
-    mut rti: Rti<L, Recorder, P>,
+    mut rti: Rti<L, B, P>,
     fed: &[u8],
     catalogue: &Catalogue,
     lines: &[Line<'_>],
+    ambassadors: Ambassadors<B>,
     gate: &G,
     is_watched: bool,
     out: &mut Watched<W>,
 ) -> Result<Ran, RunFault>
-    requires { L.parts ≡ ledger_parts }
+    requires parts { L.parts ≡ ledger_parts }
+    requires enough { joins lines.now ≤ ambassadors }
     ensures told { OnOk result (AreTold catalogue.now lines.now (W.contents out.old.inner)
         (W.contents out.new.inner)) }
     ensures seen { IfOk result (λ r. IsSeen is_watched r.closed r.seen) }
@@ -155,6 +166,7 @@ fn told_on_threads<
         fed,
         catalogue,
         lines,
+        ambassadors,
         gate,
         &mut outcomes,
     );
@@ -178,13 +190,17 @@ fn told_on_threads<
 /// monitor is there from before the first step on, and reads the counts once all is done. `blank` is a ledger of 2,049 parts
 /// and `opened` an empty history, as `open_rti` takes them.
 ///
-/// The FED file is tested before the script, and both before anything is done: `Fed` or else `Script` with the first fault,
-/// and nothing written. `Memory` where a growth was refused outside the steps, or the monitor before any step; `Write` only
+/// `ambassadors` have heard nothing: each line that joins uses up the next, also where it is refused.
+///
+/// The FED file is tested before the script, then whether there are ambassadors enough, and all before anything is done: `Fed`
+/// or else `Script` with the first fault, or else `Ambassadors` where there are fewer than `joins` of the lines, and nothing
+/// written. `Memory` where a growth was refused outside the steps, or the monitor before any step; `Write` only
 /// where the writer has failed; `Close` where the infrastructure does not close; and `Monitor` where what the monitor read
 /// are not the counts of a beginning of the history.
 #[tactic(auto, using(crate::proofs::EndLemmas::ends))]
 pub fn run_scripts<
     L: Ledger + Naming + Send + Sync,
+    B: FederateAmbassador + Send,
     G: Gate + Sync,
     R: Threads + Wait + Sync,
     W: Write,
@@ -195,6 +211,7 @@ pub fn run_scripts<
     opened: Opened,
     fed: &[u8],
     script: &[u8],
+    ambassadors: Vec<B>,
     gate: &G,
     is_watched: bool,
     out: &mut Watched<W>,
@@ -203,6 +220,7 @@ pub fn run_scripts<
     requires parts { blank.parts ≡ L.parts }
     requires all { blank.parts ≡ ledger_parts }
     requires book { opened.seen.book ≡ L.book }
+    requires heard { All (λ b. B.heard b ≡ []) ambassadors.items }
 
     // What was written is an outcome for each line that was done, in the order of the script.
     ensures written { OnOk result (IsRunFrom fed.now script.now (W.contents out.old.inner)
@@ -211,15 +229,18 @@ pub fn run_scripts<
     // What a monitor read last, where one was to watch, are the counts of a beginning of the records.
     ensures seen { IfOk result (λ r. IsSeen is_watched r.closed r.seen) }
 
-    // The first fault of the FED file, or else that of the script, with nothing written.
-    ensures stopped { IfErr result (StopsRun fed.now script.now (W.contents out.old.inner)
-        (W.contents out.new.inner)) }
+    // There were ambassadors enough.
+    ensures enough { OnOk result (script_joins script.now ≤ vec_len ambassadors) }
+
+    // The first fault of the FED file, or else that of the script, or else too few ambassadors, with nothing written.
+    ensures stopped { IfErr result (StopsRun fed.now script.now (vec_len ambassadors)
+        (W.contents out.old.inner) (W.contents out.new.inner)) }
 
     // A write has failed where that is answered, and nowhere else.
     ensures failure { out.new.has_failed ≡ (out.old.has_failed || is_unwritten_run result) }
 {
-    let Texts { catalogue, script } = read_texts(alloc, fed, script)?;
-    let Ok(rti) = open_rti::<L, Recorder, &R>(alloc, rt, blank, opened, MAX_HISTORY) else {
+    let Texts { catalogue, script } = read_texts(alloc, fed, script, ambassadors.len())?;
+    let Ok(rti) = open_rti::<L, B, &R>(alloc, rt, blank, opened, MAX_HISTORY) else {
         return Err(RunFault::Memory);
     };
     told_on_threads(
@@ -229,6 +250,7 @@ pub fn run_scripts<
         fed,
         &catalogue,
         script.as_slice(),
+        Ambassadors::new(ambassadors),
         gate,
         is_watched,
         out,

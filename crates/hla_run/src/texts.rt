@@ -1,12 +1,14 @@
 //! The texts of a run: read before anything is done, and written at its end.
 
-ghost use Rattle.std.specs.Prelude.{◌≡◌, ◌||◌, ◌⊎◌, Ok, OnOk, IfOk, IfErr};
+ghost use Rattle.std.specs.Prelude.{◌≡◌, ◌||◌, ◌⊎◌, ◌≤◌, Ok, OnOk, IfOk, IfErr};
 ghost use Rattle.std.specs.Io.KnownBytes.{Appends};
 ghost use Rattle.hla_fed_file.specs.Grammar.{Describes};
 ghost use Rattle.hla_commands.specs.Script.{script_of};
+ghost use Rattle.hla_run.specs.Joining.{script_joins};
 ghost use Rattle.hla_run.specs.Running.{IsUnread, told_text, is_unwritten_run};
 
 use crate::fault::RunFault;
+use crate::joining::joins;
 use crate::outcomes::Outcomes;
 use hla_base::Fault;
 use hla_catalogue::Catalogue;
@@ -23,17 +25,25 @@ pub struct Texts<'a> {
     pub script: Script<'a>,
 }
 
-/// Reads the FED file, and then the script. `Fed` with the first fault of the file, or else `Script` with that of the script.
-pub fn read_texts<'a>(alloc: Global, fed: &[u8], script: &'a [u8]) -> Result<Texts<'a>, RunFault>
+/// Reads the FED file, and then the script, for which there are so many ambassadors. `Fed` with the first fault of the file, or
+/// else `Script` with that of the script, or else `Ambassadors` where there are fewer than lines that join.
+pub fn read_texts<'a>(
+    alloc: Global,
+    fed: &[u8],
+    script: &'a [u8],
+    ambassadors: usize,
+) -> Result<Texts<'a>, RunFault>
     ensures describes { IfOk result (λ t. Describes fed.now t.catalogue) }
     ensures says { IfOk result (λ t. script_of script.now ≡ Ok t.script) }
-    ensures stopped { IfErr result (IsUnread fed.now script.now) }
+    ensures enough { OnOk result (script_joins script.now ≤ ambassadors) }
+    ensures stopped { IfErr result (IsUnread fed.now script.now ambassadors) }
 {
     let catalogue = match read(alloc, fed) {
         Ok(catalogue) => catalogue,
         Err(fault) => return Err(RunFault::Fed(fault)),
     };
     match parse(alloc, script) {
+        Ok(script) if joins(script.as_slice()) > ambassadors => Err(RunFault::Ambassadors),
         Ok(script) => Ok(Texts { catalogue, script }),
         Err(fault) => Err(RunFault::Script(fault)),
     }

@@ -5,7 +5,7 @@ ghost use Rattle.hla_run.specs.Running.{CountsBeginning, IsSeen};
 
 use crate::fault::RunFault;
 use hla_base::Fault;
-use hla_callbacks::Recorder;
+use hla_callbacks::FederateAmbassador;
 use hla_machine::Record;
 use hla_monitor::{Monitor, Naming, Publisher, Status};
 use hla_rti::{Closed, Rti};
@@ -22,9 +22,9 @@ pub struct Ran {
 }
 
 /// A monitor, where one is to watch. `LimitReached` as of `Rti::monitor`.
-pub fn watcher<L: Ledger + Naming, P: Publisher<L>>(
+pub fn watcher<L: Ledger + Naming, B: FederateAmbassador, P: Publisher<L>>(
     rt: &impl Wait,
-    rti: &mut Rti<L, Recorder, P>,
+    rti: &mut Rti<L, B, P>,
     is_watched: bool,
 ) -> Result<Option<Monitor<L>>, Fault>
     ensures { IfOk result (λ m. is_some m ≡ is_watched) }

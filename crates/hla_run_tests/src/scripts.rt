@@ -6,11 +6,11 @@ ghost use Rattle.hla_base.specs.Limits.{ledger_parts};
 use crate::gates::{Both, Holding};
 use crate::texts::{FED, Shown, run, run_on_one_thread};
 use hla_base::LEDGER_PARTS;
-use hla_callbacks::{Callback, Delivery};
+use hla_callbacks::{Callback, Delivery, Recorder};
 use hla_checker::check_run;
 use hla_machine::{Answer, Outcome, Record};
 use hla_monitor::{Naming, Opened};
-use hla_run::{OpenGate, RunFault, run_scripts};
+use hla_run::{OpenGate, RunFault, recorders, run_in_order, run_scripts};
 use hla_transcript::Watched;
 use std::alloc::Global;
 use std::marker::Brand;
@@ -153,7 +153,7 @@ fn in_order_at_a_brand(rt: HostRuntime) -> Result<(), Fail> {
     in_order::<Brand, HostRuntime>(&rt, rt.alloc(), Blank::new(LEDGER_PARTS), Opened::new())
 }
 
-/// What a run of texts at fault answers, with nothing written.
+/// What a run of texts at fault answers, or one without ambassadors, with nothing written.
 fn refused<L: Ledger + Naming + Send + Sync, R: Threads + Wait + Abort + Sync>(
     rt: &R,
     alloc: Global,
@@ -168,8 +168,9 @@ fn refused<L: Ledger + Naming + Send + Sync, R: Threads + Wait + Abort + Sync>(
     requires book { opened.seen.book ≡ L.book }
 {
     let mut out = Watched::new(Vec::new(alloc));
-    let ran = run_scripts::<L, OpenGate, R, Vec<u8>>(
-        rt, alloc, blank, opened, fed, script, &OpenGate, false, &mut out,
+    let none: Vec<Recorder> = Vec::new(alloc);
+    let ran = run_scripts::<L, Recorder, OpenGate, R, Vec<u8>>(
+        rt, alloc, blank, opened, fed, script, none, &OpenGate, false, &mut out,
     );
     let Err(fault) = ran else {
         panic!(rt; "not refused");
@@ -204,4 +205,47 @@ fn a_script_at_fault(rt: HostRuntime) -> Result<(), Fail> {
     )?;
     assert!(rt; matches!(fault, RunFault::Script(script) if script.line == 2));
     Ok(())
+}
+
+#[test]
+fn too_few_ambassadors(rt: HostRuntime) -> Result<(), Fail> {
+    let fault = refused::<Brand, HostRuntime>(
+        &rt,
+        rt.alloc(),
+        Blank::new(LEDGER_PARTS),
+        Opened::new(),
+        FED,
+        LOCKSTEP,
+    )?;
+    assert!(rt; matches!(fault, RunFault::Ambassadors));
+    Ok(())
+}
+
+/// The same of a run in order, with one ambassador for the two lines that join.
+fn too_few_in_order<L: Ledger + Naming, R: Wait + Abort>(
+    rt: &R,
+    alloc: Global,
+    blank: Blank,
+    opened: Opened,
+) -> Result<(), Fail>
+    requires name { blank.name ≡ L.name }
+    requires parts { blank.parts ≡ L.parts }
+    requires all { blank.parts ≡ ledger_parts }
+    requires book { opened.seen.book ≡ L.book }
+{
+    let Ok(one) = recorders(alloc, b"join A") else {
+        panic!(rt; "no memory");
+    };
+    let mut out = Watched::new(Vec::new(alloc));
+    let ran = run_in_order::<L, Recorder, R, Vec<u8>>(
+        rt, alloc, blank, opened, FED, ORDERED, one, &mut out,
+    );
+    assert!(rt; matches!(ran, Err(RunFault::Ambassadors)));
+    assert!(rt; out.into_inner().is_empty());
+    Ok(())
+}
+
+#[test]
+fn too_few_ambassadors_in_order(rt: HostRuntime) -> Result<(), Fail> {
+    too_few_in_order::<Brand, HostRuntime>(&rt, rt.alloc(), Blank::new(LEDGER_PARTS), Opened::new())
 }

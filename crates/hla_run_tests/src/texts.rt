@@ -3,9 +3,10 @@
 ghost use Rattle.std.specs.Prelude.{◌≡◌};
 ghost use Rattle.hla_base.specs.Limits.{ledger_parts};
 
+use hla_callbacks::Recorder;
 use hla_monitor::{Naming, Opened, Status};
 use hla_rti::Closed;
-use hla_run::{Gate, run_in_order, run_scripts};
+use hla_run::{Gate, recorders, run_in_order, run_scripts};
 use hla_transcript::Watched;
 use std::alloc::Global;
 use std::process::Abort;
@@ -51,9 +52,12 @@ pub fn run<L: Ledger + Naming + Send + Sync, G: Gate + Sync, R: Threads + Wait +
     requires all { blank.parts ≡ ledger_parts }
     requires book { opened.seen.book ≡ L.book }
 {
+    let Ok(own) = recorders(alloc, script) else {
+        panic!(rt; "no memory");
+    };
     let mut out = Watched::new(Vec::new(alloc));
-    let ran = run_scripts::<L, G, R, Vec<u8>>(
-        rt, alloc, blank, opened, FED, script, gate, true, &mut out,
+    let ran = run_scripts::<L, Recorder, G, R, Vec<u8>>(
+        rt, alloc, blank, opened, FED, script, own, gate, true, &mut out,
     );
     match ran {
         Ok(ran) => Ok(Shown {
@@ -78,8 +82,14 @@ pub fn run_on_one_thread<L: Ledger + Naming, R: Wait + Abort>(
     requires all { blank.parts ≡ ledger_parts }
     requires book { opened.seen.book ≡ L.book }
 {
+    let Ok(own) = recorders(alloc, script) else {
+        panic!(rt; "no memory");
+    };
     let mut out = Watched::new(Vec::new(alloc));
-    match run_in_order::<L, R, Vec<u8>>(rt, alloc, blank, opened, FED, script, &mut out) {
+    let ran = run_in_order::<L, Recorder, R, Vec<u8>>(
+        rt, alloc, blank, opened, FED, script, own, &mut out,
+    );
+    match ran {
         Ok(closed) => Ok(Shown {
             text: out.into_inner(),
             closed,

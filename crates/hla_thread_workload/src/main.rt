@@ -14,9 +14,10 @@ mod texts;
 use crate::digest::Digest;
 use crate::texts::{FED, script};
 use hla_base::{Fault, LEDGER_PARTS};
+use hla_callbacks::Recorder;
 use hla_checker::check_run;
 use hla_monitor::{Naming, Opened};
-use hla_run::{OpenGate, Ran, run_scripts};
+use hla_run::{OpenGate, Ran, recorders, run_scripts};
 use hla_transcript::Watched;
 use std::alloc::Global;
 use std::env::Args;
@@ -77,9 +78,10 @@ fn run_at<L: Ledger + Naming + Send + Sync, R: Threads + Wait + Sync>(
     requires all { blank.parts ≡ ledger_parts }
     requires book { opened.seen.book ≡ L.book }
 {
+    let own = recorders(alloc, script).ok()?;
     let mut out = Watched::new(Vec::new(alloc));
-    let ran = run_scripts::<L, OpenGate, R, Vec<u8>>(
-        rt, alloc, blank, opened, FED, script, &OpenGate, false, &mut out,
+    let ran = run_scripts::<L, Recorder, OpenGate, R, Vec<u8>>(
+        rt, alloc, blank, opened, FED, script, own, &OpenGate, false, &mut out,
     );
     match ran {
         Ok(ran) => {

@@ -19,3 +19,6 @@ returns-in-Close-clause-line g c = rw c.in-Close.is (inl c.tell_differing.ensure
 
 pub returns-in-Monitor-clause-line : goal.returns-in-Monitor-clause-line
 returns-in-Monitor-clause-line g c = rw c.in-Monitor.is (inl c.tell_miscounted.ensures.line)
+
+pub returns-in-Ambassadors-clause-line : goal.returns-in-Ambassadors-clause-line
+returns-in-Ambassadors-clause-line g c = rw c.in-Ambassadors.is (inl c.tell_out_of_memory-in-Ambassadors.ensures.line)

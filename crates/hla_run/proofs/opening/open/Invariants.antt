@@ -1,5 +1,6 @@
-use Rattle.std.proofs.Common.{◌≡◌, length}
+use Rattle.std.proofs.Common.{◌≡◌, ◌≤◌, length, drop}
+use Rattle.hla_run.specs.Joining.{joins}
 use Rattle.hla_run.proofs.opening.open.Given as goal
 
 abbrev pub invariant-loop-place : goal.invariant-loop-place
-invariant-loop-place g l = length l.outcomes ≡ length l.fn.outcomes
+invariant-loop-place g l = (length l.outcomes ≡ length l.fn.outcomes) × (joins (drop l.place l.lines) ≤ l.ambassadors)
