@@ -35,8 +35,8 @@ nested_choice true x y z = refl
 nested_choice false x y z = refl
 
 -- the key is that of the hash
-at_key : (hash other k : ℕ) → nat_eq hash k ≡ true → nat_eq other k ≡ nat_eq hash other
-at_key hash other k e = ap (nat_eq other) (sym (same_hash hash k e)) ∙ nat_eq-comm other hash
+key_is_hash : (hash other k : ℕ) → nat_eq hash k ≡ true → nat_eq other k ≡ nat_eq hash other
+key_is_hash hash other k e = ap (nat_eq other) (sym (same_hash hash k e)) ∙ nat_eq-comm other hash
 
 -- a value is replaced
 group_set : (es : GroupsValue) (hash other : ℕ) (g g' : List Declared) → lookup (nat_eq hash) es ≡ Some g → group_in (set_value (nat_eq hash) es g') other ≡ cond (nat_eq hash other) g' (group_in es other)
@@ -46,7 +46,7 @@ group_set (e ∷ es) hash other g g' h = by_key (nat_eq hash e.0) refl h (λ res
     by_key : (b : Bool) → nat_eq hash e.0 ≡ b → cond b (Some e.1) (lookup (nat_eq hash) es) ≡ Some g
         → (lookup (nat_eq hash) es ≡ Some g → group_in (set_value (nat_eq hash) es g') other ≡ cond (nat_eq hash other) g' (group_in es other))
         → group_in (cond b ((e.0, g') ∷ es) (e ∷ set_value (nat_eq hash) es g')) other ≡ cond (nat_eq hash other) g' (cond (nat_eq other e.0) e.1 (group_in es other))
-    by_key true k found later = rw (at_key hash other e.0 k) (nested_choice (nat_eq hash other) g' e.1 (group_in es other))
+    by_key true k found later = rw (key_is_hash hash other e.0 k) (nested_choice (nat_eq hash other) g' e.1 (group_in es other))
     by_key false k found later = rw (later found) (swapped_tests hash other e.0 e.1 g' (group_in es other) (nat_eq other e.0) (nat_eq hash other) refl refl k)
 
 -- a new hash is added

@@ -63,9 +63,9 @@ pub large_word : (word : List ℕ) → largest_number < digits_value 10 word →
 unfolding word_number
 large_word word above = sym (third (length word == 0) (not (list_all is_ascii_digit word)) (nat_lt largest_number (digits_value 10 word)) _ _ (grind (arith, nat_tests)))
 
-pub number_word : (word : List ℕ) (n : ℕ) → length word ≢ 0 → list_all is_ascii_digit word ≡ true → n ≤ largest_number → n ≡ digits_value 10 word → Ok n ≡ word_number word
+pub word_of_digits : (word : List ℕ) (n : ℕ) → length word ≢ 0 → list_all is_ascii_digit word ≡ true → n ≤ largest_number → n ≡ digits_value 10 word → Ok n ≡ word_number word
 unfolding word_number
-number_word word n some all within is =
+word_of_digits word n some all within is =
     let small : nat_lt largest_number (digits_value 10 word) ≡ false = grind (arith, nat_tests) in
     let there : (length word == 0) ≡ false = grind (arith, nat_tests) in
     rw is (sym (none_of (length word == 0) (not (list_all is_ascii_digit word)) (nat_lt largest_number (digits_value 10 word)) _ _ there (rw all refl) small))

@@ -46,10 +46,10 @@ pub still_few : (es : Entries) (i : ℕ) (w : Entry) → length es ≤ max_objec
 still_few es i w few = omega (arith, few, length-set_value_at es i w)
 
 -- the key of a value
-key_at : (es : Entries) (i : ℕ) (v : Entry) → slice_get (values_of es) i ≡ Some v → (k : Vec ℕ Global) × (slice_get es i ≡ Some (k, v))
-key_at [] i v at = cc
-key_at (e ∷ es) zero v at = let same : e.1 ≡ v = cc in (e.0, ap (λ (w : Entry). Some (e.0, w)) same)
-key_at (e ∷ es) (suc i) v at = key_at es i v at
+key_of_value : (es : Entries) (i : ℕ) (v : Entry) → slice_get (values_of es) i ≡ Some v → (k : Vec ℕ Global) × (slice_get es i ≡ Some (k, v))
+key_of_value [] i v at = cc
+key_of_value (e ∷ es) zero v at = let same : e.1 ≡ v = cc in (e.0, ap (λ (w : Entry). Some (e.0, w)) same)
+key_of_value (e ∷ es) (suc i) v at = key_of_value es i v at
 
 -- the place of an object in the list
 pub place_within : (es : Entries) (rs : List Registered) (h : ℕ) → registered_objects es ≡ rs → 0 < h → h < length rs + 1 → h - 1 < length es
@@ -57,11 +57,11 @@ place_within es rs h view some within = omega (arith, within, ap length view, le
 
 module _ (es : Entries) (h : ℕ) (v : Entry) (some : 0 < h) (within : h - 1 < length es) (at : slice_get (values_of es) (h - 1) ≡ Some v) where
   key : Vec ℕ Global
-  key = (key_at es (h - 1) v at).0
+  key = (key_of_value es (h - 1) v at).0
 
   is_there : slice_get es (h - 1) ≡ Some (key, v)
   unfolding key
-  is_there = (key_at es (h - 1) v at).1
+  is_there = (key_of_value es (h - 1) v at).1
 
   item_there : item_at unregistered_object (registered_objects es) h ≡ registered_object (key, v)
   item_there = ap (λ o. unwrap_or o unregistered_object) (item_numbered_within (registered_objects es) h (λ z. absurd (omega arith)) ∙ sym (slice_get-registered es (h - 1)) ∙ ap (option_map registered_object) is_there)
@@ -100,7 +100,7 @@ pub entry_withdrawn : (f n : ℕ) (old new : Entries) (v : Entry) → slice_get 
 entry_withdrawn f n old new v at within before =
     let back : n ≡ suc n - 1 = omega arith in
     let there : slice_get (values_of new) (suc n - 1) ≡ Some v = subst (λ m. slice_get (values_of new) m ≡ Some v) back at in
-    let k = key_at new n v at in
+    let k = key_of_value new n v at in
     let x : item_at unregistered_object (registered_objects new) (suc n) ≡ registered_object (k.0, v) = ap (λ o. unwrap_or o unregistered_object) (item_numbered_within (registered_objects new) (suc n) (λ z. absurd (omega arith)) ∙ ap (slice_get (registered_objects new)) (sym back) ∙ sym (slice_get-registered new n) ∙ ap (option_map registered_object) k.1) in
     subst (IsWithdrawn f (n + 1) (registered_objects old)) (ap (λ (r : Registered). set (registered_objects new) n (object_after_withdrawal f r)) x ∙ sym (registered-set new n k.0 v _ k.1))
     (one_withdrawn f n (registered_objects old) (registered_objects new) before (omega (arith, within, length-registered new)))

@@ -20,8 +20,8 @@ use Rattle.hla_object_registry.proofs.Items.{item-suc}
 use Rattle.hla_object_registry.proofs.Numbers.{any_none, any_at, any_each, find_none, find_only}
 use Rattle.hla_object_registry.proofs.EntryLemmas.{Entries, length-registered}
 
-abbrev pub is_key : List ℕ → Vec ℕ Global → Bool
-is_key name k = bytes_eq name k.items
+abbrev pub is_named_key : List ℕ → Vec ℕ Global → Bool
+is_named_key name k = bytes_eq name k.items
 
 abbrev pub same_key : Vec ℕ Global → Vec ℕ Global → Bool
 same_key a b = bytes_eq a.items b.items
@@ -38,17 +38,17 @@ key_name [] k d below = absurd (omega arith)
 key_name (e ∷ es) zero d below = refl
 key_name (e ∷ es) (suc k) d below = key_name es k d (omega arith)
 
-pub missing : (es : Entries) (name : List ℕ) → lookup (is_key name) es ≡ None → IsUnused (registered_objects es) name
+pub missing : (es : Entries) (name : List ℕ) → lookup (is_named_key name) es ≡ None → IsUnused (registered_objects es) name
 missing [] name h k below = absurd (omega arith)
 missing (e ∷ es) name h k below = by k below (bytes_eq name e.0.items) refl h (missing es name)
   where
-    by : (k : ℕ) → k < length (registered_objects (e ∷ es)) → (b : Bool) → bytes_eq name e.0.items ≡ b → cond b (Some e.1) (lookup (is_key name) es) ≡ None
-        → (lookup (is_key name) es ≡ None → IsUnused (registered_objects es) name) → bytes_eq (name_at (registered_objects (e ∷ es)) k) name ≡ false
+    by : (k : ℕ) → k < length (registered_objects (e ∷ es)) → (b : Bool) → bytes_eq name e.0.items ≡ b → cond b (Some e.1) (lookup (is_named_key name) es) ≡ None
+        → (lookup (is_named_key name) es ≡ None → IsUnused (registered_objects es) name) → bytes_eq (name_at (registered_objects (e ∷ es)) k) name ≡ false
     by k l true y bad rest = cc
     by zero l false n later rest = bytes_eq-comm e.0.items name ∙ n
     by (suc k) l false n later rest = rest later k (omega arith)
 
-pub not_looked_up : (es : Entries) (name : List ℕ) → IsUnused (registered_objects es) name → lookup (is_key name) es ≡ None
+pub not_looked_up : (es : Entries) (name : List ℕ) → IsUnused (registered_objects es) name → lookup (is_named_key name) es ≡ None
 not_looked_up [] name unused = refl
 not_looked_up (e ∷ es) name unused =
     let here : bytes_eq name e.0.items ≡ false = bytes_eq-comm name e.0.items ∙ unused 0 (omega arith) in
@@ -59,12 +59,12 @@ none_from None h = refl
 none_from (Some x) h = absurd (true≢false (sym h))
 
 -- the place of a key is that of the one object of the name
-pub found_at : (es : Entries) (name : List ℕ) (i : ℕ) → Some i ≡ position (is_key name) (keys_of es) → IsDistinct same_key (keys_of es) → IsNumberOf (registered_objects es) name (i + 1)
+pub found_at : (es : Entries) (name : List ℕ) (i : ℕ) → Some i ≡ position (is_named_key name) (keys_of es) → IsDistinct same_key (keys_of es) → IsNumberOf (registered_objects es) name (i + 1)
 found_at [] name i h distinct = cc
 found_at (e ∷ es) name i h distinct =
     let rs = registered_objects (e ∷ es) in
     let ks = keys_of (e ∷ es) in
-    let p = position-Some (is_key name) ks i e.0 (sym h) in
+    let p = position-Some (is_named_key name) ks i e.0 (sym h) in
     let same_length : length rs ≡ length (e ∷ es) = length-registered (e ∷ es) in
     let keys : length ks ≡ length (e ∷ es) = length-keys_of (e ∷ es) in
     let within : i < length rs = omega (arith, p.0, same_length, keys) in
@@ -159,11 +159,11 @@ module _ (rs : List Registered) (name : List ℕ) where
 -- a name that no object has is entered last
 pub entry_inserted_last : (es : Entries) (rs : List Registered) (name : List ℕ) (k : Vec ℕ Global) (v : Entry) → registered_objects es ≡ rs → k.items ≡ name → is_name_used_in (registry_of rs) name ≡ false
     → insert_entry same_key es k v ≡ es ++ (k, v) ∷ []
-entry_inserted_last es rs name k v view same unused = absent_inserted es k v (ap (λ n. lookup (is_key n) es) same ∙ not_looked_up es name (let P : List Registered → Type 0 = λ l. IsUnused l name in subst P (sym view) (unused_from rs name unused)))
+entry_inserted_last es rs name k v view same unused = absent_inserted es k v (ap (λ n. lookup (is_named_key n) es) same ∙ not_looked_up es name (let P : List Registered → Type 0 = λ l. IsUnused l name in subst P (sym view) (unused_from rs name unused)))
   where
-    absent_inserted : (all : Entries) (k : Vec ℕ Global) (v : Entry) → lookup (is_key k.items) all ≡ None → insert_entry same_key all k v ≡ all ++ (k, v) ∷ []
+    absent_inserted : (all : Entries) (k : Vec ℕ Global) (v : Entry) → lookup (is_named_key k.items) all ≡ None → insert_entry same_key all k v ≡ all ++ (k, v) ∷ []
     absent_inserted [] k v h = refl
-    absent_inserted (e ∷ all) k v h = elim (bytes_eq k.items e.0.items) as (λ b. cond b (Some e.1) (lookup (is_key k.items) all) ≡ None → cond b ((e.0, v) ∷ all) (e ∷ insert_entry same_key all k v) ≡ e ∷ (all ++ (k, v) ∷ [])) [
+    absent_inserted (e ∷ all) k v h = elim (bytes_eq k.items e.0.items) as (λ b. cond b (Some e.1) (lookup (is_named_key k.items) all) ≡ None → cond b ((e.0, v) ∷ all) (e ∷ insert_entry same_key all k v) ≡ e ∷ (all ++ (k, v) ∷ [])) [
       | true ↦ λ bad. cc
       | false ↦ λ none. ap (λ (r : Entries). e ∷ r) (absent_inserted all k v none)
     ] h

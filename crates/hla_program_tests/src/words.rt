@@ -2,61 +2,61 @@ use hla_command_line::{WordsFault, parse};
 use hla_tasks::Task;
 use std::test::Fail;
 
+/// That a script is played over a FED file.
+fn play(fed: &str) -> Task<'_> {
+    Task::Play { fed, script: "-" }
+}
+
+/// That a script is run over a FED file.
+fn run(is_watched: bool) -> Task<'static> {
+    Task::Run {
+        fed: "a.fed",
+        script: "-",
+        is_watched,
+    }
+}
+
 #[test]
 fn reads_the_command_line(rt: HostRuntime) {
-    let alloc = rt.alloc();
-    let shared = Task::Play {
-        fed: "-",
-        script: "-",
-    };
-    let named = Task::Play {
+    let check = Task::Check {
         fed: "a.fed",
         script: "-",
     };
-    assert!(rt; matches!(&parse(alloc, &["hlaplay"]), Ok(task) if *task == shared));
-    assert!(rt;
-        matches!(&parse(alloc, &["hlaplay", "play", "-", "-"]), Ok(task) if *task == shared)
-    );
-    assert!(rt;
-        matches!(&parse(alloc, &["hlaplay", "play", "a.fed", "-"]), Ok(task) if *task == named)
-    );
-    assert!(rt;
-        matches!(&parse(alloc, &["hlaplay", "play", "--", "a.fed", "-"]), Ok(task) if *task == named)
-    );
-    let checked = Task::Check {
-        fed: "a.fed",
-        script: "-",
-    };
-    assert!(rt;
-        matches!(&parse(alloc, &["hlaplay", "check", "a.fed", "-"]), Ok(task) if *task == checked)
-    );
-    assert!(rt;
-        matches!(&parse(alloc, &["hlaplay", "check", "--", "a.fed", "-"]), Ok(task) if *task == checked)
-    );
-    let run = Task::Run {
-        fed: "a.fed",
-        script: "-",
-        is_watched: false,
-    };
-    let watched = Task::Run {
-        fed: "a.fed",
-        script: "-",
-        is_watched: true,
-    };
-    assert!(rt;
-        matches!(&parse(alloc, &["hlaplay", "run", "a.fed", "-"]), Ok(task) if *task == run)
-    );
-    assert!(rt;
-        matches!(&parse(alloc, &["hlaplay", "run", "--", "a.fed", "-"]), Ok(task) if *task == run)
-    );
-    assert!(rt;
-        matches!(&parse(alloc, &["hlaplay", "run", "--monitor", "a.fed", "-"]), Ok(task) if *task == watched)
-    );
-    assert!(rt;
-        matches!(&parse(alloc, &["hlaplay", "run", "a.fed", "-", "--monitor"]), Ok(task) if *task == watched)
-    );
-    let listed = Task::List { fed: "a.fed" };
-    assert!(rt; matches!(&parse(alloc, &["hlaplay", "fed", "a.fed"]), Ok(task) if *task == listed));
+    let list = Task::List { fed: "a.fed" };
+    for (words, asked) in [
+        (["hlaplay"].as_slice(), play("-")),
+        (["hlaplay", "play", "-", "-"].as_slice(), play("-")),
+        (["hlaplay", "play", "a.fed", "-"].as_slice(), play("a.fed")),
+        (
+            ["hlaplay", "play", "--", "a.fed", "-"].as_slice(),
+            play("a.fed"),
+        ),
+        (["hlaplay", "check", "a.fed", "-"].as_slice(), check),
+        (["hlaplay", "check", "--", "a.fed", "-"].as_slice(), check),
+        (["hlaplay", "run", "a.fed", "-"].as_slice(), run(false)),
+        (
+            ["hlaplay", "run", "--", "a.fed", "-"].as_slice(),
+            run(false),
+        ),
+        (
+            ["hlaplay", "run", "--monitor", "a.fed", "-"].as_slice(),
+            run(true),
+        ),
+        (
+            ["hlaplay", "run", "a.fed", "-", "--monitor"].as_slice(),
+            run(true),
+        ),
+        (["hlaplay", "fed", "a.fed"].as_slice(), list),
+    ] {
+        assert!(rt;
+            matches!(&parse(rt.alloc(), words), Ok(task) if *task == asked),
+            "at {words:?}"
+        );
+    }
+}
+
+#[test]
+fn refuses_other_words(rt: HostRuntime) {
     for words in [
         ["hlaplay", "play", "a.fed"].as_slice(),
         ["hlaplay", "play", "a.fed", "-b"].as_slice(),
@@ -71,7 +71,7 @@ fn reads_the_command_line(rt: HostRuntime) {
         ["hlaplay", "play", "--loud", "a", "b"].as_slice(),
     ] {
         assert!(rt;
-            matches!(&parse(alloc, words), Err(WordsFault::Refused(_))),
+            matches!(&parse(rt.alloc(), words), Err(WordsFault::Refused(_))),
             "at {words:?}"
         );
     }

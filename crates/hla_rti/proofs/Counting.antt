@@ -5,7 +5,7 @@ use Rattle.std.proofs.lemmas.Bool.Decides.{nat_tests}
 use Rattle.hla_rti.specs.Callers.{Leaver}
 use Rattle.hla_rti.specs.Close.{AllHere}
 
--- without_caller the first caller of this number
+-- without the first caller of this number
 unfoldable pub without_caller : ℕ → List Leaver → List Leaver
 without_caller n [] = []
 without_caller n (c ∷ cs) = cond (c.caller.number == n) cs (c ∷ without_caller n cs)

@@ -30,6 +30,18 @@ pub fn prints(rt: &impl Abort, alloc: Global, script: &str, transcript: &str) ->
     Ok(())
 }
 
+/// A script over `FED` must print this: beside each of its lines stands what comes behind the line's number.
+pub fn answers(rt: &impl Abort, alloc: Global, lines: &[(&str, &str)]) -> Result<(), Fail> {
+    let mut script = String::new(alloc);
+    let mut transcript = String::new(alloc);
+    for (place, (line, answer)) in lines.iter().enumerate() {
+        let number = place.saturating_add(1);
+        script.push_str(format!(in alloc; "{line}\n")?.as_str())?;
+        transcript.push_str(format!(in alloc; "{number} {answer}\n")?.as_str())?;
+    }
+    prints(rt, alloc, script.as_str(), transcript.as_str())
+}
+
 #[test]
 fn receives_at_the_subscribed_ancestor(rt: HostRuntime) -> Result<(), Fail> {
     prints(

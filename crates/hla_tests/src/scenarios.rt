@@ -1,390 +1,251 @@
-use crate::playing::prints;
+use crate::playing::answers;
 use std::test::Fail;
 
 #[test]
 fn refusals(rt: HostRuntime) -> Result<(), Fail> {
-    prints(
+    answers(
         &rt,
         rt.alloc(),
-        "create
-create
-join A
-join A
-destroy
-A publishObject Car Pos
-A register Car x
-A resign NO_ACTION
-A resign RELEASE_ATTRIBUTES
-A resign DELETE_OBJECTS
-A tick
-destroy
-join A
-",
-        "1 ok
-2 error 1 FederationExecutionAlreadyExists
-3 ok 1
-4 error 5 FederateAlreadyExecutionMember
-5 error 3 FederatesCurrentlyJoined
-6 ok
-7 ok 1 x
-8 error 7 FederateOwnsAttributes
-9 error 39 InvalidResignAction
-10 ok
-11 error 6 FederateNotExecutionMember
-12 ok
-13 error 2 FederationExecutionDoesNotExist
-",
+        &[
+            ("create", "ok"),
+            ("create", "error 1 FederationExecutionAlreadyExists"),
+            ("join A", "ok 1"),
+            ("join A", "error 5 FederateAlreadyExecutionMember"),
+            ("destroy", "error 3 FederatesCurrentlyJoined"),
+            ("A publishObject Car Pos", "ok"),
+            ("A register Car x", "ok 1 x"),
+            ("A resign NO_ACTION", "error 7 FederateOwnsAttributes"),
+            (
+                "A resign RELEASE_ATTRIBUTES",
+                "error 39 InvalidResignAction",
+            ),
+            ("A resign DELETE_OBJECTS", "ok"),
+            ("A tick", "error 6 FederateNotExecutionMember"),
+            ("destroy", "ok"),
+            ("join A", "error 2 FederationExecutionDoesNotExist"),
+        ],
     )
 }
 
 #[test]
 fn late_subscriber(rt: HostRuntime) -> Result<(), Fail> {
-    prints(
+    answers(
         &rt,
         rt.alloc(),
-        "create
-join A
-join B
-A publishObject Car Pos
-A register Car
-B subscribeObject ObjectRoot
-carry A B
-B tick
-A objectHandle object-1
-B objectName 1
-A delete 1
-carry A B
-B tick
-carry A B
-B unsubscribeObject ObjectRoot
-A unpublishObject Car
-A publishInteraction Note
-A unpublishInteraction Note
-A unpublishInteraction Note
-B subscribeInteraction Note
-B unsubscribeInteraction Note
-B unsubscribeInteraction Note
-",
-        "1 ok
-2 ok 1
-3 ok 2
-4 ok
-5 ok 1 object-1
-6 ok
-7 ok discovery 1
-8 ok discover 1 ObjectRoot object-1
-9 ok 1
-10 ok object-1
-11 ok
-12 ok removal 1.1
-13 ok remove 1 RO
-14 ok none
-15 ok
-16 ok
-17 ok
-18 ok
-19 error 15 InteractionClassNotPublished
-20 ok
-21 ok
-22 error 16 InteractionClassNotSubscribed
-",
+        &[
+            ("create", "ok"),
+            ("join A", "ok 1"),
+            ("join B", "ok 2"),
+            ("A publishObject Car Pos", "ok"),
+            ("A register Car", "ok 1 object-1"),
+            ("B subscribeObject ObjectRoot", "ok"),
+            ("carry A B", "ok discovery 1"),
+            ("B tick", "ok discover 1 ObjectRoot object-1"),
+            ("A objectHandle object-1", "ok 1"),
+            ("B objectName 1", "ok object-1"),
+            ("A delete 1", "ok"),
+            ("carry A B", "ok removal 1.1"),
+            ("B tick", "ok remove 1 RO"),
+            ("carry A B", "ok none"),
+            ("B unsubscribeObject ObjectRoot", "ok"),
+            ("A unpublishObject Car", "ok"),
+            ("A publishInteraction Note", "ok"),
+            ("A unpublishInteraction Note", "ok"),
+            (
+                "A unpublishInteraction Note",
+                "error 15 InteractionClassNotPublished",
+            ),
+            ("B subscribeInteraction Note", "ok"),
+            ("B unsubscribeInteraction Note", "ok"),
+            (
+                "B unsubscribeInteraction Note",
+                "error 16 InteractionClassNotSubscribed",
+            ),
+        ],
     )
 }
 
 #[test]
 fn sender_is_given_nothing_of_its_own(rt: HostRuntime) -> Result<(), Fail> {
-    prints(
+    answers(
         &rt,
         rt.alloc(),
-        "create
-join A
-join B
-A subscribeInteraction Hit
-A publishInteraction Hit
-B subscribeInteraction Hit
-A send Hit
-carry A B
-A tick
-B tick
-",
-        "1 ok
-2 ok 1
-3 ok 2
-4 ok
-5 ok
-6 ok
-7 ok
-8 ok event 1.1
-9 ok nothing
-10 ok receive InteractionRoot.Hit RO
-",
+        &[
+            ("create", "ok"),
+            ("join A", "ok 1"),
+            ("join B", "ok 2"),
+            ("A subscribeInteraction Hit", "ok"),
+            ("A publishInteraction Hit", "ok"),
+            ("B subscribeInteraction Hit", "ok"),
+            ("A send Hit", "ok"),
+            ("carry A B", "ok event 1.1"),
+            ("A tick", "ok nothing"),
+            ("B tick", "ok receive InteractionRoot.Hit RO"),
+        ],
     )
 }
 
 #[test]
 fn nearest_subscribed_ancestor(rt: HostRuntime) -> Result<(), Fail> {
-    prints(
+    answers(
         &rt,
         rt.alloc(),
-        "create
-join A
-join B
-A subscribeInteraction Hit
-A publishInteraction Memo
-B subscribeInteraction InteractionRoot
-B subscribeInteraction Note
-A send Memo Text=a Extra=b
-carry A B
-A tick
-B tick
-B unsubscribeInteraction Note
-A send Memo Text=a Extra=b
-carry A B
-B tick
-A unpublishInteraction Memo
-A send Memo
-",
-        "1 ok
-2 ok 1
-3 ok 2
-4 ok
-5 ok
-6 ok
-7 ok
-8 ok
-9 ok event 1.1
-10 ok nothing
-11 ok receive InteractionRoot.Note Text=a RO
-12 ok
-13 ok
-14 ok event 1.2
-15 ok receive InteractionRoot RO
-16 ok
-17 error 15 InteractionClassNotPublished
-",
+        &[
+            ("create", "ok"),
+            ("join A", "ok 1"),
+            ("join B", "ok 2"),
+            ("A subscribeInteraction Hit", "ok"),
+            ("A publishInteraction Memo", "ok"),
+            ("B subscribeInteraction InteractionRoot", "ok"),
+            ("B subscribeInteraction Note", "ok"),
+            ("A send Memo Text=a Extra=b", "ok"),
+            ("carry A B", "ok event 1.1"),
+            ("A tick", "ok nothing"),
+            ("B tick", "ok receive InteractionRoot.Note Text=a RO"),
+            ("B unsubscribeInteraction Note", "ok"),
+            ("A send Memo Text=a Extra=b", "ok"),
+            ("carry A B", "ok event 1.2"),
+            ("B tick", "ok receive InteractionRoot RO"),
+            ("A unpublishInteraction Memo", "ok"),
+            ("A send Memo", "error 15 InteractionClassNotPublished"),
+        ],
     )
 }
 
 #[test]
 fn update_and_removal(rt: HostRuntime) -> Result<(), Fail> {
-    prints(
+    answers(
         &rt,
         rt.alloc(),
-        "create
-join A
-join B
-join C
-A publishObject Car privilegeToDelete Pos Paint
-A subscribeObject Car Pos
-B subscribeObject ObjectRoot privilegeToDelete
-C subscribeObject Car Pos Paint
-A register Car x
-carry A B
-carry A C
-B tick
-C tick
-A update 1 Car Pos=5 Paint=red privilegeToDelete=t
-carry A B
-B tick
-carry A C
-carry A C
-C tick
-C tick
-A tick
-carry A B
-B unsubscribeObject ObjectRoot
-A delete 1
-carry A B
-carry A C
-B tick
-C tick
-A update 1 Car Pos=6
-B objectName 1
-A objectHandle x
-A register Car x
-",
-        "1 ok
-2 ok 1
-3 ok 2
-4 ok 3
-5 ok
-6 ok
-7 ok
-8 ok
-9 ok 1 x
-10 ok discovery 1
-11 ok discovery 1
-12 ok discover 1 ObjectRoot x
-13 ok discover 1 ObjectRoot.Car x
-14 ok
-15 ok event 1.2
-16 ok reflect 1 privilegeToDelete=t RO
-17 ok event 1.1
-18 ok event 1.2
-19 ok reflect 1 Paint=red RO
-20 ok reflect 1 Pos=5 RO
-21 ok nothing
-22 ok none
-23 ok
-24 ok
-25 ok removal 1.3
-26 ok removal 1.3
-27 ok remove 1 RO
-28 ok remove 1 RO
-29 error 18 ObjectNotKnown
-30 error 18 ObjectNotKnown
-31 error 18 ObjectNotKnown
-32 error 17 ObjectAlreadyRegistered
-",
+        &[
+            ("create", "ok"),
+            ("join A", "ok 1"),
+            ("join B", "ok 2"),
+            ("join C", "ok 3"),
+            ("A publishObject Car privilegeToDelete Pos Paint", "ok"),
+            ("A subscribeObject Car Pos", "ok"),
+            ("B subscribeObject ObjectRoot privilegeToDelete", "ok"),
+            ("C subscribeObject Car Pos Paint", "ok"),
+            ("A register Car x", "ok 1 x"),
+            ("carry A B", "ok discovery 1"),
+            ("carry A C", "ok discovery 1"),
+            ("B tick", "ok discover 1 ObjectRoot x"),
+            ("C tick", "ok discover 1 ObjectRoot.Car x"),
+            ("A update 1 Car Pos=5 Paint=red privilegeToDelete=t", "ok"),
+            ("carry A B", "ok event 1.2"),
+            ("B tick", "ok reflect 1 privilegeToDelete=t RO"),
+            ("carry A C", "ok event 1.1"),
+            ("carry A C", "ok event 1.2"),
+            ("C tick", "ok reflect 1 Paint=red RO"),
+            ("C tick", "ok reflect 1 Pos=5 RO"),
+            ("A tick", "ok nothing"),
+            ("carry A B", "ok none"),
+            ("B unsubscribeObject ObjectRoot", "ok"),
+            ("A delete 1", "ok"),
+            ("carry A B", "ok removal 1.3"),
+            ("carry A C", "ok removal 1.3"),
+            ("B tick", "ok remove 1 RO"),
+            ("C tick", "ok remove 1 RO"),
+            ("A update 1 Car Pos=6", "error 18 ObjectNotKnown"),
+            ("B objectName 1", "error 18 ObjectNotKnown"),
+            ("A objectHandle x", "error 18 ObjectNotKnown"),
+            ("A register Car x", "error 17 ObjectAlreadyRegistered"),
+        ],
     )
 }
 
 #[test]
 fn names_are_used_once(rt: HostRuntime) -> Result<(), Fail> {
-    prints(
+    answers(
         &rt,
         rt.alloc(),
-        "create
-join A
-join A
-A publishObject Car Pos
-A register ObjectRoot
-A register Car x
-A register Car x
-A register Car object-3
-A register Car
-A register Car y
-A register Car
-A objectHandle object-3
-A objectName 004
-",
-        "1 ok
-2 ok 1
-3 error 5 FederateAlreadyExecutionMember
-4 ok
-5 error 10 ObjectClassNotPublished
-6 ok 1 x
-7 error 17 ObjectAlreadyRegistered
-8 ok 2 object-3
-9 error 17 ObjectAlreadyRegistered
-10 ok 3 y
-11 ok 4 object-4
-12 ok 2
-13 ok object-4
-",
+        &[
+            ("create", "ok"),
+            ("join A", "ok 1"),
+            ("join A", "error 5 FederateAlreadyExecutionMember"),
+            ("A publishObject Car Pos", "ok"),
+            ("A register ObjectRoot", "error 10 ObjectClassNotPublished"),
+            ("A register Car x", "ok 1 x"),
+            ("A register Car x", "error 17 ObjectAlreadyRegistered"),
+            ("A register Car object-3", "ok 2 object-3"),
+            ("A register Car", "error 17 ObjectAlreadyRegistered"),
+            ("A register Car y", "ok 3 y"),
+            ("A register Car", "ok 4 object-4"),
+            ("A objectHandle object-3", "ok 2"),
+            ("A objectName 004", "ok object-4"),
+        ],
     )
 }
 
 #[test]
 fn objects_that_are_not_known(rt: HostRuntime) -> Result<(), Fail> {
-    prints(
+    answers(
         &rt,
         rt.alloc(),
-        "create
-join A
-join B
-A publishObject Car Pos
-A register Car
-A update 1 Car Paint=red
-A update 1 Car
-B update 1 Car Pos=1
-B delete 1
-A delete 0
-A delete 2
-A delete 4294967295
-A delete 4294967297
-A update 4294967297 Car Pos=1
-A objectName 18446744073709551615
-B subscribeObject Car
-B delete 1
-A unpublishObject Car
-A update 1 Car Pos=1
-A unpublishObject Car
-A unsubscribeObject Car
-",
-        "1 ok
-2 ok 1
-3 ok 2
-4 ok
-5 ok 1 object-1
-6 error 19 AttributeNotOwned
-7 ok
-8 error 18 ObjectNotKnown
-9 error 18 ObjectNotKnown
-10 error 18 ObjectNotKnown
-11 error 18 ObjectNotKnown
-12 error 18 ObjectNotKnown
-13 error 18 ObjectNotKnown
-14 error 18 ObjectNotKnown
-15 error 18 ObjectNotKnown
-16 ok
-17 error 20 DeletePrivilegeNotHeld
-18 ok
-19 error 11 AttributeNotPublished
-20 error 10 ObjectClassNotPublished
-21 error 12 ObjectClassNotSubscribed
-",
+        &[
+            ("create", "ok"),
+            ("join A", "ok 1"),
+            ("join B", "ok 2"),
+            ("A publishObject Car Pos", "ok"),
+            ("A register Car", "ok 1 object-1"),
+            ("A update 1 Car Paint=red", "error 19 AttributeNotOwned"),
+            ("A update 1 Car", "ok"),
+            ("B update 1 Car Pos=1", "error 18 ObjectNotKnown"),
+            ("B delete 1", "error 18 ObjectNotKnown"),
+            ("A delete 0", "error 18 ObjectNotKnown"),
+            ("A delete 2", "error 18 ObjectNotKnown"),
+            ("A delete 4294967295", "error 18 ObjectNotKnown"),
+            ("A delete 4294967297", "error 18 ObjectNotKnown"),
+            ("A update 4294967297 Car Pos=1", "error 18 ObjectNotKnown"),
+            (
+                "A objectName 18446744073709551615",
+                "error 18 ObjectNotKnown",
+            ),
+            ("B subscribeObject Car", "ok"),
+            ("B delete 1", "error 20 DeletePrivilegeNotHeld"),
+            ("A unpublishObject Car", "ok"),
+            ("A update 1 Car Pos=1", "error 11 AttributeNotPublished"),
+            ("A unpublishObject Car", "error 10 ObjectClassNotPublished"),
+            (
+                "A unsubscribeObject Car",
+                "error 12 ObjectClassNotSubscribed",
+            ),
+        ],
     )
 }
 
 #[test]
 fn names_of_those_that_resigned(rt: HostRuntime) -> Result<(), Fail> {
-    prints(
+    answers(
         &rt,
         rt.alloc(),
-        "create
-join A
-join B
-A publishInteraction Hit
-B subscribeInteraction Hit
-A send Hit Force=1
-A resign NO_ACTION
-A tick
-A send Wrong
-carry A B
-B tick
-carry B A
-join A
-carry A B
-A tick
-destroy
-A resign NO_ACTION
-B resign DELETE_OBJECTS
-destroy
-carry A B
-carry A C
-A tick
-join A
-create
-carry A B
-join A
-",
-        "1 ok
-2 ok 1
-3 ok 2
-4 ok
-5 ok
-6 ok
-7 ok
-8 error 6 FederateNotExecutionMember
-9 error 6 FederateNotExecutionMember
-10 ok event 1.1
-11 ok receive InteractionRoot.Hit Force=1 RO
-12 error 6 FederateNotExecutionMember
-13 ok 3
-14 ok none
-15 ok nothing
-16 error 3 FederatesCurrentlyJoined
-17 ok
-18 ok
-19 ok
-20 error 2 FederationExecutionDoesNotExist
-21 error 6 FederateNotExecutionMember
-22 error 6 FederateNotExecutionMember
-23 error 2 FederationExecutionDoesNotExist
-24 ok
-25 error 6 FederateNotExecutionMember
-26 ok 1
-",
+        &[
+            ("create", "ok"),
+            ("join A", "ok 1"),
+            ("join B", "ok 2"),
+            ("A publishInteraction Hit", "ok"),
+            ("B subscribeInteraction Hit", "ok"),
+            ("A send Hit Force=1", "ok"),
+            ("A resign NO_ACTION", "ok"),
+            ("A tick", "error 6 FederateNotExecutionMember"),
+            ("A send Wrong", "error 6 FederateNotExecutionMember"),
+            ("carry A B", "ok event 1.1"),
+            ("B tick", "ok receive InteractionRoot.Hit Force=1 RO"),
+            ("carry B A", "error 6 FederateNotExecutionMember"),
+            ("join A", "ok 3"),
+            ("carry A B", "ok none"),
+            ("A tick", "ok nothing"),
+            ("destroy", "error 3 FederatesCurrentlyJoined"),
+            ("A resign NO_ACTION", "ok"),
+            ("B resign DELETE_OBJECTS", "ok"),
+            ("destroy", "ok"),
+            ("carry A B", "error 2 FederationExecutionDoesNotExist"),
+            ("carry A C", "error 6 FederateNotExecutionMember"),
+            ("A tick", "error 6 FederateNotExecutionMember"),
+            ("join A", "error 2 FederationExecutionDoesNotExist"),
+            ("create", "ok"),
+            ("carry A B", "error 6 FederateNotExecutionMember"),
+            ("join A", "ok 1"),
+        ],
     )
 }

@@ -22,8 +22,8 @@ unfolding waiting_at
 waiting_at-find ws g m = refl
 
 -- whose key it is
-pub key_of : (w : Waiting) (g m : ℕ) → is_of g m w ≡ true → (w.event.sender ≡ g) × (w.event.serial ≡ m)
-key_of w g m e = let p = and_parts _ _ e in (eqb-true _ _ p.0, eqb-true _ _ p.1)
+pub sender_and_serial : (w : Waiting) (g m : ℕ) → is_of g m w ≡ true → (w.event.sender ≡ g) × (w.event.serial ≡ m)
+sender_and_serial w g m e = let p = and_parts _ _ e in (eqb-true _ _ p.0, eqb-true _ _ p.1)
 
 same_tables : (t u : ℕ → ℕ → Option Waiting) → ((g m : ℕ) → t g m ≡ u g m) → t ≡ u
 same_tables t u h = fun_ext (λ g. fun_ext (λ m. h g m))
@@ -132,8 +132,8 @@ demote_at events (x ∷ ws) g m =
         waiting_at (map (demoted_if events) ws) g m ≡ cond (is_listed events g m) (option_map demoted_waiting (waiting_at ws g m)) (waiting_at ws g m) →
         cond (is_of g m (cond l (demoted_waiting x) x)) (Some (cond l (demoted_waiting x) x)) (waiting_at (map (demoted_if events) ws) g m)
         ≡ cond (is_listed events g m) (option_map demoted_waiting (cond b (Some x) (waiting_at ws g m))) (cond b (Some x) (waiting_at ws g m))
-    by true true e k rest = let p = key_of x g m k in rw (k, ← p.0, ← p.1, e) refl
-    by false true e k rest = let p = key_of x g m k in rw (k, ← p.0, ← p.1, e) refl
+    by true true e k rest = let p = sender_and_serial x g m k in rw (k, ← p.0, ← p.1, e) refl
+    by false true e k rest = let p = sender_and_serial x g m k in rw (k, ← p.0, ← p.1, e) refl
     by true false e k rest = rw k rest
     by false false e k rest = rw k rest
 

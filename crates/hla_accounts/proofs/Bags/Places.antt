@@ -18,7 +18,7 @@ use Rattle.hla_accounts.specs.declared.bag.Waiting.{Waiting}
 use Rattle.hla_accounts.specs.Bags.{is_of, is_listed, waiting_at, demoted_delivery, demoted_waiting, with_listed_demoted, AreApart}
 use Rattle.hla_accounts.specs.Bounds.{ordered_stamp}
 use Rattle.hla_accounts.specs.Indexes.{delivery_at}
-use Rattle.hla_accounts.proofs.Bags.Contents.{waiting_at-nil, waiting_at-cons, waiting_at-find, waiting_at-push, waiting_at-remove, waiting_at-demote, apart-remove, apart-demote, key_of, stays, demoted_if}
+use Rattle.hla_accounts.proofs.Bags.Contents.{waiting_at-nil, waiting_at-cons, waiting_at-find, waiting_at-push, waiting_at-remove, waiting_at-demote, apart-remove, apart-demote, sender_and_serial, stays, demoted_if}
 
 -- ---- where a message stands
 -- where none has the name, each has another
@@ -36,7 +36,7 @@ head_apart : (x : Waiting) (ws : List Waiting) (g m : ℕ) → waiting_at ws x.e
 head_apart x ws g m free i d l there = by (is_of g m x) refl
   where
     by : (b : Bool) → is_of g m x ≡ b → b ≡ false
-    by true e = let p = key_of x g m e in absurd (true≢false (sym there ∙ none_at ws g m (ap (λ h. waiting_at ws h m) (sym p.0) ∙ ap (waiting_at ws x.event.sender) (sym p.1) ∙ free) i d l))
+    by true e = let p = sender_and_serial x g m e in absurd (true≢false (sym there ∙ none_at ws g m (ap (λ h. waiting_at ws h m) (sym p.0) ∙ ap (waiting_at ws x.event.sender) (sym p.1) ∙ free) i d l))
     by false e = refl
 
 apart_before : (ws : List Waiting) (g m : ℕ) → AreApart ws → (i : ℕ) (d : Waiting) → i < length ws → is_of g m (get_or ws i d) ≡ true → (k : ℕ) → k < i → is_of g m (get_or ws k d) ≡ false
@@ -123,7 +123,7 @@ unfiltered (x ∷ ws) g m none =
 filtered : (ws : List Waiting) (g m : ℕ) → AreApart ws → (i : ℕ) (d : Waiting) → i < length ws → is_of g m (get_or ws i d) ≡ true → remove ws i ≡ filter (stays g m) ws
 filtered [] g m apart i d l there = absurd (omega arith)
 filtered (x ∷ ws) g m apart zero d l there =
-    let p = key_of x g m there in
+    let p = sender_and_serial x g m there in
     sym (ap (λ b. cond (not b) (x ∷ filter (stays g m) ws) (filter (stays g m) ws)) there ∙ unfiltered ws g m (ap (λ h. waiting_at ws h m) (sym p.0) ∙ ap (waiting_at ws x.event.sender) (sym p.1) ∙ apart.0))
 filtered (x ∷ ws) g m apart (suc i) d l there =
     let other = head_apart x ws g m apart.0 i d (omega arith) there in
@@ -134,8 +134,8 @@ pub record IsWithout (g m : ℕ) (old new : List Waiting) : Type 0 where
   pub table : waiting_at new ≡ upd2 (waiting_at old) g m None
   pub apart : AreApart new
 
-without : (ws : List Waiting) (g m i : ℕ) (d : Waiting) → AreApart ws → Some i ≡ position (is_of g m) ws → (vs : List Waiting) → vs ≡ remove ws i → IsWithout g m ws vs
-without ws g m i d apart is vs now =
+apart_without : (ws : List Waiting) (g m i : ℕ) (d : Waiting) → AreApart ws → Some i ≡ position (is_of g m) ws → (vs : List Waiting) → vs ≡ remove ws i → IsWithout g m ws vs
+apart_without ws g m i d apart is vs now =
     let p = found_at ws g m i d is in
     let same : vs ≡ filter (stays g m) ws = now ∙ filtered ws g m apart i d p.0 p.1 in
     record {
@@ -145,7 +145,7 @@ without ws g m i d apart is vs now =
 
 pub removed_there : (ws : List Waiting) (g m i : ℕ) → AreApart ws → Some i ≡ position (is_of g m) ws → (vs : List Waiting) → vs ≡ remove ws i → IsWithout g m ws vs
 removed_there [] g m i apart is vs now = absurd (let none : None ≡ position (is_of g m) [] = refl in let e = none ∙ sym is in cc)
-removed_there (x ∷ ws) g m i apart is vs now = without (x ∷ ws) g m i x apart is vs now
+removed_there (x ∷ ws) g m i apart is vs now = apart_without (x ∷ ws) g m i x apart is vs now
 
 pub unwritten : (t : ℕ → ℕ → Option Waiting) (g m : ℕ) → t g m ≡ None → t ≡ upd2 t g m None
 unfolding upd2
@@ -172,7 +172,7 @@ undemoted e (x ∷ ws) none =
 demoted_there : (e : EventHandle) (ws : List Waiting) → AreApart ws → (i : ℕ) (d : Waiting) → i < length ws → is_of e.sender e.serial (get_or ws i d) ≡ true → set ws i (demoted_waiting (get_or ws i d)) ≡ map (demoted_if (e ∷ [])) ws
 demoted_there e [] apart i d l there = absurd (omega arith)
 demoted_there e (x ∷ ws) apart zero d l there =
-    let p = key_of x e.sender e.serial there in
+    let p = sender_and_serial x e.sender e.serial there in
     sym (ap (λ b. cond b (demoted_waiting x) x ∷ map (demoted_if (e ∷ [])) ws) (listed_one e x ∙ there)
     ∙ ap (λ vs. demoted_waiting x ∷ vs) (undemoted e ws (ap (λ h. waiting_at ws h e.serial) (sym p.0) ∙ ap (waiting_at ws x.event.sender) (sym p.1) ∙ apart.0)))
 demoted_there e (x ∷ ws) apart (suc i) d l there =

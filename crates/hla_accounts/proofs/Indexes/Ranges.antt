@@ -15,7 +15,7 @@ use Rattle.hla_accounts.specs.declared.index.Key.{Key}
 use Rattle.hla_accounts.specs.declared.index.Index.{Index}
 use Rattle.hla_accounts.specs.Bags.{is_of, waiting_at, AreApart}
 use Rattle.hla_accounts.specs.Indexes.{key_at, waiting_key_cmp, delivery_at, has_key, IsIndexOf}
-use Rattle.hla_accounts.proofs.Bags.Contents.{waiting_at-nil, waiting_at-cons, key_of}
+use Rattle.hla_accounts.proofs.Bags.Contents.{waiting_at-nil, waiting_at-cons, sender_and_serial}
 use Rattle.hla_accounts.proofs.Indexes.Keys.{key_total, same_key}
 
 abbrev pub key_of_waiting : Waiting → Key
@@ -38,7 +38,7 @@ passes test (x ∷ ws) g m w all is = by (is_of g m x) refl (sym (waiting_at-con
     by : (b : Bool) → is_of g m x ≡ b → cond b (Some x) (waiting_at ws g m) ≡ Some w → (waiting_at ws g m ≡ Some w → (test w ≡ true) × (w.event.sender ≡ g) × (w.event.serial ≡ m)) → (test w ≡ true) × (w.event.sender ≡ g) × (w.event.serial ≡ m)
     by true here e rest =
         let same : x ≡ w = cc in
-        let key = key_of x g m here in
+        let key = sender_and_serial x g m here in
         (subst (λ v. test v ≡ true) same both.0, ap (λ (v : Waiting). v.event.sender) (sym same) ∙ key.0, ap (λ (v : Waiting). v.event.serial) (sym same) ∙ key.1)
     by false here e rest = rest e
 
@@ -53,7 +53,7 @@ all_pass test (x ∷ ws) apart each =
   where
     behind : (w : Waiting) (b : Bool) → is_of w.event.sender w.event.serial x ≡ b → waiting_at ws w.event.sender w.event.serial ≡ Some w → cond b (Some x) (waiting_at ws w.event.sender w.event.serial) ≡ Some w
     behind w true here is =
-        let key = key_of x w.event.sender w.event.serial here in
+        let key = sender_and_serial x w.event.sender w.event.serial here in
         let none : waiting_at ws w.event.sender w.event.serial ≡ None = ap (λ h. waiting_at ws h w.event.serial) (sym key.0) ∙ ap (waiting_at ws x.event.sender) (sym key.1) ∙ apart.0 in
         absurd (let e : None ≡ Some w = sym none ∙ is in cc)
     behind w false here is = is

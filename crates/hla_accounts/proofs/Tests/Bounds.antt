@@ -23,7 +23,7 @@ use Rattle.hla_accounts.specs.declared.bag.Waiting.{Waiting}
 use Rattle.hla_accounts.specs.Bags.{is_of, waiting_at, AreApart}
 use Rattle.hla_accounts.specs.Accounts.{AreKept, no_account, account_at, copy_of, copy_given, copy_at, central_with}
 use Rattle.hla_accounts.specs.Bounds.{is_retracted, ordered_stamp, is_at_most_waiting, is_below_all_tso, is_below_wake, is_below_request, is_below_out, leaves_below, all_leave, is_below_bound, has_reached}
-use Rattle.hla_accounts.proofs.Bags.Contents.{waiting_at-nil, waiting_at-cons, key_of}
+use Rattle.hla_accounts.proofs.Bags.Contents.{waiting_at-nil, waiting_at-cons, sender_and_serial}
 
 -- ---- what holds of each copy
 -- P holds of each copy in the bag, by its sender and serial
@@ -41,7 +41,7 @@ module _ (P : ℕ → ℕ → Copy → Type 0) where
     where
       by : (b : Bool) → is_of g m w ≡ b → option_map copy_of (cond b (Some w) (waiting_at ws g m)) ≡ Some k → (copy_at ws g m ≡ Some k → P g m k) → P g m k
       by true here e rest =
-          let key = key_of w g m here in
+          let key = sender_and_serial w g m here in
           let same : copy_of w ≡ k = (let f = e in cc) in
           subst (λ x. P g m x) same (subst (λ n. P g n (copy_of w)) key.1 (subst (λ h. P h w.event.serial (copy_of w)) key.0 (All-head (OfCopy P) w ws all)))
       by false here e rest = rest e
@@ -58,7 +58,7 @@ module _ (P : ℕ → ℕ → Copy → Type 0) where
 
       behind : (g m : ℕ) (b : Bool) → is_of g m w ≡ b → (k : Copy) → copy_at ws g m ≡ Some k → option_map copy_of (cond b (Some w) (waiting_at ws g m)) ≡ Some k
       behind g m true here k is =
-          let key = key_of w g m here in
+          let key = sender_and_serial w g m here in
           let none : waiting_at ws g m ≡ None = rw (← key.0, ← key.1) apart.0 in
           absurd (let e : None ≡ Some k = sym (ap (option_map copy_of) none) ∙ is in cc)
       behind g m false here k is = is

@@ -29,7 +29,7 @@ use Rattle.hla_components.specs.Invariant.{EachOf, Above, IsTsoQueue, IsInKeyOrd
 use Rattle.hla_machine.specs.CentralInvariant.{CentralInv}
 use Rattle.hla_components.specs.Headline.{IsKeptStep}
 use Rattle.hla_base.proofs.Tables.{upd_self, least_le, least_le-forever}
-use Rattle.hla_machine.proofs.Basics.GrantCases.{may_grant}
+use Rattle.hla_machine.proofs.Basics.GrantCases.{grant_by_cases}
 use Rattle.hla_components.proofs.Wiring.Keys.{find-key_order}
 use Rattle.hla_components.proofs.Wiring.Queues.{Above-weaker, find-cons, occurs-cons, first_rest}
 use Rattle.hla_components.proofs.Wiring.Wires.{retractions-nil}
@@ -174,7 +174,7 @@ module _ (s : Components) (f : ℕ) (q : AdvanceRequest) (t : ℕ) (kept : Kept 
             steady = λ _ p. let e = old.idle p in let e2 = facts.asks in absurd (cc);
           };
         });
-        allowed = (none, (q, facts.asks, may_grant (central s) f q t (grant_flush member) (grant_plain member) facts.free));
+        allowed = (none, (q, facts.asks, grant_by_cases (central s) f q t (grant_flush member) (grant_plain member) facts.free));
         follows = ap (λ (r : TimeRow). machine.with_central_row (central s) f r) (sym (row_after_is (s.row f) (s.row f).advance q (λ q. row_after_grant (s.row f) q t) facts.asks));
       }
 

@@ -52,8 +52,8 @@ not_held true true b e = inr (inl refl)
 not_held true false true e = inr (inr refl)
 not_held true false false e = absurd (cc)
 
-may_receive : (r : TimeRow) → is_held_back r ≡ false → MayReceive r
-may_receive r e = not_held (is_constrained r) (is_advancing r) r.asynchronous e
+free_to_receive : (r : TimeRow) → is_held_back r ≡ false → MayReceive r
+free_to_receive r e = not_held (is_constrained r) (is_advancing r) r.asynchronous e
 
 -- ---- discoveries
 -- the discoveries on a wire are of its sender's objects
@@ -175,4 +175,4 @@ module _ (s : Components) (f : ℕ) (e : Event) (rest : List Event) (kept : Kept
       plain = let zero : e.stamp ≡ 0 = laws.plain e.sender e.serial f (ro_copy e) copy_front (rw is refl) in rw (is, zero) refl
 
   pub step_ro : CentralInv (central s) → s.controls f ≡ [] → is_held_back (s.row f) ≡ false → refusal (components_seen s) (Tick f) ≡ None → IsKeptStep s (Tick f) (pick_outcome s f (PickRo e rest))
-  step_ro laws free clear none = ro_step laws free (may_receive (s.row f) clear) none e.ordered refl
+  step_ro laws free clear none = ro_step laws free (free_to_receive (s.row f) clear) none e.ordered refl

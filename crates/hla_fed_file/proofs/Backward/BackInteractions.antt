@@ -89,9 +89,9 @@ record ParameterRead (d : ℕ) (l : List ℕ) (c : CatalogueValue) (ts : List Le
   fit : levels_fit (d + 1) levels
   tail : Tail (λ ss. Named name ∷ levels_then levels (RightParen ∷ ss)) ts (reader (at.Between lists.InteractionItems) d l (with_parameter l name c)) final
 
-parameter_named : (n : List ℕ) (d : ℕ) (l : List ℕ) (c : CatalogueValue) (next : Reader) → after_name_at name.Parameter (reader (at.Name name.Parameter) d l c) n ≡ Ok next
+parameter_name_read : (n : List ℕ) (d : ℕ) (l : List ℕ) (c : CatalogueValue) (next : Reader) → after_name_at name.Parameter (reader (at.Name name.Parameter) d l c) n ≡ Ok next
     → ParameterFits l n c × (next ≡ reader at.ParameterEnd d l (with_parameter l n c))
-parameter_named n d l c next ok =
+parameter_name_read n d l c next ok =
     let more = record c { parameters = c.parameters ++ record { class = innermost l; name = n } ∷ [] } in
     once (has_parameter_named c l n) (nat_le max_parameters (length c.parameters)) more refl ok
   where
@@ -107,7 +107,7 @@ parameter_back d l c (t ∷ ts) final h =
     let b = back (reader (at.Name name.Parameter) (d + 1) l c) t ts final refl h in
     let n = name_token t.token name.Parameter (d + 1) l c b.next b.step in
     let s = was_named name.Parameter (reader (at.Name name.Parameter) (d + 1) l c) b.next n.name n.named in
-    let k = parameter_named n.name (d + 1) l c b.next s.1 in
+    let k = parameter_name_read n.name (d + 1) l c b.next s.1 in
     let r = parameter_levels (length ts) d l (with_parameter l n.name c) ts final (omega arith) (at_next _ _ ts final k.1 b.read) in
     let less : length r.tail.rest ≤ length (t ∷ ts) = omega (arith, r.tail.fewer) in
     record { name = n.name; levels = r.levels; short = s.0; room = k.0; fit = r.fit; tail = record { rest = r.tail.rest; fewer = less; spelled = λ ss sp. (n.fits, r.tail.spelled ss sp); read = r.tail.read } }

@@ -226,9 +226,9 @@ record AttributeRead (d : ℕ) (l : List ℕ) (c : CatalogueValue) (ts : List Le
   fit : levels_fit (d + 1) levels
   tail : Tail (λ ss. Named name ∷ options_then options (levels_then levels (RightParen ∷ ss))) ts (reader (at.Between lists.ObjectItems) d l (with_attribute l name (transport_of options) (order_of options) c)) final
 
-attribute_named : (n : List ℕ) (d : ℕ) (l : List ℕ) (c : CatalogueValue) (next : Reader) → after_name_at name.Attribute (reader (at.Name name.Attribute) d l c) n ≡ Ok next
+attribute_name_read : (n : List ℕ) (d : ℕ) (l : List ℕ) (c : CatalogueValue) (next : Reader) → after_name_at name.Attribute (reader (at.Name name.Attribute) d l c) n ≡ Ok next
     → AttributeFits l n c × (next ≡ half (at.AttributeOptions stage.Named) d l (kept_of l n c) c)
-attribute_named n d l c next ok =
+attribute_name_read n d l c next ok =
     let k = kept_room (has_attribute_named c l n) (nat_le max_attributes (length c.attributes)) max_attributes (length c.attributes) (half (at.AttributeOptions stage.Named) d l None c)
     (half (at.AttributeOptions stage.Named) d l (Some (record { class = innermost l; name = n; transport = transport.Reliable; order = order.Receive })) c) next refl ok in
     (k.0, k.1 ∙ chosen (has_attribute_named c l n) (Some (record { class = innermost l; name = n; transport = transport.Reliable; order = order.Receive })))
@@ -243,7 +243,7 @@ attribute_back d l c (t ∷ ts) final h =
     let b = back (reader (at.Name name.Attribute) (d + 1) l c) t ts final refl h in
     let n = name_token t.token name.Attribute (d + 1) l c b.next b.step in
     let s = was_named name.Attribute (reader (at.Name name.Attribute) (d + 1) l c) b.next n.name n.named in
-    let k = attribute_named n.name (d + 1) l c b.next s.1 in
+    let k = attribute_name_read n.name (d + 1) l c b.next s.1 in
     let o = options_back d l (kept_of l n.name c) c ts final (at_next _ _ ts final k.1 b.read) in
     let declares = kept_declares (has_attribute_named c l n.name) l n.name o.options c in
     let less : length o.tail.rest ≤ length (t ∷ ts) = omega (arith, o.tail.fewer) in

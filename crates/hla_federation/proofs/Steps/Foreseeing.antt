@@ -79,9 +79,9 @@ told_one : (b : Bool) → one_if (is_some (told_of b)) ≡ cond b 1 0
 told_one true = refl
 told_one false = refl
 
-noted_at : (f serial : ℕ) (o : Option ℕ) → handle_noted f (option_map (λ (t : ℕ). record { serial = serial; stamp = t; receivers = [] }) o) ≡ option_map (λ (t : ℕ). record { sender = f; serial = serial }) o
-noted_at f serial None = refl
-noted_at f serial (Some t) = refl
+handle_of_noted : (f serial : ℕ) (o : Option ℕ) → handle_noted f (option_map (λ (t : ℕ). record { serial = serial; stamp = t; receivers = [] }) o) ≡ option_map (λ (t : ℕ). record { sender = f; serial = serial }) o
+handle_of_noted f serial None = refl
+handle_of_noted f serial (Some t) = refl
 
 pub update_handle_at : (d : Directory) (f m serial : ℕ) (r : TimeRow) (stamp : Option ℕ) (object : ℕ) (values : List HandleValuePair) → serial ≡ m + cond (has_of d Receive values) 1 0
     → sent_handle f r stamp m (update_sent d object values) ≡ cond (has_of d Timestamp values) (handle_under (heading_of f serial r stamp Timestamp)) None
@@ -92,7 +92,7 @@ update_handle_at d f m serial r stamp object values is =
     ∙ by_told (has_of d Timestamp values)
   where
     by_told : (b : Bool) → handle_noted f (option_and_then (λ rs. note_under (heading_of f serial r stamp Timestamp) rs) (told_of b)) ≡ cond b (handle_under (heading_of f serial r stamp Timestamp)) None
-    by_told true = noted_at f serial (heading_of f serial r stamp Timestamp).stamp
+    by_told true = handle_of_noted f serial (heading_of f serial r stamp Timestamp).stamp
     by_told false = refl
 
 pub few_serials : (d : Directory) (serial object other : ℕ) (values : List HandleValuePair) → is_out_of_serials serial (update_sent d object values) ≡ false → serial + length (update_sent d other values) ≤ 1000000000000000001

@@ -88,8 +88,8 @@ retracted_whole v f k ms whole is = record {
 }
 
 -- ---- what is not refused was sent by its sender, and may be retracted
-pub is_retractable : (s : Components) (f : ℕ) (event : EventHandle) → refusal (components_seen s) (Call f (service.Retract event)) ≡ None → (s.sent f event.serial).retractable ≡ true
-is_retractable s f event none =
+pub retractable_unless_refused : (s : Components) (f : ℕ) (event : EventHandle) → refusal (components_seen s) (Call f (service.Retract event)) ≡ None → (s.sent f event.serial).retractable ≡ true
+retractable_unless_refused s f event none =
     let test = (none_applies (tests (components_seen s) (Call f (service.Retract event))) none).1.0 in
     let accepted = and_parts (eqb event.sender f) (may_retract (s.row f) (s.sent f event.serial)) (turned _ test) in
     (and_parts _ _ (and_parts _ _ (and_parts _ _ accepted.1).0).0).1

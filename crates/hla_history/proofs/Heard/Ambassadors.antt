@@ -53,10 +53,10 @@ leaves : (t : HeardTable) (old : ℕ → List Callback) (f : ℕ) (ks : List Cal
 leaves t old f ks true fits is = cc
 leaves t old f ks false fits is = fits f ks is
 
-told_at : (t : HeardTable) (old : ℕ → List Callback) (f : ℕ) (k : Callback) (ks : List Callback) (o : Option (List Callback)) → t f ≡ o → AgreesWithTable t old
+told_is_added : (t : HeardTable) (old : ℕ → List Callback) (f : ℕ) (k : Callback) (ks : List Callback) (o : Option (List Callback)) → t f ≡ o → AgreesWithTable t old
     → option_map (λ (xs : List Callback). xs ++ k ∷ []) o ≡ Some ks → ks ≡ old f ++ k ∷ []
-told_at t old f k ks None at fits is = cc
-told_at t old f k ks (Some xs) at fits is =
+told_is_added t old f k ks None at fits is = cc
+told_is_added t old f k ks (Some xs) at fits is =
     let new : ks ≡ xs ++ k ∷ [] = cc in
     new ∙ ap (λ (ys : List Callback). ys ++ k ∷ []) (fits f xs at)
 
@@ -64,7 +64,7 @@ tells : (t : HeardTable) (old : ℕ → List Callback) (g f : ℕ) (k : Callback
     → cond b (option_map (λ (xs : List Callback). xs ++ k ∷ []) (t g)) (t f) ≡ Some ks → ks ≡ cond b (old f ++ k ∷ []) (old f)
 tells t old g f k ks true test fits is =
     let same : g ≡ f = grind (arith, nat_tests) in
-    told_at t old f k ks (t f) refl fits (ap (λ n. option_map (λ (xs : List Callback). xs ++ k ∷ []) (t n)) (sym same) ∙ is)
+    told_is_added t old f k ks (t f) refl fits (ap (λ n. option_map (λ (xs : List Callback). xs ++ k ∷ []) (t n)) (sym same) ∙ is)
 tells t old g f k ks false test fits is = fits f ks is
 
 tick_tells : (t : HeardTable) (old : ℕ → List Callback) (g f : ℕ) (o : Option Callback) (ks : List Callback) → AgreesWithTable t old

@@ -24,6 +24,6 @@ may_grant_as false x c f q t flush plain free = free refl
 may_grant_as true true c f q t flush plain free = flush refl refl
 may_grant_as true false c f q t flush plain free = plain refl refl
 
-pub may_grant : (c : Central) (f : ℕ) (q : AdvanceRequest) (t : ℕ) → (is_constrained (c.row f) ≡ true → is_flush q.kind ≡ true → MayGrantFlush c f q t)
+pub grant_by_cases : (c : Central) (f : ℕ) (q : AdvanceRequest) (t : ℕ) → (is_constrained (c.row f) ≡ true → is_flush q.kind ≡ true → MayGrantFlush c f q t)
     → (is_constrained (c.row f) ≡ true → is_flush q.kind ≡ false → (t ≡ grant_time (c.row f) q) × Reached c f q.kind t) → (is_constrained (c.row f) ≡ false → t ≡ q.asked) → MayGrant c f t q
-may_grant c f q t flush plain free = may_grant_as (is_constrained (c.row f)) (is_flush q.kind) c f q t flush plain free
+grant_by_cases c f q t flush plain free = may_grant_as (is_constrained (c.row f)) (is_flush q.kind) c f q t flush plain free

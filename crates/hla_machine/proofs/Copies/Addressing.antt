@@ -89,8 +89,8 @@ message_sent c f stamp out none = record {
   others = λ g is. copy_here c.directory.joined c.bag f (c.serial f) (copy_for c.directory (c.row f) stamp out) g (none (c.serial f) g (omega arith)) ∙ unmade_copy (is_other c.directory.joined f g) (content_for c.directory out.body g) _ is;
 }
 
-sent_in : (d : Directory) (r : TimeRow) (stamp : Option ℕ) (to bag : ℕ → ℕ → ℕ → Option Copy) (f m : ℕ) (out : Outgoing) → ((g : ℕ) → to f m g ≡ bag f m g) → IsSentTo d r stamp bag f m out → IsSentTo d r stamp to f m out
-sent_in d r stamp to bag f m out same is = record {
+still_sent_to : (d : Directory) (r : TimeRow) (stamp : Option ℕ) (to bag : ℕ → ℕ → ℕ → Option Copy) (f m : ℕ) (out : Outgoing) → ((g : ℕ) → to f m g ≡ bag f m g) → IsSentTo d r stamp bag f m out → IsSentTo d r stamp to f m out
+still_sent_to d r stamp to bag f m out same is = record {
   receivers = λ g q. let w = is.receivers g q in (w.0, same g ∙ w.1, w.2, w.3);
   others = λ g q. same g ∙ is.others g q;
 }
@@ -100,7 +100,7 @@ messages_sent c f stamp [] none = tt
 messages_sent c f stamp (out ∷ outs) none =
     let d = after_message c f stamp out in
     let serial : d.serial f ≡ c.serial f + 1 = upd_same c.serial f (c.serial f + 1) in (
-      sent_in c.directory (c.row f) stamp (after_messages d f stamp outs).bag d.bag f (c.serial f) out (λ g. messages_same d f stamp outs (c.serial f) g (subst (λ (n : ℕ). c.serial f < n) (sym serial) (omega arith))) (message_sent c f stamp out none),
+      still_sent_to c.directory (c.row f) stamp (after_messages d f stamp outs).bag d.bag f (c.serial f) out (λ g. messages_same d f stamp outs (c.serial f) g (subst (λ (n : ℕ). c.serial f < n) (sym serial) (omega arith))) (message_sent c f stamp out none),
       subst (λ (n : ℕ). AreSentTo c.directory (c.row f) stamp (after_messages d f stamp outs).bag f n outs) serial (messages_sent d f stamp outs (message_none c f stamp out none)),
     )
 

@@ -178,8 +178,8 @@ heard_pick c f (callback.ReceiveInteraction class values event d) e o may is = h
 heard_pick c f (callback.RemoveObjectInstance object event d) e o may is = heard_delivery c f (content.Removal object) event e d may is
 heard_pick c f k e o may is = absurd is
 
-heard_of : (c : Central) (h : Happening) (f : ℕ) (e : EventHandle) → MayEnd c h.step h.outcome h.choice → Hears h f e → Heard c (next_state c h) f e
-heard_of c h f e may p = let g = given_of c h f p.given may p.gives in subst (λ (d : Central). Heard c d f e) (sym g.follows) (heard_pick c f p.given e h.choice g.may p.names)
+heard_in_step : (c : Central) (h : Happening) (f : ℕ) (e : EventHandle) → MayEnd c h.step h.outcome h.choice → Hears h f e → Heard c (next_state c h) f e
+heard_in_step c h f e may p = let g = given_of c h f p.given may p.gives in subst (λ (d : Central). Heard c d f e) (sym g.follows) (heard_pick c f p.given e h.choice g.may p.names)
 
 -- ---- runs
 -- nothing in the bag is its receiver's own
@@ -219,22 +219,22 @@ absent_run c (h ∷ hs) d f e run none low =
 
 -- ---- the laws
 pub heard_on_its_way : (c : Central) (h : Happening) (f : ℕ) (e : EventHandle) → Happens c h → Hears h f e → IsOnItsWay c f e
-heard_on_its_way c h f e is p = let x = heard_of c h f e is.allowed.0 p in (x.copy, x.was)
+heard_on_its_way c h f e is p = let x = heard_in_step c h f e is.allowed.0 p in (x.copy, x.was)
 
 pub heard_from_another : (c : Central) (h : Happening) (f : ℕ) (e : EventHandle) → Happens c h → Hears h f e → e.sender ≢ f
 heard_from_another c h f e is p same =
     let w = others_run (new_central is.catalogue) is.before c is.run (others_start is.catalogue) in
-    let x = heard_of c h f e is.allowed.0 p in
+    let x = heard_in_step c h f e is.allowed.0 p in
     let own : c.bag e.sender e.serial e.sender ≡ Some x.copy = subst (λ (f : ℕ). c.bag e.sender e.serial f ≡ Some x.copy) (sym same) x.was in
     w.others e.sender e.serial x.copy own
 
 pub heard_once : (c : Central) (h : Happening) (between : List Happening) (d : Central) (i : Happening) (f : ℕ) (e : EventHandle) → HappenAfter c h between d i → Hears h f e → Hears i f e → ⊥
 heard_once c h between d i f e later first second =
     let w = others_run (new_central later.first.catalogue) later.first.before c later.first.run (others_start later.first.catalogue) in
-    let x = heard_of c h f e later.first.allowed.0 first in
+    let x = heard_in_step c h f e later.first.allowed.0 first in
     let low = le_trans (w.laws.unused e.sender e.serial f x.copy x.was) ((step_brings c h.step h.outcome h.choice).serials e.sender) in
     let none = absent_run (next_state c h) between d f e later.run x.gone low in
-    let y = heard_of d i f e later.allowed.0 second in
+    let y = heard_in_step d i f e later.allowed.0 second in
     let both : None ≡ Some y.copy = sym none ∙ y.was in
     absurd (cc)
 

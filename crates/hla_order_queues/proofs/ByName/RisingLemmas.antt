@@ -21,8 +21,8 @@ same a b h = grind (arith, nat_tests)
 not_less : (a b : ℕ) → ltb a b ≡ false → b ≤ a
 not_less a b h = grind (arith, nat_tests)
 
-is_less : (a b : ℕ) → ltb a b ≡ true → a < b
-is_less a b h = grind (arith, nat_tests)
+less_as_tested : (a b : ℕ) → ltb a b ≡ true → a < b
+less_as_tested a b h = grind (arith, nat_tests)
 
 greater : (a b : ℕ) → b ≤ a → eqb a b ≡ false → b < a
 greater a b h e = grind (arith, nat_tests)
@@ -97,7 +97,7 @@ there_if : (b : Bool) (m : ℕ) (q : StampNote) (qs : List StampNote) → ltb q.
 unfolding noted AreRisingNotes
 there_if true m q qs is h later =
     let n : 1 + prefix_len (is_note_before m) qs ≡ suc (prefix_len (is_note_before m) qs) = omega arith in
-    rw (n, other q.serial m (is_less q.serial m is)) later
+    rw (n, other q.serial m (less_as_tested q.serial m is)) later
 there_if false m q qs is h later = here_if (eqb q.serial m) q.stamp (noted m qs) (none_greater m q.serial qs (not_less q.serial m is) h.0)
 
 noted_there : (m : ℕ) (qs : List StampNote) → AreRisingNotes qs → noted m qs ≡ stamp_in m (slice_get qs (prefix_len (is_note_before m) qs))
@@ -156,7 +156,7 @@ mark_if : (b : Bool) (t m : ℕ) (q : StampNote) (qs : List StampNote) → ltb q
 unfolding noted AreRisingNotes
 mark_if true t m q qs is h found later =
     let n : 1 + prefix_len (is_note_before m) qs ≡ suc (prefix_len (is_note_before m) qs) = omega arith in
-    let lt : q.serial < m = is_less q.serial m is in
+    let lt : q.serial < m = less_as_tested q.serial m is in
     let not_here = other q.serial m lt in
     let behind : noted m qs ≡ Some t = rw not_here at found in
     let rest = later behind in
@@ -309,7 +309,7 @@ less_at m (suc i) (r ∷ qs) q h lt is = less_at m i qs q h.1 (omega arith) is
 below_if : (b : Bool) (m i : ℕ) (qs now : List StampNote) (last : StampNote) → AreRisingNotes qs → qs ≡ now → i < length qs → i ≡ length qs - 1 → last ≡ get_or qs i last → ltb last.serial m ≡ b → MatchBool b (AreLess m now) (AreLess m now → ⊥)
 below_if true m i qs now last h view lt place is less =
     let L : List StampNote → Type 0 = λ zs. AreLess m zs in
-    subst L view (all_less m qs last h (is ∙ ap (λ n. get_or qs n last) place) (is_less last.serial m less))
+    subst L view (all_less m qs last h (is ∙ ap (λ n. get_or qs n last) place) (less_as_tested last.serial m less))
 below_if false m i qs now last h view lt place is less =
     λ below.
     let L : List StampNote → Type 0 = λ zs. AreLess m zs in

@@ -103,12 +103,12 @@ there_if b t (Some x) is e = rw (is, e) refl
 pub has_name : (entries : List (EventName × ℕ)) (xs : List Event) (g m : ℕ) (b : Bool) → AreNamed entries xs → b ≡ is_some (stamp_at entries (record { sender = g; serial = m })) → MatchBool b (IsSome (find_event g m xs)) (find_event g m xs ≡ None)
 has_name entries xs g m b h is = there_if b (stamp_at entries (record { sender = g; serial = m })) (find_event g m xs) is (h.named (record { sender = g; serial = m }))
 
-no_event : (o : Option Event) → None ≡ option_map (λ (x : Event). x.stamp) o → o ≡ None
-no_event None e = refl
-no_event (Some x) e = absurd (cc)
+none_if_no_stamp : (o : Option Event) → None ≡ option_map (λ (x : Event). x.stamp) o → o ≡ None
+none_if_no_stamp None e = refl
+none_if_no_stamp (Some x) e = absurd (cc)
 
 pub no_name : (entries : List (EventName × ℕ)) (xs : List Event) (g m : ℕ) → AreNamed entries xs → None ≡ stamp_at entries (record { sender = g; serial = m }) → find_event g m xs ≡ None
-no_name entries xs g m h e = no_event (find_event g m xs) (e ∙ h.named (record { sender = g; serial = m }))
+no_name entries xs g m h e = none_if_no_stamp (find_event g m xs) (e ∙ h.named (record { sender = g; serial = m }))
 
 -- the event with a key, which is there
 pub record HasKey (k : EventKey) (xs : List Event) : Type 0 where
@@ -125,8 +125,8 @@ has_key_if k xs (Some x) is e =
     let s : x.stamp ≡ k.stamp = cc in
     record { event = x; found = is; key = key_from k x s (names_equal k.sender k.serial x (find_event_name k.sender k.serial xs x is)) }
 
-pub has_key : (k : EventKey) (xs : List Event) → stamp_of (name_of_key k) xs ≡ Some k.stamp → HasKey k xs
-has_key k xs e = has_key_if k xs (find_event k.sender k.serial xs) refl e
+pub key_is_there : (k : EventKey) (xs : List Event) → stamp_of (name_of_key k) xs ≡ Some k.stamp → HasKey k xs
+key_is_there k xs e = has_key_if k xs (find_event k.sender k.serial xs) refl e
 
 -- the first event goes, with its stamp
 pub first_gone : (x : Event) (k : EventKey) (n : EventName) (xs ys : List Event) → Some x ≡ slice_get xs 0 → k ≡ key_of x → n ≡ name_of_key k → ys ≡ drop 1 xs → ys ≡ remove_event n.sender n.serial xs

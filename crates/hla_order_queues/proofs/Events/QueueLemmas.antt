@@ -59,8 +59,8 @@ removed_at g m xs zs i n r size e there rest =
     let low : i < n = rw size at.1 in
     on_some (zs ≡ remove xs i) r (there.1 low) rest ∙ ap (remove xs) at.0 ∙ sym (remove_event-place g m xs)
 
-pub not_found : (g m : ℕ) (xs : List Event) → None ≡ position (is_event g m) xs → (find_event g m xs ≡ None) × (remove_event g m xs ≡ xs)
-not_found g m xs e =
+pub event_not_there : (g m : ℕ) (xs : List Event) → None ≡ position (is_event g m) xs → (find_event g m xs ≡ None) × (remove_event g m xs ≡ xs)
+event_not_there g m xs e =
     let n = position_or_len (is_event g m) xs in
     let past : length xs ≤ n = beyond n (length xs) _ refl e in
     let later : length xs ≤ suc n = omega arith in

@@ -74,9 +74,9 @@ pub put_front : {E : Type 0} (x : Event) (f first l now : List Event) (r : Resul
 put_front x f first l now (Ok u) whole later put = ap (λ zs. zs ++ l) put ∙ sym (insert_event-front x f l later) ∙ ap (insert_event x) whole
 put_front x f first l now (Err e) whole later put = tt
 
-pub put_behind : {E : Type 0} (x : Event) (f l later now : List Event) (r : Result (Unit {0}) E) → f ++ l ≡ now → NoneAfter (key_of x) f → OnOk r (later ≡ insert_event x l) → OnOk r (f ++ later ≡ insert_event x now)
-put_behind x f l later now (Ok u) whole none put = ap (λ zs. f ++ zs) put ∙ sym (insert_event-back x f l none) ∙ ap (insert_event x) whole
-put_behind x f l later now (Err e) whole none put = tt
+pub put_in_later : {E : Type 0} (x : Event) (f l later now : List Event) (r : Result (Unit {0}) E) → f ++ l ≡ now → NoneAfter (key_of x) f → OnOk r (later ≡ insert_event x l) → OnOk r (f ++ later ≡ insert_event x now)
+put_in_later x f l later now (Ok u) whole none put = ap (λ zs. f ++ zs) put ∙ sym (insert_event-back x f l none) ∙ ap (insert_event x) whole
+put_in_later x f l later now (Err e) whole none put = tt
 
 pub put_below : {E : Type 0} (x : Event) (f first : List Event) (es : List (EventKey × List Event)) (r : Result (Unit {0}) E) → OnOk r (first ≡ insert_event x f) → OnErr r (first ≡ f) → AreAfter (key_of x) es → AreBelowBlocks f es → AreBelowBlocks first es
 put_below x f first es (Ok u) put same after below = subst (λ xs. AreBelowBlocks xs es) (sym put) (All-insert_event (λ y. AreAfter (key_of y) es) x f after below)

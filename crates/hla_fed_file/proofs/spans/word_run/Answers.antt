@@ -3,7 +3,7 @@ use Rattle.std.proofs.Common.{refl, arith}
 use Rattle.std.proofs.lemmas.Simd.{zip2_splat, length-chunk}
 use lib.Lanes.{chunk}
 use Rattle.hla_fed_file.specs.Lexical.{is_word, is_blank, is_mark, is_bad}
-use Rattle.hla_fed_file.proofs.Lexical.SpanLemmas.{joined, with_lanes, run_in}
+use Rattle.hla_fed_file.proofs.Lexical.SpanLemmas.{joined_lanes, with_lanes, run_in}
 use Rattle.hla_fed_file.proofs.spans.word_run.Goals as goal
 
 pub returns : goal.returns
@@ -12,4 +12,4 @@ returns c =
     let v = chunk c.args.at 16 c.args.text.now in
     let long = length-chunk c.args.at 16 c.args.text.now c.requires in
     run_in is_word c.args.text.now c.args.at 16 _ _ c.requires (omega arith) c.type_inv.text c.first_set.ensures _
-    (joined _ _ _ v (zip2_splat _ v 16 33 long) (with_lanes _ _ v c.by_low_bits.ensures)) refl
+    (joined_lanes _ _ _ v (zip2_splat _ v 16 33 long) (with_lanes _ _ v c.by_low_bits.ensures)) refl

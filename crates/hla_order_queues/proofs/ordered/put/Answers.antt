@@ -4,7 +4,7 @@ use Rattle.hla_order_queues.specs.declared.key.EventKey.{EventKey}
 use Rattle.hla_order_queues.specs.Kept.{events_of, IsInOrder, IsUnique, AreAfter}
 use Rattle.hla_order_queues.proofs.Events.OrderLemmas.{parts_of}
 use Rattle.hla_order_queues.proofs.UnderSeparators.SplitLemmas.{unique_parts}
-use Rattle.hla_order_queues.proofs.UnderSeparators.KeptLemmas.{put_front, put_behind, put_below, put_filled, none_in_front}
+use Rattle.hla_order_queues.proofs.UnderSeparators.KeptLemmas.{put_front, put_in_later, put_below, put_filled, none_in_front}
 use Rattle.hla_order_queues.proofs.ordered.put.Goals as goal
 
 pub insert-requires : goal.insert-requires
@@ -27,7 +27,7 @@ returns-then-is_after-clause-filled c =
 
 pub returns-else-is_after-clause-ok : goal.returns-else-is_after-clause-ok
 returns-else-is_after-clause-ok c =
-    put_behind c.args.event c.has_room.new.first (events_of c.has_room.new.later) (events_of c.insert-else-is_after.new.self) (c.args.first.now ++ events_of c.args.later.now) c.insert-else-is_after.result c.has_room.ensures.same (none_in_front _ c.has_room.new.first c.has_room.new.later (rw c.of-key.ensures at (c.is_after.ensures.within c.if-is_after.false)) c.has_room.ensures.below) c.insert-else-is_after.ensures.ok
+    put_in_later c.args.event c.has_room.new.first (events_of c.has_room.new.later) (events_of c.insert-else-is_after.new.self) (c.args.first.now ++ events_of c.args.later.now) c.insert-else-is_after.result c.has_room.ensures.same (none_in_front _ c.has_room.new.first c.has_room.new.later (rw c.of-key.ensures at (c.is_after.ensures.within c.if-is_after.false)) c.has_room.ensures.below) c.insert-else-is_after.ensures.ok
 
 pub returns-else-is_after-clause-filled : goal.returns-else-is_after-clause-filled
 returns-else-is_after-clause-filled c =

@@ -4,14 +4,14 @@ use Rattle.hla_order_queues.specs.Queues.{find_event}
 use Rattle.hla_order_queues.specs.Kept.{key_of, events_of, AreAfter, AreBelowBlocks}
 use Rattle.hla_order_queues.proofs.Events.OrderLemmas.{parts_of}
 use Rattle.hla_order_queues.proofs.Events.RemovalLemmas.{find_event_behind, remove_event_before, remove_event_behind, All-remove_event}
-use Rattle.hla_order_queues.proofs.ByName.StampLemmas.{HasKey, has_key}
+use Rattle.hla_order_queues.proofs.ByName.StampLemmas.{HasKey, key_is_there}
 use Rattle.hla_order_queues.proofs.UnderSeparators.KeyLemmas.{in_front, key_behind, stamp_behind}
 use Rattle.hla_order_queues.proofs.UnderSeparators.PutLemmas.{missed_in_front}
 use Rattle.hla_order_queues.proofs.ordered.take_key.Goals as goal
 use Rattle.hla_order_queues.proofs.ordered.take_key.Goals.{Start, Then-is_after, Else-is_after}
 
 key : (c : Start) → HasKey c.args.key (c.args.first.now ++ events_of c.args.later.now)
-key c = has_key c.args.key (c.args.first.now ++ events_of c.args.later.now) c.requires.there
+key c = key_is_there c.args.key (c.args.first.now ++ events_of c.args.later.now) c.requires.there
 
 front : (c : Then-is_after) → (h : HasKey c.args.key (c.args.first.now ++ events_of c.args.later.now)) → find_event c.args.key.sender c.args.key.serial c.args.first.now ≡ Some h.event
 front c h = in_front c.args.key c.args.first.now (events_of c.args.later.now) h (parts_of c.args.first.now (events_of c.args.later.now) c.requires.ordered).back (c.is_after.ensures.events c.if-is_after.true)

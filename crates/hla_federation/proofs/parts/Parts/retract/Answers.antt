@@ -12,7 +12,7 @@ use Rattle.hla_members.specs.Members.{MemberTables, members_of}
 use Rattle.hla_members.specs.Noting.{with_retracted}
 use Rattle.hla_federation.specs.Steps.State.{state_of, state_from, IsWhole}
 use Rattle.hla_federation.proofs.Steps.Doing.{does_next}
-use Rattle.hla_federation.proofs.Steps.Retracting.{after_retraction, retracted_whole, is_retractable}
+use Rattle.hla_federation.proofs.Steps.Retracting.{after_retraction, retracted_whole, retractable_unless_refused}
 use Rattle.hla_federation.proofs.parts.Parts.retract.Goals as goal
 
 pub retract-requires-clause-retractable : goal.retract-requires-clause-retractable
@@ -22,7 +22,7 @@ retract-requires-clause-retractable c =
     let none = sym c.retract_fault.ensures ∙ c.in_default.is in
     ap (λ (v : FederationValue). ((members_of v.members).sent f k).retractable) c.self.view_is
     ∙ ap (λ (t : MemberTables). (t.sent f k).retractable) c.in_ok-send_retraction.ensures.wires
-    ∙ is_retractable (state_of c.args.self.now) f c.args.event none
+    ∙ retractable_unless_refused (state_of c.args.self.now) f c.args.event none
 
 pub returns-clause-whole : goal.returns-clause-whole
 returns-clause-whole c =

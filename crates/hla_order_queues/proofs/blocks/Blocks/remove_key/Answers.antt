@@ -5,13 +5,13 @@ use Rattle.hla_order_queues.specs.declared.key.EventKey.{EventKey}
 use Rattle.hla_order_queues.specs.Queues.{find_event, remove_event}
 use Rattle.hla_order_queues.proofs.Events.RemovalLemmas.{IsInOrder-remove_event}
 use Rattle.hla_order_queues.specs.Kept.{events_of, AreAfter, AreBelowBlocks, IsInOrder}
-use Rattle.hla_order_queues.proofs.ByName.StampLemmas.{HasKey, has_key}
+use Rattle.hla_order_queues.proofs.ByName.StampLemmas.{HasKey, key_is_there}
 use Rattle.hla_order_queues.proofs.UnderSeparators.PutLemmas.{IsTakenFromBlock, taken_out, not_before}
 use Rattle.hla_order_queues.proofs.blocks.Blocks.remove_key.Goals as goal
 use Rattle.hla_order_queues.proofs.blocks.Blocks.remove_key.Goals.{After-take_event-event, In_err-separator}
 
 key : (c : After-take_event-event) → HasKey c.args.key (events_of c.self.inside.separators)
-key c = subst (λ (es : List (EventKey × List Event)). HasKey c.args.key (events_of es)) (sym c.self.view_is) (has_key c.args.key (events_of c.args.self.now) c.requires.there)
+key c = subst (λ (es : List (EventKey × List Event)). HasKey c.args.key (events_of es)) (sym c.self.view_is) (key_is_there c.args.key (events_of c.args.self.now) c.requires.there)
 
 taken : (c : After-take_event-event) → IsTakenFromBlock c.args.key c.in_ok-separator.separator c.self.inside.separators c.take_event-event.new.self c.take_event-event.result
 taken c =
