@@ -40,7 +40,7 @@ fn joined<L: Ledger + Naming, W: Publisher<L>>(
     }
 }
 
-/// A federate of a name of one letter that joined; it must not be refused.
+/// A federate of a name of one letter that joined, with an ambassador whose tag the letter is; it must not be refused.
 pub fn joined_as<L: Ledger + Naming, W: Publisher<L>>(
     rt: &(impl Wait + Abort),
     alloc: Global,
@@ -53,7 +53,7 @@ pub fn joined_as<L: Ledger + Naming, W: Publisher<L>>(
         rti,
         letter(rt, alloc, name),
         execution,
-        Recorder::new(alloc),
+        Recorder::tagged(alloc, u32::from(name)),
     )
 }
 
@@ -204,6 +204,16 @@ fn expect_heard_once<L: Ledger>(rt: &impl Abort, left: &mut Left<L, Recorder>) {
     assert_eq!(rt; count, 1);
 }
 
+/// The ambassador of one who left is the one with this tag.
+fn expect_tag<L: Ledger>(rt: &impl Abort, left: &mut Left<L, Recorder>, tag: u8) {
+    let Some(ambassador) = left.take_ambassador() else {
+        panic!(rt; "no ambassador");
+    };
+    let found = ambassador.tag();
+    drop(ambassador);
+    assert_eq!(rt; found, u32::from(tag));
+}
+
 /// A federate joins whose ambassador fails, and resigns: the ambassador has heard the callback. What it leaves behind is added.
 fn fail_and_leave<L: Ledger + Naming, W: Publisher<L>>(
     rt: &(impl Wait + Abort),
@@ -284,6 +294,18 @@ fn carry_promise<L: Ledger + Naming, W: Publisher<L>>(
     assert!(rt; courier.carry(rt, play, a.number(), b.number()) == Ok(Carried::Null { bound: 1 }));
 }
 
+/// A federate resigns, and its own ambassador comes out. What it leaves behind is added.
+fn resign_with<L: Ledger + Naming, W: Publisher<L>>(
+    rt: &(impl Wait + Abort),
+    federate: Federate<L, Recorder, W>,
+    tag: u8,
+    lefts: &mut Vec<Left<L, Recorder>>,
+) {
+    let mut left = resigned(rt, federate);
+    expect_tag(rt, &mut left, tag);
+    keep(rt, lefts, left);
+}
+
 /// Two federates and a courier, from the creation to the destruction. What they leave behind is added.
 fn run_to_end<L: Ledger + Naming, W: Publisher<L>>(
     rt: &(impl Wait + Abort),
@@ -296,8 +318,8 @@ fn run_to_end<L: Ledger + Naming, W: Publisher<L>>(
     let mut b = joined_as(rt, alloc, rti, play, b'B');
     let mut courier = courier_of(rt, rti);
     carry_promise(rt, play, &mut a, &mut b, &mut courier);
-    keep(rt, lefts, resigned(rt, a));
-    keep(rt, lefts, resigned(rt, b));
+    resign_with(rt, a, b'A', lefts);
+    resign_with(rt, b, b'B', lefts);
     keep(rt, lefts, courier.leave());
     destroy(rt, rti, play);
 }
