@@ -12,13 +12,8 @@ use std::alloc::Global;
 /// A FED file and a script, read: each from a file of its own, or both from one input.
 #[derive(Drop)]
 pub(crate) enum Texts {
-    Apart {
-        fed: Vec<u8>,
-        script: Vec<u8>,
-    },
-    Shared {
-        input: Vec<u8>,
-    },
+    Apart { fed: Vec<u8>, script: Vec<u8> },
+    Shared { input: Vec<u8> },
 }
 
 impl Texts {
@@ -73,7 +68,10 @@ pub(crate) fn read_texts<'a, O: Opener>(
     let mut script = opener.open(script_name);
     let fed = match load(alloc, &mut fed, FILE_LIMIT) {
         Ok(fed) => fed,
-        Err(fault) => return Err(Unread { name: fed_name, fault }),
+        Err(fault) => return Err(Unread {
+            name: fed_name,
+            fault,
+        }),
     };
     match load(alloc, &mut script, FILE_LIMIT) {
         Ok(script) => Ok(Texts::Apart { fed, script }),
