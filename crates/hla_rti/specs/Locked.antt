@@ -1,5 +1,5 @@
 -- What lies under the lock: the history with its executions, and what monitors are shown of it
-use Rattle.std.specs.Prelude.{◌≡◌, ◌⊎◌, ◌↔◌, ◌+◌, ℕ, Bool, true, false, List, length, Result, MatchResult}
+use Rattle.std.specs.Prelude.{◌≡◌, ◌⊎◌, ◌+◌, ℕ, Bool, true, false, List, length, Result, MatchResult}
 use mathlib.Core.List.{IsPrefix}
 use Rattle.hla_base.specs.declared.fault.Fault.{Fault}
 use Rattle.hla_base.specs.declared.fault.Fault.TheVariants as fault
@@ -41,13 +41,13 @@ own_record l actor name step out = step_record actor name step out (chosen_in ((
 abbrev pub IsFull : LockedValue → Type 0
 IsFull l = length l.held.history ≡ l.held.limit
 
--- there was room for the record, and the history and the executions are as it makes them
+-- a record was written: the history and the executions are as it makes them
 abbrev pub IsRecorded : LockedValue → Record → LockedValue → Type 0
-IsRecorded old r new = (IsFull old → ⊥) × (held_of new.held ≡ with_record (held_of old.held) r) × (new.ended ≡ old.ended)
+IsRecorded old r new = (held_of new.held ≡ with_record (held_of old.held) r) × (new.ended ≡ old.ended)
 
--- nothing was recorded, and nothing has changed: the history is full, or else memory was refused
+-- nothing was recorded, as the history is full or memory was refused, and nothing has changed
 abbrev pub IsNotRecorded : LockedValue → Fault → LockedValue → Type 0
-IsNotRecorded old e new = ((e ≡ fault.HistoryFull) ⊎ (e ≡ fault.OutOfMemory)) × (e ≡ fault.HistoryFull ↔ IsFull old) × (new ≡ old)
+IsNotRecorded old e new = ((e ≡ fault.HistoryFull) ⊎ (e ≡ fault.OutOfMemory)) × (new ≡ old)
 
 -- the caller's share counts one more where its act was recorded, and else as many
 abbrev pub CountsRecord : {T E : Type 0} → Result T E → ℕ → ℕ → Type 0

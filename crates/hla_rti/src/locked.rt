@@ -1,6 +1,6 @@
 //! What lies under the lock: the history with its executions, and the board beside it.
 
-ghost use Rattle.std.specs.Prelude.{◌≡◌, ◌+◌, ◌<◌, ◌++◌, ◌∷◌, [], List, true, false, None, Some, is_some, IfOk, IfErr, IfSome, OnOk, OnErr, MatchResult, if◌then◌else◌, vec_len, vec_capacity};
+ghost use Rattle.std.specs.Prelude.{◌≡◌, ◌+◌, ◌<◌, ◌↔◌, ◌++◌, ◌∷◌, [], List, true, false, None, Some, is_some, Err, IfOk, IfErr, IfSome, OnOk, OnErr, MatchResult, if◌then◌else◌, vec_len, vec_capacity};
 ghost use Rattle.hla_base.specs.Limits.{ledger_parts, max_callers, max_monitors};
 ghost use mathlib.Core.List.{IsPrefix};
 ghost use Rattle.hla_machine.specs.declared.service.Service.TheVariants as service;
@@ -13,7 +13,7 @@ ghost use Rattle.hla_history.specs.Hosts.{IsPlain};
 ghost use Rattle.hla_history.specs.Hosting.{held_of};
 ghost use Rattle.hla_history.specs.Writing.{step_record};
 ghost use Rattle.hla_rti.specs.Close.{AllHere, AllAgree, AreOfCallers, DiffersFirst};
-ghost use Rattle.hla_rti.specs.Locked.{choiceless_record, own_record, IsPosted, IsRecorded, IsNotRecorded, CountsRecord};
+ghost use Rattle.hla_rti.specs.Locked.{choiceless_record, own_record, IsFull, IsPosted, IsRecorded, IsNotRecorded, CountsRecord};
 
 use crate::closing::{Closed, Unsettled, settle};
 use crate::seat::{Left, Seat};
@@ -105,6 +105,7 @@ impl<L: Ledger + Naming, B: FederateAmbassador, W: Publisher<L>> Locked<L, B, W>
         ensures form { IfOk result (λ out. EndsInForm (step_form step) out) }
         ensures recorded { IfOk result (λ out. IsRecorded self.old
             (own_record self.old actor execution.now step out) self.new) }
+        ensures full { result ≡ Err Fault.HistoryFull ↔ IsFull self.old }
         ensures refused { IfErr result (λ e. IsNotRecorded self.old e self.new) }
         ensures unwritten { OnErr result (transcript.new.items ≡ transcript.old.items) }
         ensures share { CountsRecord result mine.old.amount mine.new.amount }
@@ -132,6 +133,7 @@ impl<L: Ledger + Naming, B: FederateAmbassador, W: Publisher<L>> Locked<L, B, W>
             ≡ choiceless_record actor name (act.Create (catalogue_from fed.now)) s.answer) }
         ensures form { IfOk result (λ s. EndsInForm NoAnswer s.answer) }
         ensures recorded { IfOk result (λ s. IsRecorded self.old s.own self.new) }
+        ensures full { result ≡ Err Fault.HistoryFull ↔ IsFull self.old }
         ensures refused { IfErr result (λ e. IsNotRecorded self.old e self.new) }
         ensures share { CountsRecord result mine.old.amount mine.new.amount }
         ensures parts { mine.new.parts ≡ mine.old.parts }
@@ -154,6 +156,7 @@ impl<L: Ledger + Naming, B: FederateAmbassador, W: Publisher<L>> Locked<L, B, W>
         ensures asked { IfOk result (λ s. s.own ≡ choiceless_record actor name act.Destroy s.answer) }
         ensures form { IfOk result (λ s. EndsInForm NoAnswer s.answer) }
         ensures recorded { IfOk result (λ s. IsRecorded self.old s.own self.new) }
+        ensures full { result ≡ Err Fault.HistoryFull ↔ IsFull self.old }
         ensures refused { IfErr result (λ e. IsNotRecorded self.old e self.new) }
         ensures share { CountsRecord result mine.old.amount mine.new.amount }
         ensures parts { mine.new.parts ≡ mine.old.parts }
@@ -182,6 +185,7 @@ impl<L: Ledger + Naming, B: FederateAmbassador, W: Publisher<L>> Locked<L, B, W>
         ensures recorded { IfOk result (λ p. IsRecorded self.old p.0.own self.new) }
         ensures form { IfOk result (λ p. EndsInForm AFederate p.0.answer) }
         ensures back { IfOk result (λ p. p.1 ≡ (if is_accepted p.0.answer then None else Some inner)) }
+        ensures full { result ≡ Err (Fault.HistoryFull, inner) ↔ IsFull self.old }
         ensures refused { IfErr result (λ e. IsNotRecorded self.old e.0 self.new) }
         ensures returned { IfErr result (λ e. e.1 ≡ inner) }
         ensures share { CountsRecord result mine.old.amount mine.new.amount }
@@ -216,6 +220,7 @@ impl<L: Ledger + Naming, B: FederateAmbassador, W: Publisher<L>> Locked<L, B, W>
         ensures heard { IfOk result (λ p. IfSome p.1 (λ b.
             heard_from ((held_of self.old.held).hosts.host execution) federate ≡ Some (B.heard b))) }
         ensures recorded { IfOk result (λ p. IsRecorded self.old p.0.own self.new) }
+        ensures full { result ≡ Err Fault.HistoryFull ↔ IsFull self.old }
         ensures refused { IfErr result (λ e. IsNotRecorded self.old e self.new) }
         ensures share { CountsRecord result mine.old.amount mine.new.amount }
         ensures parts { mine.new.parts ≡ mine.old.parts }
