@@ -17,6 +17,7 @@ run_told fed script c lines old new describes says told = record {
   describes = describes;
   says = says;
   each = told.each;
+  done = told.done;
   writes = told.writes;
 }
 

@@ -4,3 +4,9 @@ pub mod TextLemmas
 pub mod JoinLemmas
 -- How a run ends behind the reading of its texts
 pub mod EndLemmas
+-- What one more record makes of the callers of a script
+pub mod StandLemmas
+-- What the act of a caller adds
+pub mod TurnLemmas
+-- What the functions that do the lines one after another lead to
+pub mod LeadLemmas

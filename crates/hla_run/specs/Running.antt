@@ -1,5 +1,5 @@
 -- What a run of a script writes
-use Rattle.std.specs.Prelude.{◌≡◌, ◌≤◌, ◌<◌, ℕ, List, [], length, take, Option, None, Some, Ok, Err, Bool, true, false, Result, slice_index_or}
+use Rattle.std.specs.Prelude.{◌≡◌, ◌≤◌, ◌<◌, ℕ, List, [], length, take, Option, None, Some, Ok, Err, Bool, true, false, Result, ◌⊎◌, slice_get, slice_index_or}
 use Rattle.std.specs.List.{flat_map, enumerate_from}
 use Rattle.std.specs.Io.KnownBytes.{Appends}
 use Rattle.hla_catalogue.specs.CatalogueValue.{CatalogueValue}
@@ -9,6 +9,8 @@ use Rattle.hla_machine.specs.declared.step.Outcome.{Outcome}
 use Rattle.hla_machine.specs.declared.step.Record.{Record}
 use Rattle.hla_monitor.specs.Counts.{status_of}
 use Rattle.hla_monitor.specs.declared.status.Status.{Status}
+use Rattle.hla_commands.specs.declared.lines.Command.{Command}
+use Rattle.hla_commands.specs.declared.lines.Command.TheVariants as command
 use Rattle.hla_commands.specs.declared.lines.Line.{Line}
 use Rattle.hla_commands.specs.Script.{script_of, ParsesAs}
 use Rattle.hla_transcript.specs.Printed.{line_text}
@@ -29,13 +31,32 @@ told_at c outcomes place l = told_line c l (slice_index_or outcomes place None)
 abbrev pub told_text : CatalogueValue → List Line → List (Option Outcome) → List ℕ
 told_text c lines outcomes = flat_map (λ p. told_at c outcomes p.0 p.1) (enumerate_from 0 lines)
 
--- lines of a script have outcomes, and what was written is how those came out that were done
+-- a line that carries or announces, which is not run on threads
+abbrev pub IsPassedOver : Command → Type 0
+IsPassedOver command.Create = ⊥
+IsPassedOver command.Destroy = ⊥
+IsPassedOver (command.Join name) = ⊥
+IsPassedOver (command.Carry from to) = Unit {0}
+IsPassedOver (command.Announce name) = Unit {0}
+IsPassedOver (command.Federate name call) = ⊥
+
+-- the line at a place was done, or is passed over
+abbrev pub IsDealtWith : List (Option Outcome) → ℕ → Line → Type 0
+IsDealtWith outcomes place l = ((o : Outcome) × (slice_index_or outcomes place None ≡ Some o)) ⊎ IsPassedOver l.command
+
+-- each line was done that does not carry or announce
+abbrev pub AreAllDone : List Line → List (Option Outcome) → Type 0
+AreAllDone lines outcomes = (place : ℕ) (l : Line) → slice_get lines place ≡ Some l → IsDealtWith outcomes place l
+
+-- lines of a script have outcomes, all but those that carry or announce, and what was written is how they came out
 pub record AreTold (catalogue : CatalogueValue) (lines : List Line) (old new : Option (List ℕ)) : Type 0 where
   pub outcomes : List (Option Outcome)
   pub each : length outcomes ≡ length lines
+  pub done : AreAllDone lines outcomes
   pub writes : Appends old new (told_text catalogue lines outcomes)
 
--- the FED file describes a catalogue, the script has these lines, and what was written is how those came out that were done
+-- the FED file describes a catalogue, the script has these lines, each was done that does not carry or announce, and what was written
+-- is how they came out
 pub record IsRunFrom (fed script : List ℕ) (old new : Option (List ℕ)) : Type 0 where
   pub catalogue : CatalogueValue
   pub lines : List Line
@@ -43,6 +64,7 @@ pub record IsRunFrom (fed script : List ℕ) (old new : Option (List ℕ)) : Typ
   pub describes : Describes fed catalogue
   pub says : script_of script ≡ Ok lines
   pub each : length outcomes ≡ length lines
+  pub done : AreAllDone lines outcomes
   pub writes : Appends old new (told_text catalogue lines outcomes)
 
 -- what a monitor counts in a beginning of these records

@@ -1,8 +1,9 @@
 //! The end of a run: how the lines came out is written, and the infrastructure closes.
 
-ghost use Rattle.std.specs.Prelude.{◌≡◌, ◌||◌, OnOk, IfErr};
+ghost use Rattle.std.specs.Prelude.{◌≡◌, ◌||◌, IfOk, OnOk, IfErr};
 ghost use Rattle.hla_base.specs.Limits.{ledger_parts};
 ghost use Rattle.std.specs.Io.KnownBytes.{Appends};
+ghost use Rattle.hla_rti.specs.Close.{AllAgree};
 ghost use Rattle.hla_run.specs.Running.{IsPastReading, told_text, is_unwritten_run};
 
 use crate::fault::{RunFault, close_fault};
@@ -35,6 +36,7 @@ pub fn close_told<L: Ledger + Naming, B: FederateAmbassador, P: Publisher<L>, W:
     requires { L.parts ≡ ledger_parts }
     ensures told { OnOk result (Appends (W.contents out.old.inner) (W.contents out.new.inner)
         (told_text catalogue.now lines.now outcomes.now)) }
+    ensures agree { IfOk result (λ history. AllAgree history lefts.items rti.own) }
     ensures late { IfErr result IsPastReading }
     ensures failure { out.new.has_failed ≡ (out.old.has_failed || is_unwritten_run result) }
 {

@@ -3,43 +3,50 @@
 //! Here and in the modules beside it what is large goes to `drop` by name: such a call is proved once, and what goes out of
 //! scope is taken apart, variant by variant, in the proof of each function that lets it.
 
-ghost use Rattle.std.specs.Prelude.{◌≡◌, ◌||◌, ◌+◌, ◌<◌, ◌≤◌, [], OnOk, IfErr, length, vec_len, vec_capacity};
+ghost use Rattle.std.specs.Prelude.{◌≡◌, ◌||◌, ◌+◌, ◌<◌, ◌≤◌, ℕ, List, [], OnOk, IfOk, IfErr, codes, vec_len, vec_capacity};
 ghost use Rattle.std.specs.List.{All};
 ghost use Rattle.hla_base.specs.Limits.{ledger_parts};
 ghost use Rattle.hla_run.specs.Joining.{joins, joins_by, script_joins, step_joins};
-ghost use Rattle.hla_run.specs.Running.{AreTold, IsPastReading, IsRunFrom, StopsRun, is_unwritten_run};
+ghost use Rattle.hla_machine.specs.declared.step.Record.{Record};
+ghost use Rattle.hla_machine.specs.declared.step.Step.TheVariants as step;
+ghost use Rattle.hla_requests.specs.Members.{change_of, with_change, with_create};
+ghost use Rattle.hla_requests.specs.declared.steps.Request.TheVariants as request;
+ghost use Rattle.hla_rti.specs.Callers.{Office, new_caller};
+ghost use Rattle.hla_run.specs.InOrder.{IsRunInOrder, callers};
+ghost use Rattle.hla_run.specs.Running.{IsPastReading, StopsRun, is_unwritten_run};
+ghost use Rattle.hla_run.specs.Turns.{AreDone, HaveEnded, HaveLed, HaveLeft, IsSet, Leads, LineLeads};
 
 use crate::closing::close_told;
 use crate::fault::RunFault;
 use crate::joining::Ambassadors;
-use crate::outcomes::{LineOutcome, Outcomes, outcome_of_done};
-use crate::player::{Acted, Deed, Player, do_deed};
+use crate::outcomes::{Outcomes, outcome_of_announced, outcome_of_carried, outcome_of_done};
+use crate::player::{Deed, Player, act};
 use crate::texts::{Texts, read_texts};
 use hla_base::{ExecutionName, Fault, FederateNo, List, MAX_HISTORY, Plain};
 use hla_callbacks::FederateAmbassador;
 use hla_catalogue::Catalogue;
 use hla_commands::{Command, Line};
-use hla_machine::{Answer, Outcome, Step};
+use hla_machine::{Answer, Outcome, Service, Step};
 use hla_monitor::{Naming, Opened, Publisher};
 use hla_requests::{AskFault, MemberChange, NamedFederate, Request, note};
-use hla_rti::{Closed, Courier, Federate, Left, Rti, open_rti};
+use hla_rti::{Closed, Courier, Left, Rti, open_rti};
 use hla_transcript::Watched;
 use std::alloc::Global;
 use std::io::Write;
 use std::sync::Wait;
 use std::sync::ledger::{Blank, Ledger};
 
-/// All callers of a script on one thread: the federates that are joined, under their names, and what others left behind.
+/// All callers of a script on one thread, but for the infrastructure.
 #[derive(Drop)]
-struct Cast<L: Ledger + Naming, B: FederateAmbassador, P: Publisher<L>> {
+pub struct Cast<L: Ledger + Naming, B: FederateAmbassador, P: Publisher<L>> {
     alloc: Global,
     execution: ExecutionName,
     courier: Courier<L, B, P>,
     /// Of the federates that are to join.
     ambassadors: Ambassadors<B>,
     members: Vec<NamedFederate>,
-    joined: Vec<Federate<L, B, P>>,
-    lefts: Vec<Left<L, B>>,
+    /// The federates, in the order in which they joined; only the one that acts is not there meanwhile.
+    players: Vec<Option<Player<L, B, P>>>,
 }
 
 impl<L: Ledger + Naming, B: FederateAmbassador, P: Publisher<L>> Cast<L, B, P> {
@@ -50,7 +57,9 @@ impl<L: Ledger + Naming, B: FederateAmbassador, P: Publisher<L>> Cast<L, B, P> {
         courier: Courier<L, B, P>,
         ambassadors: Ambassadors<B>,
     ) -> Cast<L, B, P>
-        ensures { result.ambassadors ≡ ambassadors }
+        ensures ambassadors { result.ambassadors ≡ ambassadors }
+        ensures set { courier ≡ new_caller 1 → execution ≡ codes "play" → IsSet [] (record { handed = 1; couriers = 1; own = new_caller 0 }) result }
+        ensures nobody { result.members.items ≡ [] }
     {
         Cast {
             alloc,
@@ -58,8 +67,7 @@ impl<L: Ledger + Naming, B: FederateAmbassador, P: Publisher<L>> Cast<L, B, P> {
             courier,
             ambassadors,
             members: Vec::new(alloc),
-            joined: Vec::new(alloc),
-            lefts: Vec::new(alloc),
+            players: Vec::new(alloc),
         }
     }
 
@@ -71,13 +79,16 @@ impl<L: Ledger + Naming, B: FederateAmbassador, P: Publisher<L>> Cast<L, B, P> {
         name: List<u8>,
     ) -> Result<Outcome, Fault>
         requires { 0 < self.old.ambassadors }
-        ensures { self.new.ambassadors + 1 ≡ self.old.ambassadors }
+        ensures ambassadors { self.new.ambassadors + 1 ≡ self.old.ambassadors }
+        ensures members { self.new.members ≡ self.old.members }
+        ensures led { IfOk result (λ out. (fed : List ℕ) → Leads fed (request.Step (step.Join name)) out
+            rti.old self.old rti.new self.new) }
     {
         let ambassador = self.ambassadors.take_first();
         match rti.join(rt, name, self.execution, ambassador) {
             Ok(federate) => {
                 let number = federate.number();
-                match self.joined.push(federate) {
+                match self.players.push(Some(Player::Joined(federate))) {
                     Ok(()) => Ok(Outcome::Done(Answer::Federate(number))),
                     Err(_) => Err(Fault::OutOfMemory),
                 }
@@ -86,48 +97,60 @@ impl<L: Ledger + Naming, B: FederateAmbassador, P: Publisher<L>> Cast<L, B, P> {
         }
     }
 
-    /// Has the joined federate of a number do something. An error is want of memory outside the step.
-    fn act(&mut self, rt: &impl Wait, number: FederateNo, deed: Deed) -> Result<Outcome, Fault>
-        ensures { self.new.ambassadors ≡ self.old.ambassadors }
+    /// Has the courier carry.
+    fn carry(&mut self, rt: &impl Wait, from: FederateNo, to: FederateNo) -> Outcome
+        ensures ambassadors { self.new.ambassadors ≡ self.old.ambassadors }
+        ensures members { self.new.members ≡ self.old.members }
+        ensures led { (fed : List ℕ) (office : Office) → Leads fed (request.Step (step.Carry from to)) result
+            office self.old office self.new }
     {
-        let Some(place) = self.joined.iter().position(|f| f.number() == number) else {
-            drop(deed);
-            return Ok(Outcome::Refused(Fault::FederateNotExecutionMember));
-        };
-        let Acted { player, outcome } = do_deed(rt, self.joined.swap_remove(place), deed);
-        let kept = match player {
-            Player::Joined(federate) => self.joined.push(federate).is_ok(),
-            Player::Gone(left) => self.lefts.push(left).is_ok(),
-        };
-        if kept {
-            Ok(outcome)
-        } else {
-            drop(outcome);
-            Err(Fault::OutOfMemory)
-        }
+        outcome_of_carried(self.courier.carry(rt, self.execution, from, to))
+    }
+
+    /// Has the courier announce.
+    fn announce(&mut self, rt: &impl Wait, federate: FederateNo) -> Outcome
+        ensures ambassadors { self.new.ambassadors ≡ self.old.ambassadors }
+        ensures members { self.new.members ≡ self.old.members }
+        ensures led { (fed : List ℕ) (office : Office) → Leads fed (request.Step (step.Announce federate)) result
+            office self.old office self.new }
+    {
+        outcome_of_announced(self.courier.announce(rt, self.execution, federate))
+    }
+
+    /// Has a federate call a service.
+    fn call(&mut self, rt: &impl Wait, federate: FederateNo, service: Service) -> Outcome
+        ensures ambassadors { self.new.ambassadors ≡ self.old.ambassadors }
+        ensures members { self.new.members ≡ self.old.members }
+        ensures led { (fed : List ℕ) (office : Office) → Leads fed (request.Step (step.Call federate service)) result
+            office self.old office self.new }
+    {
+        act(rt, &mut self.players, federate, Deed::Serve(service))
+    }
+
+    /// Has a federate tick.
+    fn tick(&mut self, rt: &impl Wait, federate: FederateNo) -> Outcome
+        ensures ambassadors { self.new.ambassadors ≡ self.old.ambassadors }
+        ensures members { self.new.members ≡ self.old.members }
+        ensures led { (fed : List ℕ) (office : Office) → Leads fed (request.Step (step.Tick federate)) result
+            office self.old office self.new }
+    {
+        act(rt, &mut self.players, federate, Deed::Tick)
     }
 
     /// Does a step. An error is want of memory outside the step.
     fn step(&mut self, rt: &impl Wait, rti: &mut Rti<L, B, P>, step: Step) -> Result<Outcome, Fault>
         requires { step_joins step ≤ self.old.ambassadors }
-        ensures { self.new.ambassadors + step_joins step ≡ self.old.ambassadors }
+        ensures ambassadors { self.new.ambassadors + step_joins step ≡ self.old.ambassadors }
+        ensures members { self.new.members ≡ self.old.members }
+        ensures led { IfOk result (λ out. (fed : List ℕ) → Leads fed (request.Step step) out
+            rti.old self.old rti.new self.new) }
     {
         match step {
             Step::Join { name } => self.join(rt, rti, name),
-            Step::Call { federate, service } => self.act(rt, federate, Deed::Serve(service)),
-            Step::Tick { federate } => self.act(rt, federate, Deed::Tick),
-            Step::Carry { from, to } => {
-                Ok(match self.courier.carry(rt, self.execution, from, to) {
-                    Ok(what) => Outcome::Done(Answer::Carried(what)),
-                    Err(fault) => Outcome::Refused(fault),
-                })
-            }
-            Step::Announce { federate } => {
-                Ok(match self.courier.announce(rt, self.execution, federate) {
-                    Ok(promise) => Outcome::Done(Answer::Announced(promise)),
-                    Err(fault) => Outcome::Refused(fault),
-                })
-            }
+            Step::Call { federate, service } => Ok(self.call(rt, federate, service)),
+            Step::Tick { federate } => Ok(self.tick(rt, federate)),
+            Step::Carry { from, to } => Ok(self.carry(rt, from, to)),
+            Step::Announce { federate } => Ok(self.announce(rt, federate)),
         }
     }
 
@@ -139,7 +162,11 @@ impl<L: Ledger + Naming, B: FederateAmbassador, P: Publisher<L>> Cast<L, B, P> {
         step: Step,
     ) -> Result<Outcome, Fault>
         requires { step_joins step ≤ self.old.ambassadors }
-        ensures { OnOk result (self.new.ambassadors + step_joins step ≡ self.old.ambassadors) }
+        ensures ambassadors { OnOk result (self.new.ambassadors + step_joins step ≡ self.old.ambassadors) }
+        ensures members { IfOk result (λ out. self.new.members.items
+            ≡ with_change self.old.members.items (change_of step) out) }
+        ensures led { IfOk result (λ out. (fed : List ℕ) → Leads fed (request.Step step) out
+            rti.old self.old rti.new self.new) }
     {
         let change = match MemberChange::of(&step) {
             Ok(change) => change,
@@ -159,7 +186,9 @@ impl<L: Ledger + Naming, B: FederateAmbassador, P: Publisher<L>> Cast<L, B, P> {
 
     /// Creates the execution; its federates' names are not known any more where it is created anew.
     fn create(&mut self, rt: &impl Wait, rti: &mut Rti<L, B, P>, fed: &[u8]) -> Outcome
-        ensures { self.new.ambassadors ≡ self.old.ambassadors }
+        ensures ambassadors { self.new.ambassadors ≡ self.old.ambassadors }
+        ensures members { self.new.members.items ≡ with_create self.old.members.items result }
+        ensures led { Leads fed.now request.Create result rti.old self.old rti.new self.new }
     {
         let created = rti.create(rt, self.execution, fed);
         if created.is_ok() {
@@ -168,10 +197,22 @@ impl<L: Ledger + Naming, B: FederateAmbassador, P: Publisher<L>> Cast<L, B, P> {
         outcome_of_done(created)
     }
 
+    /// Destroys the execution.
+    fn destroy(&mut self, rt: &impl Wait, rti: &mut Rti<L, B, P>) -> Outcome
+        ensures same { self.new ≡ self.old }
+        ensures led { (fed : List ℕ) → Leads fed request.Destroy result rti.old self.old rti.new self.new }
+    {
+        outcome_of_done(rti.destroy(rt, self.execution))
+    }
+
     /// Lets the ambassador go of a line that joins, and makes no step.
     fn pass_over(&mut self, command: &Command<'_>)
         requires { joins_by command.now ≤ self.old.ambassadors }
-        ensures { self.new.ambassadors + joins_by command.now ≡ self.old.ambassadors }
+        ensures ambassadors { self.new.ambassadors + joins_by command.now ≡ self.old.ambassadors }
+        ensures members { self.new.members.items ≡ self.old.members.items }
+        ensures courier { self.new.courier ≡ self.old.courier }
+        ensures execution { self.new.execution ≡ self.old.execution }
+        ensures players { self.new.players.items ≡ self.old.players.items }
     {
         if let Command::Join { .. } = command {
             drop(self.ambassadors.take_first());
@@ -189,11 +230,13 @@ impl<L: Ledger + Naming, B: FederateAmbassador, P: Publisher<L>> Cast<L, B, P> {
         command: &Command<'_>,
     ) -> Result<Outcome, Fault>
         requires { joins_by command.now ≤ self.old.ambassadors }
-        ensures { OnOk result (self.new.ambassadors + joins_by command.now ≡ self.old.ambassadors) }
+        ensures ambassadors { OnOk result (self.new.ambassadors + joins_by command.now ≡ self.old.ambassadors) }
+        ensures led { IfOk result (λ out. LineLeads catalogue.now fed.now command.now out
+            rti.old self.old rti.new self.new) }
     {
         match Request::of(self.alloc, catalogue, self.members.as_slice(), command) {
             Ok(Request::Create) => Ok(self.create(rt, rti, fed)),
-            Ok(Request::Destroy) => Ok(outcome_of_done(rti.destroy(rt, self.execution))),
+            Ok(Request::Destroy) => Ok(self.destroy(rt, rti)),
             Ok(Request::Step(step)) => self.noted_step(rt, rti, step),
             Err(AskFault::Refused(fault)) => {
                 self.pass_over(command);
@@ -216,33 +259,42 @@ impl<L: Ledger + Naming, B: FederateAmbassador, P: Publisher<L>> Cast<L, B, P> {
         lines: &[Line<'_>],
         outcomes: &mut Outcomes,
     ) -> Result<(), Fault>
-        requires { joins lines.now ≤ self.old.ambassadors }
-        ensures { length outcomes.new ≡ length outcomes.old }
+        requires enough { joins lines.now ≤ self.old.ambassadors }
+        requires set { IsSet [] rti.old self.old }
+        requires nobody { self.old.members.items ≡ [] }
+        requires none { outcomes.old ≡ [] }
+        ensures { OnOk result (HaveLed catalogue.now fed.now lines.now outcomes.new rti.new self.new) }
     {
-        for (place, line) in lines.iter().enumerate() {
+        for line in lines {
             let outcome = self.line(rt, rti, fed, catalogue, &line.command)?;
-            outcomes.note(LineOutcome { place, outcome });
+            outcomes.add(outcome)?;
         }
         Ok(())
     }
 
     /// Ends all callers: what they leave behind. Federates that have not resigned stay joined.
-    fn leave(self) -> Result<Vec<Left<L, B>>, Fault> {
+    fn leave(self) -> Result<Vec<Left<L, B>>, Fault>
+        ensures { IfOk result (λ lefts. (rs : List Record) (office : Office) → IsSet rs office self
+            → HaveLeft rs lefts.items 1 (callers rs)) }
+    {
         let Cast {
+            alloc,
             courier,
-            joined,
-            mut lefts,
+            players,
             ..
         } = self;
-        for federate in joined {
-            if lefts.push(federate.leave()).is_err() {
-                return Err(Fault::OutOfMemory);
+        let mut lefts = Vec::new(alloc);
+        let Ok(()) = lefts.push(courier.leave()) else {
+            return Err(Fault::OutOfMemory);
+        };
+        for slot in players {
+            if let Some(player) = slot {
+                let Ok(()) = lefts.push(player.leave()) else {
+                    return Err(Fault::OutOfMemory);
+                };
             }
         }
-        match lefts.push(courier.leave()) {
-            Ok(()) => Ok(lefts),
-            Err(_) => Err(Fault::OutOfMemory),
-        }
+        Ok(lefts)
     }
 }
 
@@ -257,8 +309,10 @@ fn played<L: Ledger + Naming, B: FederateAmbassador, P: Publisher<L>>(
     ambassadors: Ambassadors<B>,
     outcomes: &mut Outcomes,
 ) -> Result<Vec<Left<L, B>>, Fault>
-    requires { joins lines.now ≤ ambassadors }
-    ensures { length outcomes.new ≡ length outcomes.old }
+    requires enough { joins lines.now ≤ ambassadors }
+    requires first { rti.old ≡ record { handed = 0; couriers = 0; own = new_caller 0 } }
+    requires none { outcomes.old ≡ [] }
+    ensures { IfOk result (λ lefts. HaveEnded catalogue.now fed.now lines.now outcomes.new rti.new lefts.items) }
 {
     let execution = ExecutionName::new(b"play")?;
     let mut cast = Cast::new(alloc, execution, rti.courier()?, ambassadors);
@@ -284,12 +338,13 @@ fn told_in_order<L: Ledger + Naming, B: FederateAmbassador, P: Publisher<L>, W: 
 ) -> Result<Closed, RunFault>
     requires parts { L.parts ≡ ledger_parts }
     requires enough { joins lines.now ≤ ambassadors }
-    ensures told { OnOk result (AreTold catalogue.now lines.now (W.contents out.old.inner)
-        (W.contents out.new.inner)) }
+    requires first { rti ≡ record { handed = 0; couriers = 0; own = new_caller 0 } }
+    ensures told { IfOk result (λ history. AreDone catalogue.now fed.now lines.now
+        (W.contents out.old.inner) (W.contents out.new.inner) history) }
     ensures late { IfErr result IsPastReading }
     ensures failure { out.new.has_failed ≡ (out.old.has_failed || is_unwritten_run result) }
 {
-    let Ok(mut outcomes) = Outcomes::new(alloc, lines.len()) else {
+    let Ok(mut outcomes) = Outcomes::with_room(alloc, lines.len()) else {
         drop(rti);
         return Err(RunFault::Memory);
     };
@@ -319,7 +374,7 @@ fn told_in_order<L: Ledger + Naming, B: FederateAmbassador, P: Publisher<L>, W: 
 /// else `Ambassadors` where there are fewer than `joins` of the lines, with nothing written and no step done; `Memory` where a
 /// growth was refused outside the steps; `Write` only where the writer has failed; and `Close` where the infrastructure does
 /// not close.
-#[tactic(auto, using(crate::proofs::EndLemmas::ends))]
+#[tactic(auto, using(crate::proofs::EndLemmas::ends, crate::proofs::LeadLemmas::runs_done))]
 pub fn run_in_order<L: Ledger + Naming, B: FederateAmbassador, R: Wait, W: Write>(
     rt: &R,
     alloc: Global,
@@ -336,9 +391,10 @@ pub fn run_in_order<L: Ledger + Naming, B: FederateAmbassador, R: Wait, W: Write
     requires book { opened.seen.book ≡ L.book }
     requires heard { All (λ b. B.heard b ≡ []) ambassadors.items }
 
-    // What was written is an outcome for each line, in the order of the script.
-    ensures written { OnOk result (IsRunFrom fed.now script.now (W.contents out.old.inner)
-        (W.contents out.new.inner)) }
+    // Each line has come out: it has made no step, or the history has the record of what it asks for, and of each caller just
+    // these, in the order of the lines; and what was written is how they came out, in the order of the script.
+    ensures done { IfOk result (λ history. IsRunInOrder fed.now script.now
+        (W.contents out.old.inner) (W.contents out.new.inner) history) }
 
     // There were ambassadors enough.
     ensures enough { OnOk result (script_joins script.now ≤ vec_len ambassadors) }

@@ -1,15 +1,15 @@
 //! How the lines of a script came out.
 
-ghost use Rattle.std.specs.Prelude.{◌≡◌, ◌++◌, OnOk, IfOk, IfErr, length, ℕ};
+ghost use Rattle.std.specs.Prelude.{◌≡◌, ◌++◌, ◌∷◌, [], Some, OnOk, IfOk, IfErr, IsTrue, length, ℕ};
 ghost use Rattle.hla_machine.specs.declared.step.Answer.TheVariants as answer;
 ghost use Rattle.hla_rti.specs.Callers.{answer_given, said, nothing};
-ghost use Rattle.hla_run.specs.Running.{told_at, told_text};
+ghost use Rattle.hla_run.specs.Running.{AreAllDone, IsDealtWith, told_at, told_text};
 
-use hla_base::{Fault, List};
+use hla_base::{Fault, List, Ticks};
 use hla_callbacks::Callback;
 use hla_catalogue::Catalogue;
-use hla_commands::Line;
-use hla_machine::{Answer, Outcome};
+use hla_commands::{Command, Line};
+use hla_machine::{Answer, Carried, Outcome};
 use hla_transcript::{Text, print_line};
 use std::alloc::Global;
 use std::marker::Model;
@@ -56,6 +56,26 @@ pub fn outcome_of_done(given: Result<(), Fault>) -> Outcome
     }
 }
 
+/// The outcome of a carry.
+pub fn outcome_of_carried(given: Result<Carried, Fault>) -> Outcome
+    ensures { answer_given result ≡ said answer.Carried given }
+{
+    match given {
+        Ok(what) => Outcome::Done(Answer::Carried(what)),
+        Err(fault) => Outcome::Refused(fault),
+    }
+}
+
+/// The outcome of an announcement.
+pub fn outcome_of_announced(given: Result<Option<Ticks>, Fault>) -> Outcome
+    ensures { answer_given result ≡ said answer.Announced given }
+{
+    match given {
+        Ok(promise) => Outcome::Done(Answer::Announced(promise)),
+        Err(fault) => Outcome::Refused(fault),
+    }
+}
+
 /// The outcome of a tick.
 pub fn outcome_of_tick(given: Result<Option<Callback>, Fault>) -> Outcome
     ensures { answer_given result ≡ said answer.Ticked given }
@@ -97,6 +117,28 @@ fn print_all(
     Ok(())
 }
 
+/// Whether the line at a place has an outcome, or carries or announces.
+fn is_dealt_with(outcomes: &[Option<Outcome>], place: usize, line: &Line<'_>) -> bool
+    ensures { IsTrue result → IsDealtWith outcomes.now place line.now }
+{
+    match &line.command {
+        Command::Carry { .. } | Command::Announce { .. } => true,
+        _ => matches!(outcomes.get(place), Some(Some(_))),
+    }
+}
+
+/// Whether each line has an outcome that does not carry or announce.
+fn are_all_done(outcomes: &[Option<Outcome>], lines: &[Line<'_>]) -> bool
+    ensures { IsTrue result → AreAllDone lines.now outcomes.now }
+{
+    for (place, line) in lines.iter().enumerate() {
+        if !is_dealt_with(outcomes, place, line) {
+            return false;
+        }
+    }
+    true
+}
+
 impl Outcomes {
     /// No outcome for each of so many lines; `OutOfMemory` where the room was refused.
     pub fn new(alloc: Global, lines: usize) -> Result<Outcomes, Fault>
@@ -111,6 +153,26 @@ impl Outcomes {
             };
         }
         Ok(Outcomes { by_place })
+    }
+
+    /// No outcome yet, and room for that of so many lines; `OutOfMemory` where it was refused.
+    pub fn with_room(alloc: Global, lines: usize) -> Result<Outcomes, Fault>
+        ensures { IfOk result (λ o. o ≡ []) }
+    {
+        match Vec::with_capacity(alloc, lines) {
+            Ok(by_place) => Ok(Outcomes { by_place }),
+            Err(_) => Err(Fault::OutOfMemory),
+        }
+    }
+
+    /// Notes how the next line came out; `OutOfMemory` where a growth was refused.
+    pub fn add(&mut self, outcome: Outcome) -> Result<(), Fault>
+        ensures { OnOk result (self.new ≡ self.old ++ Some outcome ∷ []) }
+    {
+        match self.by_place.push(Some(outcome)) {
+            Ok(()) => Ok(()),
+            Err(_) => Err(Fault::OutOfMemory),
+        }
     }
 
     /// Notes how the line at a place came out.
@@ -130,6 +192,13 @@ impl Outcomes {
         for told in all {
             self.note(told);
         }
+    }
+
+    /// Whether each line of the script has an outcome that does not carry or announce.
+    pub fn are_of_all(&self, lines: &[Line<'_>]) -> bool
+        ensures { IsTrue result → AreAllDone lines.now self.now }
+    {
+        are_all_done(self.by_place.as_slice(), lines)
     }
 
     /// Adds how those lines came out that were done, in the order of the script. `OutOfMemory` where a growth was refused;

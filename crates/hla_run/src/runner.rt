@@ -4,7 +4,7 @@ ghost use Rattle.std.specs.Prelude.{◌≡◌, ◌||◌, ◌≤◌, [], IfOk, On
 ghost use Rattle.std.specs.List.{All};
 ghost use Rattle.hla_base.specs.Limits.{ledger_parts};
 ghost use Rattle.hla_run.specs.Joining.{joins, script_joins};
-ghost use Rattle.hla_run.specs.Running.{AreTold, IsPastReading, IsRunFrom, IsSeen, StopsRun, is_unwritten_run};
+ghost use Rattle.hla_run.specs.Running.{AreAllDone, AreTold, IsPastReading, IsRunFrom, IsSeen, StopsRun, is_unwritten_run};
 
 use crate::closing::close_told;
 use crate::fault::RunFault;
@@ -100,7 +100,8 @@ fn ran<
     outcomes: &mut Outcomes,
 ) -> Result<Vec<Left<L, B>>, Fault>
     requires { joins lines.now ≤ ambassadors }
-    ensures { OnOk result (length outcomes.new ≡ length outcomes.old) }
+    ensures each { OnOk result (length outcomes.new ≡ length outcomes.old) }
+    ensures done { OnOk result (AreAllDone lines.now outcomes.new) }
 {
     let execution = ExecutionName::new(b"play")?;
     let lives = open(rt, alloc, rti, execution, fed, lines, ambassadors, outcomes)?;
@@ -119,7 +120,12 @@ fn ran<
     };
     let lefts = gathered_all(alloc, lives, outcomes)?;
     destroy(rt, rti, execution, lines, outcomes);
-    Ok(lefts)
+    if outcomes.are_of_all(lines) {
+        Ok(lefts)
+    } else {
+        drop(lefts);
+        Err(Fault::OutOfMemory)
+    }
 }
 
 /// Does the lines of a script, each federate's on a thread of its own, writes how they came out, and closes. Where `is_watched`, a
@@ -222,7 +228,7 @@ pub fn run_scripts<
     requires book { opened.seen.book ≡ L.book }
     requires heard { All (λ b. B.heard b ≡ []) ambassadors.items }
 
-    // What was written is an outcome for each line that was done, in the order of the script.
+    // What was written is an outcome for each line that does not carry or announce, in the order of the script.
     ensures written { OnOk result (IsRunFrom fed.now script.now (W.contents out.old.inner)
         (W.contents out.new.inner)) }
 
