@@ -58,7 +58,8 @@ impl<L: Ledger + Naming, B: FederateAmbassador, P: Publisher<L>> Cast<L, B, P> {
         ambassadors: Ambassadors<B>,
     ) -> Cast<L, B, P>
         ensures ambassadors { result.ambassadors ≡ ambassadors }
-        ensures set { courier ≡ new_caller 1 → execution ≡ codes "play" → IsSet [] (record { handed = 1; couriers = 1; own = new_caller 0 }) result }
+        ensures set { courier ≡ new_caller 1 → execution ≡ codes "play"
+            → IsSet [] (record { handed = 1; couriers = 1; own = new_caller 0 }) result }
         ensures nobody { result.members.items ≡ [] }
     {
         Cast {
@@ -81,8 +82,8 @@ impl<L: Ledger + Naming, B: FederateAmbassador, P: Publisher<L>> Cast<L, B, P> {
         requires { 0 < self.old.ambassadors }
         ensures ambassadors { self.new.ambassadors + 1 ≡ self.old.ambassadors }
         ensures members { self.new.members ≡ self.old.members }
-        ensures led { IfOk result (λ out. (fed : List ℕ) → Leads fed (request.Step (step.Join name)) out
-            rti.old self.old rti.new self.new) }
+        ensures led { IfOk result (λ out. (fed : List ℕ) →
+            Leads fed (request.Step (step.Join name)) out rti.old self.old rti.new self.new) }
     {
         let ambassador = self.ambassadors.take_first();
         match rti.join(rt, name, self.execution, ambassador) {
@@ -101,8 +102,8 @@ impl<L: Ledger + Naming, B: FederateAmbassador, P: Publisher<L>> Cast<L, B, P> {
     fn carry(&mut self, rt: &impl Wait, from: FederateNo, to: FederateNo) -> Outcome
         ensures ambassadors { self.new.ambassadors ≡ self.old.ambassadors }
         ensures members { self.new.members ≡ self.old.members }
-        ensures led { (fed : List ℕ) (office : Office) → Leads fed (request.Step (step.Carry from to)) result
-            office self.old office self.new }
+        ensures led { (fed : List ℕ) (office : Office) →
+            Leads fed (request.Step (step.Carry from to)) result office self.old office self.new }
     {
         outcome_of_carried(self.courier.carry(rt, self.execution, from, to))
     }
@@ -111,8 +112,8 @@ impl<L: Ledger + Naming, B: FederateAmbassador, P: Publisher<L>> Cast<L, B, P> {
     fn announce(&mut self, rt: &impl Wait, federate: FederateNo) -> Outcome
         ensures ambassadors { self.new.ambassadors ≡ self.old.ambassadors }
         ensures members { self.new.members ≡ self.old.members }
-        ensures led { (fed : List ℕ) (office : Office) → Leads fed (request.Step (step.Announce federate)) result
-            office self.old office self.new }
+        ensures led { (fed : List ℕ) (office : Office) →
+            Leads fed (request.Step (step.Announce federate)) result office self.old office self.new }
     {
         outcome_of_announced(self.courier.announce(rt, self.execution, federate))
     }
@@ -121,8 +122,8 @@ impl<L: Ledger + Naming, B: FederateAmbassador, P: Publisher<L>> Cast<L, B, P> {
     fn call(&mut self, rt: &impl Wait, federate: FederateNo, service: Service) -> Outcome
         ensures ambassadors { self.new.ambassadors ≡ self.old.ambassadors }
         ensures members { self.new.members ≡ self.old.members }
-        ensures led { (fed : List ℕ) (office : Office) → Leads fed (request.Step (step.Call federate service)) result
-            office self.old office self.new }
+        ensures led { (fed : List ℕ) (office : Office) →
+            Leads fed (request.Step (step.Call federate service)) result office self.old office self.new }
     {
         act(rt, &mut self.players, federate, Deed::Serve(service))
     }
@@ -131,8 +132,8 @@ impl<L: Ledger + Naming, B: FederateAmbassador, P: Publisher<L>> Cast<L, B, P> {
     fn tick(&mut self, rt: &impl Wait, federate: FederateNo) -> Outcome
         ensures ambassadors { self.new.ambassadors ≡ self.old.ambassadors }
         ensures members { self.new.members ≡ self.old.members }
-        ensures led { (fed : List ℕ) (office : Office) → Leads fed (request.Step (step.Tick federate)) result
-            office self.old office self.new }
+        ensures led { (fed : List ℕ) (office : Office) →
+            Leads fed (request.Step (step.Tick federate)) result office self.old office self.new }
     {
         act(rt, &mut self.players, federate, Deed::Tick)
     }
@@ -162,7 +163,8 @@ impl<L: Ledger + Naming, B: FederateAmbassador, P: Publisher<L>> Cast<L, B, P> {
         step: Step,
     ) -> Result<Outcome, Fault>
         requires { step_joins step ≤ self.old.ambassadors }
-        ensures ambassadors { OnOk result (self.new.ambassadors + step_joins step ≡ self.old.ambassadors) }
+        ensures ambassadors { OnOk result
+            (self.new.ambassadors + step_joins step ≡ self.old.ambassadors) }
         ensures members { IfOk result (λ out. self.new.members.items
             ≡ with_change self.old.members.items (change_of step) out) }
         ensures led { IfOk result (λ out. (fed : List ℕ) → Leads fed (request.Step step) out
@@ -200,7 +202,8 @@ impl<L: Ledger + Naming, B: FederateAmbassador, P: Publisher<L>> Cast<L, B, P> {
     /// Destroys the execution.
     fn destroy(&mut self, rt: &impl Wait, rti: &mut Rti<L, B, P>) -> Outcome
         ensures same { self.new ≡ self.old }
-        ensures led { (fed : List ℕ) → Leads fed request.Destroy result rti.old self.old rti.new self.new }
+        ensures led { (fed : List ℕ) →
+            Leads fed request.Destroy result rti.old self.old rti.new self.new }
     {
         outcome_of_done(rti.destroy(rt, self.execution))
     }
@@ -230,7 +233,8 @@ impl<L: Ledger + Naming, B: FederateAmbassador, P: Publisher<L>> Cast<L, B, P> {
         command: &Command<'_>,
     ) -> Result<Outcome, Fault>
         requires { joins_by command.now ≤ self.old.ambassadors }
-        ensures ambassadors { OnOk result (self.new.ambassadors + joins_by command.now ≡ self.old.ambassadors) }
+        ensures ambassadors { OnOk result
+            (self.new.ambassadors + joins_by command.now ≡ self.old.ambassadors) }
         ensures led { IfOk result (λ out. LineLeads catalogue.now fed.now command.now out
             rti.old self.old rti.new self.new) }
     {
@@ -263,7 +267,8 @@ impl<L: Ledger + Naming, B: FederateAmbassador, P: Publisher<L>> Cast<L, B, P> {
         requires set { IsSet [] rti.old self.old }
         requires nobody { self.old.members.items ≡ [] }
         requires none { outcomes.old ≡ [] }
-        ensures { OnOk result (HaveLed catalogue.now fed.now lines.now outcomes.new rti.new self.new) }
+        ensures { OnOk result
+            (HaveLed catalogue.now fed.now lines.now outcomes.new rti.new self.new) }
     {
         for line in lines {
             let outcome = self.line(rt, rti, fed, catalogue, &line.command)?;
@@ -312,7 +317,8 @@ fn played<L: Ledger + Naming, B: FederateAmbassador, P: Publisher<L>>(
     requires enough { joins lines.now ≤ ambassadors }
     requires first { rti.old ≡ record { handed = 0; couriers = 0; own = new_caller 0 } }
     requires none { outcomes.old ≡ [] }
-    ensures { IfOk result (λ lefts. HaveEnded catalogue.now fed.now lines.now outcomes.new rti.new lefts.items) }
+    ensures { IfOk result
+        (λ lefts. HaveEnded catalogue.now fed.now lines.now outcomes.new rti.new lefts.items) }
 {
     let execution = ExecutionName::new(b"play")?;
     let mut cast = Cast::new(alloc, execution, rti.courier()?, ambassadors);
