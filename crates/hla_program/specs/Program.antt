@@ -22,7 +22,7 @@ use Rattle.hla_run.specs.declared.fault.RunFault.TheVariants as unran
 use Rattle.hla_tasks.specs.Tasks.{NamedTask, Play, Check, Running, Listing}
 use Rattle.hla_program.specs.declared.finding.Finding.{Finding}
 use Rattle.hla_program.specs.declared.finding.Finding.TheVariants.{Run, Differs}
-use Rattle.hla_program.specs.Texts.{AreRead, IsUnread, IsTakenOf, IsStoppedOf, file_limit}
+use Rattle.hla_program.specs.Texts.{AreRead, IsFirstUnread, IsTakenOf, IsStoppedOf, file_limit}
 use Rattle.hla_transcript.specs.Watching.{Stream}
 use Rattle.hla_program.specs.declared.input.LoadFault.{LoadFault}
 use Rattle.hla_program.specs.declared.input.LoadFault.TheVariants as unread
@@ -195,7 +195,7 @@ pub data EndsListing (fed : List ℕ) (out out' err err' : Stream) (status : ℕ
 -- what is to be done with a FED file and a script is done, by their names; or one of them was not read
 pub data EndsNamed (bytes_of : List ℕ → Option (List ℕ)) (Ends : List ℕ → List ℕ → Type 0) (fed_name script_name : List ℕ) (out out' err err' : Stream) (status : ℕ) : Type 0 where
   TextsRead : (fed script : List ℕ) → AreRead bytes_of fed_name script_name fed script → Ends fed script → EndsNamed bytes_of Ends fed_name script_name out out' err err' status
-  TextUnread : (name : List ℕ) (why : LoadFault) → IsUnread bytes_of fed_name script_name name why → out' ≡ out → Complains err err' (load_stop_line name why) → status ≡ 1 → EndsNamed bytes_of Ends fed_name script_name out out' err err' status
+  TextUnread : (name : List ℕ) (why : LoadFault) → IsFirstUnread bytes_of fed_name script_name name why → out' ≡ out → Complains err err' (load_stop_line name why) → status ≡ 1 → EndsNamed bytes_of Ends fed_name script_name out out' err err' status
 
 -- a FED file is listed, by its name; or it was not read
 pub data EndsListingNamed (bytes_of : List ℕ → Option (List ℕ)) (name : List ℕ) (out out' err err' : Stream) (status : ℕ) : Type 0 where

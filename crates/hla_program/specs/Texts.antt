@@ -52,8 +52,8 @@ AreRead bytes_of fed_name script_name fed script = MatchBool (share_input fed_na
     (IsTakenOf file_limit (bytes_of fed_name) fed × IsTakenOf file_limit (bytes_of script_name) script)
 
 -- the file of this name is the first that was not read, and why
-abbrev pub IsUnread : (List ℕ → Option (List ℕ)) → List ℕ → List ℕ → List ℕ → LoadFault → Type 0
-IsUnread bytes_of fed_name script_name name why = MatchBool (share_input fed_name script_name)
+abbrev pub IsFirstUnread : (List ℕ → Option (List ℕ)) → List ℕ → List ℕ → List ℕ → LoadFault → Type 0
+IsFirstUnread bytes_of fed_name script_name name why = MatchBool (share_input fed_name script_name)
     ((name ≡ codes "-") × IsStoppedOf (bytes_of (codes "-")) why)
     (((name ≡ fed_name) × IsStoppedOf (bytes_of fed_name) why)
     ⊎ ((name ≡ script_name) × ((fed : List ℕ) × IsTakenOf file_limit (bytes_of fed_name) fed) × IsStoppedOf (bytes_of script_name) why))

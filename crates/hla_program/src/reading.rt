@@ -2,7 +2,7 @@
 
 ghost use Rattle.std.specs.Prelude.{◌≡◌, ◌&&◌, codes, IfOk, IfErr};
 ghost use Rattle.std.specs.Str.{bytes_eq};
-ghost use Rattle.hla_program.specs.Texts.{AreRead, IsUnread, fed_in, script_in};
+ghost use Rattle.hla_program.specs.Texts.{AreRead, IsFirstUnread, fed_in, script_in};
 
 use crate::input::{FILE_LIMIT, LoadFault, SHARED_LIMIT, load};
 use crate::parts::parts;
@@ -54,7 +54,7 @@ pub(crate) fn read_texts<'a, O: Opener>(
 ) -> Result<Texts, Unread<'a>>
     ensures read { IfOk result (λ t. AreRead (O.bytes_of opener.now) fed_name.now script_name.now
         (fed_in t) (script_in t)) }
-    ensures unread { IfErr result (λ u. IsUnread (O.bytes_of opener.now) fed_name.now script_name.now
+    ensures unread { IfErr result (λ u. IsFirstUnread (O.bytes_of opener.now) fed_name.now script_name.now
         u.name.now u.fault) }
 {
     if share_input(fed_name, script_name) {

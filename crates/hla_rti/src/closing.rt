@@ -125,12 +125,10 @@ pub fn settle<L: Ledger, B: FederateAmbassador>(
 ) -> Result<Closed, Unsettled<L, B>>
     requires parts { L.parts ≡ ledger_parts }
     requires rest { rest.parts + handed ≡ max_callers }
-    requires unused { rest.amount ≡ 0 }
-    requires own { seat.number ≡ 0 }
     requires here { AllHere handed lefts.items }
     ensures records { IfOk result (λ c. c ≡ shared.old.history) }
     ensures agree { OnOk result (AllAgree shared.old.history lefts.items seat) }
-    ensures theirs { IfOk result (AreOfCallers handed) }
+    ensures theirs { rest.amount ≡ 0 → seat.number ≡ 0 → IfOk result (AreOfCallers handed) }
     ensures differs { IfErr result (λ u. DiffersFirst shared.old.history lefts.items seat u.place) }
     ensures back { IfErr result (λ u. (u.seat ≡ seat) × (u.rest ≡ rest) × (u.lefts ≡ lefts)) }
     ensures same { OnErr result (shared.new ≡ shared.old) }

@@ -34,7 +34,7 @@ use Rattle.hla_run.specs.Players.{Stand, IsBook, caller_of}
 use Rattle.std.specs.Io.KnownBytes.{Appends}
 use Rattle.std.proofs.lemmas.Bool.{cases_order}
 use Rattle.std.proofs.lemmas.List.{take_more, take_all, map-append}
-use Rattle.hla_run.specs.Turns.{HasTold, DoesAt, IsSet, Leads, LineLeads, HaveLed, HaveEnded, AreDone, HasLeft, HaveLeft, noted}
+use Rattle.hla_run.specs.Turns.{HasTold, DoesAt, IsSet, RequestLeads, LineLeads, HaveLed, HaveEnded, AreDone, HasLeft, HaveLeft, members_noted}
 use Rattle.hla_run.specs.declared.in_order.Cast.{Cast}
 use Rattle.hla_run.specs.declared.player.Player.{Player}
 use Rattle.hla_run.specs.declared.player.Player.TheVariants as player
@@ -70,7 +70,7 @@ module _ {L B P : Type 0} where
   -- the infrastructure itself
   pub itself_leads : (fed : List ℕ) (asked : Request) (given : Result Answer Fault) (out : Outcome) (office office' : Office) (cast cast' : Cast L B P) → ((rs : List Record) (n : ℕ) → n ≡ 0 → IsCaller rs asked n)
       → ((o : Outcome) → number_joined (act_asked fed asked) o ≡ []) → HasAnswered office.own cast.execution (act_asked fed asked) given office'.own → answer_given out ≡ given → office'.handed ≡ office.handed
-      → cast'.courier ≡ cast.courier → cast'.players.items ≡ cast.players.items → cast'.execution ≡ cast.execution → Leads fed asked out office cast office' cast'
+      → cast'.courier ≡ cast.courier → cast'.players.items ≡ cast.players.items → cast'.execution ≡ cast.execution → RequestLeads fed asked out office cast office' cast'
   itself_leads fed asked given out office office' cast cast' caller none answered same handed courier players plays = λ rs set.
       let told = answer_told office.own office'.own cast.execution (act_asked fed asked) given out answered same in
       let named = subst (λ (name : List ℕ). HasTold office.own name (act_asked fed asked) out office'.own) set.plays told in
@@ -87,7 +87,7 @@ module _ {L B P : Type 0} where
   -- the courier
   pub courier_leads : (fed : List ℕ) (asked : Request) (given : Result Answer Fault) (out : Outcome) (office : Office) (cast cast' : Cast L B P) → ((rs : List Record) (n : ℕ) → n ≡ 1 → IsCaller rs asked n)
       → ((o : Outcome) → number_joined (act_asked fed asked) o ≡ []) → HasAnswered cast.courier cast.execution (act_asked fed asked) given cast'.courier → answer_given out ≡ given
-      → cast'.players.items ≡ cast.players.items → cast'.execution ≡ cast.execution → Leads fed asked out office cast office cast'
+      → cast'.players.items ≡ cast.players.items → cast'.execution ≡ cast.execution → RequestLeads fed asked out office cast office cast'
   courier_leads fed asked given out office cast cast' caller none answered same players plays = λ rs set.
       let told = answer_told cast.courier cast'.courier cast.execution (act_asked fed asked) given out answered same in
       let named = subst (λ (name : List ℕ). HasTold cast.courier name (act_asked fed asked) out cast'.courier) set.plays told in
@@ -109,7 +109,7 @@ module _ {L B P : Type 0} where
 
   -- a federate
   pub call_leads : (fed : List ℕ) (x : Service) (f : ℕ) (out : Outcome) (office : Office) (cast cast' : Cast L B P) → DoesAt cast.players.items f (deed.Serve x) out cast'.players.items → cast'.courier ≡ cast.courier → cast'.execution ≡ cast.execution
-      → Leads fed (request.Step (step.Call f x)) out office cast office cast'
+      → RequestLeads fed (request.Step (step.Call f x)) out office cast office cast'
   call_leads fed x f out office cast cast' does courier plays = λ rs set.
       let led = call_led fed rs x f out office.own cast.courier cast.players.items cast'.players.items set.stands does in (
         led.0,
@@ -122,7 +122,7 @@ module _ {L B P : Type 0} where
       )
 
   pub tick_leads : (fed : List ℕ) (f : ℕ) (out : Outcome) (office : Office) (cast cast' : Cast L B P) → DoesAt cast.players.items f deed.Tick out cast'.players.items → cast'.courier ≡ cast.courier → cast'.execution ≡ cast.execution
-      → Leads fed (request.Step (step.Tick f)) out office cast office cast'
+      → RequestLeads fed (request.Step (step.Tick f)) out office cast office cast'
   tick_leads fed f out office cast cast' does courier plays = λ rs set.
       let led = tick_led fed rs f out office.own cast.courier cast.players.items cast'.players.items set.stands does in (
         led.0,
@@ -138,7 +138,7 @@ module _ {L B P : Type 0} where
   pub join_leads : (fed name : List ℕ) (office office' : Office) (cast cast' : Cast L B P) (m : FederateCaller)
       → HasActed office.own cast.execution (act.Step (step.Join name)) (outcome.Done (answer.Federate m.federate)) office'.own → m ≡ record { execution = cast.execution; federate = m.federate; caller = new_caller office'.handed }
       → office'.handed ≡ office.handed + 1 → cast'.courier ≡ cast.courier → cast'.players.items ≡ cast.players.items ++ Some (player.Joined m) ∷ [] → cast'.execution ≡ cast.execution
-      → Leads fed (request.Step (step.Join name)) (outcome.Done (answer.Federate m.federate)) office cast office' cast'
+      → RequestLeads fed (request.Step (step.Join name)) (outcome.Done (answer.Federate m.federate)) office cast office' cast'
   join_leads fed name office office' cast cast' m acted is handed courier players plays = λ rs set.
       let named = subst (λ (x : List ℕ). HasActed office.own x (act.Step (step.Join name)) (outcome.Done (answer.Federate m.federate)) office'.own) set.plays acted in
       let is_new : m.caller ≡ new_caller (office.handed + 1) = ap (λ (x : FederateCaller). x.caller) is ∙ ap new_caller handed in
@@ -156,7 +156,7 @@ module _ {L B P : Type 0} where
   pub unjoined_leads : (fed name : List ℕ) (e : Fault) (office office' : Office) (cast cast' : Cast L B P)
       → (HasActed office.own cast.execution (act.Step (step.Join name)) (outcome.Refused e) office'.own ⊎ HasNotActed office.own e office'.own) ⊎ ((e ≡ fault.LimitReached) × (max_callers ≤ office.handed) × (office'.own ≡ office.own))
       → office'.handed ≡ office.handed → cast'.courier ≡ cast.courier → cast'.players.items ≡ cast.players.items → cast'.execution ≡ cast.execution
-      → Leads fed (request.Step (step.Join name)) (outcome.Refused e) office cast office' cast'
+      → RequestLeads fed (request.Step (step.Join name)) (outcome.Refused e) office cast office' cast'
   unjoined_leads fed name e office office' cast cast' refused handed courier players plays = λ rs set.
       let told : (HasActed office.own (codes "play") (act.Step (step.Join name)) (outcome.Refused e) office'.own ⊎ HasNotActed office.own e office'.own) ⊎ ((e ≡ fault.LimitReached) × (office'.own ≡ office.own)) = elim refused [
         | inl acts ↦ elim acts [
@@ -178,14 +178,14 @@ module _ {L B P : Type 0} where
   -- ---- a line
   -- it asks for something
   pub line_asked : (c : CatalogueValue) (fed : List ℕ) (asks : Command) (asked : Request) (out : Outcome) (office office' : Office) (cast cast' : Cast L B P) → request_of c cast.members.items asks ≡ Ok asked
-      → Leads fed asked out office cast office' cast' → cast'.members.items ≡ noted cast.members.items asked out → LineLeads c fed asks out office cast office' cast'
+      → RequestLeads fed asked out office cast office' cast' → cast'.members.items ≡ members_noted cast.members.items asked out → LineLeads c fed asks out office cast office' cast'
   line_asked c fed asks asked out office office' cast cast' is leads notes = λ rs set joined.
       let led = leads rs set in
       let asks_behind : request_of c (members rs) asks ≡ Ok asked = subst (λ (ms : List NamedFederate). request_of c ms asks ≡ Ok asked) joined is in
-      (led.0, Asked asked asks_behind led.1, led.2, notes ∙ ap (λ (ms : List NamedFederate). noted ms asked out) joined ∙ members_ended fed rs asked out led.0 led.1)
+      (led.0, Asked asked asks_behind led.1, led.2, notes ∙ ap (λ (ms : List NamedFederate). members_noted ms asked out) joined ∙ members_ended fed rs asked out led.0 led.1)
 
   pub line_stepped : {E : Type 0} (c : CatalogueValue) (fed : List ℕ) (asks : Command) (x : Step) (office office' : Office) (cast cast' : Cast L B P) (given : Result Outcome E) → request_of c cast.members.items asks ≡ Ok (request.Step x)
-      → IfOk given (λ out. (file : List ℕ) → Leads file (request.Step x) out office cast office' cast') → IfOk given (λ out. cast'.members.items ≡ with_change cast.members.items (change_of x) out) → IfOk given (λ out. LineLeads c fed asks out office cast office' cast')
+      → IfOk given (λ out. (file : List ℕ) → RequestLeads file (request.Step x) out office cast office' cast') → IfOk given (λ out. cast'.members.items ≡ with_change cast.members.items (change_of x) out) → IfOk given (λ out. LineLeads c fed asks out office cast office' cast')
   line_stepped c fed asks x office office' cast cast' (Ok out) is leads notes = line_asked c fed asks (request.Step x) out office office' cast cast' is (leads fed) notes
   line_stepped c fed asks x office office' cast cast' (Err e) is leads notes = tt
 

@@ -28,9 +28,9 @@ use Rattle.hla_requests.specs.Members.{members, members_from, member_after, with
 use Rattle.hla_history.specs.Closing.{records_by}
 use Rattle.hla_rti.specs.Callers.{Caller, FederateCaller, Leaver, HasActed, HasNotActed, HasAnswered, HasResigned, IsServed, answer_given, said, nothing, new_caller}
 use Rattle.hla_rti.specs.Close.{AllAgree}
-use Rattle.hla_run.specs.InOrder.{Ends, Unrecorded, Recorded, LineEnds, Does, IsUnrecorded, IsCaller, IsStepper, IsFederate, act_asked, number_joined, entrants, callers, HasJust}
+use Rattle.hla_run.specs.InOrder.{RequestEnds, Unrecorded, Recorded, LineComesOut, Does, IsUnrecorded, IsCaller, IsStepper, IsEntrant, act_asked, number_joined, entrants, callers, HasJust}
 use Rattle.hla_run.specs.Players.{caller_of, IsAs, IsBook, Stand}
-use Rattle.hla_run.specs.Turns.{HasTold, StaysAs, DoesDeed, DoesIn, IsJoinedAs, IsJoinedAt, DoesAt, Led, noted, HasLeft, HaveLeft}
+use Rattle.hla_run.specs.Turns.{HasTold, StaysAs, DoesDeed, DoesIn, IsJoinedAs, IsJoinedAt, DoesAt, Led, members_noted, HasLeft, HaveLeft}
 use Rattle.hla_run.specs.declared.player.Player.{Player}
 use Rattle.hla_run.specs.declared.player.Player.TheVariants as player
 use Rattle.hla_run.specs.declared.player.Deed.{Deed}
@@ -116,7 +116,7 @@ module _ {L B P : Type 0} where
   -- of a federate
   federate_led : (fed : List ℕ) (rs : List Record) (asks : Step) (f k : ℕ) (out : Outcome) (own courier : Caller) (ps : List (Option (Player L B P))) (m : FederateCaller) (p : Player L B P) → Stand rs own courier ps
       → slice_get ps k ≡ Some (Some (player.Joined m)) → m.federate ≡ f → HasTold m.caller m.execution (act.Step asks) out (caller_of p) → StaysAs m p
-      → ((n : ℕ) → IsFederate rs f n → IsStepper rs asks n) → ((o : Outcome) → number_joined (act.Step asks) o ≡ []) → Led fed rs (request.Step asks) out own courier (slice_set ps k (Some p))
+      → ((n : ℕ) → IsEntrant rs f n → IsStepper rs asks n) → ((o : Outcome) → number_joined (act.Step asks) o ≡ []) → Led fed rs (request.Step asks) out own courier (slice_set ps k (Some p))
   federate_led fed rs asks f k out own courier ps m p s at named told stays stepper none =
       let there = player_at rs 2 k (entrants rs) ps (Some (player.Joined m)) s.federates at in
       let place : m.caller.number ≡ k + 2 = omega (arith, there.2.0.0) in
@@ -234,33 +234,33 @@ created_members ms after (Err e) (outcome.Done a) told done refused = cc
 created_members ms after (Err e) (outcome.Refused d) told done refused = refused
 created_members ms after (Err e) (outcome.Failed k) told done refused = refused
 
-noted_alike : (ms : List NamedFederate) (asked : Request) (out ended : Outcome) → answer_given out ≡ answer_given ended → noted ms asked out ≡ noted ms asked ended
+noted_alike : (ms : List NamedFederate) (asked : Request) (out ended : Outcome) → answer_given out ≡ answer_given ended → members_noted ms asked out ≡ members_noted ms asked ended
 noted_alike ms request.Create out ended same = creates_alike ms out ended same
 noted_alike ms request.Destroy out ended same = refl
 noted_alike ms (request.Step s) out ended same = changes_alike ms (change_of s) out ended same
 
-noted_refused : (ms : List NamedFederate) (asked : Request) (e : Fault) → noted ms asked (outcome.Refused e) ≡ ms
+noted_refused : (ms : List NamedFederate) (asked : Request) (e : Fault) → members_noted ms asked (outcome.Refused e) ≡ ms
 noted_refused ms request.Create e = refl
 noted_refused ms request.Destroy e = refl
 noted_refused ms (request.Step s) e = refused_change ms (change_of s) e
 
-noted_after : (fed : List ℕ) (ms : List NamedFederate) (asked : Request) (ended : Outcome) → noted ms asked ended ≡ member_after ms (act_asked fed asked) ended
+noted_after : (fed : List ℕ) (ms : List NamedFederate) (asked : Request) (ended : Outcome) → members_noted ms asked ended ≡ member_after ms (act_asked fed asked) ended
 noted_after fed ms request.Create ended = refl
 noted_after fed ms request.Destroy ended = refl
 noted_after fed ms (request.Step s) ended = refl
 
 -- who has joined behind the record that is added
-pub members_ended : (fed : List ℕ) (rs : List Record) (asked : Request) (out : Outcome) (added : List Record) → Ends fed rs asked out added → noted (members rs) asked out ≡ members (rs ++ added)
+pub members_ended : (fed : List ℕ) (rs : List Record) (asked : Request) (out : Outcome) (added : List Record) → RequestEnds fed rs asked out added → members_noted (members rs) asked out ≡ members (rs ++ added)
 members_ended fed rs asked out added (Unrecorded e why is none) =
-    ap (λ (o : Outcome). noted (members rs) asked o) is ∙ noted_refused (members rs) asked e ∙ ap members (sym (append_nil rs)) ∙ ap (λ (xs : List Record). members (rs ++ xs)) (sym none)
+    ap (λ (o : Outcome). members_noted (members rs) asked o) is ∙ noted_refused (members rs) asked e ∙ ap members (sym (append_nil rs)) ∙ ap (λ (xs : List Record). members (rs ++ xs)) (sym none)
 members_ended fed rs asked out added (Recorded n ended chosen caller same is) =
     let r : Record = record { actor = n; execution = codes "play"; act = act_asked fed asked; outcome = ended; choice = chosen } in
     noted_alike (members rs) asked out ended same ∙ noted_after fed (members rs) asked ended ∙ sym (members_more rs [] r) ∙ ap (λ (xs : List Record). members (rs ++ xs)) (sym is)
 
 -- ---- one more line
-pub does_more : (c : CatalogueValue) (fed : List ℕ) (before : List Record) (ls : List Line) (os : List Outcome) (mid : List Record) (l : Line) (o : Outcome) (added : List Record) → Does c fed before ls os mid → LineEnds c fed mid l.command o added
+pub does_more : (c : CatalogueValue) (fed : List ℕ) (before : List Record) (ls : List Line) (os : List Outcome) (mid : List Record) (l : Line) (o : Outcome) (added : List Record) → Does c fed before ls os mid → LineComesOut c fed mid l.command o added
     → Does c fed before (ls ++ l ∷ []) (os ++ o ∷ []) (mid ++ added)
-does_more c fed before [] [] mid l o added does ends = (added, (subst (λ (rs : List Record). LineEnds c fed rs l.command o added) (sym does) ends, ap (λ (rs : List Record). rs ++ added) does))
+does_more c fed before [] [] mid l o added does ends = (added, (subst (λ (rs : List Record). LineComesOut c fed rs l.command o added) (sym does) ends, ap (λ (rs : List Record). rs ++ added) does))
 does_more c fed before [] (p ∷ os) mid l o added does ends = absurd does
 does_more c fed before (k ∷ ls) [] mid l o added does ends = absurd does
 does_more c fed before (k ∷ ls) (p ∷ os) mid l o added does ends = (does.0, (does.1.0, does_more c fed (before ++ does.0) ls os mid l o added does.1.1 ends))

@@ -38,15 +38,15 @@ abbrev pub entrants : List Record → List ℕ
 entrants records = flat_map (λ (r : Record). number_joined r.act r.outcome) records
 
 -- the caller of this number is a federate that joined and has this number in its execution
-abbrev pub IsFederate : List Record → ℕ → ℕ → Type 0
-IsFederate before f n = (k : ℕ) × (n ≡ k + 2) × (slice_get (entrants before) k ≡ Some f)
+abbrev pub IsEntrant : List Record → ℕ → ℕ → Type 0
+IsEntrant before f n = (k : ℕ) × (n ≡ k + 2) × (slice_get (entrants before) k ≡ Some f)
 
 abbrev pub IsStepper : List Record → Step → ℕ → Type 0
 IsStepper before (step.Join name) n = n ≡ 0
 IsStepper before (step.Carry from to) n = n ≡ 1
 IsStepper before (step.Announce f) n = n ≡ 1
-IsStepper before (step.Call f s) n = IsFederate before f n
-IsStepper before (step.Tick f) n = IsFederate before f n
+IsStepper before (step.Call f s) n = IsEntrant before f n
+IsStepper before (step.Tick f) n = IsEntrant before f n
 
 -- who does what is asked: caller 0, the infrastructure itself, creates, destroys and joins; 1, the courier, carries and announces;
 -- from 2 on, in the order in which they joined, each federate calls and ticks
@@ -77,26 +77,26 @@ IsUnrecorded (request.Step s) e = ((e ≡ fault.HistoryFull) ⊎ (e ≡ fault.Ou
 
 -- ---- the lines in turn
 -- how what is asked comes out behind some records, and the record that it adds, if it does
-pub data Ends (fed : List ℕ) (before : List Record) (asked : Request) (out : Outcome) (added : List Record) : Type 0 where
+pub data RequestEnds (fed : List ℕ) (before : List Record) (asked : Request) (out : Outcome) (added : List Record) : Type 0 where
   -- nothing is recorded
-  Unrecorded : (e : Fault) → IsUnrecorded asked e → out ≡ outcome.Refused e → added ≡ [] → Ends fed before asked out added
+  Unrecorded : (e : Fault) → IsUnrecorded asked e → out ≡ outcome.Refused e → added ≡ [] → RequestEnds fed before asked out added
   -- its caller's record is added, and it comes out as that answers
   Recorded : (n : ℕ) (ended : Outcome) (chosen : Choice) → IsCaller before asked n → answer_given out ≡ answer_given ended
-      → added ≡ record { actor = n; execution = codes "play"; act = act_asked fed asked; outcome = ended; choice = chosen } ∷ [] → Ends fed before asked out added
+      → added ≡ record { actor = n; execution = codes "play"; act = act_asked fed asked; outcome = ended; choice = chosen } ∷ [] → RequestEnds fed before asked out added
 
 -- how a line comes out behind some records, and the record that it adds, if it does
-pub data LineEnds (c : CatalogueValue) (fed : List ℕ) (before : List Record) (command : Command) (out : Outcome) (added : List Record) : Type 0 where
+pub data LineComesOut (c : CatalogueValue) (fed : List ℕ) (before : List Record) (command : Command) (out : Outcome) (added : List Record) : Type 0 where
   -- it makes no step, as what it names is not found, or a value is too long
-  WithoutStep : (e : Fault) → request_of c (members before) command ≡ Err e → out ≡ outcome.Refused e → added ≡ [] → LineEnds c fed before command out added
+  WithoutStep : (e : Fault) → request_of c (members before) command ≡ Err e → out ≡ outcome.Refused e → added ≡ [] → LineComesOut c fed before command out added
   -- it asks for something
-  Asked : (asked : Request) → request_of c (members before) command ≡ Ok asked → Ends fed before asked out added → LineEnds c fed before command out added
+  Asked : (asked : Request) → request_of c (members before) command ≡ Ok asked → RequestEnds fed before asked out added → LineComesOut c fed before command out added
 
 -- the lines end so, one after another, and lead from some records to others
 abbrev pub Does : CatalogueValue → List ℕ → List Record → List Line → List Outcome → List Record → Type 0
 Does c fed before [] [] after = before ≡ after
 Does c fed before [] (o ∷ os) after = ⊥
 Does c fed before (l ∷ ls) [] after = ⊥
-Does c fed before (l ∷ ls) (o ∷ os) after = (added : List Record) × (LineEnds c fed before l.command o added × Does c fed (before ++ added) ls os after)
+Does c fed before (l ∷ ls) (o ∷ os) after = (added : List Record) × (LineComesOut c fed before l.command o added × Does c fed (before ++ added) ls os after)
 
 -- ---- the history
 -- how many callers there are behind these records: the infrastructure, the courier, and each federate that joined

@@ -17,7 +17,7 @@ use Rattle.hla_requests.specs.declared.members.NamedFederate.{NamedFederate}
 use Rattle.hla_requests.specs.declared.steps.Request.{Request}
 use Rattle.hla_requests.specs.declared.steps.Request.TheVariants as request
 use Rattle.hla_requests.specs.Members.{members, with_change, with_create, change_of}
-use Rattle.hla_run.specs.InOrder.{Ends, LineEnds, Does, callers, HasJust}
+use Rattle.hla_run.specs.InOrder.{RequestEnds, LineComesOut, Does, callers, HasJust}
 use Rattle.hla_run.specs.Running.{told_text}
 use Rattle.hla_run.specs.declared.in_order.Cast.{Cast}
 use Rattle.hla_run.specs.Players.{Stand, IsBook, caller_of}
@@ -78,13 +78,13 @@ DoesAt {L = L} {B = B} {P = P} old f what out new =
 -- ---- the callers behind a step
 -- what was asked has come out behind some records, and the callers stand behind them and the record that it adds
 abbrev pub Led : {L B P : Type 0} → List ℕ → List Record → Request → Outcome → Caller → Caller → List (Option (Player L B P)) → Type 0
-Led fed rs asked out own courier players = (added : List Record) × (Ends fed rs asked out added × Stand (rs ++ added) own courier players)
+Led fed rs asked out own courier players = (added : List Record) × (RequestEnds fed rs asked out added × Stand (rs ++ added) own courier players)
 
 -- those who joined, after an outcome of what was asked
-abbrev pub noted : List NamedFederate → Request → Outcome → List NamedFederate
-noted ms request.Create out = with_create ms out
-noted ms request.Destroy out = ms
-noted ms (request.Step s) out = with_change ms (change_of s) out
+abbrev pub members_noted : List NamedFederate → Request → Outcome → List NamedFederate
+members_noted ms request.Create out = with_create ms out
+members_noted ms request.Destroy out = ms
+members_noted ms (request.Step s) out = with_change ms (change_of s) out
 
 -- ---- what all leave behind
 -- the caller of this number is among them, with its part of these records
@@ -103,15 +103,15 @@ pub record IsSet {L B P : Type 0} (rs : List Record) (office : Office) (cast : C
   pub plays : cast.execution ≡ codes "play"
 
 -- what was asked leads from any records behind which all stand to those with the record that it adds
-abbrev pub Leads : {L B P : Type 0} → List ℕ → Request → Outcome → Office → Cast L B P → Office → Cast L B P → Type 0
-Leads fed asked out office cast office' cast' =
-    (rs : List Record) → IsSet rs office cast → (added : List Record) × Ends fed rs asked out added × IsSet (rs ++ added) office' cast'
+abbrev pub RequestLeads : {L B P : Type 0} → List ℕ → Request → Outcome → Office → Cast L B P → Office → Cast L B P → Type 0
+RequestLeads fed asked out office cast office' cast' =
+    (rs : List Record) → IsSet rs office cast → (added : List Record) × RequestEnds fed rs asked out added × IsSet (rs ++ added) office' cast'
 
 -- the same of a line, with those who have joined
 abbrev pub LineLeads : {L B P : Type 0} → CatalogueValue → List ℕ → Command → Outcome → Office → Cast L B P → Office → Cast L B P → Type 0
 LineLeads c fed command out office cast office' cast' =
     (rs : List Record) → IsSet rs office cast → cast.members.items ≡ members rs
-    → (added : List Record) × LineEnds c fed rs command out added × IsSet (rs ++ added) office' cast' × (cast'.members.items ≡ members (rs ++ added))
+    → (added : List Record) × LineComesOut c fed rs command out added × IsSet (rs ++ added) office' cast' × (cast'.members.items ≡ members (rs ++ added))
 
 -- lines have led from no records to some behind which all stand, and came out so
 pub record HaveLed {L B P : Type 0} (c : CatalogueValue) (fed : List ℕ) (lines : List Line) (told : List (Option Outcome)) (office : Office) (cast : Cast L B P) : Type 0 where

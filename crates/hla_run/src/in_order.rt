@@ -14,7 +14,7 @@ ghost use Rattle.hla_requests.specs.declared.steps.Request.TheVariants as reques
 ghost use Rattle.hla_rti.specs.Callers.{Office, new_caller};
 ghost use Rattle.hla_run.specs.InOrder.{IsRunInOrder, callers};
 ghost use Rattle.hla_run.specs.Running.{IsPastReading, StopsRun, is_unwritten_run};
-ghost use Rattle.hla_run.specs.Turns.{AreDone, HaveEnded, HaveLed, HaveLeft, IsSet, Leads, LineLeads};
+ghost use Rattle.hla_run.specs.Turns.{AreDone, HaveEnded, HaveLed, HaveLeft, IsSet, RequestLeads, LineLeads};
 
 use crate::closing::close_told;
 use crate::fault::RunFault;
@@ -83,7 +83,7 @@ impl<L: Ledger + Naming, B: FederateAmbassador, P: Publisher<L>> Cast<L, B, P> {
         ensures ambassadors { self.new.ambassadors + 1 ≡ self.old.ambassadors }
         ensures members { self.new.members ≡ self.old.members }
         ensures led { IfOk result (λ out. (fed : List ℕ) →
-            Leads fed (request.Step (step.Join name)) out rti.old self.old rti.new self.new) }
+            RequestLeads fed (request.Step (step.Join name)) out rti.old self.old rti.new self.new) }
     {
         let ambassador = self.ambassadors.take_first();
         match rti.join(rt, name, self.execution, ambassador) {
@@ -103,7 +103,7 @@ impl<L: Ledger + Naming, B: FederateAmbassador, P: Publisher<L>> Cast<L, B, P> {
         ensures ambassadors { self.new.ambassadors ≡ self.old.ambassadors }
         ensures members { self.new.members ≡ self.old.members }
         ensures led { (fed : List ℕ) (office : Office) →
-            Leads fed (request.Step (step.Carry from to)) result office self.old office self.new }
+            RequestLeads fed (request.Step (step.Carry from to)) result office self.old office self.new }
     {
         outcome_of_carried(self.courier.carry(rt, self.execution, from, to))
     }
@@ -113,7 +113,7 @@ impl<L: Ledger + Naming, B: FederateAmbassador, P: Publisher<L>> Cast<L, B, P> {
         ensures ambassadors { self.new.ambassadors ≡ self.old.ambassadors }
         ensures members { self.new.members ≡ self.old.members }
         ensures led { (fed : List ℕ) (office : Office) →
-            Leads fed (request.Step (step.Announce federate)) result office self.old office self.new }
+            RequestLeads fed (request.Step (step.Announce federate)) result office self.old office self.new }
     {
         outcome_of_announced(self.courier.announce(rt, self.execution, federate))
     }
@@ -123,7 +123,7 @@ impl<L: Ledger + Naming, B: FederateAmbassador, P: Publisher<L>> Cast<L, B, P> {
         ensures ambassadors { self.new.ambassadors ≡ self.old.ambassadors }
         ensures members { self.new.members ≡ self.old.members }
         ensures led { (fed : List ℕ) (office : Office) →
-            Leads fed (request.Step (step.Call federate service)) result office self.old office self.new }
+            RequestLeads fed (request.Step (step.Call federate service)) result office self.old office self.new }
     {
         act(rt, &mut self.players, federate, Deed::Serve(service))
     }
@@ -133,7 +133,7 @@ impl<L: Ledger + Naming, B: FederateAmbassador, P: Publisher<L>> Cast<L, B, P> {
         ensures ambassadors { self.new.ambassadors ≡ self.old.ambassadors }
         ensures members { self.new.members ≡ self.old.members }
         ensures led { (fed : List ℕ) (office : Office) →
-            Leads fed (request.Step (step.Tick federate)) result office self.old office self.new }
+            RequestLeads fed (request.Step (step.Tick federate)) result office self.old office self.new }
     {
         act(rt, &mut self.players, federate, Deed::Tick)
     }
@@ -143,7 +143,7 @@ impl<L: Ledger + Naming, B: FederateAmbassador, P: Publisher<L>> Cast<L, B, P> {
         requires { step_joins step ≤ self.old.ambassadors }
         ensures ambassadors { self.new.ambassadors + step_joins step ≡ self.old.ambassadors }
         ensures members { self.new.members ≡ self.old.members }
-        ensures led { IfOk result (λ out. (fed : List ℕ) → Leads fed (request.Step step) out
+        ensures led { IfOk result (λ out. (fed : List ℕ) → RequestLeads fed (request.Step step) out
             rti.old self.old rti.new self.new) }
     {
         match step {
@@ -167,7 +167,7 @@ impl<L: Ledger + Naming, B: FederateAmbassador, P: Publisher<L>> Cast<L, B, P> {
             (self.new.ambassadors + step_joins step ≡ self.old.ambassadors) }
         ensures members { IfOk result (λ out. self.new.members.items
             ≡ with_change self.old.members.items (change_of step) out) }
-        ensures led { IfOk result (λ out. (fed : List ℕ) → Leads fed (request.Step step) out
+        ensures led { IfOk result (λ out. (fed : List ℕ) → RequestLeads fed (request.Step step) out
             rti.old self.old rti.new self.new) }
     {
         let change = match MemberChange::of(&step) {
@@ -190,7 +190,7 @@ impl<L: Ledger + Naming, B: FederateAmbassador, P: Publisher<L>> Cast<L, B, P> {
     fn create(&mut self, rt: &impl Wait, rti: &mut Rti<L, B, P>, fed: &[u8]) -> Outcome
         ensures ambassadors { self.new.ambassadors ≡ self.old.ambassadors }
         ensures members { self.new.members.items ≡ with_create self.old.members.items result }
-        ensures led { Leads fed.now request.Create result rti.old self.old rti.new self.new }
+        ensures led { RequestLeads fed.now request.Create result rti.old self.old rti.new self.new }
     {
         let created = rti.create(rt, self.execution, fed);
         if created.is_ok() {
@@ -203,7 +203,7 @@ impl<L: Ledger + Naming, B: FederateAmbassador, P: Publisher<L>> Cast<L, B, P> {
     fn destroy(&mut self, rt: &impl Wait, rti: &mut Rti<L, B, P>) -> Outcome
         ensures same { self.new ≡ self.old }
         ensures led { (fed : List ℕ) →
-            Leads fed request.Destroy result rti.old self.old rti.new self.new }
+            RequestLeads fed request.Destroy result rti.old self.old rti.new self.new }
     {
         outcome_of_done(rti.destroy(rt, self.execution))
     }
