@@ -42,7 +42,7 @@ impl Model for Closed {
 impl Closed {
     /// The records. Behind each of them, of each execution that is there, each law of the machine holds from its creation on, as a
     /// named field of `IsLawful`; and each federate is given the discovery of an object before anything is said of it, and once.
-    #[tactic(auto, using(crate::proofs::RunLaws::replayed_run, crate::proofs::RunLaws::replayed_lawful, crate::proofs::TurnLaws::replayed_in_turn))]
+    #[tactic(auto, using(crate::proofs::RunLaws::replayed_run))]
     pub fn records(&self) -> &[Record]
         ensures records { result.now ≡ self.now }
         ensures replays { Replays self.now }
