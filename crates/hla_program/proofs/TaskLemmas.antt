@@ -1,8 +1,9 @@
 -- What is read of a file that was just opened.
-use Rattle.std.proofs.Common.{◌≡◌, ℕ, Bool, false, List, Option, ap, ◌∙◌, subst}
+use Rattle.std.proofs.Common.{◌≡◌, ◌&&◌, ℕ, Bool, true, false, List, Option, codes, refl, ap, ◌∙◌, subst, inl, inr}
+use Rattle.std.specs.Str.{bytes_eq}
 use Rattle.hla_transcript.specs.Watching.{Stream}
 use Rattle.hla_program.specs.Streams.{IsTaken, LoadStops}
-use Rattle.hla_program.specs.Texts.{opened_stream, IsTakenOf, IsStoppedOf}
+use Rattle.hla_program.specs.Texts.{opened_stream, IsTakenOf, IsStoppedOf, IsFirstUnread, file_limit}
 use Rattle.hla_program.specs.declared.input.LoadFault.{LoadFault}
 
 abbrev pub stream_with : Option (List ℕ) → Bool → Stream
@@ -16,3 +17,16 @@ taken_of limit s left known bytes is sound taken = (left, subst (λ (s : Stream)
 
 pub stopped_of : (s left : Stream) (known : Option (List ℕ)) (why : LoadFault) → s.bytes ≡ known → s.has_failed ≡ false → LoadStops s left why → IsStoppedOf known why
 stopped_of s left known why is sound stops = (left, subst (λ (s : Stream). LoadStops s left why) (is_opened s known is sound) stops)
+
+-- which of the files of two names was not read
+pub shared_unread : (bytes_of : List ℕ → Option (List ℕ)) (fed script : List ℕ) (why : LoadFault) → (bytes_eq fed (codes "-") && bytes_eq script (codes "-")) ≡ true → IsStoppedOf (bytes_of (codes "-")) why
+    → IsFirstUnread bytes_of fed script (codes "-") why
+shared_unread bytes_of fed script why both stopped = rw both (refl, stopped)
+
+pub fed_unread : (bytes_of : List ℕ → Option (List ℕ)) (fed script : List ℕ) (why : LoadFault) → (bytes_eq fed (codes "-") && bytes_eq script (codes "-")) ≡ false → IsStoppedOf (bytes_of fed) why
+    → IsFirstUnread bytes_of fed script fed why
+fed_unread bytes_of fed script why apart stopped = rw apart (inl (refl, stopped))
+
+pub script_unread : (bytes_of : List ℕ → Option (List ℕ)) (fed script : List ℕ) (why : LoadFault) → (bytes_eq fed (codes "-") && bytes_eq script (codes "-")) ≡ false
+    → (bytes : List ℕ) × IsTakenOf file_limit (bytes_of fed) bytes → IsStoppedOf (bytes_of script) why → IsFirstUnread bytes_of fed script script why
+script_unread bytes_of fed script why apart taken stopped = rw apart (inr (refl, taken, stopped))
