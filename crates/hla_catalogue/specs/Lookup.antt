@@ -84,6 +84,6 @@ abbrev pub parameter_named : CatalogueValue → ℕ → List ℕ → Option ℕ
 parameter_named c class name = number_at
     (position (λ (p : Parameter). contains_number p.class (interaction_lineage c class) && bytes_eq p.name name) c.parameters)
 
--- the order of deletions of the objects of a class: that of the attribute that stands for the right to delete
-abbrev pub deletion_order : CatalogueValue → ℕ → Order
-deletion_order c class = option_map_or (attribute_order c) (attribute_named c class (codes "privilegeToDelete")) Receive
+-- the attribute of a class that stands for the right to delete its objects
+abbrev pub deletion_privilege : CatalogueValue → ℕ → Option ℕ
+deletion_privilege c class = attribute_named c class (codes "privilegeToDelete")

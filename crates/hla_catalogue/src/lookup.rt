@@ -5,7 +5,7 @@ ghost use Rattle.std.specs.Prelude.{◌≡◌, ◌≤◌, ◌<◌, length, posit
 ghost use Rattle.hla_catalogue.specs.declared.declared.ObjectClass.{ObjectClass};
 ghost use Rattle.hla_catalogue.specs.declared.declared.InteractionClass.{InteractionClass};
 ghost use Rattle.std.specs.Option.{option_copied};
-ghost use Rattle.hla_catalogue.specs.Lookup.{item_numbered, number_at, ends_with_name, contains_number, object_class_named, interaction_class_named, attribute_named, parameter_named, object_path, interaction_path, object_lineage, interaction_lineage, attribute_name, parameter_name, is_object_class, is_interaction_class, has_attribute, has_parameter, attribute_order, interaction_order, deletion_order};
+ghost use Rattle.hla_catalogue.specs.Lookup.{item_numbered, number_at, ends_with_name, contains_number, object_class_named, interaction_class_named, attribute_named, parameter_named, object_path, interaction_path, object_lineage, interaction_lineage, attribute_name, parameter_name, is_object_class, is_interaction_class, has_attribute, has_parameter, attribute_order, interaction_order, deletion_privilege};
 
 use crate::catalogue::Catalogue;
 use crate::declared::{Attribute, InteractionClass, ObjectClass, Order, Parameter};
@@ -204,15 +204,12 @@ impl Catalogue {
         }
     }
 
-    /// The order of the deletions of objects of a class: that of its attribute `privilegeToDelete`, or receive order where
-    /// it has none.
-    pub fn deletion_order(&self, class: ClassNo) -> Order
-        ensures { result ≡ deletion_order self.now class }
+    /// The attribute of a class whose order is that of the deletions of its objects, `privilegeToDelete`; `None` where the
+    /// class has none.
+    pub fn deletion_privilege(&self, class: ClassNo) -> Option<AttributeNo>
+        ensures { result ≡ deletion_privilege self.now class }
     {
-        match self.attribute(class, b"privilegeToDelete") {
-            Some(attribute) => self.attribute_order(attribute),
-            None => Order::Receive,
-        }
+        self.attribute(class, b"privilegeToDelete")
     }
 
     /// The first object class whose path ends with a dot and the name.

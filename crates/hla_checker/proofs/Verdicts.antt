@@ -12,3 +12,5 @@ pub mod Registrations
 pub mod Sends
 -- What tests of a deletion and of a resignation tell
 pub mod Deletions
+-- What tests of a change of an order tell
+pub mod Orderings

@@ -10,3 +10,5 @@ pub mod Sending
 pub mod Declaring
 -- The discoveries of one owner's objects, or of all
 pub mod Offering
+-- Which calls change an order
+pub mod Ordering

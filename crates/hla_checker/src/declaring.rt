@@ -63,6 +63,8 @@ pub(crate) fn declaration_of(service: &Service) -> Option<ClassDeclaration>
         | Service::UpdateAttributeValues { .. }
         | Service::SendInteraction { .. }
         | Service::DeleteObjectInstance { .. }
+        | Service::ChangeAttributeOrderType { .. }
+        | Service::ChangeInteractionOrderType { .. }
         | Service::Retract { .. }
         | Service::EnableTimeRegulation { .. }
         | Service::DisableTimeRegulation

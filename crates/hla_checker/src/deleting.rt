@@ -23,9 +23,8 @@ impl KeptExecution {
     fn deletion_of(&self, object: ObjectNo) -> ServiceMessage
         ensures { outgoing result ∷ [] ≡ deletion_sent (directory_of self.now) object }
     {
-        let class = self.registry.class_of(object);
         ServiceMessage {
-            order: self.catalogue.deletion_order(class),
+            order: self.order_of_deletion(object),
             body: Body::Deletion { object },
         }
     }

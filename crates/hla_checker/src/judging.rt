@@ -138,6 +138,8 @@ impl KeptExecution {
             Service::DeleteObjectInstance { object, stamp } => {
                 self.judge_delete_object_instance(federate, *object, *stamp, outcome, choice)
             }
+            Service::ChangeAttributeOrderType { .. } | Service::ChangeInteractionOrderType { .. } =>
+                { self.judge_order_change(federate, service, outcome, choice) }
             Service::Retract { .. }
             | Service::EnableTimeRegulation { .. }
             | Service::DisableTimeConstrained => {

@@ -12,6 +12,7 @@ mod kept;
 mod lookups;
 mod naming;
 mod offering;
+mod ordering;
 mod pairs;
 mod registering;
 mod resigning;

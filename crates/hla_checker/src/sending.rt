@@ -87,9 +87,9 @@ impl KeptExecution {
         stamp: Option<Ticks>,
     ) -> Option<EventHandle>
         ensures { (values : List HandleValuePair) → result ≡ send_answer (central_of self.now) federate stamp
-            (interaction_sent (directory_of self.now) class values) }
+            (interaction_sent (directory_of self.now) federate class values) }
     {
-        let order = self.catalogue.interaction_order(class);
+        let order = self.order_of_interaction(federate, class);
         self.handle_of(federate, order, stamp)
     }
 
@@ -105,11 +105,11 @@ impl KeptExecution {
         requires joined { (account_at self.old.accounts federate).is_joined ≡ true }
         requires room { (account_at self.old.accounts federate).next_serial ≤ max_serial }
         ensures sent { OnOk result (central_of self.new ≡ after_messages (central_of self.old) federate stamp
-            (interaction_sent (directory_of self.old) class values.now)) }
+            (interaction_sent (directory_of self.old) federate class values.now)) }
         ensures consistent { OnOk result (IsConsistent self.new) }
         ensures err { IfErr result (λ e. e ≡ Fault.OutOfMemory) }
     {
-        let order = self.catalogue.interaction_order(class);
+        let order = self.order_of_interaction(federate, class);
         let values = Values::of(by_handle(self.alloc, values)?);
         let body = Body::Interaction { class, values };
         self.send(federate, stamp, &mut ServiceMessage { order, body })

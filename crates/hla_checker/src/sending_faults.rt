@@ -1,12 +1,12 @@
 //! Why a federate may not send, delete or resign (HLA 1.3, object management and federation management).
 
-ghost use Rattle.std.specs.Prelude.{◌≡◌, ℕ, List, not, length};
+ghost use Rattle.std.specs.Prelude.{◌≡◌, List, not, length};
 ghost use Rattle.std.specs.List.{list_any};
 ghost use Rattle.hla_base.specs.declared.content.HandleValuePair.{HandleValuePair};
 ghost use Rattle.hla_base.specs.RowRefusals.{first_fault};
-ghost use Rattle.hla_catalogue.specs.Lookup.{attribute_order, has_attribute, has_parameter};
+ghost use Rattle.hla_catalogue.specs.Lookup.{has_attribute, has_parameter};
 ghost use Rattle.hla_catalogue.specs.declared.declared.Order.TheVariants.{Timestamp};
-ghost use Rattle.hla_machine.specs.Directory.{Outgoing, is_of_order, update_sent};
+ghost use Rattle.hla_machine.specs.Directory.{Outgoing, is_of_order, order_of_attribute, update_sent};
 ghost use Rattle.hla_machine.specs.Machine.{central_seen};
 ghost use Rattle.hla_machine.specs.Refusals.{call_tests, is_owned, is_published};
 ghost use Rattle.hla_machine.specs.declared.service.Service.TheVariants as services;
@@ -99,22 +99,27 @@ impl KeptExecution {
             .publishes_attribute(federate, class, v.handle))
     }
 
-    /// Whether one of these values is of an attribute whose updates have this order.
-    pub(crate) fn has_order(&self, order: Order, values: &[HandleValuePair]) -> bool
+    /// Whether one of these values is of an attribute whose updates have this order, of this object and now.
+    pub(crate) fn has_order(
+        &self,
+        order: Order,
+        object: ObjectNo,
+        values: &[HandleValuePair],
+    ) -> bool
         ensures { result ≡ list_any (λ (v : HandleValuePair). is_of_order order
-            (attribute_order self.now.catalogue v.handle)) values.now }
+            (order_of_attribute (directory_of self.now) object v.handle)) values.now }
     {
         values
             .iter()
-            .any(|v| self.catalogue.attribute_order(v.handle) == order)
+            .any(|v| self.order_of_attribute(object, v.handle) == order)
     }
 
-    /// How many messages an update makes: one for each order that one of its attributes has.
-    fn count_parts(&self, values: &[HandleValuePair]) -> u64
-        ensures { (object : ℕ) → length (update_sent (directory_of self.now) object values.now) ≡ result }
+    /// How many messages an update of an object makes: one for each order that one of its attributes has.
+    fn count_parts(&self, object: ObjectNo, values: &[HandleValuePair]) -> u64
+        ensures { length (update_sent (directory_of self.now) object values.now) ≡ result }
     {
-        let received = self.has_order(Order::Receive, values);
-        let stamped = self.has_order(Order::Timestamp, values);
+        let received = self.has_order(Order::Receive, object, values);
+        let stamped = self.has_order(Order::Timestamp, object, values);
         u64::from(received) + u64::from(stamped)
     }
 
@@ -129,7 +134,7 @@ impl KeptExecution {
         ensures { result ≡ first_fault (call_tests (central_seen (central_of self.now)) federate
             (services.SendInteraction class values.now stamp)) }
     {
-        let is_stamped = is_timestamp(self.catalogue.interaction_order(class));
+        let is_stamped = is_timestamp(self.order_of_interaction(federate, class));
         if !self.catalogue.is_interaction_class(class) {
             Some(Fault::InteractionClassNotDefined)
         } else if self.lacks_parameter(class, values) {
@@ -156,7 +161,7 @@ impl KeptExecution {
             (services.UpdateAttributeValues object values.now stamp)) }
     {
         let class = self.registry.class_of(object);
-        let is_stamped = self.has_order(Order::Timestamp, values);
+        let is_stamped = self.has_order(Order::Timestamp, object, values);
         if !self.registry.is_known(object, federate) {
             Some(Fault::ObjectNotKnown)
         } else if self.lacks_value(class, values) {
@@ -166,7 +171,7 @@ impl KeptExecution {
         } else if self.lacks_publication(federate, class, values) {
             Some(Fault::AttributeNotPublished)
         } else {
-            let count = self.count_parts(values);
+            let count = self.count_parts(object, values);
             sending_fault(&self.accounts, federate, stamp, is_stamped, count)
         }
     }
@@ -181,8 +186,7 @@ impl KeptExecution {
         ensures { result ≡ first_fault (call_tests (central_seen (central_of self.now)) federate
             (services.DeleteObjectInstance object stamp)) }
     {
-        let class = self.registry.class_of(object);
-        let is_stamped = is_timestamp(self.catalogue.deletion_order(class));
+        let is_stamped = is_timestamp(self.order_of_deletion(object));
         if !self.registry.is_known(object, federate) {
             Some(Fault::ObjectNotKnown)
         } else if self.registry.owner(object) != federate {

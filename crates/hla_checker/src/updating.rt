@@ -1,11 +1,10 @@
 //! Updating attributes, and whether the central machine allows it (HLA 1.3, object management).
 
-ghost use Rattle.std.specs.Prelude.{ℕ, ◌≡◌, ◌≤◌, ◌+◌, true, length, OnOk, IfOk, IfErr};
+ghost use Rattle.std.specs.Prelude.{◌≡◌, ◌≤◌, ◌+◌, true, length, OnOk, IfOk, IfErr};
 ghost use Rattle.hla_base.specs.Limits.{max_serial};
 ghost use Rattle.hla_base.specs.declared.fault.Fault.TheVariants.{OutOfMemory};
 ghost use Rattle.std.specs.List.{list_all};
-ghost use Rattle.hla_catalogue.specs.Lookup.{attribute_order};
-ghost use Rattle.hla_machine.specs.Directory.{is_of_order, part_sent, update_sent, values_of_order};
+ghost use Rattle.hla_machine.specs.Directory.{is_of_order, order_of_attribute, part_sent, update_sent, values_of_order};
 ghost use Rattle.hla_machine.specs.Machine.{send_answer};
 ghost use Rattle.hla_machine.specs.Sends.{after_messages};
 ghost use Rattle.hla_machine.specs.declared.service.Service.TheVariants as services;
@@ -31,35 +30,37 @@ struct Parts {
 
 impl KeptExecution {
     /// How many of these values are of attributes whose updates go in receive order: as many as a list of them has room for.
-    fn count_received(&self, values: &[HandleValuePair]) -> usize {
+    fn count_received(&self, object: ObjectNo, values: &[HandleValuePair]) -> usize {
         values
             .iter()
-            .filter(|value| self.catalogue.attribute_order(value.handle) == Order::Receive)
+            .filter(|value| self.order_of_attribute(object, value.handle) == Order::Receive)
             .count()
     }
 
     /// Whether all of these values are of attributes whose updates have this order.
-    fn has_only(&self, order: Order, values: &[HandleValuePair]) -> bool
+    fn has_only(&self, order: Order, object: ObjectNo, values: &[HandleValuePair]) -> bool
         ensures { result ≡ list_all (λ (v : HandleValuePair). is_of_order order
-            (attribute_order self.now.catalogue v.handle)) values.now }
+            (order_of_attribute (directory_of self.now) object v.handle)) values.now }
     {
-        values.iter().all(|value| self.catalogue.attribute_order(value.handle) == order)
+        values.iter().all(|value| self.order_of_attribute(object, value.handle) == order)
     }
 
     /// The values of the attributes whose updates go in receive order, and the others, each moved into its part. `OutOfMemory`
     /// where a growth was refused.
-    fn split(&self, values: List<HandleValuePair>) -> Result<Parts, Fault>
+    fn split(&self, object: ObjectNo, values: List<HandleValuePair>) -> Result<Parts, Fault>
         ensures received { IfOk result
-            (λ p. p.received ≡ values_of_order (directory_of self.now) Order.Receive values) }
+            (λ p. p.received
+            ≡ values_of_order (directory_of self.now) object Order.Receive values) }
         ensures stamped { IfOk result
-            (λ p. p.stamped ≡ values_of_order (directory_of self.now) Order.Timestamp values) }
+            (λ p. p.stamped
+            ≡ values_of_order (directory_of self.now) object Order.Timestamp values) }
         ensures err { IfErr result (λ e. e ≡ Fault.OutOfMemory) }
     {
-        let count = self.count_received(values.as_slice());
+        let count = self.count_received(object, values.as_slice());
         let mut received = List::with_room(self.alloc, count)?;
         let mut stamped = List::with_room(self.alloc, values.len().saturating_sub(count))?;
         for value in values.into_vec() {
-            match self.catalogue.attribute_order(value.handle) {
+            match self.order_of_attribute(object, value.handle) {
                 Order::Receive => received.push(value)?,
                 Order::Timestamp => stamped.push(value)?,
             }
@@ -68,26 +69,28 @@ impl KeptExecution {
     }
 
     /// The parts of an update: those that are given, where all have one order. `OutOfMemory` where a growth was refused.
-    fn parts_of(&self, values: List<HandleValuePair>) -> Result<Parts, Fault>
+    fn parts_of(&self, object: ObjectNo, values: List<HandleValuePair>) -> Result<Parts, Fault>
         ensures received { IfOk result
-            (λ p. p.received ≡ values_of_order (directory_of self.now) Order.Receive values) }
+            (λ p. p.received
+            ≡ values_of_order (directory_of self.now) object Order.Receive values) }
         ensures stamped { IfOk result
-            (λ p. p.stamped ≡ values_of_order (directory_of self.now) Order.Timestamp values) }
+            (λ p. p.stamped
+            ≡ values_of_order (directory_of self.now) object Order.Timestamp values) }
         ensures err { IfErr result (λ e. e ≡ Fault.OutOfMemory) }
     {
-        if self.has_only(Order::Receive, values.as_slice()) {
+        if self.has_only(Order::Receive, object, values.as_slice()) {
             return Ok(Parts {
                 received: values,
                 stamped: List::new(self.alloc),
             });
         }
-        if self.has_only(Order::Timestamp, values.as_slice()) {
+        if self.has_only(Order::Timestamp, object, values.as_slice()) {
             return Ok(Parts {
                 received: List::new(self.alloc),
                 stamped: values,
             });
         }
-        self.split(values)
+        self.split(object, values)
     }
 
     /// The handle of the part of an update that goes in time-stamp order, if there is one: the part in receive order goes
@@ -95,14 +98,15 @@ impl KeptExecution {
     fn update_handle(
         &self,
         federate: FederateNo,
+        object: ObjectNo,
         values: &[HandleValuePair],
         stamp: Option<Ticks>,
     ) -> Option<EventHandle>
         requires { (account_at self.now.accounts federate).next_serial ≤ max_serial + 1 }
-        ensures { (object : ℕ) → result ≡ send_answer (central_of self.now) federate stamp
+        ensures { result ≡ send_answer (central_of self.now) federate stamp
             (update_sent (directory_of self.now) object values.now) }
     {
-        if !self.has_order(Order::Timestamp, values) {
+        if !self.has_order(Order::Timestamp, object, values) {
             return None;
         }
         if !self
@@ -111,7 +115,7 @@ impl KeptExecution {
         {
             return None;
         }
-        let before = u64::from(self.has_order(Order::Receive, values));
+        let before = u64::from(self.has_order(Order::Receive, object, values));
         Some(EventHandle {
             sender: federate,
             serial: self.accounts.next_serial(federate) + before,
@@ -164,7 +168,7 @@ impl KeptExecution {
         ensures err { IfErr result (λ e. e ≡ Fault.OutOfMemory) }
     {
         let values = by_handle(self.alloc, values)?;
-        let parts = self.parts_of(values)?;
+        let parts = self.parts_of(object, values)?;
         self.send_part(federate, object, Order::Receive, parts.received, stamp)?;
         self.send_part(federate, object, Order::Timestamp, parts.stamped, stamp)
     }
@@ -190,7 +194,7 @@ impl KeptExecution {
         match answer_to_test(fault, outcome, choice) {
             Err(verdict) => Ok(verdict),
             Ok(answer) => {
-                let handle = self.update_handle(federate, values.as_slice(), stamp);
+                let handle = self.update_handle(federate, object, values.as_slice(), stamp);
                 if !is_sent(answer, handle) {
                     return Ok(Verdict::Wrong);
                 }

@@ -7,6 +7,8 @@ mod forging;
 #[cfg(test)]
 mod objects;
 #[cfg(test)]
+mod orders;
+#[cfg(test)]
 mod picks;
 #[cfg(test)]
 mod rows;

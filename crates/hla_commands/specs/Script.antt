@@ -8,6 +8,7 @@ use Rattle.bstr.specs.Text.{lines_of, without_terminator}
 use Rattle.hla_base.specs.Limits.{max_script, max_script_line, largest_number}
 use Rattle.hla_commands.specs.declared.lines.Command.{Command}
 use Rattle.hla_commands.specs.declared.lines.Command.TheVariants as command
+use Rattle.hla_catalogue.specs.declared.declared.Order.{Order}
 use Rattle.hla_machine.specs.declared.service.ResignAction.{ResignAction}
 use Rattle.hla_commands.specs.declared.lines.Declaration.{Declaration}
 use Rattle.hla_commands.specs.declared.lines.Call.{Call}
@@ -23,7 +24,7 @@ use Rattle.hla_commands.specs.declared.vocabulary.TimeVerb.{TimeVerb}
 use Rattle.hla_commands.specs.declared.vocabulary.TimeVerb.TheVariants as time
 use Rattle.hla_commands.specs.declared.vocabulary.Verb.{Verb}
 use Rattle.hla_commands.specs.declared.vocabulary.Verb.TheVariants as verb
-use Rattle.hla_commands.specs.Vocabulary.{opening_of, verb_of, action_of}
+use Rattle.hla_commands.specs.Vocabulary.{opening_of, verb_of, action_of, order_named}
 use Rattle.hla_commands.specs.Words.{words_of}
 use Rattle.hla_commands.specs.Reading.{Reading, read_then}
 
@@ -48,6 +49,14 @@ action_where (Some a) words = Ok (a, words)
 abbrev pub action_in : List (List ℕ) → Reading ResignAction
 action_in [] = Err kind.MissingWord
 action_in (word ∷ words) = action_where (action_of word) words
+
+abbrev pub order_where : Option Order → List (List ℕ) → Reading Order
+order_where None words = Err kind.BadWord
+order_where (Some o) words = Ok (o, words)
+
+abbrev pub order_in : List (List ℕ) → Reading Order
+order_in [] = Err kind.MissingWord
+order_in (word ∷ words) = order_where (order_named word) words
 
 -- the number that decimal digits say, if it is not above the largest
 unfoldable pub word_number : List ℕ → Result ℕ ScriptFaultKind
@@ -131,6 +140,13 @@ send_in words = read_then (name_in words) (λ n. read_then (pairs_and_stamp n.1)
 abbrev pub delete_in : List (List ℕ) → Reading Call
 delete_in words = read_then (number_word words) (λ h. read_then (optional_stamp_in h.1) (λ s. Ok (call.Delete h.0 s.0, s.1)))
 
+abbrev pub attribute_order_in : List (List ℕ) → Reading Call
+attribute_order_in words =
+    read_then (number_word words) (λ h. read_then (name_in h.1) (λ n. read_then (order_in n.1) (λ o. read_then (names_in o.1) (λ a. Ok (call.ChangeAttributeOrder h.0 n.0 o.0 a.0, a.1)))))
+
+abbrev pub interaction_order_in : List (List ℕ) → Reading Call
+interaction_order_in words = read_then (name_in words) (λ n. read_then (order_in n.1) (λ o. Ok (call.ChangeInteractionOrder n.0 o.0, o.1)))
+
 abbrev pub regulate_in : List (List ℕ) → Reading Call
 regulate_in words = read_then (number_word words) (λ t. read_then (number_word t.1) (λ l. Ok (call.EnableTimeRegulation t.0 l.0, l.1)))
 
@@ -165,6 +181,8 @@ call_by verb.Register words = register_in words
 call_by verb.Update words = update_in words
 call_by verb.Send words = send_in words
 call_by verb.Delete words = delete_in words
+call_by verb.AttributeOrder words = attribute_order_in words
+call_by verb.InteractionOrder words = interaction_order_in words
 call_by verb.ObjectHandle words = read_then (name_in words) (λ n. Ok (call.ObjectHandle n.0, n.1))
 call_by verb.ObjectName words = read_then (number_word words) (λ h. Ok (call.ObjectName h.0, h.1))
 call_by (verb.Time v) words = time_call_by v words

@@ -3,6 +3,8 @@ use Rattle.std.specs.Prelude.{ℕ, List, Option, None, Some, if◌then◌else◌
 use Rattle.std.specs.Option.{option_or, option_map}
 use Rattle.std.specs.Str.{bytes_eq}
 use Rattle.hla_base.specs.declared.row.AdvanceKind.TheVariants as advance
+use Rattle.hla_catalogue.specs.declared.declared.Order.{Order}
+use Rattle.hla_catalogue.specs.declared.declared.Order.TheVariants.{Receive, Timestamp}
 use Rattle.hla_machine.specs.declared.service.ResignAction.{ResignAction}
 use Rattle.hla_machine.specs.declared.service.ResignAction.TheVariants as action
 use Rattle.hla_commands.specs.declared.lines.Declaration.TheVariants as declaration
@@ -67,18 +69,25 @@ query_of word =
 abbrev pub time_verb_of : List ℕ → Option TimeVerb
 time_verb_of word = option_or (time_service_named word) (query_of word)
 
+-- what a word says of objects and messages, if it is one of their words
+unfoldable pub object_verb_of : List ℕ → Option Verb
+object_verb_of word =
+    if bytes_eq word (codes "register") then Some verb.Register
+    else if bytes_eq word (codes "update") then Some verb.Update
+    else if bytes_eq word (codes "send") then Some verb.Send
+    else if bytes_eq word (codes "delete") then Some verb.Delete
+    else if bytes_eq word (codes "attributeOrder") then Some verb.AttributeOrder
+    else if bytes_eq word (codes "interactionOrder") then Some verb.InteractionOrder
+    else if bytes_eq word (codes "objectHandle") then Some verb.ObjectHandle
+    else if bytes_eq word (codes "objectName") then Some verb.ObjectName
+    else None
+
 -- what a word behind a federate's name says, if it is known
 unfoldable pub verb_of : List ℕ → Option Verb
 verb_of word =
     if bytes_eq word (codes "tick") then Some verb.Tick
     else if bytes_eq word (codes "resign") then Some verb.Resign
-    else if bytes_eq word (codes "register") then Some verb.Register
-    else if bytes_eq word (codes "update") then Some verb.Update
-    else if bytes_eq word (codes "send") then Some verb.Send
-    else if bytes_eq word (codes "delete") then Some verb.Delete
-    else if bytes_eq word (codes "objectHandle") then Some verb.ObjectHandle
-    else if bytes_eq word (codes "objectName") then Some verb.ObjectName
-    else option_or (declaration_verb_of word) (option_map verb.Time (time_verb_of word))
+    else option_or (option_or (object_verb_of word) (declaration_verb_of word)) (option_map verb.Time (time_verb_of word))
 
 -- the action of a resignation that a word names, if it names one
 unfoldable pub action_of : List ℕ → Option ResignAction
@@ -87,4 +96,11 @@ action_of word =
     else if bytes_eq word (codes "DELETE_OBJECTS") then Some action.DeleteObjects
     else if bytes_eq word (codes "DELETE_OBJECTS_AND_RELEASE_ATTRIBUTES") then Some action.DeleteObjectsAndReleaseAttributes
     else if bytes_eq word (codes "NO_ACTION") then Some action.NoAction
+    else None
+
+-- the order that a word names, if it names one
+unfoldable pub order_named : List ℕ → Option Order
+order_named word =
+    if bytes_eq word (codes "receive") then Some Receive
+    else if bytes_eq word (codes "timestamp") then Some Timestamp
     else None

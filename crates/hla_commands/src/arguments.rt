@@ -6,12 +6,13 @@ ghost use Rattle.std.specs.Char.{is_ascii_digit};
 ghost use Rattle.std.specs.Str.Parse.{digits_value};
 ghost use Rattle.hla_base.specs.Limits.{largest_number};
 ghost use Rattle.hla_commands.specs.Reading.{Reads, Gives};
-ghost use Rattle.hla_commands.specs.Script.{name_in, optional_in, names_in, federate_in, action_in, word_number, number_word, pair_of, word_stamp, optional_stamp_in, pairs_and_stamp, word_handle, handle_in};
+ghost use Rattle.hla_commands.specs.Script.{name_in, optional_in, names_in, federate_in, action_in, order_in, word_number, number_word, pair_of, word_stamp, optional_stamp_in, pairs_and_stamp, word_handle, handle_in};
 
 use crate::lines::{NameValuePair, ScriptFaultKind};
-use crate::vocabulary::{Opening, action_of};
+use crate::vocabulary::{Opening, action_of, order_of};
 use crate::words::{Word, Words};
 use hla_base::List;
+use hla_catalogue::Order;
 use hla_machine::ResignAction;
 use std::alloc::Global;
 
@@ -64,6 +65,17 @@ pub fn action(words: &mut Words<'_>) -> Result<ResignAction, ScriptFaultKind>
     let word = next_word(words)?;
     match action_of(word) {
         Some(action) => Ok(action),
+        None => Err(ScriptFaultKind::BadWord),
+    }
+}
+
+/// An order. `MissingWord` where no word is left; `BadWord` where the next names no order.
+pub fn order(words: &mut Words<'_>) -> Result<Order, ScriptFaultKind>
+    ensures { Gives result words.new (order_in words.old) }
+{
+    let word = next_word(words)?;
+    match order_of(word) {
+        Some(order) => Ok(order),
         None => Err(ScriptFaultKind::BadWord),
     }
 }

@@ -2,10 +2,11 @@
 
 ghost use Rattle.std.specs.Prelude.{◌≡◌};
 ghost use Rattle.hla_commands.specs.Reading.{Reads, Gives};
-ghost use Rattle.hla_commands.specs.Script.{declare_object_in, register_in, update_in, send_in, delete_in, regulate_in, retract_in, time_call_by, call_by, call_in};
+ghost use Rattle.hla_commands.specs.Script.{declare_object_in, register_in, update_in, send_in, delete_in, attribute_order_in, interaction_order_in, regulate_in, retract_in, time_call_by, call_by, call_in};
 
 use crate::arguments::{
-    action, handle, name, names, next_word, number, optional, optional_stamp, pairs_and_stamp,
+    action, handle, name, names, next_word, number, optional, optional_stamp, order,
+    pairs_and_stamp,
 };
 use crate::lines::{Call, Declaration, ScriptFaultKind};
 use crate::vocabulary::{TimeVerb, Verb};
@@ -73,6 +74,31 @@ fn delete<'a>(words: &mut Words<'a>) -> Result<Call<'a>, ScriptFaultKind>
     let object = number(words)?;
     let stamp = optional_stamp(words)?;
     Ok(Call::Delete { object, stamp })
+}
+
+/// A change of the order of attributes of an object.
+fn attribute_order<'a>(alloc: Global, words: &mut Words<'a>) -> Result<Call<'a>, ScriptFaultKind>
+    ensures { Reads result words.new (attribute_order_in words.old) }
+{
+    let object = number(words)?;
+    let class = name(words)?;
+    let order = order(words)?;
+    let attributes = names(alloc, words)?;
+    Ok(Call::ChangeAttributeOrder {
+        object,
+        class,
+        order,
+        attributes,
+    })
+}
+
+/// A change of the order of interactions.
+fn interaction_order<'a>(words: &mut Words<'a>) -> Result<Call<'a>, ScriptFaultKind>
+    ensures { Gives result words.new (interaction_order_in words.old) }
+{
+    let class = name(words)?;
+    let order = order(words)?;
+    Ok(Call::ChangeInteractionOrder { class, order })
 }
 
 /// An enabling of time regulation.
@@ -148,6 +174,8 @@ fn call_by<'a>(
         Verb::Update => update(alloc, words),
         Verb::Send => send(alloc, words),
         Verb::Delete => delete(words),
+        Verb::AttributeOrder => attribute_order(alloc, words),
+        Verb::InteractionOrder => interaction_order(words),
         Verb::ObjectHandle => Ok(Call::ObjectHandle { name: name(words)? }),
         Verb::ObjectName => Ok(Call::ObjectName {
             object: number(words)?,

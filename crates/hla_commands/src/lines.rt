@@ -5,6 +5,7 @@ ghost use Rattle.hla_commands.specs.FaultName.{kind_name};
 
 use crate::words::Word;
 use hla_base::{AdvanceKind, List};
+use hla_catalogue::Order;
 use hla_machine::ResignAction;
 use thiserror::Error;
 
@@ -78,6 +79,18 @@ pub enum Call<'a> {
     Delete {
         object: u64,
         stamp: Option<u64>,
+    },
+    /// Change Attribute Order Type. The class is where the attributes are looked up.
+    ChangeAttributeOrder {
+        object: u64,
+        class: Word<'a>,
+        order: Order,
+        attributes: List<Word<'a>>,
+    },
+    /// Change Interaction Order Type.
+    ChangeInteractionOrder {
+        class: Word<'a>,
+        order: Order,
     },
     /// Get Object Instance Handle.
     ObjectHandle {

@@ -2,10 +2,11 @@
 
 ghost use Rattle.std.specs.Prelude.{◌≡◌};
 ghost use Rattle.std.specs.Str.{bytes_eq};
-ghost use Rattle.hla_commands.specs.Vocabulary.{opening_of, declaration_verb_of, time_service_named, query_of, time_verb_of, verb_of, action_of};
+ghost use Rattle.hla_commands.specs.Vocabulary.{opening_of, declaration_verb_of, time_service_named, query_of, time_verb_of, object_verb_of, verb_of, action_of, order_named};
 
 use crate::lines::Declaration;
 use hla_base::AdvanceKind;
+use hla_catalogue::Order;
 use hla_machine::ResignAction;
 
 /// Whether a word is a known one. Most differ in length, which is looked at first.
@@ -144,6 +145,8 @@ pub enum Verb {
     Update,
     Send,
     Delete,
+    AttributeOrder,
+    InteractionOrder,
     ObjectHandle,
     ObjectName,
     Time(TimeVerb),
@@ -176,6 +179,32 @@ impl Verb {
         }
     }
 
+    /// What a word says of objects and messages, if it is one of their words.
+    #[tactic(auto, unfolding(crate::specs::Vocabulary::object_verb_of))]
+    fn object_verb(word: &[u8]) -> Option<Verb>
+        ensures { result ≡ object_verb_of word.now }
+    {
+        if is(word, b"register") {
+            Some(Verb::Register)
+        } else if is(word, b"update") {
+            Some(Verb::Update)
+        } else if is(word, b"send") {
+            Some(Verb::Send)
+        } else if is(word, b"delete") {
+            Some(Verb::Delete)
+        } else if is(word, b"attributeOrder") {
+            Some(Verb::AttributeOrder)
+        } else if is(word, b"interactionOrder") {
+            Some(Verb::InteractionOrder)
+        } else if is(word, b"objectHandle") {
+            Some(Verb::ObjectHandle)
+        } else if is(word, b"objectName") {
+            Some(Verb::ObjectName)
+        } else {
+            None
+        }
+    }
+
     /// What a word says, if it is known.
     #[tactic(auto, unfolding(crate::specs::Vocabulary::verb_of))]
     pub fn of(word: &[u8]) -> Option<Verb>
@@ -185,20 +214,10 @@ impl Verb {
             Some(Verb::Tick)
         } else if is(word, b"resign") {
             Some(Verb::Resign)
-        } else if is(word, b"register") {
-            Some(Verb::Register)
-        } else if is(word, b"update") {
-            Some(Verb::Update)
-        } else if is(word, b"send") {
-            Some(Verb::Send)
-        } else if is(word, b"delete") {
-            Some(Verb::Delete)
-        } else if is(word, b"objectHandle") {
-            Some(Verb::ObjectHandle)
-        } else if is(word, b"objectName") {
-            Some(Verb::ObjectName)
         } else {
-            Verb::declaration_verb(word).or_else(|| TimeVerb::of(word).map(Verb::Time))
+            Verb::object_verb(word)
+                .or_else(|| Verb::declaration_verb(word))
+                .or_else(|| TimeVerb::of(word).map(Verb::Time))
         }
     }
 }
@@ -216,6 +235,20 @@ pub fn action_of(word: &[u8]) -> Option<ResignAction>
         Some(ResignAction::DeleteObjectsAndReleaseAttributes)
     } else if is(word, b"NO_ACTION") {
         Some(ResignAction::NoAction)
+    } else {
+        None
+    }
+}
+
+/// The order that a word names, if it names one.
+#[tactic(auto, unfolding(crate::specs::Vocabulary::order_named))]
+pub fn order_of(word: &[u8]) -> Option<Order>
+    ensures { result ≡ order_named word.now }
+{
+    if is(word, b"receive") {
+        Some(Order::Receive)
+    } else if is(word, b"timestamp") {
+        Some(Order::Timestamp)
     } else {
         None
     }

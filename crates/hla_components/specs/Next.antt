@@ -1,5 +1,5 @@
 -- The components' next-state function: what each step answers and chooses, and the state after it
-use Rattle.std.specs.Prelude.{ℕ, ◌+◌, max, min, cond, eqb, ltb, not, ◌&&◌, Bool, true, false, Option, Some, None, List, [], ◌∷◌, ◌++◌, unwrap_or, filter, find, map}
+use Rattle.std.specs.Prelude.{ℕ, ◌+◌, min, cond, ltb, not, ◌&&◌, true, false, Option, Some, None, List, [], ◌∷◌, ◌++◌, unwrap_or, filter, find, map}
 use Rattle.std.specs.Str.{bytes_eq}
 use Rattle.hla_base.specs.declared.fault.Fault.{Fault}
 use Rattle.hla_base.specs.declared.content.Content.{Content}
@@ -14,8 +14,8 @@ use Rattle.hla_base.specs.declared.row.TimeRow.{TimeRow}
 use Rattle.hla_null_message.specs.declared.message.Message.{Message}
 use Rattle.hla_null_message.specs.declared.message.Message.TheVariants as message
 use Rattle.hla_null_message.specs.Wires.{put_behind}
-use Rattle.hla_base.specs.Tables.{forever, upd, upd2, upd_row, upd_column, upd_new, upd_whole_column, or_else, numbers_below}
-use Rattle.hla_base.specs.Rows.{is_regulator, is_disabled, is_none_of, row_after_request, row_with_entry, row_after_regulation_enabled, row_after_constraint_enabled, row_after_pick, row_after_grant, new_row}
+use Rattle.hla_base.specs.Tables.{forever, upd, upd2, upd_row, upd_column, upd_new, upd_whole_column, numbers_below}
+use Rattle.hla_base.specs.Rows.{is_regulator, row_after_request, row_with_entry, row_after_regulation_enabled, row_after_constraint_enabled, row_after_pick, row_after_grant, new_row}
 use Rattle.hla_lbts.specs.Peers.{null_bound}
 use Rattle.hla_catalogue.specs.Lookup.{object_class_named, interaction_class_named, attribute_named, parameter_named}
 use Rattle.hla_retraction.specs.SentEvents.{SentEvent}
@@ -37,13 +37,13 @@ use Rattle.hla_machine.specs.declared.step.Outcome.{Outcome}
 use Rattle.hla_machine.specs.declared.step.Outcome.TheVariants as outcome
 use Rattle.hla_machine.specs.declared.step.Choice.{Choice}
 use Rattle.hla_machine.specs.declared.step.Choice.TheVariants as choice
-use Rattle.hla_machine.specs.Directory.{Directory, Outgoing, name_or_default, objects_of, interaction_sent, update_sent, deletion_sent, deletions_sent, content_for, discoveries_of, with_discoveries_made, with_object_discovered, with_member, without_member, with_published, with_subscribed, with_published_interaction, with_subscribed_interaction, with_object, without_object}
+use Rattle.hla_machine.specs.Directory.{Directory, Outgoing, name_or_default, objects_of, interaction_sent, update_sent, deletion_sent, deletions_sent, content_for, discoveries_of, with_discoveries_made, with_object_discovered, with_member, without_member, with_published, with_subscribed, with_published_interaction, with_subscribed_interaction, with_object, without_object, with_attribute_orders, with_interaction_order}
 use Rattle.hla_machine.specs.Sends.{is_ordered, kept_stamp, sent_event, sent_handle, is_told}
 use Rattle.hla_machine.specs.Refusals.{Seen, refusal, is_known}
 use Rattle.hla_machine.specs.Machine.{is_removal}
 use Rattle.hla_order_queues.specs.declared.control.Control.{Control}
 use Rattle.hla_order_queues.specs.declared.control.Control.TheVariants.{ToDiscover, ToRetract}
-use Rattle.hla_order_queues.specs.Queues.{insert_event, remove_event, find_event, handle_of, handles_of}
+use Rattle.hla_order_queues.specs.Queues.{remove_event, handle_of, handles_of}
 use Rattle.hla_components.specs.Components.{Components}
 use Rattle.hla_components.specs.Component.{local_bound, promise, regulation_entry}
 use Rattle.hla_local.specs.Promising.{least_waiting}
@@ -203,8 +203,10 @@ call_outcome s f (service.UnsubscribeInteractionClass class) = done_outcome (wit
 call_outcome s f (service.RegisterObjectInstance class name) = let h = s.directory.next_object in let chosen = name_or_default h name in
     answer_outcome (answer.Registered h chosen) (with_object_registered s f h (with_object s.directory f class chosen))
 call_outcome s f (service.UpdateAttributeValues object values stamp) = send_outcome s f stamp (update_sent s.directory object values)
-call_outcome s f (service.SendInteraction class values stamp) = send_outcome s f stamp (interaction_sent s.directory class values)
+call_outcome s f (service.SendInteraction class values stamp) = send_outcome s f stamp (interaction_sent s.directory f class values)
 call_outcome s f (service.DeleteObjectInstance object stamp) = done_outcome (with_object_deleted s f object stamp)
+call_outcome s f (service.ChangeAttributeOrderType object attributes order) = done_outcome (with_directory s (with_attribute_orders s.directory object attributes order))
+call_outcome s f (service.ChangeInteractionOrderType class order) = done_outcome (with_directory s (with_interaction_order s.directory f class order))
 call_outcome s f (service.Retract event) = done_outcome (with_event_retracted s f event.serial)
 call_outcome s f (service.EnableTimeRegulation time lookahead) = let e = regulation_entry s f (time + lookahead) in chosen_outcome answer.Done (choice.Entry e) (with_regulation_enabled s f lookahead e)
 call_outcome s f service.DisableTimeRegulation = done_outcome (with_regulation_disabled s f)

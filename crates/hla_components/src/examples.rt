@@ -1,6 +1,6 @@
 //! Worked examples: what given lists of steps end in, as the definitions have it.
 
-ghost use Rattle.hla_components.specs.Examples.Objects.{Ancestor, AsynchronousDelivery, TwoOrdersAndATie, Refusals, LateSubscriber, CreateAndDestroy};
+ghost use Rattle.hla_components.specs.Examples.Objects.{Ancestor, AsynchronousDelivery, TwoOrdersAndATie, OrdersThatChange, Refusals, LateSubscriber, CreateAndDestroy};
 ghost use Rattle.hla_components.specs.Examples.Time.{StaleBound, Boundary, Creep, CreepAvailable, Flush, LargestTime, PickThenGrant, NewestNull};
 ghost use Rattle.hla_components.specs.Examples.Roles.{Newcomer, Epoch, Retraction, Floor, RegulatorResigns, CeasingToBeConstrained, BarAboveEntry};
 
@@ -9,6 +9,7 @@ pub fn objects()
     ensures ancestor { Ancestor }
     ensures asynchronous_delivery { AsynchronousDelivery }
     ensures two_orders_and_a_tie { TwoOrdersAndATie }
+    ensures orders_that_change { OrdersThatChange }
     ensures refusals { Refusals }
     ensures late_subscriber { LateSubscriber }
     ensures create_and_destroy { CreateAndDestroy }

@@ -2,7 +2,7 @@
 use Rattle.std.proofs.Common.{ℕ, ◌<◌, refl}
 use Rattle.hla_declaration.specs.Lists.{DeclarationLists}
 use Rattle.hla_declaration.specs.Declarations.{declarations_of, IsSilent}
-use Rattle.hla_declaration.proofs.EntryLemmas.{item_numbered_past}
+use Rattle.hla_catalogue.proofs.ItemLemmas.{item_numbered_past}
 
 pub silent_past : (d : DeclarationLists) (f class : ℕ) → (declarations_of d).federates < f → IsSilent (declarations_of d) f class
 silent_past d f class past =

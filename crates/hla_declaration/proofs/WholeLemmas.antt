@@ -1,5 +1,5 @@
 -- The lists and the sets are whole after each change
-use Rattle.std.proofs.Common.{◌≡◌, ℕ, ◌+◌, ◌-◌, ◌<◌, ◌≤◌, ◌&&◌, List, [], ◌∷◌, ◌++◌, length, get_or, set, eqb, cond, true, false, Bool, None, Option, is_some, refl, sym, ap, ◌∙◌, subst, arith, length-set, length-append}
+use Rattle.std.proofs.Common.{◌≡◌, ℕ, ◌+◌, ◌-◌, ◌<◌, ◌≤◌, ◌&&◌, List, [], ◌∷◌, ◌++◌, length, get_or, set, eqb, cond, true, false, Bool, None, Some, Option, is_some, refl, sym, ap, ◌∙◌, subst, arith, length-set, length-append}
 use Rattle.std.proofs.lemmas.List.{length-replicate}
 use Rattle.std.proofs.lemmas.List.Elements.{All-set, All-append, All-cons, All-nil}
 use Rattle.hla_base.specs.Limits.{max_joins}
@@ -10,8 +10,9 @@ use Rattle.hla_declaration.specs.Lists.{AreListsWhole}
 use Rattle.hla_declaration.specs.Declarations.{table}
 use Rattle.hla_declaration.specs.Subscribers.{is_in_set_of, AreSetsWhole, AreDeclarationsWhole}
 use Rattle.hla_declaration.specs.declared.member.Declarer.{Declarer}
-use Rattle.hla_declaration.proofs.TableLemmas.{room, published_put, subscribed_put, published_interaction_put, subscribed_interaction_put, member_cleared, member_more}
+use Rattle.hla_declaration.proofs.TableLemmas.{room, published_put, subscribed_put, published_interaction_put, subscribed_interaction_put, orders_put, member_cleared, member_more}
 use Rattle.hla_declaration.proofs.SubscriberLemmas.{sets_put, sets_withdrawn, sets_same}
+use Rattle.hla_catalogue.specs.declared.declared.Order.{Order}
 
 -- whether a federate subscribes some attributes of an object class
 abbrev object_table : List Declarer → ℕ → ℕ → Bool
@@ -164,6 +165,18 @@ module _ (objects interactions : ℕ) (members : List Declarer) (object_sets int
                 (sets_put interactions (length members) interaction_sets i (interaction_table members) (interaction_table (set members (f - 1) new)) whole.interactions f class x same listed
                 (λ g k. ap (λ v. v.subscribed_interaction g k) tables));
           }
+
+    -- it changed the order of an interaction class, and so others than before are given
+    pub whole_ordered : (class : ℕ) → 0 < class → (orders : List (Option Order)) (order : Order) → entry_at None orders ≡ upd (entry_at None m.interaction_orders) class (Some order)
+        → AreDeclarationsWhole objects interactions (set members (f - 1) (record m { interaction_orders = orders })) object_sets interaction_sets
+    whole_ordered class first orders order given =
+        let new : Declarer = record m { interaction_orders = orders } in
+        let tables = orders_put objects interactions members whole.lists f m first_federate within is class first orders order given in
+        record {
+          lists = lists_put new (record { published = before.published; subscribed = before.subscribed; published_interactions = before.published_interactions; subscribed_interactions = before.subscribed_interactions });
+          objects = objects_kept new (λ g k. ap (λ v. is_some (v.subscribed g k)) tables);
+          interactions = interactions_kept new (λ g k. ap (λ v. v.subscribed_interaction g k) tables);
+        }
 
     -- a federate that declares nothing any more has room as before
     cleared_member : (new : Declarer) → IsCleared m new → IsMember objects interactions new

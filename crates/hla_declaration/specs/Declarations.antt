@@ -2,6 +2,7 @@
 use Rattle.std.specs.Prelude.{◌≡◌, ℕ, ◌<◌, Bool, false, Option, None, List, length}
 use Rattle.std.specs.Option.{option_map_or}
 use Rattle.hla_catalogue.specs.Lookup.{item_numbered}
+use Rattle.hla_catalogue.specs.declared.declared.Order.{Order}
 use Rattle.hla_declaration.specs.Entries.{entry_at}
 use Rattle.hla_declaration.specs.Lists.{DeclarationLists}
 use Rattle.hla_declaration.specs.declared.member.Declarer.{Declarer}
@@ -15,6 +16,7 @@ pub record DeclarationsValue : Type 0 where
   pub subscribed : ℕ → ℕ → Option (List ℕ)
   pub published_interaction : ℕ → ℕ → Bool
   pub subscribed_interaction : ℕ → ℕ → Bool
+  pub interaction_orders : ℕ → ℕ → Option Order  -- in which order a federate's interactions of a class go, where it changed that
 
 -- what the federate with a number has at a class
 abbrev pub table : {X : Type 0} → X → (Declarer → List X) → List Declarer → ℕ → ℕ → X
@@ -30,6 +32,7 @@ declarations_of d = record {
   subscribed = table None (λ (m : Declarer). m.subscribed) d.members;
   published_interaction = table false (λ (m : Declarer). m.published_interactions) d.members;
   subscribed_interaction = table false (λ (m : Declarer). m.subscribed_interactions) d.members;
+  interaction_orders = table None (λ (m : Declarer). m.interaction_orders) d.members;
 }
 
 -- a federate declares nothing of the classes with a number

@@ -1,5 +1,5 @@
 -- What one federate declares
-use Rattle.std.specs.Prelude.{◌≡◌, ℕ, None, false, length, replicate}
+use Rattle.std.specs.Prelude.{◌≡◌, ℕ, None, false, [], length, replicate}
 use Rattle.hla_declaration.specs.Entries.{entry_at}
 use Rattle.hla_declaration.specs.declared.member.Declarer.{Declarer}
 
@@ -10,6 +10,7 @@ new_declarer object_classes interaction_classes = record {
   subscribed = replicate object_classes None;
   published_interactions = replicate interaction_classes false;
   subscribed_interactions = replicate interaction_classes false;
+  interaction_orders = [];
 }
 
 -- it has room for these many object classes and interaction classes
@@ -25,4 +26,5 @@ pub record IsCleared (old new : Declarer) : Type 0 where
   pub subscribed : (class : ℕ) → entry_at None new.subscribed class ≡ None
   pub published_interactions : (class : ℕ) → entry_at false new.published_interactions class ≡ false
   pub subscribed_interactions : (class : ℕ) → entry_at false new.subscribed_interactions class ≡ false
+  pub interaction_orders : (class : ℕ) → entry_at None new.interaction_orders class ≡ None
   pub room : IsMember (length old.published) (length old.published_interactions) old → IsMember (length old.published) (length old.published_interactions) new

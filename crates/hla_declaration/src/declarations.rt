@@ -12,13 +12,15 @@ ghost use Rattle.hla_declaration.specs.Subscribers.{AreSubscribers};
 use crate::member::Declarer;
 use crate::subscribers::SubscriberSets;
 use hla_base::{AttributeNo, ClassNo, Fault, FederateNo, List};
+use hla_catalogue::Order;
 use std::alloc::Global;
 use std::marker::Model;
 
-/// What each federate of an execution publishes and subscribes (HLA 1.3, declaration management). Federates and classes
+/// What each federate of an execution publishes and subscribes (HLA 1.3, declaration management), and in which order its
+/// interactions go, where it changed that (time management). Federates and classes
 /// are numbered from 1. Contracts see lists; `declarations_of` reads them as tables by federate and class, which say for
 /// a number of no federate or of no class that nothing is declared. The room for declarations is taken when a federate
-/// joins, so that none takes memory later. Beside them stands who subscribes each class, so that a send need not look at
+/// joins, so that none takes memory later; that for orders, when a federate changes the first. Beside them stands who subscribes each class, so that a send need not look at
 /// each federate's declarations.
 #[derive(Debug, Drop)]
 pub struct Declarations {
@@ -54,6 +56,7 @@ impl Declarations {
           subscribed = λ _ _. None;
           published_interaction = λ _ _. false;
           subscribed_interaction = λ _ _. false;
+          interaction_orders = λ _ _. None;
         } }
     {
         Declarations {
@@ -119,7 +122,7 @@ impl Declarations {
         Ok(())
     }
 
-    /// A federate declares nothing any more (Resign Federation Execution). Its number stays its own.
+    /// A federate declares nothing any more, and its interactions go as the FED file says (Resign Federation Execution). Its number stays its own.
     pub fn withdraw(&mut self, federate: FederateNo)
         requires some { 0 < federate }
         requires joined { federate ≤ (declarations_of self.old).federates }
@@ -128,6 +131,7 @@ impl Declarations {
           subscribed = upd old.subscribed federate (λ _. None);
           published_interaction = upd old.published_interaction federate (λ _. false);
           subscribed_interaction = upd old.subscribed_interaction federate (λ _. false);
+          interaction_orders = upd old.interaction_orders federate (λ _. None);
         } }
     {
         self.members[federate as usize - 1].clear();
@@ -328,5 +332,31 @@ impl Declarations {
             } }
     {
         self.set_subscribed_interaction(federate, class, false);
+    }
+    /// Change Interaction Order Type: the federate's interactions of just this class go in this order from now on.
+    /// `OutOfMemory`, and all as it was, where room for the orders was refused.
+    pub fn change_interaction_order(
+        &mut self,
+        federate: FederateNo,
+        class: ClassNo,
+        order: Order,
+    ) -> Result<(), Fault>
+        requires some { 0 < federate }
+        requires joined { federate ≤ (declarations_of self.old).federates }
+        requires numbered { 0 < class }
+        requires defined { class ≤ (declarations_of self.old).interaction_classes }
+        ensures ok { OnOk result
+            (declarations_of self.new ≡ record (declarations_of self.old) {
+              interaction_orders = upd2
+                  (declarations_of self.old).interaction_orders federate class (Some order);
+            }) }
+        ensures err { IfErr result (λ e. e ≡ Fault.OutOfMemory) }
+        ensures unchanged { OnErr result (self.new ≡ self.old) }
+    {
+        let alloc = *self.members.allocator();
+        let classes = self.interaction_classes;
+        self.members[federate as usize - 1]
+            .interaction_orders
+            .give_one(alloc, classes, class, order)
     }
 }

@@ -8,15 +8,17 @@ ghost use Rattle.hla_declaration.specs.Members.{new_declarer, IsMember, IsCleare
 use crate::attribute_lists::AttributeLists;
 use crate::class_set::ClassSet;
 use hla_base::Fault;
+use hla_orders::ChangedOrders;
 use std::alloc::Global;
 
-/// What one federate publishes and subscribes.
+/// What one federate publishes and subscribes, and in which order its interactions go, where it changed that.
 #[derive(Debug, Drop)]
 pub struct Declarer {
     pub published: AttributeLists,
     pub subscribed: AttributeLists,
     pub published_interactions: ClassSet,
     pub subscribed_interactions: ClassSet,
+    pub interaction_orders: ChangedOrders,
 }
 
 impl Declarer {
@@ -35,10 +37,11 @@ impl Declarer {
             subscribed: AttributeLists::new(alloc, object_classes)?,
             published_interactions: ClassSet::new(alloc, interaction_classes)?,
             subscribed_interactions: ClassSet::new(alloc, interaction_classes)?,
+            interaction_orders: ChangedOrders::new(),
         })
     }
 
-    /// It declares nothing any more.
+    /// It declares nothing any more, and its interactions go as the FED file says.
     pub fn clear(&mut self)
         ensures { IsCleared self.old self.new }
     {
@@ -46,5 +49,6 @@ impl Declarer {
         self.subscribed.clear();
         self.published_interactions.clear();
         self.subscribed_interactions.clear();
+        self.interaction_orders = ChangedOrders::new();
     }
 }

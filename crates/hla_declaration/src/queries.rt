@@ -7,6 +7,7 @@ ghost use Rattle.hla_declaration.specs.Declarations.{declarations_of};
 
 use crate::declarations::Declarations;
 use hla_base::{AttributeNo, ClassNo, FederateNo, List};
+use hla_catalogue::Order;
 
 impl Declarations {
     /// The attributes that a federate publishes of an object class; `None` where it does not publish it.
@@ -112,6 +113,17 @@ impl Declarations {
         match self.publication(federate, class) {
             Some(attributes) => attributes.as_slice(),
             None => &[],
+        }
+    }
+
+    /// In which order a federate's interactions of a class go, if it changed that; `None` for a number of no federate or of
+    /// no class. It takes constant time.
+    pub fn interaction_order(&self, federate: FederateNo, class: ClassNo) -> Option<Order>
+        ensures { result ≡ (declarations_of self.now).interaction_orders federate class }
+    {
+        match self.member(federate) {
+            Some(member) => member.interaction_orders.get(class),
+            None => None,
         }
     }
 }

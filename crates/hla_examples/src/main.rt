@@ -28,7 +28,7 @@ use std::thread::Threads;
 use std::{fs, io};
 
 /// The examples, by name.
-const NAMES: [&str; 27] = [
+const NAMES: [&str; 31] = [
     "ancestor",
     "late_subscriber",
     "refusals",
@@ -56,6 +56,10 @@ const NAMES: [&str; 27] = [
     "pick_then_grant",
     "bar_above_entry",
     "newest_null",
+    "attribute_order",
+    "interaction_order",
+    "orders_stay_and_end",
+    "orders_of_attributes",
 ];
 
 /// Those that run on threads, too. A tick that no callback answers there is repeated a thousand times, with what its federate has

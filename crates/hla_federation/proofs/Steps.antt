@@ -48,3 +48,5 @@ pub mod Sound
 pub mod Running
 -- How a step would end
 pub mod Foreseeing
+-- Whose order may change has a number
+pub mod Ordering

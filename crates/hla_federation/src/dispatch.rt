@@ -70,6 +70,14 @@ impl Parts {
             Service::DeleteObjectInstance { object, stamp } => {
                 self.delete_object_instance(federate, *object, *stamp)
             }
+            Service::ChangeAttributeOrderType {
+                object,
+                attributes,
+                order,
+            } => self.change_attribute_order_type(federate, *object, attributes.as_slice(), *order),
+            Service::ChangeInteractionOrderType { class, order } => {
+                self.change_interaction_order_type(federate, *class, *order)
+            }
             Service::QueryLbts
             | Service::QueryFederateTime
             | Service::QueryMinNextEventTime

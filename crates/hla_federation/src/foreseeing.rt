@@ -19,7 +19,9 @@ ghost use Rattle.hla_federation.specs.Steps.Soundness.{IsSound, MayCall};
 ghost use Rattle.hla_federation.specs.Steps.State.{state_of, IsQuestion, IsTimeService};
 
 use crate::parts::Parts;
-use hla_base::{ClassNo, EventHandle, Fault, FederateNo, HandleValuePair, List, Plain, Ticks};
+use hla_base::{
+    ClassNo, EventHandle, Fault, FederateNo, HandleValuePair, List, ObjectNo, Plain, Ticks,
+};
 use hla_callbacks::Callback;
 use hla_catalogue::Order;
 use hla_machine::{Answer, Carried, Choice, Outcome, Service, Step};
@@ -129,6 +131,14 @@ impl Parts {
             Service::DeleteObjectInstance { object, stamp } => {
                 self.delete_fault(federate, *object, *stamp)
             }
+            Service::ChangeAttributeOrderType {
+                object,
+                attributes,
+                ..
+            } => { self.attribute_order_fault(federate, *object, attributes.as_slice()) }
+            Service::ChangeInteractionOrderType { class, .. } => {
+                self.interaction_order_fault(federate, *class)
+            }
             Service::GetObjectInstanceName { object } => self.object_name_fault(federate, *object),
             Service::QueryLbts
             | Service::QueryFederateTime
@@ -202,10 +212,10 @@ impl Parts {
         ensures { (values : List HandleValuePair)
             → result ≡ sent_handle federate ((state_of self.now).row federate) stamp
             ((state_of self.now).serial federate)
-            (interaction_sent (state_of self.now).directory class values) }
+            (interaction_sent (state_of self.now).directory federate class values) }
     {
         let serial = self.members.next_serial(federate);
-        let order = self.catalogue.interaction_order(class);
+        let order = self.order_of_interaction(federate, class);
         self.heading(federate, serial, order, stamp).handle()
     }
 
@@ -213,22 +223,22 @@ impl Parts {
     fn next_update_handle(
         &self,
         federate: FederateNo,
+        object: ObjectNo,
         values: &[HandleValuePair],
         stamp: Option<Ticks>,
     ) -> Option<EventHandle>
         requires some { 0 < federate }
         requires within { federate < (state_of self.now).directory.next_federate }
-        requires serials { (object : ℕ) → (state_of self.now).serial federate + length
+        requires serials { (state_of self.now).serial federate + length
             (update_sent (state_of self.now).directory object values.now) ≤ max_serial + 1 }
-        ensures { (object : ℕ)
-            → result ≡ sent_handle federate ((state_of self.now).row federate) stamp
+        ensures { result ≡ sent_handle federate ((state_of self.now).row federate) stamp
             ((state_of self.now).serial federate)
             (update_sent (state_of self.now).directory object values.now) }
     {
-        if !self.has_order(Order::Timestamp, values) {
+        if !self.has_order(Order::Timestamp, object, values) {
             return None;
         }
-        let first_count = u64::from(self.has_order(Order::Receive, values));
+        let first_count = u64::from(self.has_order(Order::Receive, object, values));
         let serial = self.members.next_serial(federate) + first_count;
         self.heading(federate, serial, Order::Timestamp, stamp)
             .handle()
@@ -248,9 +258,16 @@ impl Parts {
     {
         match service {
             Service::RegisterObjectInstance { name, .. } => self.next_registration(federate, name),
-            Service::UpdateAttributeValues { values, stamp, .. } => Ok(Answer::Sent(
-                self.next_update_handle(federate, values.as_slice(), *stamp),
-            )),
+            Service::UpdateAttributeValues {
+                object,
+                values,
+                stamp,
+            } => Ok(Answer::Sent(self.next_update_handle(
+                federate,
+                *object,
+                values.as_slice(),
+                *stamp,
+            ))),
             Service::SendInteraction { class, stamp, .. } => Ok(Answer::Sent(
                 self.next_interaction_handle(federate, *class, *stamp),
             )),

@@ -13,6 +13,7 @@ mod heading;
 mod joining;
 mod lookups;
 mod naming;
+mod ordering;
 mod pairs;
 mod parts;
 mod reflecting;

@@ -3,8 +3,9 @@
 ghost use Rattle.std.specs.Prelude.{◌≡◌, ◌<◌, ◌≤◌, ℕ, not, length, ◌∷◌, []};
 ghost use Rattle.std.specs.List.{list_any};
 ghost use Rattle.hla_base.specs.declared.content.HandleValuePair.{HandleValuePair};
-ghost use Rattle.hla_catalogue.specs.Lookup.{attribute_order, has_attribute, has_parameter};
-ghost use Rattle.hla_machine.specs.Directory.{is_of_order, update_sent};
+ghost use Rattle.hla_catalogue.specs.Lookup.{has_attribute, has_parameter};
+ghost use Rattle.hla_machine.specs.Directory.{is_of_order, order_of_attribute, update_sent};
+ghost use Rattle.hla_catalogue.specs.declared.declared.Order.{Order};
 ghost use Rattle.hla_base.specs.RowRefusals.{first_fault};
 ghost use Rattle.hla_machine.specs.Refusals.{refusal, joined_test, no_object_class, no_interaction_class, no_attribute, is_length_in, is_owned, is_published};
 ghost use Rattle.hla_machine.specs.declared.service.Service.TheVariants as service;
@@ -340,7 +341,7 @@ impl Parts {
         ensures { result ≡ refusal (components_seen (state_of self.now))
             (step.Call federate (service.SendInteraction class values.now stamp)) }
     {
-        let is_stamped = is_timestamp(self.catalogue.interaction_order(class));
+        let is_stamped = is_timestamp(self.order_of_interaction(federate, class));
         if !self.catalogue.is_interaction_class(class) {
             Some(Fault::InteractionClassNotDefined)
         } else if self.lacks_parameter(class, values) {
@@ -374,24 +375,23 @@ impl Parts {
         }
     }
 
-    /// Whether one of these values is of an attribute whose updates have this order.
-    pub fn has_order(&self, order: Order, values: &[HandleValuePair]) -> bool
+    /// Whether one of these values is of an attribute whose updates have this order, of this object and now.
+    pub fn has_order(&self, order: Order, object: ObjectNo, values: &[HandleValuePair]) -> bool
         ensures { result ≡ list_any (λ (v : HandleValuePair). is_of_order order
-            (attribute_order self.now.catalogue v.handle)) values.now }
+            (order_of_attribute (state_of self.now).directory object v.handle)) values.now }
     {
         values
             .iter()
-            .any(|v| self.catalogue.attribute_order(v.handle) == order)
+            .any(|v| self.order_of_attribute(object, v.handle) == order)
     }
 
-    /// How many messages an update makes: one for each order that one of its attributes has.
-    fn count_parts(&self, values: &[HandleValuePair]) -> u64
-        ensures count { (object : ℕ) → result ≡ length (update_sent (state_of self.now).directory object
-            values.now) }
+    /// How many messages an update of an object makes: one for each order that one of its attributes has.
+    fn count_parts(&self, object: ObjectNo, values: &[HandleValuePair]) -> u64
+        ensures count { result ≡ length (update_sent (state_of self.now).directory object values.now) }
         ensures few { result ≤ 2 }
     {
-        let received = self.has_order(Order::Receive, values);
-        let stamped = self.has_order(Order::Timestamp, values);
+        let received = self.has_order(Order::Receive, object, values);
+        let stamped = self.has_order(Order::Timestamp, object, values);
         u64::from(received) + u64::from(stamped)
     }
 
@@ -408,7 +408,7 @@ impl Parts {
             (step.Call federate (service.UpdateAttributeValues object values.now stamp)) }
     {
         let class = self.registry.class_of(object);
-        let is_stamped = self.has_order(Order::Timestamp, values);
+        let is_stamped = self.has_order(Order::Timestamp, object, values);
         if !self.registry.is_known(object, federate) {
             Some(Fault::ObjectNotKnown)
         } else if self.lacks_value(class, values) {
@@ -419,7 +419,9 @@ impl Parts {
             Some(Fault::AttributeNotPublished)
         } else if self.is_bad_stamp(federate, stamp, is_stamped) {
             Some(Fault::InvalidFederationTime)
-        } else if self.members.next_serial(federate) > MAX_SERIAL + 1 - self.count_parts(values) {
+        } else if self.members.next_serial(federate)
+            > MAX_SERIAL + 1 - self.count_parts(object, values)
+        {
             Some(Fault::LimitReached)
         } else {
             None
@@ -437,10 +439,7 @@ impl Parts {
         ensures { result ≡ refusal (components_seen (state_of self.now))
             (step.Call federate (service.DeleteObjectInstance object stamp)) }
     {
-        let is_stamped = is_timestamp(
-            self.catalogue
-                .deletion_order(self.registry.class_of(object)),
-        );
+        let is_stamped = is_timestamp(self.order_of_deletion(object));
         if !self.registry.is_known(object, federate) {
             Some(Fault::ObjectNotKnown)
         } else if self.registry.owner(object) != federate {
@@ -480,6 +479,53 @@ impl Parts {
         } else {
             None
         }
+    }
+
+    /// Whether a federate does not own one of these attributes of an object.
+    fn lacks_attribute_of(
+        &self,
+        federate: FederateNo,
+        object: ObjectNo,
+        attributes: &[AttributeNo],
+    ) -> bool
+        ensures { result ≡ list_any (λ a. not
+            (is_owned (state_of self.now).directory federate object a)) attributes.now }
+    {
+        attributes
+            .iter()
+            .any(|a| !self.registry.owns_attribute(federate, object, *a))
+    }
+
+    /// Why a federate may not change the order of these attributes of an object, if it may not.
+    pub fn attribute_order_fault(
+        &self,
+        federate: FederateNo,
+        object: ObjectNo,
+        attributes: &[AttributeNo],
+    ) -> Option<Fault>
+        requires { MayCall self.now federate }
+        ensures { (order : Order) → result ≡ refusal (components_seen (state_of self.now))
+            (step.Call federate (service.ChangeAttributeOrderType object attributes.now order)) }
+    {
+        let class = self.registry.class_of(object);
+        if !self.registry.is_known(object, federate) {
+            Some(Fault::ObjectNotKnown)
+        } else if self.lacks_attribute(class, attributes) {
+            Some(Fault::AttributeNotDefined)
+        } else if self.lacks_attribute_of(federate, object, attributes) {
+            Some(Fault::AttributeNotOwned)
+        } else {
+            None
+        }
+    }
+
+    /// Why a federate may not change the order of its interactions of a class, if it may not.
+    pub fn interaction_order_fault(&self, federate: FederateNo, class: ClassNo) -> Option<Fault>
+        requires { MayCall self.now federate }
+        ensures { (order : Order) → result ≡ refusal (components_seen (state_of self.now))
+            (step.Call federate (service.ChangeInteractionOrderType class order)) }
+    {
+        self.unpublish_interaction_fault(federate, class)
     }
 
     /// Why a federate may not retract a message, if it may not: it is another's, or may be retracted no more.

@@ -6,10 +6,10 @@ ghost use Rattle.hla_base.specs.declared.content.HandleValuePair.{HandleValuePai
 ghost use Rattle.hla_base.specs.declared.fault.Fault.TheVariants.{OutOfMemory};
 ghost use Rattle.hla_base.specs.Tables.{is_other, one_if};
 ghost use Rattle.std.specs.List.{list_all};
-ghost use Rattle.hla_catalogue.specs.Lookup.{attribute_order, contains_number, has_parameter};
+ghost use Rattle.hla_catalogue.specs.Lookup.{contains_number, has_parameter};
 ghost use Rattle.hla_catalogue.specs.declared.declared.Order.TheVariants.{Receive};
 ghost use Rattle.hla_retraction.specs.Receivers.{receiver_set};
-ghost use Rattle.hla_machine.specs.Directory.{AnInteraction, AnUpdate, ADeletion, is_receiver, values_of_order, part_sent, is_of_order};
+ghost use Rattle.hla_machine.specs.Directory.{AnInteraction, AnUpdate, ADeletion, is_receiver, values_of_order, part_sent, is_of_order, order_of_attribute};
 ghost use Rattle.hla_machine.specs.declared.service.Service.TheVariants as service;
 ghost use Rattle.hla_machine.specs.declared.step.Step.TheVariants as step;
 ghost use Rattle.hla_members.specs.Noting.{handle_noted};
@@ -132,29 +132,30 @@ impl Parts {
         }
     }
 
-    /// Whether all these values are of attributes whose updates have this order.
-    fn are_of_order(&self, order: Order, values: &[HandleValuePair]) -> bool
+    /// Whether all these values are of attributes whose updates have this order, of this object and now.
+    fn are_of_order(&self, object: ObjectNo, order: Order, values: &[HandleValuePair]) -> bool
         ensures { result ≡ list_all (λ (v : HandleValuePair). is_of_order order
-            (attribute_order self.now.catalogue v.handle)) values.now }
+            (order_of_attribute (state_of self.now).directory object v.handle)) values.now }
     {
         values
             .iter()
-            .all(|v| self.catalogue.attribute_order(v.handle) == order)
+            .all(|v| self.order_of_attribute(object, v.handle) == order)
     }
 
     /// Copies of the values of the attributes whose updates have this order.
     fn picked_of_order(
         &self,
+        object: ObjectNo,
         order: Order,
         values: &[HandleValuePair],
     ) -> Result<List<HandleValuePair>, Fault>
-        ensures ok { IfOk result (λ part. part ≡ values_of_order (state_of self.now).directory order
+        ensures ok { IfOk result (λ part. part ≡ values_of_order (state_of self.now).directory object order
             values.now) }
         ensures err { IfErr result (λ e. e ≡ Fault.OutOfMemory) }
     {
         let mut part = List::with_room(self.alloc, values.len())?;
         for value in values {
-            if self.catalogue.attribute_order(value.handle) == order {
+            if self.order_of_attribute(object, value.handle) == order {
                 part.push(value.copy()?)?;
             }
         }
@@ -164,18 +165,19 @@ impl Parts {
     /// The values of the attributes whose updates have this order, shared: those that are given, where all of them have it.
     fn values_of_order(
         &self,
+        object: ObjectNo,
         order: Order,
         values: &SharedList<HandleValuePair>,
     ) -> Result<SharedList<HandleValuePair>, Fault>
-        ensures ok { IfOk result (λ part. part ≡ values_of_order (state_of self.now).directory order
+        ensures ok { IfOk result (λ part. part ≡ values_of_order (state_of self.now).directory object order
             values.now) }
         ensures err { IfErr result (λ e. e ≡ Fault.OutOfMemory) }
     {
-        if self.are_of_order(order, values.as_slice()) {
+        if self.are_of_order(object, order, values.as_slice()) {
             let same = values.copy()?;
             return Ok(same);
         }
-        let part = self.picked_of_order(order, values.as_slice())?;
+        let part = self.picked_of_order(object, order, values.as_slice())?;
         let shared = SharedList::from_list(part)?;
         Ok(shared)
     }
@@ -343,24 +345,25 @@ impl Parts {
     ) -> Result<Option<Receivers>, Fault>
         requires { IsWhole self.now }
         ensures count { IfOk result (λ told. one_if (is_some told) ≡ length (part_sent Receive object
-            (values_of_order (state_of self.now).directory order values.now))) }
+            (values_of_order (state_of self.now).directory object order values.now))) }
         ensures receivers { IfOk result (λ told. IfSome told (λ rs. receiver_set rs ≡ is_receiver
             (state_of self.now).directory heading.sender (AnUpdate object
-            (values_of_order (state_of self.now).directory order values.now)))) }
+            (values_of_order (state_of self.now).directory object order values.now)))) }
         ensures ok { OnOk result (HasAdded (part_to (state_of self.now).directory heading object
-            (values_of_order (state_of self.now).directory order values.now)) outbox.old outbox.new) }
+            (values_of_order (state_of self.now).directory object order values.now))
+            outbox.old outbox.new) }
         ensures err { IfErr result (λ e. e ≡ Fault.OutOfMemory) }
     {
-        if !self.has_order(order, values.as_slice()) {
+        if !self.has_order(order, object, values.as_slice()) {
             return Ok(None);
         }
-        let part = self.values_of_order(order, values)?;
+        let part = self.values_of_order(object, order, values)?;
         self.address_part(outbox, heading, object, &part)
     }
 
-    /// Send Interaction, with a stamp in ticks or without one. It goes in time-stamp order if its class has that order, a
-    /// stamp is given and the federate regulates. Refused, it changes nothing: `InteractionClassNotDefined` where the FED
-    /// file has no such class; `InteractionParameterNotDefined` where the class has not each of the parameters;
+    /// Send Interaction, with a stamp in ticks or without one. It goes in time-stamp order if that is now the order of the
+    /// federate's interactions of the class, a stamp is given and the federate regulates. Refused, it changes nothing:
+    /// `InteractionClassNotDefined` where the FED file has no such class; `InteractionParameterNotDefined` where the class has not each of the parameters;
     /// `InteractionClassNotPublished` where the federate does not publish it; `InvalidFederationTime` where the stamp is
     /// above 10^18, or below the federate's least stamp where a message goes in time-stamp order; `LimitReached` where no
     /// serial is left; the first that applies; else `OutOfMemory` where a growth was refused.
@@ -380,7 +383,7 @@ impl Parts {
             return Err(fault);
         }
         let serial = self.members.next_serial(federate);
-        let order = self.catalogue.interaction_order(class);
+        let order = self.order_of_interaction(federate, class);
         let heading = self.heading(federate, serial, order, stamp);
         let values = shared_by_handle(self.alloc, values)?;
         let mut outbox = Outbox::new(self.alloc)?;
@@ -391,7 +394,7 @@ impl Parts {
         Ok(Answer::Sent(handle))
     }
 
-    /// Update Attribute Values, with a stamp in ticks or without one. The attributes whose updates go in receive order make
+    /// Update Attribute Values, with a stamp in ticks or without one. The attributes whose updates go in receive order now make
     /// one message, the others another one after it, which goes in time-stamp order if a stamp is given and the federate
     /// regulates. Refused, it changes nothing: `ObjectNotKnown` where the object is not there, or not known to the
     /// federate; `AttributeNotDefined` where its class has not each of the attributes; `AttributeNotOwned` and
@@ -435,9 +438,9 @@ impl Parts {
         Ok(Answer::Sent(handle))
     }
 
-    /// Delete Object Instance, with a stamp in ticks or without one. The removals go in time-stamp order if the class has
-    /// that order, a stamp is given and the federate regulates. A deletion cannot be retracted. Refused, it changes
-    /// nothing: `ObjectNotKnown` where the object is not there, or not known to the federate; `DeletePrivilegeNotHeld`
+    /// Delete Object Instance, with a stamp in ticks or without one. The removals go in time-stamp order if that is now the
+    /// order of the object's `privilegeToDelete`, a stamp is given and the federate regulates. A deletion cannot be
+    /// retracted. Refused, it changes nothing: `ObjectNotKnown` where the object is not there, or not known to the federate; `DeletePrivilegeNotHeld`
     /// where it is another's; `InvalidFederationTime` where the stamp is above 10^18, or below the federate's least stamp
     /// where a message goes in time-stamp order; `LimitReached` where no serial is left; the first that applies; else
     /// `OutOfMemory` where a growth was refused.
@@ -456,9 +459,7 @@ impl Parts {
             return Err(fault);
         }
         let serial = self.members.next_serial(federate);
-        let order = self
-            .catalogue
-            .deletion_order(self.registry.class_of(object));
+        let order = self.order_of_deletion(object);
         let heading = self.heading(federate, serial, order, stamp);
         let mut outbox = Outbox::new(self.alloc)?;
         self.address_removal(&mut outbox, heading, object)?;

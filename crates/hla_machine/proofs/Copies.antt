@@ -10,3 +10,5 @@ pub mod Addressing
 pub mod Reaching
 -- Who is given a message, and how often
 pub mod Deliveries
+-- In which order the messages of a call go
+pub mod Ordering

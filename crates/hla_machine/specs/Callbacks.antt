@@ -1,5 +1,5 @@
 -- What a federate may pick up at a tick, and the state after it (HLA 1.3, time management)
-use Rattle.std.specs.Prelude.{ℕ, ◌+◌, ◌-◌, ◌≡◌, ◌≢◌, ◌≤◌, ◌<◌, ◌⊎◌, cond, eqb, not, ◌&&◌, ◌||◌, Bool, true, false, Option, Some, None, IfSome, option_map, List, [], ◌∷◌, drop, All, Contains}
+use Rattle.std.specs.Prelude.{ℕ, ◌-◌, ◌≡◌, ◌≢◌, ◌≤◌, ◌<◌, ◌⊎◌, cond, eqb, ◌&&◌, Bool, true, false, Option, Some, None, IfSome, option_map, List, [], ◌∷◌, drop, All}
 use Rattle.std.specs.List.{list_any}
 use Rattle.hla_base.specs.declared.number.EventHandle.{EventHandle}
 use Rattle.hla_base.specs.declared.content.Content.{Content}
@@ -8,7 +8,7 @@ use Rattle.hla_base.specs.declared.content.Discovery.{Discovery}
 use Rattle.hla_base.specs.declared.row.AdvanceRequest.{AdvanceRequest}
 use Rattle.hla_base.specs.declared.row.TimeRow.{TimeRow}
 use Rattle.hla_base.specs.Tables.{upd, upd2}
-use Rattle.hla_base.specs.Rows.{is_strict, is_next, is_flush, is_constrained, is_pending, is_none_of, is_advancing, row_after_regulation_enabled, row_after_constraint_enabled, row_after_pick, grant_time, row_after_grant, reach}
+use Rattle.hla_base.specs.Rows.{is_strict, is_next, is_flush, is_constrained, is_pending, is_advancing, row_after_regulation_enabled, row_after_constraint_enabled, row_after_pick, grant_time, row_after_grant, reach}
 use Rattle.hla_callbacks.specs.declared.callback.Callback.{Callback}
 use Rattle.hla_callbacks.specs.declared.callback.Callback.TheVariants as callback
 use Rattle.hla_callbacks.specs.declared.callback.Delivery.{Delivery}

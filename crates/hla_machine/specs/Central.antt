@@ -1,14 +1,13 @@
 -- The central machine's state: one table of rows, one bag of copies, and what bounds follow from them
-use Rattle.std.specs.Prelude.{ℕ, ◌+◌, ◌-◌, ◌≡◌, ◌≢◌, ◌≤◌, ◌<◌, ◌⊎◌, cond, eqb, not, ◌&&◌, Bool, true, false, Option, Some, None, is_some, option_map, List, [], ◌∷◌}
+use Rattle.std.specs.Prelude.{ℕ, ◌+◌, ◌≡◌, ◌≢◌, ◌≤◌, ◌<◌, ◌⊎◌, cond, eqb, ◌&&◌, Bool, true, false, Option, Some, None, List, []}
 use Rattle.hla_base.specs.Limits.{forever}
 use Rattle.hla_base.specs.declared.content.Content.{Content}
 use Rattle.hla_base.specs.declared.content.Discovery.{Discovery}
 use Rattle.hla_base.specs.declared.row.AdvanceKind.{AdvanceKind}
 use Rattle.hla_base.specs.declared.row.AdvanceRequest.{AdvanceRequest}
 use Rattle.hla_base.specs.declared.row.TimeRow.{TimeRow}
-use Rattle.hla_base.specs.declared.number.EventHandle.{EventHandle}
-use Rattle.hla_base.specs.Tables.{upd, upd2, is_other, greatest, or_else, when}
-use Rattle.hla_base.specs.Rows.{is_enabled, is_regulator, is_constrained, next_request, width, new_row, reach, bar_of}
+use Rattle.hla_base.specs.Tables.{is_other, greatest, or_else, when}
+use Rattle.hla_base.specs.Rows.{is_enabled, is_regulator, next_request, width, new_row, reach, bar_of}
 use Rattle.hla_catalogue.specs.CatalogueValue.{CatalogueValue}
 use Rattle.hla_retraction.specs.SentEvents.{SentEvent, no_event}
 use Rattle.hla_machine.specs.Directory.{Directory, new_directory}

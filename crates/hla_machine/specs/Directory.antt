@@ -1,9 +1,8 @@
 -- Who has joined, what each publishes and subscribes, which objects there are and who knows them
 -- (HLA 1.3, federation management, declaration management, object management)
-use Rattle.std.specs.Prelude.{ℕ, zero, suc, ◌+◌, ◌≡◌, cond, eqb, ltb, not, ◌&&◌, ◌||◌, Bool, true, false, Option, Some, None, is_some, option_map, List, [], ◌∷◌, ◌++◌, length, filter, find, fold, codes}
-use Rattle.std.specs.List.{list_any, filter_map}
+use Rattle.std.specs.Prelude.{ℕ, ◌+◌, cond, eqb, ltb, not, ◌&&◌, Bool, true, false, Option, Some, None, is_some, option_map, unwrap_or, List, [], ◌∷◌, ◌++◌, filter, find, codes}
+use Rattle.std.specs.List.{filter_map}
 use Rattle.std.specs.Option.{option_map_or, option_and_then}
-use Rattle.std.specs.Str.{bytes_eq}
 use Rattle.std.specs.Fmt.{decimal}
 use Rattle.hla_base.specs.declared.content.HandleValuePair.{HandleValuePair}
 use Rattle.hla_base.specs.declared.content.Content.{Content}
@@ -13,7 +12,8 @@ use Rattle.hla_base.specs.Tables.{upd, upd2, is_other, numbers_below, when}
 use Rattle.hla_catalogue.specs.CatalogueValue.{CatalogueValue}
 use Rattle.hla_catalogue.specs.declared.declared.Order.{Order}
 use Rattle.hla_catalogue.specs.declared.declared.Order.TheVariants.{Receive, Timestamp}
-use Rattle.hla_catalogue.specs.Lookup.{contains_number, object_lineage, interaction_lineage, has_parameter, attribute_order, interaction_order, deletion_order}
+use Rattle.hla_catalogue.specs.Lookup.{contains_number, object_lineage, interaction_lineage, has_parameter, attribute_order, interaction_order, deletion_privilege}
+use Rattle.hla_orders.specs.Orders.{orders_given}
 
 -- an object that was registered; a deleted one no longer exists
 pub record Object : Type 0 where
@@ -32,9 +32,11 @@ pub record Directory : Type 0 where
   pub subscribed : ℕ → ℕ → Option (List ℕ)
   pub published_interaction : ℕ → ℕ → Bool
   pub subscribed_interaction : ℕ → ℕ → Bool
+  pub interaction_orders : ℕ → ℕ → Option Order  -- in which order a federate's interactions of a class go, where it changed it
   pub next_object : ℕ  -- the number of the object that is registered next; numbers begin with 1
   pub object : ℕ → Object
   pub known : ℕ → ℕ → Bool  -- to which federates an object is known
+  pub attribute_orders : ℕ → ℕ → Option Order  -- in which order updates of an object's attribute go, where it was changed
 
 abbrev pub no_object : Object
 no_object = record { class = 0; name = []; owner = 0; attributes = []; exists = false }
@@ -50,9 +52,11 @@ new_directory catalogue = record {
   subscribed = λ _ _. None;
   published_interaction = λ _ _. false;
   subscribed_interaction = λ _ _. false;
+  interaction_orders = λ _ _. None;
   next_object = 1;
   object = λ _. no_object;
   known = λ _ _. false;
+  attribute_orders = λ _ _. None;
 }
 
 -- ---- at which class a federate is served: the most derived one that it subscribes
@@ -61,6 +65,17 @@ served_object d f class = find (λ k. is_some (d.subscribed f k)) (object_lineag
 
 abbrev pub served_interaction : Directory → ℕ → ℕ → Option ℕ
 served_interaction d f class = find (λ k. d.subscribed_interaction f k) (interaction_lineage d.catalogue class)
+
+-- ---- in which order messages go now: as it was changed last, and as the FED file says where it never was
+abbrev pub order_of_interaction : Directory → ℕ → ℕ → Order
+order_of_interaction d f class = unwrap_or (d.interaction_orders f class) (interaction_order d.catalogue class)
+
+abbrev pub order_of_attribute : Directory → ℕ → ℕ → Order
+order_of_attribute d object attribute = unwrap_or (d.attribute_orders object attribute) (attribute_order d.catalogue attribute)
+
+-- a deletion goes as an update of the attribute would that stands for the right to delete
+abbrev pub order_of_deletion : Directory → ℕ → Order
+order_of_deletion d object = option_map_or (order_of_attribute d object) (deletion_privilege d.catalogue (d.object object).class) Receive
 
 -- ---- what a service sends
 -- Values by rising handle; where one is named twice, the later value counts
@@ -85,8 +100,8 @@ pub record Outgoing : Type 0 where
   pub order : Order
   pub body : Body
 
-abbrev pub interaction_sent : Directory → ℕ → List HandleValuePair → List Outgoing
-interaction_sent d class values = record { order = interaction_order d.catalogue class; body = AnInteraction class (by_handle values) } ∷ []
+abbrev pub interaction_sent : Directory → ℕ → ℕ → List HandleValuePair → List Outgoing
+interaction_sent d f class values = record { order = order_of_interaction d f class; body = AnInteraction class (by_handle values) } ∷ []
 
 abbrev pub is_of_order : Order → Order → Bool
 is_of_order Receive Receive = true
@@ -98,16 +113,16 @@ abbrev pub part_sent : Order → ℕ → List HandleValuePair → List Outgoing
 part_sent order object [] = []
 part_sent order object (v ∷ vs) = record { order = order; body = AnUpdate object (v ∷ vs) } ∷ []
 
-abbrev pub values_of_order : Directory → Order → List HandleValuePair → List HandleValuePair
-values_of_order d order values = filter (λ v. is_of_order order (attribute_order d.catalogue v.handle)) values
+abbrev pub values_of_order : Directory → ℕ → Order → List HandleValuePair → List HandleValuePair
+values_of_order d object order values = filter (λ v. is_of_order order (order_of_attribute d object v.handle)) values
 
--- an update is cut by the orders of its attributes, the part in receive order first
+-- an update is cut by the orders of its attributes now, the part in receive order first
 abbrev pub update_sent : Directory → ℕ → List HandleValuePair → List Outgoing
 update_sent d object values =
-    part_sent Receive object (values_of_order d Receive (by_handle values)) ++ part_sent Timestamp object (values_of_order d Timestamp (by_handle values))
+    part_sent Receive object (values_of_order d object Receive (by_handle values)) ++ part_sent Timestamp object (values_of_order d object Timestamp (by_handle values))
 
 abbrev pub deletion_sent : Directory → ℕ → List Outgoing
-deletion_sent d object = record { order = deletion_order d.catalogue (d.object object).class; body = ADeletion object } ∷ []
+deletion_sent d object = record { order = order_of_deletion d object; body = ADeletion object } ∷ []
 
 -- a federate's objects that exist, by rising number
 abbrev pub objects_of : Directory → ℕ → List ℕ
@@ -176,7 +191,7 @@ with_member d name = record d {
 abbrev pub without_objects_of : Directory → ℕ → Directory
 without_objects_of d f = record d { object = λ h. record (d.object h) { exists = (d.object h).exists && not (eqb (d.object h).owner f) } }
 
--- a federate that has resigned declares nothing and has no objects
+-- a federate that has resigned declares nothing, has changed no order and has no objects
 abbrev pub without_member : Directory → ℕ → Directory
 without_member d f = record (without_objects_of d f) {
   joined = upd d.joined f false;
@@ -184,6 +199,7 @@ without_member d f = record (without_objects_of d f) {
   subscribed = upd d.subscribed f (λ _. None);
   published_interaction = upd d.published_interaction f (λ _. false);
   subscribed_interaction = upd d.subscribed_interaction f (λ _. false);
+  interaction_orders = upd d.interaction_orders f (λ _. None);
 }
 
 abbrev pub with_published : Directory → ℕ → ℕ → Option (List ℕ) → Directory
@@ -205,6 +221,14 @@ with_object d f class name = record d {
   object = upd d.object d.next_object (record { class = class; name = name; owner = f; attributes = option_map_or (λ xs. xs) (d.published f class) []; exists = true });
   known = upd2 d.known d.next_object f true;
 }
+
+-- the federate's interactions of just this class go in this order from now on
+abbrev pub with_interaction_order : Directory → ℕ → ℕ → Order → Directory
+with_interaction_order d f class order = record d { interaction_orders = upd2 d.interaction_orders f class (Some order) }
+
+-- updates of these attributes of just this object go in this order from now on
+abbrev pub with_attribute_orders : Directory → ℕ → List ℕ → Order → Directory
+with_attribute_orders d h attributes order = record d { attribute_orders = upd d.attribute_orders h (orders_given (d.attribute_orders h) attributes order) }
 
 abbrev pub without_object : Directory → ℕ → Directory
 without_object d h = record d { object = upd d.object h (record (d.object h) { exists = false }) }

@@ -1,6 +1,8 @@
 -- What a federate is given over a run
-use Rattle.std.specs.Prelude.{ℕ, ◌+◌, ◌≡◌, ◌≢◌, ◌<◌, ◌⊎◌, Bool, true, false, Option, None, Some, List, [], ◌∷◌, ◌++◌}
-use Rattle.hla_base.specs.declared.content.Content.{Content}
+use Rattle.std.specs.Prelude.{ℕ, ◌+◌, ◌≡◌, ◌≢◌, ◌<◌, ◌⊎◌, Bool, true, false, Option, None, Some, unwrap_or, List, [], ◌∷◌, ◌++◌, filter}
+use Rattle.std.specs.List.{All, list_any}
+use Rattle.std.specs.Option.{option_map_or}
+use Rattle.hla_base.specs.declared.content.HandleValuePair.{HandleValuePair}
 use Rattle.hla_base.specs.declared.content.Content.TheVariants as content
 use Rattle.hla_base.specs.declared.number.EventHandle.{EventHandle}
 use Rattle.hla_base.specs.declared.row.AdvanceRequest.{AdvanceRequest}
@@ -8,7 +10,8 @@ use Rattle.hla_base.specs.declared.row.TimeRow.{TimeRow}
 use Rattle.hla_base.specs.Rows.{is_enabled, is_flush, is_strict, is_advancing}
 use Rattle.hla_catalogue.specs.CatalogueValue.{CatalogueValue}
 use Rattle.hla_catalogue.specs.declared.declared.Order.{Order}
-use Rattle.hla_catalogue.specs.declared.declared.Order.TheVariants.{Timestamp}
+use Rattle.hla_catalogue.specs.declared.declared.Order.TheVariants.{Receive, Timestamp}
+use Rattle.hla_catalogue.specs.Lookup.{attribute_order, interaction_order, deletion_privilege}
 use Rattle.hla_callbacks.specs.declared.callback.Callback.{Callback}
 use Rattle.hla_callbacks.specs.declared.callback.Callback.TheVariants as callback
 use Rattle.hla_callbacks.specs.declared.callback.Delivery.{Delivery}
@@ -21,7 +24,7 @@ use Rattle.hla_machine.specs.declared.step.Step.TheVariants.{Tick}
 use Rattle.hla_machine.specs.declared.step.Answer.TheVariants as answer
 use Rattle.hla_machine.specs.declared.step.Outcome.{Outcome}
 use Rattle.hla_machine.specs.declared.step.Outcome.TheVariants as outcome
-use Rattle.hla_machine.specs.Directory.{Directory, Outgoing, is_receiver, content_for, objects_of, update_sent, interaction_sent, deletion_sent, deletions_sent}
+use Rattle.hla_machine.specs.Directory.{Directory, Outgoing, AnUpdate, by_handle, is_of_order, is_receiver, content_for, objects_of, update_sent, interaction_sent, deletion_sent, deletions_sent}
 use Rattle.hla_machine.specs.Central.{Central, Copy, Ro, Tso, new_central, demoted_copy}
 use Rattle.hla_machine.specs.Callbacks.{IsCopy}
 use Rattle.hla_machine.specs.Machine.{Allowed, after}
@@ -133,7 +136,7 @@ IsPickedOrMoved c (h ∷ hs) f e s = Picks h f e s ⊎ (IsMoved c (next_state c 
 -- the messages of a call, in the order of their serials
 abbrev pub messages_of : Directory → ℕ → Service → List Outgoing
 messages_of d f (service.UpdateAttributeValues object values stamp) = update_sent d object values
-messages_of d f (service.SendInteraction class values stamp) = interaction_sent d class values
+messages_of d f (service.SendInteraction class values stamp) = interaction_sent d f class values
 messages_of d f (service.DeleteObjectInstance object stamp) = deletion_sent d object
 messages_of d f (service.Resign DeleteObjects) = deletions_sent (objects_of d f)
 messages_of d f s = []
@@ -161,6 +164,26 @@ pub record IsSentTo (d : Directory) (r : TimeRow) (stamp : Option ℕ) (bag : �
 abbrev pub AreSentTo : Directory → TimeRow → Option ℕ → (ℕ → ℕ → ℕ → Option Copy) → ℕ → ℕ → List Outgoing → Type 0
 AreSentTo d r stamp bag f m [] = Unit {0}
 AreSentTo d r stamp bag f m (out ∷ outs) = IsSentTo d r stamp bag f m out × AreSentTo d r stamp bag f (m + 1) outs
+
+-- ---- in which order messages go
+-- the values of an update whose attributes, of just this object, go in that order now
+abbrev pub values_in : Directory → ℕ → Order → List HandleValuePair → List HandleValuePair
+values_in d object order values = filter (λ (v : HandleValuePair). is_of_order order (unwrap_or (d.attribute_orders object v.handle) (attribute_order d.catalogue v.handle))) values
+
+-- a message has all the values that go in its order now, and those alone; and there is one of each order in which some go
+pub record IsCutByOrder (d : Directory) (object : ℕ) (values : List HandleValuePair) (outs : List Outgoing) : Type 0 where
+  pub just : All (λ (out : Outgoing). out.body ≡ AnUpdate object (values_in d object out.order (by_handle values))) outs
+  pub each : (order : Order) → values_in d object order (by_handle values) ≢ [] → list_any (λ (out : Outgoing). is_of_order order out.order) outs ≡ true
+
+-- what a call sends goes in the order that it has now: the values of an update in those of their attributes of this object, an interaction
+-- in its sender's for just its class, a deletion in that of the object's right to delete; where a federate resigns, in receive order
+abbrev pub GoesInItsOrder : Directory → ℕ → Service → Type 0
+GoesInItsOrder d f (service.UpdateAttributeValues object values stamp) = IsCutByOrder d object values (messages_of d f (service.UpdateAttributeValues object values stamp))
+GoesInItsOrder d f (service.SendInteraction class values stamp) = All (λ (out : Outgoing). out.order ≡ unwrap_or (d.interaction_orders f class) (interaction_order d.catalogue class)) (messages_of d f (service.SendInteraction class values stamp))
+GoesInItsOrder d f (service.DeleteObjectInstance object stamp) =
+    let privilege = deletion_privilege d.catalogue (d.object object).class in
+    All (λ (out : Outgoing). out.order ≡ option_map_or (λ a. unwrap_or (d.attribute_orders object a) (attribute_order d.catalogue a)) privilege Receive) (messages_of d f (service.DeleteObjectInstance object stamp))
+GoesInItsOrder d f s = All (λ (out : Outgoing). out.order ≡ Receive) (messages_of d f s)
 
 -- ---- what a callback tells
 -- a copy is given so: in receive order where it was sent so, in time-stamp order only where it was sent so, and with its stamp

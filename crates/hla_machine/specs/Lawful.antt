@@ -14,7 +14,7 @@ use Rattle.hla_machine.specs.declared.step.Outcome.TheVariants as outcome
 use Rattle.hla_machine.specs.Central.{Central, Copy}
 use Rattle.hla_machine.specs.Callbacks.{IsCopy}
 use Rattle.hla_machine.specs.Runs.{Happening, IsRun}
-use Rattle.hla_machine.specs.History.{GivesCallback, SpeaksOf, Hears, HearsPlain, Picks, IsGranted, IsInNoFlush, IsInStrict, IsInOneAdvance, IsBefore, next_state, WaitsInOrder, IsPickedOrMoved, messages_of, stamp_given, AreSentTo, Names, TellsCopy, IsOnItsWay, IsSettled, HasHistory, central_after, Occurs, OccurAfter, OccursLater}
+use Rattle.hla_machine.specs.History.{GivesCallback, SpeaksOf, Hears, HearsPlain, Picks, IsGranted, IsInNoFlush, IsInStrict, IsInOneAdvance, IsBefore, next_state, WaitsInOrder, IsPickedOrMoved, messages_of, stamp_given, AreSentTo, GoesInItsOrder, Names, TellsCopy, IsOnItsWay, IsSettled, HasHistory, central_after, Occurs, OccurAfter, OccursLater}
 use Rattle.hla_machine.specs.Laws.{IsSafe, IsAhead}
 
 pub record IsLawful (c : Central) (happenings : List Happening) : Type 0 where
@@ -33,6 +33,8 @@ pub record IsLawful (c : Central) (happenings : List Happening) : Type 0 where
   -- time-stamp order just where its order says so, its sender regulates and there is a stamp, which it then has
   pub sent : (now : Central) (h : Happening) (f : ℕ) (service : Service) (a : Answer) → Occurs c happenings now h → h.step ≡ Call f service → h.outcome ≡ outcome.Done a →
       AreSentTo now.directory (now.row f) (stamp_given service) (next_state now h).bag f (now.serial f) (messages_of now.directory f service)
+  -- and that order is the one that its attributes of that object, or its class for that sender, have now
+  pub ordered : (now : Central) (h : Happening) (f : ℕ) (service : Service) → Occurs c happenings now h → h.step ≡ Call f service → GoesInItsOrder now.directory f service
   -- what was sent to a federate stays on its way, until the federate is given it, or it is retracted, or the federate resigns
   pub reaches : (now : Central) (between : List Happening) (then : Central) (h : Happening) (f : ℕ) (e : EventHandle) →
       OccursLater c happenings now between then h → IsOnItsWay now f e → IsOnItsWay then f e ⊎ IsSettled now between f e

@@ -15,7 +15,7 @@ use Rattle.hla_machine.specs.declared.step.Outcome.TheVariants as outcome
 use Rattle.hla_machine.specs.declared.step.Choice.{Choice}
 use Rattle.hla_machine.specs.Machine.{Allowed, after}
 use Rattle.hla_machine.specs.Runs.{Happening, IsRun}
-use Rattle.hla_machine.specs.History.{GivesCallback, SpeaksOf, Hears, HearsPlain, Picks, IsGranted, Happens, HappenAfter, IsInNoFlush, IsInStrict, IsInOneAdvance, IsBefore, next_state, HappensLater, WaitsInOrder, IsPickedOrMoved}
+use Rattle.hla_machine.specs.History.{GivesCallback, SpeaksOf, Hears, HearsPlain, Picks, IsGranted, Happens, HappenAfter, IsInNoFlush, IsInStrict, IsInOneAdvance, IsBefore, next_state, HappensLater, WaitsInOrder, IsPickedOrMoved, GoesInItsOrder}
 
 -- a constrained federate is safe: its time is at most its bar, the bar is at most its bound, and nothing that is
 -- to be given in time-stamp order lies in its past
@@ -59,6 +59,11 @@ ReceiversWait = (c : Central) (f : ℕ) (service : Service) (e : EventHandle) (o
     let out = outcome.Done (answer.Sent (Some e)) in
     let d = after c (Call f service) out o in
     Allowed c (Call f service) out o → (d.sent e.sender e.serial).receivers g ≡ true → WaitsInOrder d g e (d.sent e.sender e.serial).stamp
+
+-- what a call sends goes in the order that it has now; so, with what is said of sending, it goes in time-stamp order exactly where that
+-- order is `timestamp`, its sender regulates, and there is a stamp
+abbrev pub EachGoesInItsOrder : Type 0
+EachGoesInItsOrder = (c : Central) (f : ℕ) (service : Service) → GoesInItsOrder c.directory f service
 
 -- a federate is given a message of another's alone
 abbrev pub NobodyHearsItself : Type 0

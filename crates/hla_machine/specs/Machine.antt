@@ -1,14 +1,12 @@
 -- The central machine: what a step may answer, and the state after it
-use Rattle.std.specs.Prelude.{ℕ, ◌+◌, ◌-◌, ◌≡◌, ◌≢◌, ◌≤◌, ◌<◌, ◌⊎◌, cond, eqb, not, ◌&&◌, Bool, true, false, Option, Some, None, IfSome, option_map, List, [], ◌∷◌, ◌++◌, Any}
-use Rattle.hla_base.specs.declared.fault.Fault.{Fault}
+use Rattle.std.specs.Prelude.{ℕ, ◌+◌, ◌-◌, ◌≡◌, ◌≤◌, ◌⊎◌, cond, Bool, true, false, Option, Some, None, option_map, List, [], ◌∷◌, ◌++◌, Any}
 use Rattle.hla_base.specs.declared.number.EventHandle.{EventHandle}
 use Rattle.hla_base.specs.declared.content.Content.{Content}
 use Rattle.hla_base.specs.declared.content.Content.TheVariants as content
 use Rattle.hla_base.specs.declared.content.Discovery.{Discovery}
-use Rattle.hla_base.specs.declared.row.Role.TheVariants.{Disabled, Pending, Enabled}
+use Rattle.hla_base.specs.declared.row.Role.TheVariants.{Disabled, Pending}
 use Rattle.hla_base.specs.declared.row.AdvanceKind.{AdvanceKind}
 use Rattle.hla_base.specs.declared.row.AdvanceKind.TheVariants as kind
-use Rattle.hla_base.specs.declared.row.TimeRow.{TimeRow}
 use Rattle.hla_base.specs.Tables.{upd, upd2, upd_row, one_if}
 use Rattle.hla_base.specs.Rows.{is_constrained, is_disabled, is_none_of, is_regulator, new_row, row_after_request, row_with_entry}
 use Rattle.hla_catalogue.specs.Lookup.{object_class_named, interaction_class_named, attribute_named, parameter_named}
@@ -28,8 +26,8 @@ use Rattle.hla_machine.specs.declared.step.Outcome.{Outcome}
 use Rattle.hla_machine.specs.declared.step.Outcome.TheVariants as outcome
 use Rattle.hla_machine.specs.declared.step.Choice.{Choice}
 use Rattle.hla_machine.specs.declared.step.Choice.TheVariants as choice
-use Rattle.hla_machine.specs.Directory.{Directory, Outgoing, name_or_default, objects_of, interaction_sent, update_sent, deletion_sent, deletions_sent, discoveries_of, with_discoveries_made, with_object_discovered, with_member, without_member, with_published, with_subscribed, with_published_interaction, with_subscribed_interaction, with_object, without_object}
-use Rattle.hla_machine.specs.Central.{Central, Copy, Tso, Demoted, BelowAllTso, BelowOut, BelowBound, BelowSomeWake, low_entry, at_key, at3, demoted_copy}
+use Rattle.hla_machine.specs.Directory.{Directory, Outgoing, name_or_default, objects_of, interaction_sent, update_sent, deletion_sent, deletions_sent, discoveries_of, with_discoveries_made, with_object_discovered, with_member, without_member, with_published, with_subscribed, with_published_interaction, with_subscribed_interaction, with_object, without_object, with_attribute_orders, with_interaction_order}
+use Rattle.hla_machine.specs.Central.{Central, Copy, Demoted, BelowAllTso, BelowOut, BelowBound, BelowSomeWake, low_entry, at_key, at3, demoted_copy}
 use Rattle.hla_machine.specs.Sends.{after_messages, sent_handle, is_told, owed_to_receivers}
 use Rattle.hla_machine.specs.Refusals.{Seen, refusal, is_known}
 use Rattle.hla_machine.specs.Callbacks.{MayPickUp, after_pick, IsCopy, AreTso, is_among, with_central_row, with_demoted}
@@ -74,7 +72,7 @@ abbrev pub MayAnswer : Central → ℕ → Service → Answer → Choice → Typ
 MayAnswer c f (service.RegisterObjectInstance class name) (answer.Registered object given) o =
     (object ≡ c.directory.next_object) × (given ≡ name_or_default c.directory.next_object name)
 MayAnswer c f (service.UpdateAttributeValues object values stamp) (answer.Sent event) o = event ≡ send_answer c f stamp (update_sent c.directory object values)
-MayAnswer c f (service.SendInteraction class values stamp) (answer.Sent event) o = event ≡ send_answer c f stamp (interaction_sent c.directory class values)
+MayAnswer c f (service.SendInteraction class values stamp) (answer.Sent event) o = event ≡ send_answer c f stamp (interaction_sent c.directory f class values)
 MayAnswer c f (service.EnableTimeRegulation time lookahead) answer.Done o = MayEnter c f (time + lookahead) o
 MayAnswer c f service.DisableTimeConstrained answer.Done o = MayCease c f o
 MayAnswer c f service.QueryLbts (answer.Time v) o = MayBound c f v
@@ -97,6 +95,8 @@ MayAnswer c f (service.UnpublishInteractionClass class) answer.Done o = Unit {0}
 MayAnswer c f (service.SubscribeInteractionClass class) answer.Done o = Unit {0}
 MayAnswer c f (service.UnsubscribeInteractionClass class) answer.Done o = Unit {0}
 MayAnswer c f (service.DeleteObjectInstance object stamp) answer.Done o = Unit {0}
+MayAnswer c f (service.ChangeAttributeOrderType object attributes order) answer.Done o = Unit {0}
+MayAnswer c f (service.ChangeInteractionOrderType class order) answer.Done o = Unit {0}
 MayAnswer c f (service.Retract event) answer.Done o = Unit {0}
 MayAnswer c f service.DisableTimeRegulation answer.Done o = Unit {0}
 MayAnswer c f service.EnableTimeConstrained answer.Done o = Unit {0}
@@ -253,8 +253,10 @@ after_call c f (service.SubscribeInteractionClass class) o = with_central_direct
 after_call c f (service.UnsubscribeInteractionClass class) o = with_central_directory c (with_subscribed_interaction c.directory f class false)
 after_call c f (service.RegisterObjectInstance class name) o = after_register c f class (name_or_default c.directory.next_object name)
 after_call c f (service.UpdateAttributeValues object values stamp) o = after_messages c f stamp (update_sent c.directory object values)
-after_call c f (service.SendInteraction class values stamp) o = after_messages c f stamp (interaction_sent c.directory class values)
+after_call c f (service.SendInteraction class values stamp) o = after_messages c f stamp (interaction_sent c.directory f class values)
 after_call c f (service.DeleteObjectInstance object stamp) o = after_delete c f object stamp
+after_call c f (service.ChangeAttributeOrderType object attributes order) o = with_central_directory c (with_attribute_orders c.directory object attributes order)
+after_call c f (service.ChangeInteractionOrderType class order) o = with_central_directory c (with_interaction_order c.directory f class order)
 after_call c f (service.Retract event) o = after_retract c f event.serial
 after_call c f (service.EnableTimeRegulation time lookahead) o = after_enter c f lookahead o
 after_call c f service.DisableTimeRegulation o = with_central_row c f (record (c.row f) { regulating = Disabled })

@@ -1,5 +1,5 @@
 -- When a step is refused, and with which fault: the first of its list that applies
-use Rattle.std.specs.Prelude.{ℕ, ◌+◌, ◌≡◌, cond, eqb, ltb, not, ◌&&◌, ◌||◌, Bool, true, false, Option, Some, None, is_some, unwrap_or, List, [], ◌∷◌, ◌++◌, length}
+use Rattle.std.specs.Prelude.{ℕ, ◌+◌, eqb, ltb, not, ◌&&◌, ◌||◌, Bool, true, false, Option, is_some, unwrap_or, List, [], ◌∷◌, length}
 use Rattle.std.specs.List.{list_any}
 use Rattle.std.specs.Option.{option_map_or}
 use Rattle.std.specs.Str.{bytes_eq}
@@ -19,7 +19,7 @@ use Rattle.hla_machine.specs.declared.service.ResignAction.{ResignAction}
 use Rattle.hla_machine.specs.declared.service.ResignAction.TheVariants.{ReleaseAttributes, DeleteObjects, DeleteObjectsAndReleaseAttributes, NoAction}
 use Rattle.hla_machine.specs.declared.step.Step.{Step}
 use Rattle.hla_machine.specs.declared.step.Step.TheVariants.{Join, Call, Carry, Announce, Tick}
-use Rattle.hla_machine.specs.Directory.{Directory, Object, Outgoing, name_or_default, objects_of, interaction_sent, update_sent, deletion_sent, deletions_sent}
+use Rattle.hla_machine.specs.Directory.{Directory, Outgoing, name_or_default, objects_of, interaction_sent, update_sent, deletion_sent, deletions_sent}
 use Rattle.hla_machine.specs.Central.{low_entry}
 use Rattle.hla_machine.specs.Sends.{is_some_ordered}
 
@@ -82,8 +82,8 @@ interaction_tests d r serial f class values stamp =
     test_for fault.InteractionClassNotDefined (not (is_interaction_class d.catalogue class))
     ∷ test_for fault.InteractionParameterNotDefined (list_any (λ (v : HandleValuePair). not (has_parameter d.catalogue class v.handle)) values)
     ∷ test_for fault.InteractionClassNotPublished (not (d.published_interaction f class))
-    ∷ test_for fault.InvalidFederationTime (is_bad_stamp r stamp (interaction_sent d class values))
-    ∷ test_for fault.LimitReached (is_out_of_serials serial (interaction_sent d class values))
+    ∷ test_for fault.InvalidFederationTime (is_bad_stamp r stamp (interaction_sent d f class values))
+    ∷ test_for fault.LimitReached (is_out_of_serials serial (interaction_sent d f class values))
     ∷ []
 
 abbrev pub deletion_tests : Directory → TimeRow → ℕ → ℕ → ℕ → Option ℕ → List Test
@@ -111,6 +111,14 @@ no_interaction_class d class = test_for fault.InteractionClassNotDefined (not (i
 abbrev pub no_attribute : Directory → ℕ → List ℕ → Test
 no_attribute d class attributes = test_for fault.AttributeNotDefined (list_any (λ a. not (has_attribute d.catalogue class a)) attributes)
 
+-- an attribute of the object that the federate does not own
+abbrev pub attribute_order_tests : Directory → ℕ → ℕ → List ℕ → List Test
+attribute_order_tests d f h attributes =
+    test_for fault.ObjectNotKnown (not (is_known d f h))
+    ∷ no_attribute d (d.object h).class attributes
+    ∷ test_for fault.AttributeNotOwned (list_any (λ a. not (is_owned d f h a)) attributes)
+    ∷ []
+
 abbrev pub not_found : Option ℕ → Test
 not_found number = test_for fault.NameNotFound (not (is_some number))
 
@@ -132,6 +140,8 @@ call_tests s f (service.RegisterObjectInstance class name) = register_tests s.di
 call_tests s f (service.UpdateAttributeValues object values stamp) = update_tests s.directory (s.row f) (s.serial f) f object values stamp
 call_tests s f (service.SendInteraction class values stamp) = interaction_tests s.directory (s.row f) (s.serial f) f class values stamp
 call_tests s f (service.DeleteObjectInstance object stamp) = deletion_tests s.directory (s.row f) (s.serial f) f object stamp
+call_tests s f (service.ChangeAttributeOrderType object attributes order) = attribute_order_tests s.directory f object attributes
+call_tests s f (service.ChangeInteractionOrderType class order) = no_interaction_class s.directory class ∷ test_for fault.InteractionClassNotPublished (not (s.directory.published_interaction f class)) ∷ []
 call_tests s f (service.Retract event) = test_for fault.InvalidRetractionHandle (not (eqb event.sender f && may_retract (s.row f) (s.sent f event.serial))) ∷ []
 call_tests s f (service.EnableTimeRegulation time lookahead) = regulation_tests (s.row f) (low_entry s.directory s.row (time + lookahead)) time lookahead
 call_tests s f service.DisableTimeRegulation = unregulate_tests (s.row f)

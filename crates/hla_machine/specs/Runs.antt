@@ -1,5 +1,5 @@
 -- Runs of the machine, of one execution and of all executions by name (HLA 1.3, federation management)
-use Rattle.std.specs.Prelude.{ℕ, ◌+◌, ◌≡◌, ◌≢◌, ◌<◌, ◌≤◌, ◌-◌, cond, ltb, not, ◌&&◌, ◌||◌, Bool, true, false, Option, Some, None, is_some, List, [], ◌∷◌}
+use Rattle.std.specs.Prelude.{ℕ, ◌+◌, ◌≡◌, ◌-◌, cond, ltb, not, ◌||◌, Bool, Option, Some, None, is_some, List, [], ◌∷◌}
 use Rattle.std.specs.List.{list_any}
 use Rattle.std.specs.Str.{bytes_eq}
 use Rattle.hla_base.specs.Limits.{max_executions, max_creates}

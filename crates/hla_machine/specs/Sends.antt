@@ -1,11 +1,10 @@
 -- Sending and retracting messages (HLA 1.3, object management and time management)
-use Rattle.std.specs.Prelude.{ℕ, ◌+◌, ◌≡◌, cond, eqb, not, ◌&&◌, Bool, true, false, Option, Some, None, is_some, option_map, unwrap_or, List, [], ◌∷◌}
+use Rattle.std.specs.Prelude.{ℕ, ◌+◌, cond, not, ◌&&◌, Bool, true, false, Option, Some, None, is_some, option_map, unwrap_or, List, [], ◌∷◌}
 use Rattle.hla_base.specs.declared.number.EventHandle.{EventHandle}
 use Rattle.hla_base.specs.declared.row.TimeRow.{TimeRow}
 use Rattle.hla_base.specs.Tables.{upd, upd2, is_other, or_else, when, one_if}
 use Rattle.hla_base.specs.Rows.{is_enabled}
-use Rattle.hla_catalogue.specs.declared.declared.Order.{Order}
-use Rattle.hla_catalogue.specs.declared.declared.Order.TheVariants.{Receive, Timestamp}
+use Rattle.hla_catalogue.specs.declared.declared.Order.TheVariants.{Timestamp}
 use Rattle.hla_retraction.specs.SentEvents.{SentEvent, no_event}
 use Rattle.hla_machine.specs.Directory.{Directory, Outgoing, Body, AnInteraction, AnUpdate, ADeletion, content_for, is_receiver, is_of_order}
 use Rattle.hla_machine.specs.Central.{Central, Copy, Ro, Tso, with_copies, is_key}

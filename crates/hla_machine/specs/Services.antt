@@ -1,14 +1,16 @@
--- `==` of services tells them apart: a service at a time, since the search over all pairs of services is too long, and those of other
--- names by computation
+-- `==` of services tells them apart, and a clone is the same: a service at a time, since the search over all pairs of services is too long,
+-- and those of other names by computation
 use Rattle.std.specs.Prelude.{◌≡◌, ℕ, false, ◌⊎◌, List, Option}
 use Rattle.std.proofs.Common.{rules, inl, refl}
 use Rattle.hla_base.specs.declared.content.HandleValuePair.{HandleValuePair}
 use Rattle.hla_base.specs.declared.number.EventHandle.{EventHandle}
 use Rattle.hla_base.specs.contracts.content.HandleValuePairPlain.TheImpl.Laws.{lists-law as same_pairs}
+use Rattle.hla_catalogue.specs.declared.declared.Order.{Order}
 use Rattle.hla_machine.specs.declared.service.ResignAction.{ResignAction}
 use Rattle.hla_machine.specs.declared.service.Service.{Service}
-use Rattle.hla_machine.specs.declared.service.Service.TheVariants.{Resign, PublishObjectClass, UnpublishObjectClass, SubscribeObjectClassAttributes, UnsubscribeObjectClass, PublishInteractionClass, UnpublishInteractionClass, SubscribeInteractionClass, UnsubscribeInteractionClass, RegisterObjectInstance, UpdateAttributeValues, SendInteraction, DeleteObjectInstance, Retract, EnableTimeRegulation, DisableTimeRegulation, EnableTimeConstrained, DisableTimeConstrained, TimeAdvanceRequest, TimeAdvanceRequestAvailable, NextEventRequest, NextEventRequestAvailable, FlushQueueRequest, ModifyLookahead, EnableAsynchronousDelivery, DisableAsynchronousDelivery, QueryLbts, QueryFederateTime, QueryMinNextEventTime, QueryLookahead, GetObjectClassHandle, GetInteractionClassHandle, GetAttributeHandle, GetParameterHandle, GetObjectInstanceHandle, GetObjectInstanceName}
+use Rattle.hla_machine.specs.declared.service.Service.TheVariants.{Resign, PublishObjectClass, UnpublishObjectClass, SubscribeObjectClassAttributes, UnsubscribeObjectClass, PublishInteractionClass, UnpublishInteractionClass, SubscribeInteractionClass, UnsubscribeInteractionClass, RegisterObjectInstance, UpdateAttributeValues, SendInteraction, DeleteObjectInstance, ChangeAttributeOrderType, ChangeInteractionOrderType, Retract, EnableTimeRegulation, DisableTimeRegulation, EnableTimeConstrained, DisableTimeConstrained, TimeAdvanceRequest, TimeAdvanceRequestAvailable, NextEventRequest, NextEventRequestAvailable, FlushQueueRequest, ModifyLookahead, EnableAsynchronousDelivery, DisableAsynchronousDelivery, QueryLbts, QueryFederateTime, QueryMinNextEventTime, QueryLookahead, GetObjectClassHandle, GetInteractionClassHandle, GetAttributeHandle, GetParameterHandle, GetObjectInstanceHandle, GetObjectInstanceName}
 use Rattle.hla_machine.specs.contracts.service.ServicePartialEq.TheImpl.{ghosts as services}
+use Rattle.hla_machine.specs.contracts.service.ServiceClone.TheImpl.{ghosts as clones}
 
 -- a service is told from every other
 abbrev pub IsToldApart : Service → Service → Type 0
@@ -55,6 +57,12 @@ at_send_interaction class values stamp other = elim other as (λ o. IsToldApart 
 
 at_delete_object_instance : (object : ℕ) (stamp : Option ℕ) → Known (DeleteObjectInstance object stamp)
 at_delete_object_instance object stamp other = elim other as (λ o. IsToldApart (DeleteObjectInstance object stamp) o) [ DeleteObjectInstance a b ↦ search rules | _ ↦ inl refl ]
+
+at_change_attribute_order_type : (object : ℕ) (attributes : List ℕ) (order : Order) → Known (ChangeAttributeOrderType object attributes order)
+at_change_attribute_order_type object attributes order other = elim other as (λ o. IsToldApart (ChangeAttributeOrderType object attributes order) o) [ ChangeAttributeOrderType a b c ↦ search rules | _ ↦ inl refl ]
+
+at_change_interaction_order_type : (class : ℕ) (order : Order) → Known (ChangeInteractionOrderType class order)
+at_change_interaction_order_type class order other = elim other as (λ o. IsToldApart (ChangeInteractionOrderType class order) o) [ ChangeInteractionOrderType a b ↦ search rules | _ ↦ inl refl ]
 
 at_retract : (event : EventHandle) → Known (Retract event)
 at_retract event other = elim other as (λ o. IsToldApart (Retract event) o) [ Retract a ↦ search rules | _ ↦ inl refl ]
@@ -139,6 +147,8 @@ same_service (RegisterObjectInstance class name) = at_register_object_instance c
 same_service (UpdateAttributeValues object values stamp) = at_update_attribute_values object values stamp
 same_service (SendInteraction class values stamp) = at_send_interaction class values stamp
 same_service (DeleteObjectInstance object stamp) = at_delete_object_instance object stamp
+same_service (ChangeAttributeOrderType object attributes order) = at_change_attribute_order_type object attributes order
+same_service (ChangeInteractionOrderType class order) = at_change_interaction_order_type class order
 same_service (Retract event) = at_retract event
 same_service (EnableTimeRegulation time lookahead) = at_enable_time_regulation time lookahead
 same_service DisableTimeRegulation = at_disable_time_regulation
@@ -162,3 +172,161 @@ same_service (GetAttributeHandle name class) = at_get_attribute_handle name clas
 same_service (GetParameterHandle name class) = at_get_parameter_handle name class
 same_service (GetObjectInstanceHandle name) = at_get_object_instance_handle name
 same_service (GetObjectInstanceName object) = at_get_object_instance_name object
+
+-- a clone is the same service: likewise a service at a time
+abbrev IsClonedAs : Service → Type 0
+IsClonedAs x = (other : Service) → clones.is_clone x other → other ≡ x
+
+cloned_resign : (chosen : ResignAction) → IsClonedAs (Resign chosen)
+cloned_resign chosen other = elim other as (λ o. clones.is_clone (Resign chosen) o → o ≡ (Resign chosen)) [ Resign a ↦ search rules | _ ↦ (λ h. absurd h) ]
+
+cloned_publish_object_class : (class : ℕ) (attributes : List ℕ) → IsClonedAs (PublishObjectClass class attributes)
+cloned_publish_object_class class attributes other = elim other as (λ o. clones.is_clone (PublishObjectClass class attributes) o → o ≡ (PublishObjectClass class attributes)) [ PublishObjectClass a b ↦ search rules | _ ↦ (λ h. absurd h) ]
+
+cloned_unpublish_object_class : (class : ℕ) → IsClonedAs (UnpublishObjectClass class)
+cloned_unpublish_object_class class other = elim other as (λ o. clones.is_clone (UnpublishObjectClass class) o → o ≡ (UnpublishObjectClass class)) [ UnpublishObjectClass a ↦ search rules | _ ↦ (λ h. absurd h) ]
+
+cloned_subscribe_object_class_attributes : (class : ℕ) (attributes : List ℕ) → IsClonedAs (SubscribeObjectClassAttributes class attributes)
+cloned_subscribe_object_class_attributes class attributes other = elim other as (λ o. clones.is_clone (SubscribeObjectClassAttributes class attributes) o → o ≡ (SubscribeObjectClassAttributes class attributes)) [ SubscribeObjectClassAttributes a b ↦ search rules | _ ↦ (λ h. absurd h) ]
+
+cloned_unsubscribe_object_class : (class : ℕ) → IsClonedAs (UnsubscribeObjectClass class)
+cloned_unsubscribe_object_class class other = elim other as (λ o. clones.is_clone (UnsubscribeObjectClass class) o → o ≡ (UnsubscribeObjectClass class)) [ UnsubscribeObjectClass a ↦ search rules | _ ↦ (λ h. absurd h) ]
+
+cloned_publish_interaction_class : (class : ℕ) → IsClonedAs (PublishInteractionClass class)
+cloned_publish_interaction_class class other = elim other as (λ o. clones.is_clone (PublishInteractionClass class) o → o ≡ (PublishInteractionClass class)) [ PublishInteractionClass a ↦ search rules | _ ↦ (λ h. absurd h) ]
+
+cloned_unpublish_interaction_class : (class : ℕ) → IsClonedAs (UnpublishInteractionClass class)
+cloned_unpublish_interaction_class class other = elim other as (λ o. clones.is_clone (UnpublishInteractionClass class) o → o ≡ (UnpublishInteractionClass class)) [ UnpublishInteractionClass a ↦ search rules | _ ↦ (λ h. absurd h) ]
+
+cloned_subscribe_interaction_class : (class : ℕ) → IsClonedAs (SubscribeInteractionClass class)
+cloned_subscribe_interaction_class class other = elim other as (λ o. clones.is_clone (SubscribeInteractionClass class) o → o ≡ (SubscribeInteractionClass class)) [ SubscribeInteractionClass a ↦ search rules | _ ↦ (λ h. absurd h) ]
+
+cloned_unsubscribe_interaction_class : (class : ℕ) → IsClonedAs (UnsubscribeInteractionClass class)
+cloned_unsubscribe_interaction_class class other = elim other as (λ o. clones.is_clone (UnsubscribeInteractionClass class) o → o ≡ (UnsubscribeInteractionClass class)) [ UnsubscribeInteractionClass a ↦ search rules | _ ↦ (λ h. absurd h) ]
+
+cloned_register_object_instance : (class : ℕ) (name : Option (List ℕ)) → IsClonedAs (RegisterObjectInstance class name)
+cloned_register_object_instance class name other = elim other as (λ o. clones.is_clone (RegisterObjectInstance class name) o → o ≡ (RegisterObjectInstance class name)) [ RegisterObjectInstance a b ↦ search rules | _ ↦ (λ h. absurd h) ]
+
+cloned_update_attribute_values : (object : ℕ) (values : List HandleValuePair) (stamp : Option ℕ) → IsClonedAs (UpdateAttributeValues object values stamp)
+cloned_update_attribute_values object values stamp other = elim other as (λ o. clones.is_clone (UpdateAttributeValues object values stamp) o → o ≡ (UpdateAttributeValues object values stamp)) [ UpdateAttributeValues a b c ↦ search rules | _ ↦ (λ h. absurd h) ]
+
+cloned_send_interaction : (class : ℕ) (values : List HandleValuePair) (stamp : Option ℕ) → IsClonedAs (SendInteraction class values stamp)
+cloned_send_interaction class values stamp other = elim other as (λ o. clones.is_clone (SendInteraction class values stamp) o → o ≡ (SendInteraction class values stamp)) [ SendInteraction a b c ↦ search rules | _ ↦ (λ h. absurd h) ]
+
+cloned_delete_object_instance : (object : ℕ) (stamp : Option ℕ) → IsClonedAs (DeleteObjectInstance object stamp)
+cloned_delete_object_instance object stamp other = elim other as (λ o. clones.is_clone (DeleteObjectInstance object stamp) o → o ≡ (DeleteObjectInstance object stamp)) [ DeleteObjectInstance a b ↦ search rules | _ ↦ (λ h. absurd h) ]
+
+cloned_change_attribute_order_type : (object : ℕ) (attributes : List ℕ) (order : Order) → IsClonedAs (ChangeAttributeOrderType object attributes order)
+cloned_change_attribute_order_type object attributes order other = elim other as (λ o. clones.is_clone (ChangeAttributeOrderType object attributes order) o → o ≡ (ChangeAttributeOrderType object attributes order)) [ ChangeAttributeOrderType a b c ↦ search rules | _ ↦ (λ h. absurd h) ]
+
+cloned_change_interaction_order_type : (class : ℕ) (order : Order) → IsClonedAs (ChangeInteractionOrderType class order)
+cloned_change_interaction_order_type class order other = elim other as (λ o. clones.is_clone (ChangeInteractionOrderType class order) o → o ≡ (ChangeInteractionOrderType class order)) [ ChangeInteractionOrderType a b ↦ search rules | _ ↦ (λ h. absurd h) ]
+
+cloned_retract : (event : EventHandle) → IsClonedAs (Retract event)
+cloned_retract event other = elim other as (λ o. clones.is_clone (Retract event) o → o ≡ (Retract event)) [ Retract a ↦ search rules | _ ↦ (λ h. absurd h) ]
+
+cloned_enable_time_regulation : (time : ℕ) (lookahead : ℕ) → IsClonedAs (EnableTimeRegulation time lookahead)
+cloned_enable_time_regulation time lookahead other = elim other as (λ o. clones.is_clone (EnableTimeRegulation time lookahead) o → o ≡ (EnableTimeRegulation time lookahead)) [ EnableTimeRegulation a b ↦ search rules | _ ↦ (λ h. absurd h) ]
+
+cloned_disable_time_regulation : IsClonedAs DisableTimeRegulation
+cloned_disable_time_regulation other = elim other as (λ o. clones.is_clone DisableTimeRegulation o → o ≡ DisableTimeRegulation) [ DisableTimeRegulation ↦ search rules | _ ↦ (λ h. absurd h) ]
+
+cloned_enable_time_constrained : IsClonedAs EnableTimeConstrained
+cloned_enable_time_constrained other = elim other as (λ o. clones.is_clone EnableTimeConstrained o → o ≡ EnableTimeConstrained) [ EnableTimeConstrained ↦ search rules | _ ↦ (λ h. absurd h) ]
+
+cloned_disable_time_constrained : IsClonedAs DisableTimeConstrained
+cloned_disable_time_constrained other = elim other as (λ o. clones.is_clone DisableTimeConstrained o → o ≡ DisableTimeConstrained) [ DisableTimeConstrained ↦ search rules | _ ↦ (λ h. absurd h) ]
+
+cloned_time_advance_request : (time : ℕ) → IsClonedAs (TimeAdvanceRequest time)
+cloned_time_advance_request time other = elim other as (λ o. clones.is_clone (TimeAdvanceRequest time) o → o ≡ (TimeAdvanceRequest time)) [ TimeAdvanceRequest a ↦ search rules | _ ↦ (λ h. absurd h) ]
+
+cloned_time_advance_request_available : (time : ℕ) → IsClonedAs (TimeAdvanceRequestAvailable time)
+cloned_time_advance_request_available time other = elim other as (λ o. clones.is_clone (TimeAdvanceRequestAvailable time) o → o ≡ (TimeAdvanceRequestAvailable time)) [ TimeAdvanceRequestAvailable a ↦ search rules | _ ↦ (λ h. absurd h) ]
+
+cloned_next_event_request : (time : ℕ) → IsClonedAs (NextEventRequest time)
+cloned_next_event_request time other = elim other as (λ o. clones.is_clone (NextEventRequest time) o → o ≡ (NextEventRequest time)) [ NextEventRequest a ↦ search rules | _ ↦ (λ h. absurd h) ]
+
+cloned_next_event_request_available : (time : ℕ) → IsClonedAs (NextEventRequestAvailable time)
+cloned_next_event_request_available time other = elim other as (λ o. clones.is_clone (NextEventRequestAvailable time) o → o ≡ (NextEventRequestAvailable time)) [ NextEventRequestAvailable a ↦ search rules | _ ↦ (λ h. absurd h) ]
+
+cloned_flush_queue_request : (time : ℕ) → IsClonedAs (FlushQueueRequest time)
+cloned_flush_queue_request time other = elim other as (λ o. clones.is_clone (FlushQueueRequest time) o → o ≡ (FlushQueueRequest time)) [ FlushQueueRequest a ↦ search rules | _ ↦ (λ h. absurd h) ]
+
+cloned_modify_lookahead : (lookahead : ℕ) → IsClonedAs (ModifyLookahead lookahead)
+cloned_modify_lookahead lookahead other = elim other as (λ o. clones.is_clone (ModifyLookahead lookahead) o → o ≡ (ModifyLookahead lookahead)) [ ModifyLookahead a ↦ search rules | _ ↦ (λ h. absurd h) ]
+
+cloned_enable_asynchronous_delivery : IsClonedAs EnableAsynchronousDelivery
+cloned_enable_asynchronous_delivery other = elim other as (λ o. clones.is_clone EnableAsynchronousDelivery o → o ≡ EnableAsynchronousDelivery) [ EnableAsynchronousDelivery ↦ search rules | _ ↦ (λ h. absurd h) ]
+
+cloned_disable_asynchronous_delivery : IsClonedAs DisableAsynchronousDelivery
+cloned_disable_asynchronous_delivery other = elim other as (λ o. clones.is_clone DisableAsynchronousDelivery o → o ≡ DisableAsynchronousDelivery) [ DisableAsynchronousDelivery ↦ search rules | _ ↦ (λ h. absurd h) ]
+
+cloned_query_lbts : IsClonedAs QueryLbts
+cloned_query_lbts other = elim other as (λ o. clones.is_clone QueryLbts o → o ≡ QueryLbts) [ QueryLbts ↦ search rules | _ ↦ (λ h. absurd h) ]
+
+cloned_query_federate_time : IsClonedAs QueryFederateTime
+cloned_query_federate_time other = elim other as (λ o. clones.is_clone QueryFederateTime o → o ≡ QueryFederateTime) [ QueryFederateTime ↦ search rules | _ ↦ (λ h. absurd h) ]
+
+cloned_query_min_next_event_time : IsClonedAs QueryMinNextEventTime
+cloned_query_min_next_event_time other = elim other as (λ o. clones.is_clone QueryMinNextEventTime o → o ≡ QueryMinNextEventTime) [ QueryMinNextEventTime ↦ search rules | _ ↦ (λ h. absurd h) ]
+
+cloned_query_lookahead : IsClonedAs QueryLookahead
+cloned_query_lookahead other = elim other as (λ o. clones.is_clone QueryLookahead o → o ≡ QueryLookahead) [ QueryLookahead ↦ search rules | _ ↦ (λ h. absurd h) ]
+
+cloned_get_object_class_handle : (name : List ℕ) → IsClonedAs (GetObjectClassHandle name)
+cloned_get_object_class_handle name other = elim other as (λ o. clones.is_clone (GetObjectClassHandle name) o → o ≡ (GetObjectClassHandle name)) [ GetObjectClassHandle a ↦ search rules | _ ↦ (λ h. absurd h) ]
+
+cloned_get_interaction_class_handle : (name : List ℕ) → IsClonedAs (GetInteractionClassHandle name)
+cloned_get_interaction_class_handle name other = elim other as (λ o. clones.is_clone (GetInteractionClassHandle name) o → o ≡ (GetInteractionClassHandle name)) [ GetInteractionClassHandle a ↦ search rules | _ ↦ (λ h. absurd h) ]
+
+cloned_get_attribute_handle : (name : List ℕ) (class : ℕ) → IsClonedAs (GetAttributeHandle name class)
+cloned_get_attribute_handle name class other = elim other as (λ o. clones.is_clone (GetAttributeHandle name class) o → o ≡ (GetAttributeHandle name class)) [ GetAttributeHandle a b ↦ search rules | _ ↦ (λ h. absurd h) ]
+
+cloned_get_parameter_handle : (name : List ℕ) (class : ℕ) → IsClonedAs (GetParameterHandle name class)
+cloned_get_parameter_handle name class other = elim other as (λ o. clones.is_clone (GetParameterHandle name class) o → o ≡ (GetParameterHandle name class)) [ GetParameterHandle a b ↦ search rules | _ ↦ (λ h. absurd h) ]
+
+cloned_get_object_instance_handle : (name : List ℕ) → IsClonedAs (GetObjectInstanceHandle name)
+cloned_get_object_instance_handle name other = elim other as (λ o. clones.is_clone (GetObjectInstanceHandle name) o → o ≡ (GetObjectInstanceHandle name)) [ GetObjectInstanceHandle a ↦ search rules | _ ↦ (λ h. absurd h) ]
+
+cloned_get_object_instance_name : (object : ℕ) → IsClonedAs (GetObjectInstanceName object)
+cloned_get_object_instance_name object other = elim other as (λ o. clones.is_clone (GetObjectInstanceName object) o → o ≡ (GetObjectInstanceName object)) [ GetObjectInstanceName a ↦ search rules | _ ↦ (λ h. absurd h) ]
+
+pub cloned_service : (x : Service) → IsClonedAs x
+cloned_service (Resign chosen) = cloned_resign chosen
+cloned_service (PublishObjectClass class attributes) = cloned_publish_object_class class attributes
+cloned_service (UnpublishObjectClass class) = cloned_unpublish_object_class class
+cloned_service (SubscribeObjectClassAttributes class attributes) = cloned_subscribe_object_class_attributes class attributes
+cloned_service (UnsubscribeObjectClass class) = cloned_unsubscribe_object_class class
+cloned_service (PublishInteractionClass class) = cloned_publish_interaction_class class
+cloned_service (UnpublishInteractionClass class) = cloned_unpublish_interaction_class class
+cloned_service (SubscribeInteractionClass class) = cloned_subscribe_interaction_class class
+cloned_service (UnsubscribeInteractionClass class) = cloned_unsubscribe_interaction_class class
+cloned_service (RegisterObjectInstance class name) = cloned_register_object_instance class name
+cloned_service (UpdateAttributeValues object values stamp) = cloned_update_attribute_values object values stamp
+cloned_service (SendInteraction class values stamp) = cloned_send_interaction class values stamp
+cloned_service (DeleteObjectInstance object stamp) = cloned_delete_object_instance object stamp
+cloned_service (ChangeAttributeOrderType object attributes order) = cloned_change_attribute_order_type object attributes order
+cloned_service (ChangeInteractionOrderType class order) = cloned_change_interaction_order_type class order
+cloned_service (Retract event) = cloned_retract event
+cloned_service (EnableTimeRegulation time lookahead) = cloned_enable_time_regulation time lookahead
+cloned_service DisableTimeRegulation = cloned_disable_time_regulation
+cloned_service EnableTimeConstrained = cloned_enable_time_constrained
+cloned_service DisableTimeConstrained = cloned_disable_time_constrained
+cloned_service (TimeAdvanceRequest time) = cloned_time_advance_request time
+cloned_service (TimeAdvanceRequestAvailable time) = cloned_time_advance_request_available time
+cloned_service (NextEventRequest time) = cloned_next_event_request time
+cloned_service (NextEventRequestAvailable time) = cloned_next_event_request_available time
+cloned_service (FlushQueueRequest time) = cloned_flush_queue_request time
+cloned_service (ModifyLookahead lookahead) = cloned_modify_lookahead lookahead
+cloned_service EnableAsynchronousDelivery = cloned_enable_asynchronous_delivery
+cloned_service DisableAsynchronousDelivery = cloned_disable_asynchronous_delivery
+cloned_service QueryLbts = cloned_query_lbts
+cloned_service QueryFederateTime = cloned_query_federate_time
+cloned_service QueryMinNextEventTime = cloned_query_min_next_event_time
+cloned_service QueryLookahead = cloned_query_lookahead
+cloned_service (GetObjectClassHandle name) = cloned_get_object_class_handle name
+cloned_service (GetInteractionClassHandle name) = cloned_get_interaction_class_handle name
+cloned_service (GetAttributeHandle name class) = cloned_get_attribute_handle name class
+cloned_service (GetParameterHandle name class) = cloned_get_parameter_handle name class
+cloned_service (GetObjectInstanceHandle name) = cloned_get_object_instance_handle name
+cloned_service (GetObjectInstanceName object) = cloned_get_object_instance_name object

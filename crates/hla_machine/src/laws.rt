@@ -3,7 +3,7 @@
 ghost use Rattle.hla_machine.specs.Histories.{EachHistoryIsLawful};
 ghost use Rattle.hla_machine.specs.Projection.{EachExecutionIsARun};
 ghost use Rattle.hla_machine.specs.Lawful.{EachRunIsLawful};
-ghost use Rattle.hla_machine.specs.Laws.{EachRunIsSafe, NothingIsInThePast, StampsNeverFall, KeysRise, ReceiversWait, NobodyHearsItself, EachMessageOnce, GivenToTheJoined, SendersOrder, RegistrationsDiffer, DiscoveredBefore, GrantedAfterAllBefore};
+ghost use Rattle.hla_machine.specs.Laws.{EachRunIsSafe, NothingIsInThePast, StampsNeverFall, KeysRise, ReceiversWait, EachGoesInItsOrder, NobodyHearsItself, EachMessageOnce, GivenToTheJoined, SendersOrder, RegistrationsDiffer, DiscoveredBefore, GrantedAfterAllBefore};
 
 /// In each run of the machine each constrained federate is safe: its time is at most its bar, its bar at most its
 /// bound, and nothing that is to be given in time-stamp order lies in its past.
@@ -39,6 +39,12 @@ pub fn receivers_wait()
 /// or it was moved to receive order.
 pub fn granted_after_all_before()
     ensures { GrantedAfterAllBefore }
+{}
+
+/// What a call sends goes in the order that it has at that moment: an interaction in its sender's for just its class, the values of an
+/// update in those of their attributes of just that object, a deletion in that of the object's `privilegeToDelete`.
+pub fn each_message_goes_in_its_order()
+    ensures { EachGoesInItsOrder }
 {}
 
 /// Nobody hears itself: a federate is given messages of others alone, in whatever order.

@@ -3,6 +3,7 @@
 ghost use Rattle.std.proofs.Common.{rules};
 
 use hla_base::{AttributeNo, ClassNo, EventHandle, HandleValuePair, List, ObjectNo, Plain, Ticks};
+use hla_catalogue::Order;
 
 /// What becomes of a federate's objects when it resigns. The two actions that release attributes are refused with
 /// `InvalidResignAction` in this profile.
@@ -76,6 +77,17 @@ pub enum Service {
     DeleteObjectInstance {
         object: ObjectNo,
         stamp: Option<Ticks>,
+    },
+    /// Change Attribute Order Type: updates of these attributes of the object go in this order from now on.
+    ChangeAttributeOrderType {
+        object: ObjectNo,
+        attributes: List<AttributeNo>,
+        order: Order,
+    },
+    /// Change Interaction Order Type: interactions of just this class, from the caller alone, go in this order from now on.
+    ChangeInteractionOrderType {
+        class: ClassNo,
+        order: Order,
     },
     /// Retract.
     Retract {
@@ -157,9 +169,9 @@ pub enum Service {
 }
 
 impl Plain for Service {
-    ghost use Rattle.hla_machine.specs.Services.{same_service};
+    ghost use Rattle.hla_machine.specs.Services.{same_service, cloned_service};
 
     ghost exact = { same_service };
 
-    ghost cloned = { Prim.search rules };
+    ghost cloned = { cloned_service };
 }

@@ -123,11 +123,11 @@ pub struct Record {
 }
 
 impl Plain for Step {
-    ghost use Rattle.hla_machine.specs.Steps.{same_step};
+    ghost use Rattle.hla_machine.specs.Steps.{same_step, cloned_step};
 
     ghost exact = { same_step };
 
-    ghost cloned = { Prim.search rules };
+    ghost cloned = { cloned_step };
 }
 
 impl Plain for Carried {
@@ -153,11 +153,11 @@ impl Plain for Outcome {
 }
 
 impl Plain for Act {
-    ghost use Rattle.hla_machine.specs.Steps.{same_act};
+    ghost use Rattle.hla_machine.specs.Steps.{same_act, cloned_act};
 
     ghost exact = { same_act };
 
-    ghost cloned = { Prim.search rules };
+    ghost cloned = { cloned_act };
 }
 
 impl Plain for Choice {

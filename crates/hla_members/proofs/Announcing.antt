@@ -1,12 +1,11 @@
 -- Null messages put on the wires from one federate, one after another
-use Rattle.std.proofs.Common.{◌≡◌, ◌≢◌, ◌⊎◌, ⊎_elim, inl, inr, ℕ, ◌+◌, ◌<◌, ◌≤◌, List, cond, eqb, ltb, not, ◌&&◌, Bool, true, false, refl, sym, ap, ◌∙◌, arith}
+use Rattle.std.proofs.Common.{◌≡◌, ◌≢◌, ◌⊎◌, ⊎_elim, inr, ℕ, ◌+◌, ◌<◌, ◌≤◌, List, cond, eqb, ltb, not, ◌&&◌, Bool, true, false, refl, sym, ap, ◌∙◌, arith}
 use Rattle.std.proofs.Math.Bool.{and-false}
 use Rattle.std.proofs.Math.Path.{fun_ext}
 use Rattle.std.proofs.lemmas.Bool.{cases_Bool, cases_eq}
 use Rattle.std.proofs.lemmas.Bool.Decides.{nat_tests}
 use Rattle.hla_base.specs.Tables.{upd2, upd_row, is_other}
 use Rattle.hla_base.proofs.Tables.{upd2_same, upd2_other, cases_pair}
-use Rattle.hla_null_message.specs.declared.message.Message.{Message}
 use Rattle.hla_null_message.specs.declared.message.Message.TheVariants as message
 use Rattle.hla_null_message.specs.Wires.{put_behind}
 use Rattle.hla_members.specs.Members.{HasRoomForOthers, MemberTables, nulls_below, room_in, with_null_sent}

@@ -8,7 +8,7 @@ use Rattle.hla_object_registry.specs.Queries.{is_name_used_in, is_known_in, is_o
 
 -- the tables of a directory that a registry keeps
 abbrev pub registry_in : Directory → RegistryValue
-registry_in d = record { next_object = d.next_object; object = d.object; known = d.known }
+registry_in d = record { next_object = d.next_object; object = d.object; known = d.known; orders = d.attribute_orders }
 
 module _ (d : Directory) where
   pub name_used_in : (name : List ℕ) → is_name_used_in (registry_in d) name ≡ refusals.is_name_used d name

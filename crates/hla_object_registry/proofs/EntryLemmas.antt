@@ -1,12 +1,14 @@
 -- The objects of a registry's entries
 use Rattle.hla_base.specs.Limits.{max_objects}
-use Rattle.std.proofs.Common.{◌≡◌, ℕ, zero, suc, ◌+◌, ◌-◌, ◌<◌, ◌≤◌, List, [], ◌∷◌, ◌++◌, length, set, slice_get, eqb, not, ◌&&◌, Bool, true, false, Some, unwrap_or, refl, sym, ap, subst, ◌∙◌, arith}
+use Rattle.std.proofs.Common.{◌≡◌, ℕ, zero, suc, ◌+◌, ◌-◌, ◌<◌, ◌≤◌, List, [], ◌∷◌, ◌++◌, length, set, slice_get, eqb, not, ◌&&◌, Bool, true, false, Some, Option, unwrap_or, refl, sym, ap, subst, ◌∙◌, arith}
 use Rattle.std.proofs.lemmas.List.{length-append}
 use Rattle.std.specs.Map.{values_of}
 use Rattle.hla_base.specs.Tables.{upd, upd2}
+use Rattle.hla_catalogue.specs.declared.declared.Order.{Order}
+use Rattle.hla_orders.specs.Orders.{order_at}
 use Rattle.hla_object_registry.specs.Registered.{Registered, unregistered_object, item_at, is_in, registry_of}
 use Rattle.hla_object_registry.proofs.Items.{item_numbered_within}
-use Rattle.hla_object_registry.proofs.Changes.{one_more, one_known, one_changed, IsWithdrawn, object_after_withdrawal, one_withdrawn}
+use Rattle.hla_object_registry.proofs.Changes.{one_more, one_known, one_changed, one_reordered, IsWithdrawn, object_after_withdrawal, one_withdrawn}
 use Rattle.std.specs.Option.{option_map}
 use Rattle.std.specs.declared.vec.Vec.{Vec}
 use Rattle.std.specs.declared.alloc.Global.{Global}
@@ -81,18 +83,34 @@ module _ (es : Entries) (h : ℕ) (v : Entry) (some : 0 < h) (within : h - 1 < l
       ap registry_of (registered-set es (h - 1) key v (record v { exists = false }) is_there ∙ ap (λ (r : Registered). set (registered_objects es) (h - 1) (record r { object = record r.object { exists = false } })) (sym item_there))
       ∙ one_changed (registered_objects es) h some short (record (item_at unregistered_object (registered_objects es) h).object { exists = false })
 
+  pub entry_reordered : (orders : List (Option Order)) (given : ℕ → Option Order) → order_at orders ≡ given
+      → registry_of (registered_objects (set_value_at es (h - 1) (record v { orders = orders }))) ≡ record (registry_of (registered_objects es)) { orders = upd (registry_of (registered_objects es)).orders h given }
+  entry_reordered orders given same =
+      ap registry_of (registered-set es (h - 1) key v (record v { orders = orders }) is_there ∙ ap (λ (r : Registered). set (registered_objects es) (h - 1) (record r { orders = orders })) (sym item_there))
+      ∙ one_reordered (registered_objects es) h some short orders given same
+
+  -- what the entry gives for an attribute is what the table says
+  pub entry_orders : order_at v.orders ≡ (registry_of (registered_objects es)).orders h
+  entry_orders = ap (λ (r : Registered). order_at r.orders) (sym item_there)
+
+-- an entry that is written what it has
+pub entry_same : (es : Entries) (i : ℕ) (v : Entry) → slice_get (values_of es) i ≡ Some v → set_value_at es i v ≡ es
+entry_same [] i v at = cc
+entry_same (e ∷ es) zero v at = let same : e.1 ≡ v = cc in ap (λ (w : Entry). (e.0, w) ∷ es) (sym same)
+entry_same (e ∷ es) (suc i) v at = ap (λ r. e ∷ r) (entry_same es i v at)
+
 -- one more entry
 pub one_longer : (es new : Entries) (rs : List Registered) (k : Vec ℕ Global) (v : Entry) → registered_objects es ≡ rs → length rs + 1 ≤ max_objects → new ≡ es ++ (k, v) ∷ [] → length new ≤ max_objects
 one_longer es new rs k v view room added = omega (arith, room, ap length view, length-registered es, ap length added, length-append es ((k, v) ∷ []))
 
-pub entry_added : (es new : Entries) (rs : List Registered) (k : Vec ℕ Global) (name : List ℕ) (class owner : ℕ) (attributes : List ℕ) (flags : List Bool) → registered_objects es ≡ rs → k.items ≡ name
-    → new ≡ es ++ (k, record { class = class; owner = owner; attributes = attributes; exists = true; known = flags }) ∷ [] → is_in flags ≡ upd (λ _. false) owner true
+pub entry_added : (es new : Entries) (rs : List Registered) (k : Vec ℕ Global) (name : List ℕ) (class owner : ℕ) (attributes : List ℕ) (flags : List Bool) (orders : List (Option Order)) → registered_objects es ≡ rs → k.items ≡ name
+    → new ≡ es ++ (k, record { class = class; owner = owner; attributes = attributes; exists = true; known = flags; orders = orders }) ∷ [] → is_in flags ≡ upd (λ _. false) owner true → orders ≡ []
     → registry_of (registered_objects new) ≡ with_registered (registry_of rs) class name owner attributes
-entry_added es new rs k name class owner attributes flags view same added known =
-    let x : List ℕ → Registered = λ n. record { object = record { class = class; name = n; owner = owner; attributes = attributes; exists = true }; known = flags } in
+entry_added es new rs k name class owner attributes flags orders view same added known none =
+    let x : List ℕ → Registered = λ n. record { object = record { class = class; name = n; owner = owner; attributes = attributes; exists = true }; known = flags; orders = orders } in
     ap (λ l. registry_of (registered_objects l)) added
     ∙ ap registry_of (registered-append es k _ ∙ (λ i. view i ++ x (same i) ∷ []))
-    ∙ one_more rs (x name) owner known
+    ∙ one_more rs (x name) owner known none
 
 -- one more entry is withdrawn
 pub entry_withdrawn : (f n : ℕ) (old new : Entries) (v : Entry) → slice_get (values_of new) n ≡ Some v → n < length new → IsWithdrawn f n (registered_objects old) (registered_objects new)

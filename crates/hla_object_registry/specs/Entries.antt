@@ -12,6 +12,7 @@ abbrev pub registered_object : Vec ℕ Global × Entry → Registered
 registered_object e = record {
   object = record { class = e.1.class; name = e.0.items; owner = e.1.owner; attributes = e.1.attributes; exists = e.1.exists };
   known = e.1.known;
+  orders = e.1.orders;
 }
 
 abbrev pub registered_objects : List (Vec ℕ Global × Entry) → List Registered

@@ -4,6 +4,8 @@ use Rattle.std.specs.List.{list_any}
 use Rattle.std.specs.Str.{bytes_eq}
 use Rattle.hla_base.specs.Tables.{upd, upd2, numbers_below}
 use Rattle.hla_catalogue.specs.Lookup.{contains_number}
+use Rattle.hla_catalogue.specs.declared.declared.Order.{Order}
+use Rattle.hla_orders.specs.Orders.{orders_given}
 use Rattle.hla_object_registry.specs.Registered.{RegistryValue}
 
 -- was the name ever given to an object
@@ -36,6 +38,10 @@ with_registered r class name owner attributes = record r {
   object = upd r.object r.next_object (record { class = class; name = name; owner = owner; attributes = attributes; exists = true });
   known = upd2 r.known r.next_object owner true;
 }
+
+-- updates of these attributes of the object go in this order
+abbrev pub with_orders : RegistryValue → ℕ → List ℕ → Order → RegistryValue
+with_orders r h attributes order = record r { orders = upd r.orders h (orders_given (r.orders h) attributes order) }
 
 -- the objects of a federate are deleted
 abbrev pub without_owned : RegistryValue → ℕ → RegistryValue

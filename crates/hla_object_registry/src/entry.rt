@@ -2,6 +2,7 @@
 
 use crate::federate_set::FederateSet;
 use hla_base::{AttributeNo, ClassNo, FederateNo, List};
+use hla_orders::ChangedOrders;
 
 /// An object that was registered, but for its name.
 #[derive(Debug, Drop)]
@@ -15,4 +16,6 @@ pub(crate) struct Entry {
     pub exists: bool,
     /// The federates to which it is known.
     pub known: FederateSet,
+    /// In which order updates of its attributes go, where that was changed.
+    pub orders: ChangedOrders,
 }

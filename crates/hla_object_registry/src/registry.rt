@@ -7,13 +7,16 @@ ghost use Rattle.hla_base.specs.Limits.{max_joins, max_objects};
 ghost use Rattle.hla_base.specs.Tables.{upd, upd2};
 ghost use Rattle.hla_base.specs.declared.fault.Fault.TheVariants.{OutOfMemory};
 ghost use Rattle.hla_catalogue.specs.Lookup.{item_numbered};
+ghost use Rattle.hla_orders.specs.Orders.{AreUpTo};
 ghost use Rattle.hla_object_registry.specs.Registered.{registry_of, new_registry};
-ghost use Rattle.hla_object_registry.specs.Queries.{is_name_used_in, is_known_in, is_owned_in, is_object_of, objects_owned, object_found, with_registered, without_owned};
+ghost use Rattle.hla_object_registry.specs.Queries.{is_name_used_in, is_known_in, is_owned_in, is_object_of, objects_owned, object_found, with_registered, with_orders, without_owned};
 ghost use Rattle.hla_object_registry.specs.Entries.{registered_object, IsUnused, IsNumberOf, AreOwned};
 
 use crate::entry::Entry;
 use crate::federate_set::FederateSet;
 use hla_base::{AttributeNo, ClassNo, Fault, FederateNo, List, ObjectNo};
+use hla_catalogue::Order;
+use hla_orders::ChangedOrders;
 use indexmap::IndexMap;
 use std::alloc::Global;
 use std::marker::Model;
@@ -155,6 +158,17 @@ impl Registry {
         }
     }
 
+    /// In which order updates of an attribute of an object go, if that was changed (Change Attribute Order Type); `None`
+    /// where no object has the number. It takes constant time.
+    pub fn changed_order(&self, object: ObjectNo, attribute: AttributeNo) -> Option<Order>
+        ensures { result ≡ (registry_of self.now).orders object attribute }
+    {
+        match self.entry(object) {
+            Some((_, entry)) => entry.orders.get(attribute),
+            None => None,
+        }
+    }
+
     /// Whether an object exists and a federate owns it.
     fn is_object_of(&self, object: ObjectNo, federate: FederateNo) -> bool
         ensures { result ≡ is_object_of (registry_of self.now) federate object }
@@ -215,6 +229,7 @@ impl Registry {
             attributes,
             exists: true,
             known: FederateSet::of(owner),
+            orders: ChangedOrders::new(),
         };
         let Ok(_) = self.entries.insert(name.into_vec(), entry) else {
             return Err(Fault::OutOfMemory);
@@ -234,6 +249,27 @@ impl Registry {
     {
         let entry = &mut self.entries[object as usize - 1];
         entry.known.insert(federate);
+    }
+
+    /// Updates of these attributes of an object go in this order from now on (Change Attribute Order Type); each attribute
+    /// has a number from 1 to `count`. `OutOfMemory`, and the registry as it was, where room for the orders was refused.
+    pub fn change_orders(
+        &mut self,
+        alloc: Global,
+        object: ObjectNo,
+        attributes: &[AttributeNo],
+        order: Order,
+        count: usize,
+    ) -> Result<(), Fault>
+        requires some { 0 < object }
+        requires registered { object < (registry_of self.old).next_object }
+        requires numbered { AreUpTo count attributes.now }
+        ensures ok { OnOk result (registry_of self.new ≡ with_orders (registry_of self.old) object attributes.now order) }
+        ensures err { IfErr result (λ e. e ≡ Fault.OutOfMemory) }
+        ensures unchanged { OnErr result (self.new ≡ self.old) }
+    {
+        let entry = &mut self.entries[object as usize - 1];
+        entry.orders.give(alloc, count, attributes, order)
     }
 
     /// Deletes an object; its number and its name stay used (Delete Object Instance). It takes no memory.

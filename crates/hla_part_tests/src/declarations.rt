@@ -2,7 +2,7 @@ ghost use Rattle.std.specs.Prelude.{◌≡◌, IfOk};
 ghost use Rattle.hla_declaration.specs.Declarations.{declarations_of};
 
 use hla_base::{AttributeNo, ClassNo, FederateNo, List};
-use hla_catalogue::Catalogue;
+use hla_catalogue::{Catalogue, Order};
 use hla_declaration::{Declarations, Receiver};
 use hla_fed_file::read;
 use std::alloc::{AllocError, Global};
@@ -163,6 +163,34 @@ fn receives_and_publishes_nothing_once_withdrawn(rt: HostRuntime) -> Result<(), 
         && !declarations.publishes_object_class(2, 2)
         && declarations.federates() == 3;
     assert!(rt; is_gone);
+    Ok(())
+}
+
+/// Federate 2 changes the order of its interactions of class 2 twice.
+fn change_order(alloc: Global) -> Result<Declarations, Fail>
+    ensures federates { IfOk result (λ d. (declarations_of d).federates ≡ 3) }
+{
+    let mut declarations = three_federates(alloc)?;
+    declarations.change_interaction_order(2, 2, Order::Receive)?;
+    declarations.change_interaction_order(2, 2, Order::Timestamp)?;
+    Ok(declarations)
+}
+
+/// The orders of federate 2's interactions of classes 2 and 3, and of federate 3's of class 2, where they were changed.
+fn orders(declarations: &Declarations) -> [Option<Order>; 3] {
+    [
+        declarations.interaction_order(2, 2),
+        declarations.interaction_order(2, 3),
+        declarations.interaction_order(3, 2),
+    ]
+}
+
+#[test]
+fn order_of_one_federate_and_class_until_withdrawn(rt: HostRuntime) -> Result<(), Fail> {
+    let mut declarations = change_order(rt.alloc())?;
+    assert!(&rt; orders(&declarations) == [Some(Order::Timestamp), None, None]);
+    declarations.withdraw(2);
+    assert!(&rt; orders(&declarations) == [None, None, None]);
     Ok(())
 }
 

@@ -2,3 +2,5 @@
 pub mod MemberLemmas
 -- One more name that is looked up
 pub mod AskLemmas
+-- What declares nothing, and is no resignation, is asked of objects, messages or time
+pub mod CallLemmas

@@ -5,6 +5,7 @@ use Rattle.hla_base.specs.declared.fault.Fault.{Fault}
 use Rattle.hla_base.specs.declared.fault.Fault.TheVariants as fault
 use Rattle.hla_base.specs.declared.content.HandleValuePair.{HandleValuePair}
 use Rattle.hla_catalogue.specs.CatalogueValue.{CatalogueValue}
+use Rattle.hla_catalogue.specs.declared.declared.Order.{Order}
 use Rattle.hla_catalogue.specs.Lookup.{object_class_named, interaction_class_named, attribute_named, parameter_named}
 use Rattle.hla_machine.specs.declared.service.Service.{Service}
 use Rattle.hla_machine.specs.declared.service.Service.TheVariants as service
@@ -147,6 +148,13 @@ update_of c object name values stamp = ask_then (object_class_of c name) (λ k. 
 abbrev pub interaction_of : CatalogueValue → List ℕ → List NameValuePair → Option ℕ → Result Service Fault
 interaction_of c name values stamp = ask_then (interaction_class_of c name) (λ k. ask_then (named_pairs (handle_named c (class.Interaction k)) values) (λ ps. Ok (service.SendInteraction k ps stamp)))
 
+abbrev pub attribute_order_change : CatalogueValue → ℕ → List ℕ → Order → List (List ℕ) → Result Service Fault
+attribute_order_change c object name order names =
+    ask_then (object_class_of c name) (λ k. ask_then (named_handles (handle_named c (class.Object k)) names) (λ attributes. Ok (service.ChangeAttributeOrderType (object_number object) attributes order)))
+
+abbrev pub interaction_order_change : CatalogueValue → List ℕ → Order → Result Service Fault
+interaction_order_change c name order = ask_then (interaction_class_of c name) (λ k. Ok (service.ChangeInteractionOrderType k order))
+
 abbrev pub optional_call : Result Service Fault → Result (Option Service) Fault
 optional_call called = ask_then called (λ s. Ok (Some s))
 
@@ -167,6 +175,18 @@ time_service_of call.QueryMinNextEventTime = Some service.QueryMinNextEventTime
 time_service_of call.QueryLookahead = Some service.QueryLookahead
 time_service_of x = None
 
+-- of objects and messages, or else of time
+abbrev pub object_service_of : CatalogueValue → Call → Result (Option Service) Fault
+object_service_of c (call.Register name object) = optional_call (registration c name object)
+object_service_of c (call.Update object name values stamp) = optional_call (update_of c object name values stamp)
+object_service_of c (call.Send name values stamp) = optional_call (interaction_of c name values stamp)
+object_service_of c (call.Delete object stamp) = Ok (Some (service.DeleteObjectInstance (object_number object) stamp))
+object_service_of c (call.ChangeAttributeOrder object name order names) = optional_call (attribute_order_change c object name order names)
+object_service_of c (call.ChangeInteractionOrder name order) = optional_call (interaction_order_change c name order)
+object_service_of c (call.ObjectHandle name) = Ok (Some (service.GetObjectInstanceHandle name))
+object_service_of c (call.ObjectName object) = Ok (Some (service.GetObjectInstanceName (object_number object)))
+object_service_of c x = Ok (time_service_of x)
+
 -- the service that a federate calls; a tick calls none
 abbrev pub service_of : CatalogueValue → Call → Result (Option Service) Fault
 service_of c (call.Resign way) = Ok (Some (service.Resign way))
@@ -174,13 +194,7 @@ service_of c (call.DeclareObject d name names) = optional_call (object_declarati
 service_of c (call.WithdrawObject d name) = optional_call (object_withdrawal c d name)
 service_of c (call.DeclareInteraction d name) = optional_call (interaction_declaration c d name)
 service_of c (call.WithdrawInteraction d name) = optional_call (interaction_withdrawal c d name)
-service_of c (call.Register name object) = optional_call (registration c name object)
-service_of c (call.Update object name values stamp) = optional_call (update_of c object name values stamp)
-service_of c (call.Send name values stamp) = optional_call (interaction_of c name values stamp)
-service_of c (call.Delete object stamp) = Ok (Some (service.DeleteObjectInstance (object_number object) stamp))
-service_of c (call.ObjectHandle name) = Ok (Some (service.GetObjectInstanceHandle name))
-service_of c (call.ObjectName object) = Ok (Some (service.GetObjectInstanceName (object_number object)))
-service_of c x = Ok (time_service_of x)
+service_of c x = object_service_of c x
 
 -- ---- what a line asks for
 abbrev pub step_by : ℕ → Option Service → Step

@@ -2,7 +2,7 @@
 
 ghost use Rattle.std.specs.Prelude.{◌≡◌, IfOk, IfErr};
 ghost use Rattle.hla_federation.specs.Steps.Advancing.{request_service};
-ghost use Rattle.hla_requests.specs.Requests.{Asks, object_declaration, object_withdrawal, interaction_declaration, interaction_withdrawal, registration, update_of, interaction_of, time_service_of, service_of, request_of};
+ghost use Rattle.hla_requests.specs.Requests.{Asks, object_declaration, object_withdrawal, interaction_declaration, interaction_withdrawal, registration, update_of, interaction_of, attribute_order_change, interaction_order_change, time_service_of, object_service_of, service_of, request_of};
 
 use crate::lookups::{
     AskFault, Class, attributes, federate_number, interaction_class, joined_federate,
@@ -10,7 +10,7 @@ use crate::lookups::{
 };
 use crate::members::NamedFederate;
 use hla_base::{AdvanceKind, EventHandle, List, Ticks};
-use hla_catalogue::Catalogue;
+use hla_catalogue::{Catalogue, Order};
 use hla_commands::{Call, Command, Declaration, NameValuePair, Word};
 use hla_machine::{Service, Step};
 use std::alloc::Global;
@@ -157,6 +157,36 @@ fn send(
     })
 }
 
+fn change_attribute_order(
+    alloc: Global,
+    catalogue: &Catalogue,
+    object: u64,
+    class: &Word<'_>,
+    order: Order,
+    names: &List<Word<'_>>,
+) -> Result<Service, AskFault>
+    ensures { Asks result (attribute_order_change catalogue.now object class.now order names.now) }
+{
+    let class = object_class(catalogue, class.as_slice())?;
+    let attributes = attributes(alloc, catalogue, Class::Object(class), names.as_slice())?;
+    Ok(Service::ChangeAttributeOrderType {
+        object: object_number(object),
+        attributes,
+        order,
+    })
+}
+
+fn change_interaction_order(
+    catalogue: &Catalogue,
+    class: &Word<'_>,
+    order: Order,
+) -> Result<Service, AskFault>
+    ensures { Asks result (interaction_order_change catalogue.now class.now order) }
+{
+    let class = interaction_class(catalogue, class.as_slice())?;
+    Ok(Service::ChangeInteractionOrderType { class, order })
+}
+
 /// The service that requests an advance of this kind.
 fn advance_service(kind: AdvanceKind, time: Ticks) -> Service
     ensures { result ≡ request_service kind time }
@@ -202,6 +232,51 @@ fn time_service(call: &Call<'_>) -> Option<Service>
     }
 }
 
+/// The service of objects, messages or time that a federate calls, if it is one.
+fn object_service(
+    alloc: Global,
+    catalogue: &Catalogue,
+    call: &Call<'_>,
+) -> Result<Option<Service>, AskFault>
+    ensures { Asks result (object_service_of catalogue.now call.now) }
+{
+    let service = match call {
+        Call::Register { class, name } => register(alloc, catalogue, class, name)?,
+        Call::Update {
+            object,
+            class,
+            values,
+            stamp,
+        } => update(alloc, catalogue, *object, class, values, *stamp)?,
+        Call::Send {
+            class,
+            values,
+            stamp,
+        } => send(alloc, catalogue, class, values, *stamp)?,
+        Call::Delete { object, stamp } => Service::DeleteObjectInstance {
+            object: object_number(*object),
+            stamp: *stamp,
+        },
+        Call::ChangeAttributeOrder {
+            object,
+            class,
+            order,
+            attributes,
+        } => change_attribute_order(alloc, catalogue, *object, class, *order, attributes)?,
+        Call::ChangeInteractionOrder { class, order } => {
+            change_interaction_order(catalogue, class, *order)?
+        }
+        Call::ObjectHandle { name } => Service::GetObjectInstanceHandle {
+            name: name_copy(alloc, name)?,
+        },
+        Call::ObjectName { object } => Service::GetObjectInstanceName {
+            object: object_number(*object),
+        },
+        _ => return Ok(time_service(call)),
+    };
+    Ok(Some(service))
+}
+
 /// The service that a federate calls; a tick calls none. Refused with `NameNotFound` where a name is not found in the FED
 /// file, or else with `LimitReached` where a value is too long; `Memory` where a growth was refused, and neither is so.
 pub fn service_of(
@@ -227,29 +302,7 @@ pub fn service_of(
         Call::WithdrawInteraction { declaration, class } => {
             withdraw_interaction(catalogue, *declaration, class)?
         }
-        Call::Register { class, name } => register(alloc, catalogue, class, name)?,
-        Call::Update {
-            object,
-            class,
-            values,
-            stamp,
-        } => update(alloc, catalogue, *object, class, values, *stamp)?,
-        Call::Send {
-            class,
-            values,
-            stamp,
-        } => send(alloc, catalogue, class, values, *stamp)?,
-        Call::Delete { object, stamp } => Service::DeleteObjectInstance {
-            object: object_number(*object),
-            stamp: *stamp,
-        },
-        Call::ObjectHandle { name } => Service::GetObjectInstanceHandle {
-            name: name_copy(alloc, name)?,
-        },
-        Call::ObjectName { object } => Service::GetObjectInstanceName {
-            object: object_number(*object),
-        },
-        _ => return Ok(time_service(call)),
+        _ => return object_service(alloc, catalogue, call),
     };
     Ok(Some(service))
 }

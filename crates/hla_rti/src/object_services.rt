@@ -8,6 +8,7 @@ use crate::answers::Registration;
 use crate::federate::Federate;
 use hla_base::{AttributeNo, ClassNo, EventHandle, Fault, HandleValuePair, List, ObjectNo, Ticks};
 use hla_callbacks::FederateAmbassador;
+use hla_catalogue::Order;
 use hla_machine::Service;
 use hla_monitor::{Naming, Publisher};
 use std::sync::Wait;
@@ -188,6 +189,43 @@ impl<L: Ledger + Naming, B: FederateAmbassador, W: Publisher<L>> Federate<L, B, 
             (said nothing result) self.new }
     {
         self.serve_done(rt, Service::DeleteObjectInstance { object, stamp })
+    }
+
+    /// Change Attribute Order Type (HLA 1.3, time management): from now on updates of these attributes of just this object go
+    /// in this order; what was sent before keeps its own. Its deletion goes in the order of its attribute
+    /// `privilegeToDelete`. `ObjectNotKnown`; `AttributeNotDefined` where an attribute is not available at the object's
+    /// class; `AttributeNotOwned` where the federate does not own each of them.
+    pub fn change_attribute_order_type(
+        &mut self,
+        rt: &impl Wait,
+        object: ObjectNo,
+        attributes: List<AttributeNo>,
+        order: Order,
+    ) -> Result<(), Fault>
+        ensures { IsServed self.old (service.ChangeAttributeOrderType object attributes order)
+            (said nothing result) self.new }
+    {
+        let service = Service::ChangeAttributeOrderType {
+            object,
+            attributes,
+            order,
+        };
+        self.serve_done(rt, service)
+    }
+
+    /// Change Interaction Order Type (HLA 1.3, time management): from now on the federate's own interactions of just this
+    /// class go in this order, while it is joined; what was sent before keeps its own. `InteractionClassNotDefined`;
+    /// `InteractionClassNotPublished`.
+    pub fn change_interaction_order_type(
+        &mut self,
+        rt: &impl Wait,
+        class: ClassNo,
+        order: Order,
+    ) -> Result<(), Fault>
+        ensures { IsServed self.old (service.ChangeInteractionOrderType class order)
+            (said nothing result) self.new }
+    {
+        self.serve_done(rt, Service::ChangeInteractionOrderType { class, order })
     }
 
     /// Retract (HLA 1.3, time management): takes back a message that the federate sent in time-stamp order, by the handle

@@ -6,6 +6,7 @@ ghost use Rattle.hla_machine.specs.declared.step.Step.TheVariants as step;
 
 use crate::random::Random;
 use hla_base::{EventHandle, Fault, HandleValuePair, List, Value};
+use hla_catalogue::Order;
 use hla_machine::{Service, Step};
 use std::alloc::Global;
 
@@ -121,13 +122,38 @@ fn object_service(alloc: Global, random: &mut Random) -> Result<Service, Fault>
     })
 }
 
+/// A change of the order in which messages go.
+fn order_change(alloc: Global, random: &mut Random) -> Result<Service, Fault>
+    ensures { IfOk result (λ s. (f : ℕ) → IsPlain (step.Call f s)) }
+{
+    let number = random.below(4);
+    let order = if random.below(2) == 0 {
+        Order::Receive
+    } else {
+        Order::Timestamp
+    };
+    if random.below(2) == 0 {
+        return Ok(Service::ChangeInteractionOrderType {
+            class: number,
+            order,
+        });
+    }
+    let attributes = numbers(alloc, random.below(4))?;
+    Ok(Service::ChangeAttributeOrderType {
+        object: number,
+        attributes,
+        order,
+    })
+}
+
 /// A service.
 fn made_service(alloc: Global, random: &mut Random) -> Result<Service, Fault>
     ensures { IfOk result (λ s. (f : ℕ) → IsPlain (step.Call f s)) }
 {
-    match random.below(4) {
+    match random.below(5) {
         0 => declaration(alloc, random),
         1 => Ok(time_service(random)),
+        2 => order_change(alloc, random),
         _ => object_service(alloc, random),
     }
 }

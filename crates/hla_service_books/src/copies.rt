@@ -1,6 +1,6 @@
 //! What was sent, and what has become of it at each of its receivers.
 
-use crate::receivers::{Part, is_of};
+use crate::receivers::{Attributes, is_of};
 use crate::texts::{cut, handle, is_last_of_its_name, number, path_of, ticks};
 use std::alloc::{AllocError, Global};
 
@@ -8,7 +8,7 @@ use std::alloc::{AllocError, Global};
 #[derive(Clone, Copy)]
 pub enum Said<'a> {
     Interaction { class: &'a str },
-    Update { object: u32, part: Part },
+    Update { object: u32, part: Attributes },
     Deletion { object: u32 },
 }
 

@@ -2,7 +2,7 @@
 
 use crate::clocks::Clock;
 use crate::receivers::Subscriptions;
-use crate::texts::FOREVER;
+use crate::texts::{FOREVER, path_of};
 use std::alloc::{AllocError, Global};
 
 /// What a federate knows of another: its epoch, and a bound that it sends nothing below.
@@ -29,6 +29,8 @@ pub struct BookedFederate<'a> {
     pub next_serial: u32,
     pub clock: Clock,
     pub subscriptions: Subscriptions<'a>,
+    /// The interaction classes whose order it changed, whole paths, and whether they go in time-stamp order; the last counts.
+    orders: Vec<(&'a str, bool)>,
     rows: Vec<Row>,
     pub controls: Vec<Control>,
     /// The sender and the serial of what waits in receive order.
@@ -69,6 +71,7 @@ impl<'a> BookedFederate<'a> {
             next_serial: 1,
             clock: Clock::new(),
             subscriptions: Subscriptions::new(alloc),
+            orders: Vec::new(alloc),
             rows: Vec::new(alloc),
             controls: Vec::new(alloc),
             received: Vec::new(alloc),
@@ -83,6 +86,24 @@ impl<'a> BookedFederate<'a> {
         self.subscriptions.clear();
         self.controls.clear();
         self.received.clear();
+    }
+
+    /// Its interactions of a class go in another order. `AllocError` where a growth was refused.
+    pub fn change_order(&mut self, class: &'a str, order: &str) -> Result<(), AllocError> {
+        self.orders.push((path_of(class), order == "timestamp"))?;
+        Ok(())
+    }
+
+    /// Whether its interactions of a class go in time-stamp order now: by the FED file only those of `Hit` do.
+    pub fn sends_in_order(&self, class: &str) -> bool {
+        let path = path_of(class);
+        let mut is_ordered = path == path_of("Hit");
+        for (changed, order) in self.orders.as_slice() {
+            if *changed == path {
+                is_ordered = *order;
+            }
+        }
+        is_ordered
     }
 
     /// The least of what it knows of its peers.

@@ -3,9 +3,9 @@
 use crate::clocks::Role;
 use crate::copies::{Fate, Said};
 use crate::members::{Control, Letter};
-use crate::receivers::{Object, is_car};
+use crate::receivers::{Attributes, Object, is_car};
 use crate::service_books::Books;
-use crate::texts::{FOREVER, cut, handle, number, ticks};
+use crate::texts::{FOREVER, cut, handle, has_word, number, ticks};
 use std::alloc::AllocError;
 
 impl<'a> Books<'a> {
@@ -17,6 +17,7 @@ impl<'a> Books<'a> {
             owner,
             is_car: is_car(class),
             is_there: true,
+            stamped: Attributes::stamped_at_first(),
             known,
         })?;
         for federate in self.others(owner)?.as_slice() {
@@ -57,8 +58,44 @@ impl<'a> Books<'a> {
         self.objects.get_mut((number as usize).checked_sub(1)?)
     }
 
-    /// A deletion; with a stamp it goes in time-stamp order. `AllocError` where a growth was refused; then the books are left
-    /// halfway.
+    /// The attributes of an object that go in time-stamp order now.
+    pub fn stamped(&self, object: u32) -> Attributes {
+        match self.object(object) {
+            Some(object) => object.stamped,
+            None => Attributes::stamped_at_first(),
+        }
+    }
+
+    /// Updates of some attributes of an object go in another order; whether the federate may say so: the object is there, and its
+    /// own where there are any attributes.
+    pub fn change_attributes(&mut self, federate: u32, words: &str) -> bool {
+        let (object, rest) = cut(words);
+        let (order, names) = cut(cut(rest).1);
+        self.tally.changed = self.tally.changed.saturating_add(1);
+        let Some(object) = self.object_mut(number(object)) else {
+            return false;
+        };
+        object.stamped.mark(names, order == "timestamp");
+        object.is_there && (object.owner == federate || names.is_empty())
+    }
+
+    /// Whether a change of the order of attributes may be refused so: the object is gone or unknown, or it is another's or lacks
+    /// one of them.
+    pub fn may_refuse_attributes(&self, federate: u32, words: &str, fault: u32) -> bool {
+        let (object, rest) = cut(words);
+        let Some(object) = self.object(number(object)) else {
+            return fault == 18;
+        };
+        match fault {
+            18 => !object.is_there || !object.is_known_to(federate),
+            9 => !object.is_car,
+            19 => object.owner != federate || has_word(rest, "privilegeToDelete"),
+            _ => false,
+        }
+    }
+
+    /// A deletion; with a stamp it goes in time-stamp order, where the object's `privilegeToDelete` does now. `AllocError` where a
+    /// growth was refused; then the books are left halfway.
     pub fn delete(
         &mut self,
         sender: u32,
@@ -66,7 +103,11 @@ impl<'a> Books<'a> {
         line: &'a str,
         stamp: Option<u64>,
     ) -> Result<bool, AllocError> {
-        let stamp = self.kept_stamp(sender, stamp);
+        let stamp = if self.stamped(object).have("privilegeToDelete") {
+            self.kept_stamp(sender, stamp)
+        } else {
+            None
+        };
         let is_allowed = self.post(sender, Said::Deletion { object }, stamp, line)?;
         if let Some(object) = self.object_mut(object) {
             object.is_there = false;

@@ -3,11 +3,55 @@
 use crate::texts::{cut, has_word, name_in, path_of};
 use std::alloc::{AllocError, Global};
 
-/// The part of an update that goes in one order: of the attributes of the FED file only `Paint` is in receive order.
+/// Some of the attributes of the class `Car`, by name.
 #[derive(Clone, Copy, PartialEq, Eq)]
-pub enum Part {
-    Receive,
-    TimeStamp,
+pub struct Attributes {
+    marks: [bool; 3],
+}
+
+/// The place of an attribute of the class `Car`, if there is one of the name.
+fn place_of(name: &str) -> Option<usize> {
+    match name {
+        "Pos" => Some(0),
+        "Paint" => Some(1),
+        "privilegeToDelete" => Some(2),
+        _ => None,
+    }
+}
+
+impl Attributes {
+    /// Those that go in time-stamp order by the FED file: all but `Paint`.
+    pub fn stamped_at_first() -> Attributes {
+        Attributes {
+            marks: [true, false, true],
+        }
+    }
+
+    /// The others.
+    pub fn others(self) -> Attributes {
+        Attributes {
+            marks: self.marks.map(|is_marked| !is_marked),
+        }
+    }
+
+    /// Whether an attribute is one of them.
+    pub fn have(self, name: &str) -> bool {
+        match place_of(name) {
+            Some(place) => self.marks.get(place).copied().unwrap_or(false),
+            None => false,
+        }
+    }
+
+    /// Puts attributes among them by name, or takes them out.
+    pub fn mark(&mut self, names: &str, is_in: bool) {
+        for name in names.split_whitespace() {
+            if let Some(place) = place_of(name) {
+                if let Some(mark) = self.marks.get_mut(place) {
+                    *mark = is_in;
+                }
+            }
+        }
+    }
 }
 
 /// What a federate subscribes.
@@ -25,6 +69,8 @@ pub struct Object {
     pub owner: u32,
     pub is_car: bool,
     pub is_there: bool,
+    /// The attributes that go in time-stamp order now.
+    pub stamped: Attributes,
     /// To whom it is known.
     pub known: Vec<u32>,
 }
@@ -34,13 +80,13 @@ pub fn is_car(class: &str) -> bool {
     class.ends_with("Car")
 }
 
-/// Whether an attribute goes with a part of an update.
-pub fn is_of(part: Part, pair: &str) -> bool {
-    (name_in(pair) == "Paint") == (part == Part::Receive)
+/// Whether a pair's attribute goes with a part of an update.
+pub fn is_of(part: Attributes, pair: &str) -> bool {
+    part.have(name_in(pair))
 }
 
-/// Whether an update has a part.
-pub fn has_part(part: Part, line: &str) -> bool {
+/// Whether an update has a value for a part.
+pub fn has_part(part: Attributes, line: &str) -> bool {
     line.split_whitespace()
         .any(|pair| pair.contains('=') && is_of(part, pair))
 }
@@ -100,7 +146,7 @@ impl<'a> Subscriptions<'a> {
     }
 
     /// Whether a part of an update shows it something.
-    pub fn is_shown(&self, is_car: bool, part: Part, line: &str) -> bool {
+    pub fn is_shown(&self, is_car: bool, part: Attributes, line: &str) -> bool {
         let Some(attributes) = self.served(is_car) else {
             return false;
         };

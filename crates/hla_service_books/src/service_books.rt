@@ -5,7 +5,7 @@
 use crate::clocks::Clock;
 use crate::copies::{BookedMessage, Copies, Said};
 use crate::members::{BookedFederate, Letter, Wires};
-use crate::receivers::{Object, Part, has_part};
+use crate::receivers::{Object, has_part};
 use crate::texts::{FOREVER, cut, handle, number, stamp_of};
 use std::alloc::{AllocError, Global};
 
@@ -26,6 +26,8 @@ pub struct Tally {
     pub ignored: u32,
     /// Sends that were refused for their stamp.
     pub refused: u32,
+    /// Changes of orders.
+    pub changed: u32,
 }
 
 impl Tally {
@@ -40,6 +42,7 @@ impl Tally {
             asked_back: 0,
             ignored: 0,
             refused: 0,
+            changed: 0,
         }
     }
 
@@ -53,6 +56,7 @@ impl Tally {
         self.asked_back = self.asked_back.saturating_add(other.asked_back);
         self.ignored = self.ignored.saturating_add(other.ignored);
         self.refused = self.refused.saturating_add(other.refused);
+        self.changed = self.changed.saturating_add(other.changed);
     }
 }
 
@@ -192,6 +196,8 @@ impl<'a> Books<'a> {
                 stamp_of(words).is_some_and(|stamp| stamp < self.clock(federate).least_stamp())
                     && self.clock(federate).is_regulating()
             }
+            "attributeOrder" => self.may_refuse_attributes(federate, words, fault),
+            "interactionOrder" => fault == 15,
             "retract" => fault == 33 && !self.may_retract(federate, handle(words)),
             _ => true,
         }
@@ -223,6 +229,10 @@ impl<'a> Books<'a> {
                 let object = number(cut(words).0);
                 Ok(self.delete(federate, object, words, stamp_of(words))? && answer.is_empty())
             }
+            "attributeOrder" => { Ok(self.change_attributes(federate, words) && answer.is_empty()) }
+            "interactionOrder" => Ok(
+                self.change_interactions(federate, words)? && answer.is_empty(),
+            ),
             "retract" => self.retract(federate, handle(words)),
             "register" => self.register(federate, cut(words).0, number(cut(answer).0)),
             "resign" => self.resign(federate, words),
@@ -235,6 +245,16 @@ impl<'a> Books<'a> {
             }
             _ => self.manage_time(federate, verb, words, answer),
         }
+    }
+
+    /// A federate's interactions of a class go in another order.
+    fn change_interactions(&mut self, federate: u32, words: &'a str) -> Result<bool, AllocError> {
+        let (class, order) = cut(words);
+        if let Some(member) = self.member_mut(federate) {
+            member.change_order(class, order)?;
+        }
+        self.tally.changed = self.tally.changed.saturating_add(1);
+        Ok(true)
     }
 
     fn declare(&mut self, federate: u32, verb: &str, words: &'a str) -> Result<bool, AllocError> {
@@ -363,7 +383,7 @@ impl<'a> Books<'a> {
         }
     }
 
-    /// An interaction; of the classes of the FED file only `Hit` goes in time-stamp order.
+    /// An interaction, in the order in which its sender's interactions of the class go now.
     fn send(
         &mut self,
         sender: u32,
@@ -371,7 +391,9 @@ impl<'a> Books<'a> {
         line: &'a str,
         answer: &str,
     ) -> Result<bool, AllocError> {
-        let is_ordered = cut(line).0 == "Hit";
+        let is_ordered = self
+            .member(sender)
+            .is_some_and(|member| member.sends_in_order(cut(line).0));
         let stamp = if is_ordered {
             self.kept_stamp(sender, stamp_of(line))
         } else {
@@ -381,20 +403,21 @@ impl<'a> Books<'a> {
         Ok(self.post(sender, said, stamp, line)? && is_named)
     }
 
-    /// An update, its part in receive order first.
+    /// An update, cut by the orders of the object's attributes now, the part in receive order first.
     fn update(&mut self, sender: u32, line: &'a str, answer: &str) -> Result<bool, AllocError> {
         let object = number(cut(line).0);
+        let stamped = self.stamped(object);
         let mut is_allowed = true;
-        if has_part(Part::Receive, line) {
-            let part = Part::Receive;
+        if has_part(stamped.others(), line) {
+            let part = stamped.others();
             is_allowed = self.post(sender, Said::Update { object, part }, None, line)?;
         }
-        if !has_part(Part::TimeStamp, line) {
+        if !has_part(stamped, line) {
             return Ok(is_allowed && answer.is_empty());
         }
         let stamp = self.kept_stamp(sender, stamp_of(line));
         let is_named = self.names_next(sender, stamp, answer);
-        let part = Part::TimeStamp;
+        let part = stamped;
         let is_sent = self.post(sender, Said::Update { object, part }, stamp, line)?;
         Ok(is_allowed && is_named && is_sent)
     }

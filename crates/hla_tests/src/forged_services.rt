@@ -6,9 +6,9 @@ use std::process::Abort;
 use std::test::Fail;
 
 /// A script and its transcript.
-struct Scene {
-    script: &'static str,
-    transcript: &'static str,
+pub struct Scene {
+    pub script: &'static str,
+    pub transcript: &'static str,
 }
 
 impl Scene {
@@ -48,7 +48,8 @@ fn is_taken_with(
     Ok(read_services(alloc, scene.script, transcript.as_str())?.is_some())
 }
 
-fn check_forgeries(
+/// That the books take the scene's transcript, and none with one of these answers in place of the one at the line of that number.
+pub fn check_forgeries(
     rt: &impl Abort,
     alloc: Global,
     scene: &Scene,

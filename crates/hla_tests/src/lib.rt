@@ -5,6 +5,8 @@
 #[cfg(test)]
 mod federations;
 #[cfg(test)]
+mod forged_orders;
+#[cfg(test)]
 mod forged_services;
 #[cfg(test)]
 mod newcomer_run;

@@ -215,6 +215,41 @@ fn objects_that_are_not_known(rt: HostRuntime) -> Result<(), Fail> {
 }
 
 #[test]
+fn orders_that_change(rt: HostRuntime) -> Result<(), Fail> {
+    answers(
+        &rt,
+        rt.alloc(),
+        &[
+            ("create", "ok"),
+            ("join A", "ok 1"),
+            ("join B", "ok 2"),
+            ("A publishInteraction Hit", "ok"),
+            ("B subscribeInteraction Hit", "ok"),
+            ("A regulate 0 1", "ok"),
+            ("A tick", "ok regulationEnabled 0"),
+            ("A send Hit @5", "ok 1.1"),
+            ("A interactionOrder Hit receive", "ok"),
+            ("A unpublishInteraction Hit", "ok"),
+            (
+                "A interactionOrder Hit timestamp",
+                "error 15 InteractionClassNotPublished",
+            ),
+            ("A interactionOrder None receive", "error 34 NameNotFound"),
+            ("A publishInteraction Hit", "ok"),
+            ("A send Hit @5", "ok"),
+            ("A retract 1.1", "ok"),
+            ("A publishObject Car Pos Paint", "ok"),
+            ("A attributeOrder 1 Car receive", "error 18 ObjectNotKnown"),
+            ("A register Car", "ok 1 object-1"),
+            ("A attributeOrder 1 Car receive", "ok"),
+            ("A update 1 Car Pos=1 @5", "ok 1.3"),
+            ("A attributeOrder 1 Car receive Pos", "ok"),
+            ("A update 1 Car Pos=1 @5", "ok"),
+        ],
+    )
+}
+
+#[test]
 fn names_of_those_that_resigned(rt: HostRuntime) -> Result<(), Fail> {
     answers(
         &rt,

@@ -182,6 +182,69 @@ const RARE: &[&[&str]] = &[
     &["C resign DELETE_OBJECTS", "destroy"],
 ];
 
+/// What happens where orders change: messages go before and after, of the object or the class and of others.
+const ORDERS: &[&[&str]] = &[
+    &[
+        "A update 1 Car VALUES @STAMP",
+        "A attributeOrder 1 Car ORDER CHANGED",
+        "A update 1 Car VALUES @STAMP",
+        "carry A B",
+        "carry A B",
+    ],
+    &[
+        "A register Car",
+        "A attributeOrder 1 Car ORDER CHANGED",
+        "A update 2 Car VALUES @STAMP",
+        "carry A B",
+        "carry A B",
+    ],
+    &[
+        "FEDERATE send Hit @STAMP",
+        "FEDERATE interactionOrder Hit ORDER",
+        "FEDERATE send Hit @STAMP",
+        "A retract HANDLE",
+        "carry WIRE",
+    ],
+    &[
+        "A interactionOrder Hit ORDER",
+        "A send Hit @STAMP",
+        "B send Hit @STAMP",
+        "carry A B",
+        "carry A B",
+    ],
+    &[
+        "A interactionOrder Hit ORDER",
+        "A unpublishInteraction Hit",
+        "A publishInteraction Hit",
+        "A send Hit @STAMP",
+    ],
+    &[
+        "C interactionOrder Hit ORDER",
+        "C resign DELETE_OBJECTS",
+        "join C",
+        "C publishInteraction Hit",
+        "C send Hit @STAMP",
+    ],
+    &[
+        "A attributeOrder NUMBER Car ORDER privilegeToDelete",
+        "A delete NUMBER @STAMP",
+        "carry A B",
+    ],
+    &[
+        "FEDERATE attributeOrder NUMBER Car ORDER CHANGED",
+        "FEDERATE attributeOrder NUMBER Car ORDER",
+    ],
+    &[
+        "FEDERATE publishInteraction INTERACTION",
+        "FEDERATE interactionOrder INTERACTION ORDER",
+        "FEDERATE send Note Text=a @STAMP",
+        "FEDERATE send Memo Text=a Extra=b @STAMP",
+    ],
+];
+
+/// Of the scripts from this seed on, the orders change.
+const FIRST_OF_ORDERS: u64 = 3600;
+
 /// What a word of a line stands for; nothing for a word that stands for itself.
 fn texts_of(word: &str) -> &'static [&'static str] {
     match word {
@@ -199,6 +262,8 @@ fn texts_of(word: &str) -> &'static [&'static str] {
         "SHOWN" => &["Pos Paint", "Pos", "Paint", "privilegeToDelete Pos"],
         "VALUES" => &["Pos=1", "Pos=2 Paint=red", "Paint=b", "privilegeToDelete=t"],
         "NUMBER" => &["1", "1", "2", "3"],
+        "ORDER" => &["receive", "timestamp"],
+        "CHANGED" => &["Pos", "Paint", "Pos Paint", "Paint privilegeToDelete"],
         "OBJECT" => &["x", "y", "object-1", "object-2"],
         "ACTION" => &["NO_ACTION", "DELETE_OBJECTS", "RELEASE_ATTRIBUTES"],
         _ => &[],
@@ -273,7 +338,8 @@ impl Author {
         self.add_lines(scenes[(drawn % scenes.len() as u64) as usize])
     }
 
-    /// Adds the setting of a seed, and thirty-two things that happen, of which each fourth is a rare one.
+    /// Adds the setting of a seed, and thirty-two things that happen, of which each fourth is a rare one, and in some scripts each
+    /// other fourth a change of orders.
     fn add_all(&mut self, seed: u64) -> Result<(), AllocError> {
         self.add_lines(&SETTING)?;
         match seed % 3 {
@@ -283,7 +349,11 @@ impl Author {
         }
         for place in 0..32u64 {
             self.now = place / 2;
-            self.add_one(if place % 4 == 3 { RARE } else { COMMON })?;
+            self.add_one(match place % 4 {
+                3 => RARE,
+                1 if seed >= FIRST_OF_ORDERS => ORDERS,
+                _ => COMMON,
+            })?;
         }
         Ok(())
     }
@@ -324,12 +394,18 @@ fn check_seed(rt: &impl Abort, alloc: Global, seed: u64) -> Result<Tally, Fail> 
     check_script(rt, alloc, script.as_str())
 }
 
-/// Checks the scripts of some seeds, which must try each law often enough.
-fn check_scripts(rt: &impl Abort, alloc: Global, seeds: Range<u64>) -> Result<(), Fail> {
+/// Checks the scripts of some seeds, and answers how often they tried each law.
+fn tally_scripts(rt: &impl Abort, alloc: Global, seeds: Range<u64>) -> Result<Tally, Fail> {
     let mut all = Tally::new();
     for seed in seeds {
         all.add(check_seed(rt, alloc, seed)?);
     }
+    Ok(all)
+}
+
+/// Checks the scripts of some seeds, which must try each law often enough.
+fn check_scripts(rt: &impl Abort, alloc: Global, seeds: Range<u64>) -> Result<(), Fail> {
+    let all = tally_scripts(rt, alloc, seeds)?;
     assert!(rt; all.picked >= 40, "only {} picked", all.picked);
     assert!(rt; all.flushed >= 40, "only {} flushed", all.flushed);
     assert!(rt; all.granted >= 100, "only {} granted", all.granted);
@@ -363,4 +439,13 @@ fn keeps_the_books_of_the_fourth_scripts(rt: HostRuntime) -> Result<(), Fail> {
 #[test]
 fn keeps_the_books_of_the_fifth_scripts(rt: HostRuntime) -> Result<(), Fail> {
     check_scripts(&rt, rt.alloc(), 3480..3600)
+}
+
+#[test]
+fn keeps_the_books_where_orders_change(rt: HostRuntime) -> Result<(), Fail> {
+    let all = tally_scripts(&rt, rt.alloc(), FIRST_OF_ORDERS..FIRST_OF_ORDERS + 120)?;
+    assert!(rt; all.changed >= 400, "only {} changed", all.changed);
+    assert!(rt; all.picked >= 20, "only {} picked", all.picked);
+    assert!(rt; all.refused >= 30, "only {} refused", all.refused);
+    Ok(())
 }

@@ -45,7 +45,7 @@ fn reads_paths(rt: HostRuntime) -> Result<(), Fail> {
 #[test]
 fn reads_orders(rt: HostRuntime) -> Result<(), Fail> {
     let catalogue = catalogue(rt.alloc())?;
-    assert!(rt; catalogue.deletion_order(2) == Order::Timestamp);
+    assert!(rt; catalogue.deletion_privilege(2) == Some(1));
     assert!(rt; catalogue.attribute_order(3) == Order::Receive);
     assert!(rt; catalogue.interaction_order(4) == Order::Timestamp);
     Ok(())

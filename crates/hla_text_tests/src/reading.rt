@@ -12,7 +12,7 @@ fn fault_of(alloc: Global, text: &[u8]) -> (usize, &'static str) {
 }
 
 /// Scripts, and the line and the name of the first fault of each.
-const FAULTS: [(&str, usize, &str); 41] = [
+const FAULTS: [(&str, usize, &str); 50] = [
     ("create\ncreate x", 2, "ExtraWord"),
     ("\n\n # x", 3, "UnknownWord"),
     ("join", 1, "MissingWord"),
@@ -45,6 +45,15 @@ const FAULTS: [(&str, usize, &str); 41] = [
     ("A delete 18446744073709551616", 1, "BadNumber"),
     ("A delete 99999999999999999999", 1, "BadNumber"),
     ("A delete 1 x", 1, "BadWord"),
+    ("A attributeOrder x Car receive", 1, "BadNumber"),
+    ("A attributeOrder 1", 1, "MissingWord"),
+    ("A attributeOrder 1 Car", 1, "MissingWord"),
+    ("A attributeOrder 1 Car Pos", 1, "BadWord"),
+    ("A attributeOrder 1 Car RECEIVE Pos", 1, "BadWord"),
+    ("A interactionOrder", 1, "MissingWord"),
+    ("A interactionOrder Hit", 1, "MissingWord"),
+    ("A interactionOrder Hit time-stamp", 1, "BadWord"),
+    ("A interactionOrder Hit receive x", 1, "ExtraWord"),
     ("A objectHandle", 1, "MissingWord"),
     ("A objectName /", 1, "BadNumber"),
     ("A objectName 1 2", 1, "ExtraWord"),
@@ -136,7 +145,7 @@ fn finds_faults_of_time_management(rt: HostRuntime) {
 }
 
 /// Scripts with no fault, and how many lines with a command each has.
-const SCRIPTS: [(&str, usize); 16] = [
+const SCRIPTS: [(&str, usize); 18] = [
     ("", 0usize),
     ("\r\n \t\n#A \n", 0),
     ("create\r\n\tjoin\tA \n", 2),
@@ -148,6 +157,14 @@ const SCRIPTS: [(&str, usize); 16] = [
     ),
     ("A delete 18446744073709551615\nA objectName 007", 2),
     ("A resign DELETE_OBJECTS_AND_RELEASE_ATTRIBUTES", 1),
+    (
+        "A attributeOrder 1 Car receive\nA attributeOrder 1 Car timestamp Pos Paint",
+        2,
+    ),
+    (
+        "A interactionOrder Hit receive\nA interactionOrder Hit timestamp",
+        2,
+    ),
     ("announce A\nannounce tick\njoin time", 3),
     ("A regulate 0 18446744073709551615\nA unregulate", 2),
     ("A constrain\nA unconstrain", 2),

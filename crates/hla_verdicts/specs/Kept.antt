@@ -34,9 +34,11 @@ directory_kept c d r = record {
   subscribed = d.subscribed;
   published_interaction = d.published_interaction;
   subscribed_interaction = d.subscribed_interaction;
+  interaction_orders = d.interaction_orders;
   next_object = r.next_object;
   object = r.object;
   known = r.known;
+  attribute_orders = r.orders;
 }
 
 abbrev pub directory_of : KeptValue → Directory

@@ -60,6 +60,8 @@ pub fn time_query_of(service: &Service) -> Option<Query>
         | Service::UpdateAttributeValues { .. }
         | Service::SendInteraction { .. }
         | Service::DeleteObjectInstance { .. }
+        | Service::ChangeAttributeOrderType { .. }
+        | Service::ChangeInteractionOrderType { .. }
         | Service::Retract { .. }
         | Service::EnableTimeRegulation { .. }
         | Service::DisableTimeConstrained

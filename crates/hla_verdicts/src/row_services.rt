@@ -59,6 +59,8 @@ pub fn row_change_of(service: &Service) -> Option<RowChange>
         | Service::UpdateAttributeValues { .. }
         | Service::SendInteraction { .. }
         | Service::DeleteObjectInstance { .. }
+        | Service::ChangeAttributeOrderType { .. }
+        | Service::ChangeInteractionOrderType { .. }
         | Service::Retract { .. }
         | Service::EnableTimeRegulation { .. }
         | Service::DisableTimeConstrained

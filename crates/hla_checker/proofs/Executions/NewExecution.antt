@@ -24,6 +24,7 @@ undeclared object_classes interaction_classes = record {
   subscribed = λ _ _. None;
   published_interaction = λ _ _. false;
   subscribed_interaction = λ _ _. false;
+  interaction_orders = λ _ _. None;
 }
 
 empty_bag : (g m : ℕ) → copy_at [] g m ≡ None

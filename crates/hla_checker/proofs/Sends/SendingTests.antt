@@ -6,11 +6,10 @@ use Rattle.std.proofs.lemmas.Bool.Decides.{nat_tests}
 use Rattle.hla_base.specs.declared.content.HandleValuePair.{HandleValuePair}
 use Rattle.hla_base.specs.declared.fault.Fault.{Fault}
 use Rattle.hla_base.specs.declared.fault.Fault.TheVariants as fault
-use Rattle.hla_catalogue.specs.Lookup.{attribute_order}
 use Rattle.hla_catalogue.specs.declared.declared.Order.{Order}
 use Rattle.hla_catalogue.specs.declared.declared.Order.TheVariants.{Receive, Timestamp}
 use Rattle.hla_base.specs.RowRefusals.{first_fault}
-use Rattle.hla_machine.specs.Directory.{Directory, Outgoing, put_pair, put_pairs, by_handle, is_of_order, part_sent, values_of_order, update_sent, deletions_sent, objects_of}
+use Rattle.hla_machine.specs.Directory.{Directory, Outgoing, put_pair, put_pairs, by_handle, is_of_order, part_sent, values_of_order, update_sent, deletions_sent, objects_of, order_of_attribute}
 use Rattle.hla_machine.specs.Machine.{central_seen}
 use Rattle.hla_machine.specs.Refusals.{call_tests, is_out_of_serials}
 use Rattle.hla_machine.specs.declared.service.Service.TheVariants as service
@@ -72,17 +71,17 @@ length-part order object p (x ∷ xs) = ⊎_elim
     (cases_Bool (p x))
 
 pub length-update : (d : Directory) (object : ℕ) (values : List HandleValuePair) → length (update_sent d object values)
-    ≡ cond (list_any (λ (v : HandleValuePair). is_of_order Receive (attribute_order d.catalogue v.handle)) values) 1 0
-    + cond (list_any (λ (v : HandleValuePair). is_of_order Timestamp (attribute_order d.catalogue v.handle)) values) 1 0
+    ≡ cond (list_any (λ (v : HandleValuePair). is_of_order Receive (order_of_attribute d object v.handle)) values) 1 0
+    + cond (list_any (λ (v : HandleValuePair). is_of_order Timestamp (order_of_attribute d object v.handle)) values) 1 0
 length-update d object values =
-    let one = part_sent Receive object (values_of_order d Receive (by_handle values)) in
-    let two = part_sent Timestamp object (values_of_order d Timestamp (by_handle values)) in
-    let first : length one ≡ cond (list_any (λ (v : HandleValuePair). is_of_order Receive (attribute_order d.catalogue v.handle)) values) 1 0
-    = length-part Receive object (λ v. is_of_order Receive (attribute_order d.catalogue v.handle)) (by_handle values)
-    ∙ ap (λ (b : Bool). cond b 1 0) (any-by_handle (λ h. is_of_order Receive (attribute_order d.catalogue h)) values) in
-    let second : length two ≡ cond (list_any (λ (v : HandleValuePair). is_of_order Timestamp (attribute_order d.catalogue v.handle)) values) 1 0
-    = length-part Timestamp object (λ v. is_of_order Timestamp (attribute_order d.catalogue v.handle)) (by_handle values)
-    ∙ ap (λ (b : Bool). cond b 1 0) (any-by_handle (λ h. is_of_order Timestamp (attribute_order d.catalogue h)) values) in
+    let one = part_sent Receive object (values_of_order d object Receive (by_handle values)) in
+    let two = part_sent Timestamp object (values_of_order d object Timestamp (by_handle values)) in
+    let first : length one ≡ cond (list_any (λ (v : HandleValuePair). is_of_order Receive (order_of_attribute d object v.handle)) values) 1 0
+    = length-part Receive object (λ v. is_of_order Receive (order_of_attribute d object v.handle)) (by_handle values)
+    ∙ ap (λ (b : Bool). cond b 1 0) (any-by_handle (λ h. is_of_order Receive (order_of_attribute d object h)) values) in
+    let second : length two ≡ cond (list_any (λ (v : HandleValuePair). is_of_order Timestamp (order_of_attribute d object v.handle)) values) 1 0
+    = length-part Timestamp object (λ v. is_of_order Timestamp (order_of_attribute d object v.handle)) (by_handle values)
+    ∙ ap (λ (b : Bool). cond b 1 0) (any-by_handle (λ h. is_of_order Timestamp (order_of_attribute d object h)) values) in
     length-append one two ∙ rw (first, second) refl
 
 -- ---- some part of an update goes in time-stamp order where some attribute does
@@ -109,13 +108,13 @@ any_part object p (x ∷ xs) = ⊎_elim
     (cases_Bool (p x))
 
 pub any_stamped : (d : Directory) (object : ℕ) (values : List HandleValuePair) → list_any is_stamped (update_sent d object values)
-    ≡ list_any (λ (v : HandleValuePair). is_of_order Timestamp (attribute_order d.catalogue v.handle)) values
+    ≡ list_any (λ (v : HandleValuePair). is_of_order Timestamp (order_of_attribute d object v.handle)) values
 any_stamped d object values =
-    let one = values_of_order d Receive (by_handle values) in
-    any_append (part_sent Receive object one) (part_sent Timestamp object (values_of_order d Timestamp (by_handle values)))
-    ∙ ap (λ (b : Bool). b || list_any is_stamped (part_sent Timestamp object (values_of_order d Timestamp (by_handle values)))) (none_received object one)
-    ∙ any_part object (λ v. is_of_order Timestamp (attribute_order d.catalogue v.handle)) (by_handle values)
-    ∙ any-by_handle (λ h. is_of_order Timestamp (attribute_order d.catalogue h)) values
+    let one = values_of_order d object Receive (by_handle values) in
+    any_append (part_sent Receive object one) (part_sent Timestamp object (values_of_order d object Timestamp (by_handle values)))
+    ∙ ap (λ (b : Bool). b || list_any is_stamped (part_sent Timestamp object (values_of_order d object Timestamp (by_handle values)))) (none_received object one)
+    ∙ any_part object (λ v. is_of_order Timestamp (order_of_attribute d object v.handle)) (by_handle values)
+    ∙ any-by_handle (λ h. is_of_order Timestamp (order_of_attribute d object h)) values
 
 pub one_stamped : (out : Outgoing) → list_any is_stamped (out ∷ []) ≡ is_stamped out
 one_stamped out = or_none (is_stamped out)

@@ -9,10 +9,9 @@ use Rattle.hla_base.specs.declared.content.HandleValuePair.{HandleValuePair}
 use Rattle.hla_base.specs.declared.number.EventHandle.{EventHandle}
 use Rattle.hla_base.specs.declared.row.TimeRow.{TimeRow}
 use Rattle.hla_base.proofs.Tables.{upd_same}
-use Rattle.hla_catalogue.specs.Lookup.{attribute_order}
 use Rattle.hla_catalogue.specs.declared.declared.Order.TheVariants.{Receive, Timestamp}
 use Rattle.hla_machine.specs.declared.service.Service.TheVariants as service
-use Rattle.hla_machine.specs.Directory.{Directory, Outgoing, by_handle, is_of_order, part_sent, values_of_order, update_sent}
+use Rattle.hla_machine.specs.Directory.{Directory, Outgoing, by_handle, is_of_order, part_sent, values_of_order, update_sent, order_of_attribute}
 use Rattle.hla_machine.specs.Central.{Central}
 use Rattle.hla_machine.specs.Refusals.{Seen, call_tests, is_out_of_serials}
 use Rattle.hla_machine.specs.Sends.{after_message, after_messages, sent_handle}
@@ -37,7 +36,7 @@ module _ (f : ℕ) (stamp : Option ℕ) where
       after_serial xs (after_message c f stamp x) ∙ omega (arith, next)
 
 -- ---- the parts of an update
-pub update_parts : (d : Directory) (object : ℕ) (values pairs received stamped : List HandleValuePair) → pairs ≡ by_handle values → received ≡ values_of_order d Receive pairs → stamped ≡ values_of_order d Timestamp pairs
+pub update_parts : (d : Directory) (object : ℕ) (values pairs received stamped : List HandleValuePair) → pairs ≡ by_handle values → received ≡ values_of_order d object Receive pairs → stamped ≡ values_of_order d object Timestamp pairs
     → part_sent Receive object received ++ part_sent Timestamp object stamped ≡ update_sent d object values
 update_parts d object values pairs received stamped sorted is_received is_stamped = rw (is_received, is_stamped, sorted) refl
 
@@ -68,19 +67,19 @@ module _ (f : ℕ) (r : TimeRow) (stamp : Option ℕ) (object : ℕ) where
   second_sent (v ∷ vs) false m is = absurd (omega (arith, is))
 
   pub update_handle_is : (d : Directory) (m n : ℕ) (values : List HandleValuePair) (received ordered sent : Bool)
-      → received ≡ list_any (λ (v : HandleValuePair). is_of_order Receive (attribute_order d.catalogue v.handle)) values
-      → ordered ≡ list_any (λ (v : HandleValuePair). is_of_order Timestamp (attribute_order d.catalogue v.handle)) values
+      → received ≡ list_any (λ (v : HandleValuePair). is_of_order Receive (order_of_attribute d object v.handle)) values
+      → ordered ≡ list_any (λ (v : HandleValuePair). is_of_order Timestamp (order_of_attribute d object v.handle)) values
       → sent ≡ is_sent_in_order r Timestamp stamp → n ≡ m + cond received 1 0
       → when (ordered && sent) (Some (record { sender = f; serial = n })) ≡ sent_handle f r stamp m (update_sent d object values)
   update_handle_is d m n values received ordered sent is_received is_ordered is_sent next =
-      let rs = values_of_order d Receive (by_handle values) in
-      let ts = values_of_order d Timestamp (by_handle values) in
+      let rs = values_of_order d object Receive (by_handle values) in
+      let ts = values_of_order d object Timestamp (by_handle values) in
       let first : length (part_sent Receive object rs) ≡ cond received 1 0
-      = length-part Receive object (λ v. is_of_order Receive (attribute_order d.catalogue v.handle)) (by_handle values)
-      ∙ ap (λ (b : Bool). cond b 1 0) (any-by_handle (λ h. is_of_order Receive (attribute_order d.catalogue h)) values ∙ sym is_received) in
+      = length-part Receive object (λ v. is_of_order Receive (order_of_attribute d object v.handle)) (by_handle values)
+      ∙ ap (λ (b : Bool). cond b 1 0) (any-by_handle (λ h. is_of_order Receive (order_of_attribute d object h)) values ∙ sym is_received) in
       let second : length (part_sent Timestamp object ts) ≡ cond ordered 1 0
-      = length-part Timestamp object (λ v. is_of_order Timestamp (attribute_order d.catalogue v.handle)) (by_handle values)
-      ∙ ap (λ (b : Bool). cond b 1 0) (any-by_handle (λ h. is_of_order Timestamp (attribute_order d.catalogue h)) values ∙ sym is_ordered) in
+      = length-part Timestamp object (λ v. is_of_order Timestamp (order_of_attribute d object v.handle)) (by_handle values)
+      ∙ ap (λ (b : Bool). cond b 1 0) (any-by_handle (λ h. is_of_order Timestamp (order_of_attribute d object h)) values ∙ sym is_ordered) in
       sym (first_sent rs (part_sent Timestamp object ts) (cond received 1 0) m first
       ∙ second_sent ts ordered (m + cond received 1 0) second
       ∙ ap (λ (b : Bool). when (ordered && b) (Some (record { sender = f; serial = m + cond received 1 0 }))) (sym is_sent)

@@ -8,7 +8,7 @@ use Rattle.hla_catalogue.specs.CatalogueValue.{CatalogueValue}
 use Rattle.hla_catalogue.specs.Lookup.{item_numbered, is_interaction_class, is_object_class}
 use Rattle.hla_declaration.specs.Lists.{DeclarationLists}
 use Rattle.hla_declaration.specs.Declarations.{DeclarationsValue, declarations_of}
-use Rattle.hla_declaration.proofs.EntryLemmas.{item_numbered_past}
+use Rattle.hla_catalogue.proofs.ItemLemmas.{item_numbered_past}
 use Rattle.hla_object_registry.specs.Registered.{RegistryValue, registry_of}
 use Rattle.hla_machine.specs.declared.service.Service.{Service}
 use Rattle.hla_machine.specs.declared.service.Service.TheVariants as service
@@ -45,7 +45,7 @@ done_judged v w new f x found out o same joined is ends plain may follows kept =
     (j.0, (j.1, kept))
 
 -- ---- numbers
-numbered : {X : Type 0} (xs : List X) (n : ℕ) → is_some (item_numbered xs n) ≡ true → (0 < n) × (n ≤ length xs)
+pub numbered : {X : Type 0} (xs : List X) (n : ℕ) → is_some (item_numbered xs n) ≡ true → (0 < n) × (n ≤ length xs)
 numbered xs zero is = absurd (false≢true is)
 numbered xs (suc k) is = (
   omega arith,

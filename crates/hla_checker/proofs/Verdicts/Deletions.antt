@@ -77,6 +77,7 @@ module _ (v : KeptValue) (decl : DeclarationLists) (objects : List Registered) (
   subscribed = (without_member (directory_of v) f).subscribed;
   published_interaction = (without_member (directory_of v) f).published_interaction;
   subscribed_interaction = (without_member (directory_of v) f).subscribed_interaction;
+  interaction_orders = (without_member (directory_of v) f).interaction_orders;
 }) (left_ : (d : Directory) → central_with (without_member d f) accounts ≡ after_leaving (central_with d v.accounts) f) where
   abbrev withdrawn_from : DeclarationsValue
   withdrawn_from = record (declarations_of v.declarations) {
@@ -84,6 +85,7 @@ module _ (v : KeptValue) (decl : DeclarationLists) (objects : List Registered) (
     subscribed = (without_member (directory_of v) f).subscribed;
     published_interaction = (without_member (directory_of v) f).published_interaction;
     subscribed_interaction = (without_member (directory_of v) f).subscribed_interaction;
+    interaction_orders = (without_member (directory_of v) f).interaction_orders;
   }
 
   pub left_central : registry_of objects ≡ without_owned (registry_of v.objects) f → central_of (record v { declarations = decl; objects = objects; accounts = accounts }) ≡ after_leaving (central_of v) f

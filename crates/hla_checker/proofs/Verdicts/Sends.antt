@@ -67,26 +67,26 @@ message_consistent v accounts f stamp out is k =
     record { federates = k.federates ∙ sym long; object_classes = k.object_classes; interaction_classes = k.interaction_classes }
 
 -- ---- services that answer with the handle of what they sent
-pub record IsSending (x : Service) (stamp : Option ℕ) (outs : Directory → List Outgoing) : Type 0 where
-  pub answers : (c : Central) (f : ℕ) (a : Answer) (o : Choice) → sent_in a ≡ Some (send_answer c f stamp (outs c.directory)) → MayAnswer c f x a o
-  pub only : (c : Central) (f : ℕ) (a : Answer) (o : Choice) → MayAnswer c f x a o → sent_in a ≡ Some (send_answer c f stamp (outs c.directory))
+pub record IsSending (x : Service) (stamp : Option ℕ) (outs : Directory → ℕ → List Outgoing) : Type 0 where
+  pub answers : (c : Central) (f : ℕ) (a : Answer) (o : Choice) → sent_in a ≡ Some (send_answer c f stamp (outs c.directory f)) → MayAnswer c f x a o
+  pub only : (c : Central) (f : ℕ) (a : Answer) (o : Choice) → MayAnswer c f x a o → sent_in a ≡ Some (send_answer c f stamp (outs c.directory f))
   pub plain : (o : Choice) → o ≡ choice.None → IsServiceChoice x o
   pub chooses : (o : Choice) → IsServiceChoice x o → o ≡ choice.None
-  pub after : (c : Central) (f : ℕ) (o : Choice) → after_call c f x o ≡ after_messages c f stamp (outs c.directory)
+  pub after : (c : Central) (f : ℕ) (o : Choice) → after_call c f x o ≡ after_messages c f stamp (outs c.directory f)
 
 some_is : (h g : Option EventHandle) → Some h ≡ Some g → h ≡ g
 some_is h g is = cc
 
 module _ (class : ℕ) (values : List HandleValuePair) (stamp : Option ℕ) where
-  interaction_answers : (c : Central) (f : ℕ) (a : Answer) (o : Choice) → sent_in a ≡ Some (send_answer c f stamp (interaction_sent c.directory class values)) → MayAnswer c f (service.SendInteraction class values stamp) a o
+  interaction_answers : (c : Central) (f : ℕ) (a : Answer) (o : Choice) → sent_in a ≡ Some (send_answer c f stamp (interaction_sent c.directory f class values)) → MayAnswer c f (service.SendInteraction class values stamp) a o
   interaction_answers c f (answer.Sent event) o is = some_is event _ is
   interaction_answers c f a o is = absurd (cc)
 
-  interaction_only : (c : Central) (f : ℕ) (a : Answer) (o : Choice) → MayAnswer c f (service.SendInteraction class values stamp) a o → sent_in a ≡ Some (send_answer c f stamp (interaction_sent c.directory class values))
+  interaction_only : (c : Central) (f : ℕ) (a : Answer) (o : Choice) → MayAnswer c f (service.SendInteraction class values stamp) a o → sent_in a ≡ Some (send_answer c f stamp (interaction_sent c.directory f class values))
   interaction_only c f (answer.Sent event) o may = ap Some may
   interaction_only c f a o may = absurd may
 
-  pub interaction_sending : IsSending (service.SendInteraction class values stamp) stamp (λ d. interaction_sent d class values)
+  pub interaction_sending : IsSending (service.SendInteraction class values stamp) stamp (λ d f. interaction_sent d f class values)
   interaction_sending = record { answers = interaction_answers; only = interaction_only; plain = λ o is. is; chooses = λ o is. is; after = λ c f o. refl }
 
 module _ (object : ℕ) (values : List HandleValuePair) (stamp : Option ℕ) where
@@ -98,18 +98,18 @@ module _ (object : ℕ) (values : List HandleValuePair) (stamp : Option ℕ) whe
   update_only c f (answer.Sent event) o may = ap Some may
   update_only c f a o may = absurd may
 
-  pub update_sending : IsSending (service.UpdateAttributeValues object values stamp) stamp (λ d. update_sent d object values)
+  pub update_sending : IsSending (service.UpdateAttributeValues object values stamp) stamp (λ d _. update_sent d object values)
   update_sending = record { answers = update_answers; only = update_only; plain = λ o is. is; chooses = λ o is. is; after = λ c f o. refl }
 
-module _ (c : Central) (f : ℕ) (x : Service) (stamp : Option ℕ) (outs : Directory → List Outgoing) (of : IsSending x stamp outs)
-    (out : Outcome) (a : Answer) (o : Choice) (handle : Option EventHandle) (same : handle ≡ send_answer c f stamp (outs c.directory)) (ended : out ≡ outcome.Done a) where
+module _ (c : Central) (f : ℕ) (x : Service) (stamp : Option ℕ) (outs : Directory → ℕ → List Outgoing) (of : IsSending x stamp outs)
+    (out : Outcome) (a : Answer) (o : Choice) (handle : Option EventHandle) (same : handle ≡ send_answer c f stamp (outs c.directory f)) (ended : out ≡ outcome.Done a) where
   pub sending_wrong : (d : Central) (b : Bool) → Decides b (sent_in a ≡ Some handle) → b ≡ false → JudgedCentral c (Call f x) out o d verdict.Wrong
   sending_wrong d b tests is =
       subst (λ (t : Outcome). JudgedCentral c (Call f x) t o d verdict.Wrong) (sym ended)
       (λ allowed. false≢true (sym is ∙ tests.1 (of.only c f a o allowed.0.1 ∙ ap Some (sym same))))
 
   pub sending_done : (d : Central) (found : Option Fault) → found ≡ refusal (central_seen c) (Call f x) → found ≡ None → sent_in a ≡ Some handle → o ≡ choice.None
-      → d ≡ after_messages c f stamp (outs c.directory) → JudgedCentral c (Call f x) out o d verdict.Allowed
+      → d ≡ after_messages c f stamp (outs c.directory f) → JudgedCentral c (Call f x) out o d verdict.Allowed
   sending_done d found is none told plain follows =
       subst (λ (t : Outcome). JudgedCentral c (Call f x) t o d verdict.Allowed) (sym ended)
       (((sym is ∙ none, of.answers c f a o (told ∙ ap Some same)), of.plain o plain), follows ∙ sym (of.after c f o))

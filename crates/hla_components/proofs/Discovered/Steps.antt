@@ -67,7 +67,7 @@ module _ (P : ℕ → ℕ → Type 0) (c : Central) (k : Discovering P c) (told 
   call_discovers f (service.Resign DeleteObjects) o none = let outs = deletions_sent (objects_of c.directory f) in quiet_discovers P c k _ (quiet_left c (after_messages c f None outs) f (quiet_sent c f None outs))
   call_discovers f (service.Resign NoAction) o none = quiet_discovers P c k _ (quiet_left c c f (quiet_same c))
   call_discovers f (service.UpdateAttributeValues object values stamp) o none = quiet_discovers P c k _ (quiet_sent c f stamp (update_sent c.directory object values))
-  call_discovers f (service.SendInteraction class values stamp) o none = quiet_discovers P c k _ (quiet_sent c f stamp (interaction_sent c.directory class values))
+  call_discovers f (service.SendInteraction class values stamp) o none = quiet_discovers P c k _ (quiet_sent c f stamp (interaction_sent c.directory f class values))
   call_discovers f (service.DeleteObjectInstance object stamp) o none =
       let outs = deletion_sent c.directory object in quiet_discovers P c k _ (quiet_deleted c (after_messages c f stamp outs) object (quiet_sent c f stamp outs))
   call_discovers f (service.EnableTimeRegulation time lookahead) o none = quiet_discovers P c k _ (enter_quiet c f lookahead o)

@@ -1,5 +1,5 @@
 -- What each step chooses, and of which form
-use Rattle.std.proofs.Common.{◌≡◌, ℕ, ◌+◌, ◌≤◌, not, ◌&&◌, Bool, true, false, refl, arith, ltb, filter, List, [], ◌∷◌, Option, Some, None, is_some}
+use Rattle.std.proofs.Common.{◌≡◌, ℕ, ◌+◌, ◌≤◌, ◌&&◌, false, refl, arith, ltb, filter, List, [], ◌∷◌, Some, None}
 use Rattle.std.proofs.lemmas.Bool.{cond_both}
 use Rattle.hla_base.specs.declared.content.Content.{Content}
 use Rattle.hla_base.specs.declared.content.Content.TheVariants as content
@@ -20,7 +20,7 @@ use Rattle.hla_machine.specs.declared.step.Outcome.TheVariants as outcome
 use Rattle.hla_machine.specs.declared.step.Choice.TheVariants as choice
 use Rattle.hla_machine.specs.Callbacks.{is_among}
 use Rattle.hla_machine.specs.Machine.{IsChoice, IsCallbackChoice, AreDistinct}
-use Rattle.hla_order_queues.specs.Queues.{occurrences, find_event, handles_of}
+use Rattle.hla_order_queues.specs.Queues.{occurrences, handles_of}
 use Rattle.hla_components.specs.Components.{Components}
 use Rattle.hla_components.specs.Component.{promise, local_bound}
 use Rattle.hla_local.specs.Picking.{pick, Pick, NoPick, PickControl, PickRo, PickRegulates, PickConstrains, PickTso, PickGrant, is_below}

@@ -84,7 +84,7 @@ call_counts : (s : Components) (f : ℕ) (x : Service) → Kept s → refusal (c
 call_counts s f (service.Resign DeleteObjects) kept none k = let outs = deletions_sent (objects_of s.directory f) in gone_counts (with_messages_sent s f None outs) f (same_counts s _ (sent_same s f None outs) k)
 call_counts s f (service.Resign NoAction) kept none k = gone_counts s f k
 call_counts s f (service.UpdateAttributeValues object values stamp) kept none k = same_counts s _ (sent_same s f stamp (update_sent s.directory object values)) k
-call_counts s f (service.SendInteraction class values stamp) kept none k = same_counts s _ (sent_same s f stamp (interaction_sent s.directory class values)) k
+call_counts s f (service.SendInteraction class values stamp) kept none k = same_counts s _ (sent_same s f stamp (interaction_sent s.directory f class values)) k
 call_counts s f (service.DeleteObjectInstance object stamp) kept none k = let same = sent_same s f stamp (deletion_sent s.directory object) in
     same_counts s _ (record { epoch = same.epoch; next = same.next; joined = same.joined; enablings = same.enablings }) k
 call_counts s f (service.EnableTimeRegulation time lookahead) kept none k =

@@ -1,19 +1,14 @@
 -- Records of the next-state function are a run of the machine.
-use Rattle.std.proofs.Common.{◌≡◌, ℕ, ◌+◌, cond, Bool, true, false, List, [], ◌∷◌, Option, Some, None, option_map, refl, sym, ap, subst, ◌∙◌}
+use Rattle.std.proofs.Common.{◌≡◌, ℕ, ◌+◌, cond, Bool, true, false, List, [], ◌∷◌, Option, Some, None, option_map, refl, ap, subst, ◌∙◌}
 use Rattle.std.proofs.Math.Path.{fun_ext}
 use Rattle.std.specs.Str.{bytes_eq}
 use Rattle.hla_base.specs.declared.fault.Fault.{Fault}
 use Rattle.hla_catalogue.specs.CatalogueValue.{CatalogueValue}
 use Rattle.hla_machine.specs.declared.step.Act.{Act}
 use Rattle.hla_machine.specs.declared.step.Act.TheVariants as act
-use Rattle.hla_machine.specs.declared.step.Answer.TheVariants as answer
-use Rattle.hla_machine.specs.declared.step.Outcome.{Outcome}
-use Rattle.hla_machine.specs.declared.step.Outcome.TheVariants as outcome
-use Rattle.hla_machine.specs.declared.step.Choice.{Choice}
 use Rattle.hla_machine.specs.declared.step.Step.{Step}
 use Rattle.hla_machine.specs.declared.step.Record.{Record}
 use Rattle.hla_machine.specs.Central.{Central, new_central}
-use Rattle.hla_machine.specs.Machine.{Allowed, after}
 use Rattle.hla_machine.specs.Runs as machine
 use Rattle.hla_machine.specs.Runs.{create_fault, destroy_fault, EndsAs, AllowedIn, AllowedAct, after_act, after_step_in, AreRun}
 use Rattle.hla_components.specs.Components.{Components, new_components}
@@ -21,7 +16,7 @@ use Rattle.hla_components.specs.CentralOf.{central}
 use Rattle.hla_components.specs.Invariant.{Inv}
 use Rattle.hla_components.specs.Next.{next}
 use Rattle.hla_components.proofs.Refinement.Runs.{each_step, inv_start, central_start}
-use Rattle.hla_components.specs.Executions.{Federations, no_federations, central_executions, set_federation, with_created, with_destroyed, Ending, ending_unless, step_in, next_act, after_record, IsNext, AreNext}
+use Rattle.hla_components.specs.Executions.{Federations, no_federations, central_executions, set_federation, with_created, with_destroyed, Ending, ending_unless, step_in, next_act, after_record, AreNext}
 
 -- what is there keeps what always holds
 record AreAllKept (x : Federations) : Type 0 where

@@ -35,7 +35,7 @@ use Rattle.hla_machine.proofs.Upkeep.CentralInvariant.{laws_after}
 use Rattle.hla_components.proofs.Refinement.Counts.{done_counts, counts_start}
 use Rattle.hla_components.proofs.Refinement.Choices.{step_choice, refused_choice}
 use Rattle.hla_components.proofs.Refinement.Picks.{PickFacts, pick_tells}
-use Rattle.hla_components.proofs.Services.Steps.{step_publish_class, step_unpublish_class, step_unsubscribe_class, step_publish_interaction, step_unpublish_interaction, step_subscribe_interaction, step_unsubscribe_interaction, step_send_interaction, step_event, step_null, step_nothing}
+use Rattle.hla_components.proofs.Services.Steps.{step_publish_class, step_unpublish_class, step_unsubscribe_class, step_publish_interaction, step_unpublish_interaction, step_subscribe_interaction, step_unsubscribe_interaction, step_interaction_order, step_attribute_orders, step_send_interaction, step_event, step_null, step_nothing}
 use Rattle.hla_components.proofs.Services.Ticks.{step_no_pick, step_ro}
 use Rattle.hla_components.proofs.Services.Joins.{row_start, step_join}
 use Rattle.hla_machine.proofs.Basics.Tests.{ticker_joined}
@@ -65,6 +65,8 @@ call_step s f (service.RegisterObjectInstance class name) inv none = step_regist
 call_step s f (service.UpdateAttributeValues object values stamp) inv none = step_update s f object values stamp inv.kept none
 call_step s f (service.SendInteraction class values stamp) inv none = step_send_interaction s f class values stamp inv.kept none
 call_step s f (service.DeleteObjectInstance object stamp) inv none = step_delete s f object stamp inv.kept none
+call_step s f (service.ChangeAttributeOrderType object attributes order) inv none = step_attribute_orders s f object attributes order inv.kept none
+call_step s f (service.ChangeInteractionOrderType class order) inv none = step_interaction_order s f class inv.kept order none
 call_step s f (service.Retract event) inv none = step_retract s f event inv.kept inv.laws none
 call_step s f (service.EnableTimeRegulation time lookahead) inv none = step_regulate s f time lookahead inv.kept none
 call_step s f service.DisableTimeRegulation inv none = step_stop s f inv.kept none

@@ -1,5 +1,5 @@
 -- What a tick and a message do to the state is what they do to one federate's component
-use Rattle.std.proofs.Common.{◌≡◌, ◌≤◌, ◌<◌, ⊎_elim, ℕ, ◌+◌, cond, eqb, ◌&&◌, Bool, true, false, Option, Some, None, IsSome, List, [], ◌∷◌, refl, sym, ap, subst, ◌∙◌, arith}
+use Rattle.std.proofs.Common.{◌≡◌, ◌≤◌, ◌<◌, ⊎_elim, ℕ, ◌+◌, eqb, true, false, Option, Some, None, IsSome, List, ◌∷◌, refl, sym, ap, subst, ◌∙◌, arith}
 use Rattle.std.proofs.lemmas.Bool.{cases_Bool, cases_lt}
 use Rattle.std.proofs.lemmas.Bool.Decides.{nat_tests}
 use Rattle.std.proofs.Math.Path.{fun_ext}
@@ -22,7 +22,7 @@ use Rattle.hla_local.specs.Arriving.{MayCome, local_accepting, peers_accepting}
 use Rattle.hla_machine.specs.declared.step.Answer.TheVariants as answer
 use Rattle.hla_components.specs.Components.{Components}
 use Rattle.hla_components.specs.Component.{local_bound}
-use Rattle.hla_components.specs.Invariant.{Inv, Carries, places_in}
+use Rattle.hla_components.specs.Invariant.{Inv}
 use Rattle.hla_components.specs.Next.{Outcomes, answer_outcome, chosen_outcome, carry_outcome, pick_outcome, tick_outcome}
 use Rattle.hla_components.specs.Locals.{local_of, KnowsPeers, with_local, callback_given, choice_given, carried_by, EachTickIsLocal, EachArrivalIsLocal, EachMessageMayCome}
 use Rattle.hla_components.proofs.Wiring.Queues.{find-none, find-occurs, occurs-cons}

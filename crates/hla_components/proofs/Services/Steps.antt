@@ -8,6 +8,7 @@ use Rattle.hla_base.specs.declared.row.TimeRow.{TimeRow}
 use Rattle.hla_base.specs.declared.row.Role.{Role}
 use Rattle.hla_base.specs.declared.row.Role.TheVariants.{Disabled, Pending, Enabled}
 use Rattle.hla_base.specs.declared.row.AdvanceRequest.{AdvanceRequest}
+use Rattle.hla_catalogue.specs.declared.declared.Order.{Order}
 use Rattle.hla_null_message.specs.declared.message.Message.{Message}
 use Rattle.hla_null_message.specs.declared.message.Message.TheVariants as message
 use Rattle.hla_base.specs.Tables.{is_other, upd2, upd_row, when}
@@ -38,7 +39,7 @@ use Rattle.hla_components.proofs.Wiring.Wires.{discoveries-put_event, discoverie
 use Rattle.hla_components.proofs.Upkeep.Times.{CarriesIn, time_sent, time_event_came, time_null_came}
 use Rattle.hla_components.proofs.Wiring.Copies.{copies_sent, copies_wires, copies_event_came}
 use Rattle.hla_components.proofs.Upkeep.Objects.{KeepsOwners, objects_grow, objects_wires, objects_event_came, objects_null_taken, tells_send}
-use Rattle.hla_components.proofs.Upkeep.Directories.{directory_published, directory_published_interaction, directory_subscribed_interaction, directory_unsubscribed}
+use Rattle.hla_components.proofs.Upkeep.Directories.{directory_published, directory_published_interaction, directory_subscribed_interaction, directory_unsubscribed, directory_ordered, directory_reordered}
 use Rattle.hla_components.proofs.Upkeep.Bounds.{wire_from}
 use Rattle.hla_machine.proofs.Basics.Bags.{option_map-some, central_ext}
 use Rattle.hla_components.proofs.Basics.Each.{EachOf-weaker}
@@ -110,6 +111,22 @@ module _ (s : Components) (f class : ℕ) (kept : Kept s) where
     allowed = (none, tt);
     follows = refl;
   }
+
+  pub step_interaction_order : (order : Order) → refusal (components_seen s) (Call f (service.ChangeInteractionOrderType class order)) ≡ None
+      → IsKeptStep s (Call f (service.ChangeInteractionOrderType class order)) (step_outcome s (Call f (service.ChangeInteractionOrderType class order)))
+  step_interaction_order order none = record {
+    kept = kept_directory s _ kept (directory_ordered s.directory f class order kept.directory) (steady s _ (λ _. refl) (λ _ _ k. k) (omega arith)) refl refl;
+    allowed = (none, tt);
+    follows = refl;
+  }
+
+pub step_attribute_orders : (s : Components) (f object : ℕ) (attributes : List ℕ) (order : Order) → Kept s → refusal (components_seen s) (Call f (service.ChangeAttributeOrderType object attributes order)) ≡ None
+    → IsKeptStep s (Call f (service.ChangeAttributeOrderType object attributes order)) (step_outcome s (Call f (service.ChangeAttributeOrderType object attributes order)))
+step_attribute_orders s f object attributes order kept none = record {
+  kept = kept_directory s _ kept (directory_reordered s.directory object attributes order kept.directory) (steady s _ (λ _. refl) (λ _ _ k. k) (omega arith)) refl refl;
+  allowed = (none, tt);
+  follows = refl;
+}
 
 -- ---- sending
 pub regulator_from : (r : Role) → is_enabled r ≡ true → not (is_disabled r) ≡ true
@@ -212,7 +229,7 @@ interaction_told d f k class values x is = let w = option_map-some _ _ x is in s
 pub step_send_interaction : (s : Components) (f class : ℕ) (values : List HandleValuePair) (stamp : Option ℕ) → Kept s → refusal (components_seen s) (Call f (service.SendInteraction class values stamp)) ≡ None
     → IsKeptStep s (Call f (service.SendInteraction class values stamp)) (step_outcome s (Call f (service.SendInteraction class values stamp)))
 step_send_interaction s f class values stamp kept none =
-    let outs = interaction_sent s.directory class values in
+    let outs = interaction_sent s.directory f class values in
     let member = caller_joined (components_seen s) f (service.SendInteraction class values stamp) none in
     let clear = clear_call (components_seen s) f (service.SendInteraction class values stamp) none in
     let fine : is_bad_stamp (s.row f) stamp outs ≡ false = clear.1.1.1.0 in

@@ -10,10 +10,9 @@ use Rattle.hla_base.specs.Tables.{is_other}
 use Rattle.hla_base.specs.Rows.{least_stamp}
 use Rattle.hla_catalogue.specs.declared.declared.Order.{Order}
 use Rattle.hla_catalogue.specs.declared.declared.Order.TheVariants.{Receive, Timestamp}
-use Rattle.hla_catalogue.specs.Lookup.{deletion_order}
 use Rattle.hla_machine.specs.declared.service.Service.TheVariants as service
 use Rattle.hla_machine.specs.declared.step.Step.TheVariants.{Call}
-use Rattle.hla_machine.specs.Directory.{Directory, Outgoing, AnUpdate, ADeletion, content_for, reflection_of, subscribed_values, served_object, part_sent, values_of_order, by_handle, update_sent, deletion_sent, without_object}
+use Rattle.hla_machine.specs.Directory.{Directory, Outgoing, AnUpdate, ADeletion, content_for, reflection_of, subscribed_values, served_object, part_sent, values_of_order, by_handle, update_sent, deletion_sent, without_object, order_of_deletion}
 use Rattle.hla_machine.specs.Central.{Central}
 use Rattle.hla_machine.specs.Sends.{is_ordered}
 use Rattle.hla_machine.specs.Refusals.{refusal, is_owned}
@@ -62,8 +61,8 @@ module _ (d : Directory) (inv : DirectoryInv d) (f object : ℕ) (exists : (d.ob
   part_told order (v ∷ vs) = (update_told (v ∷ vs), tt)
 
   updates_told : (values : List HandleValuePair) → EachOf (Told d f) (update_sent d object values)
-  updates_told values = EachOf-append (Told d f) (part_sent Receive object (values_of_order d Receive (by_handle values))) (part_sent Timestamp object (values_of_order d Timestamp (by_handle values)))
-      (part_told Receive (values_of_order d Receive (by_handle values))) (part_told Timestamp (values_of_order d Timestamp (by_handle values)))
+  updates_told values = EachOf-append (Told d f) (part_sent Receive object (values_of_order d object Receive (by_handle values))) (part_sent Timestamp object (values_of_order d object Timestamp (by_handle values)))
+      (part_told Receive (values_of_order d object Receive (by_handle values))) (part_told Timestamp (values_of_order d object Timestamp (by_handle values)))
 
   pub deletion_told : (order : Order) → Told d f (record { order = order; body = ADeletion object })
   deletion_told order k x other is =
@@ -102,7 +101,7 @@ step_delete s f object stamp kept none =
     let c1 = clear.1 in let c2 = c1.1 in
     let exists : (s.directory.object object).exists ≡ true = (and_parts _ _ (not-is-false _ clear.0)).0 in
     let owner : (s.directory.object object).owner ≡ f = eqb-true _ _ (not-is-false _ c1.0) in
-    let told : EachOf (Told s.directory f) outs = (deletion_told s.directory kept.directory f object exists owner (deletion_order s.directory.catalogue (s.directory.object object).class), tt) in
+    let told : EachOf (Told s.directory f) outs = (deletion_told s.directory kept.directory f object exists owner (order_of_deletion s.directory object), tt) in
     let may = sendable s f stamp outs (high_stamps (s.row f) stamp outs c2.0) told in
     let sent = kept_sent_all s f stamp outs kept member may in
     record {

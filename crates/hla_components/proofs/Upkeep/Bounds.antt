@@ -1,11 +1,11 @@
 -- What a component's stale bound says of the central state
-use Rattle.std.proofs.Common.{◌≡◌, ◌≢◌, ◌⊎◌, ℕ, ◌-◌, ◌≤◌, ◌<◌, cond, Bool, true, false, refl, le_trans, inl, inr, ⊎_elim, arith, List, Option, Some, None, option_map}
+use Rattle.std.proofs.Common.{◌≡◌, ◌≢◌, ◌⊎◌, ℕ, ◌-◌, ◌≤◌, ◌<◌, cond, Bool, true, false, refl, le_trans, inl, inr, ⊎_elim, arith, List, Option, Some, None}
 use Rattle.std.proofs.lemmas.Bool.{cases_lt, and_from, and_parts, cases_Bool, ltb-true}
 use Rattle.std.proofs.lemmas.Bool.Decides.{nat_tests}
 use Rattle.hla_base.specs.declared.content.Event.{Event}
 use Rattle.hla_base.specs.declared.row.AdvanceRequest.{AdvanceRequest}
 use Rattle.hla_null_message.specs.declared.message.Message.{Message}
-use Rattle.hla_base.specs.Tables.{or_else, is_other}
+use Rattle.hla_base.specs.Tables.{is_other}
 use Rattle.hla_base.specs.Rows.{next_request, width}
 use Rattle.hla_machine.specs.Central.{Copy, Ro, Tso, Demoted, BelowAllTso, BelowWake, BelowRequest, BelowOut, BelowBound}
 use Rattle.hla_order_queues.specs.Queues.{find_event, first_stamp}

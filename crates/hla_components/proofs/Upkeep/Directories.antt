@@ -4,8 +4,9 @@ use Rattle.std.proofs.lemmas.Bool.{cond_both, cases_Bool, and_parts, and_from}
 use Rattle.std.specs.List.{find}
 use Rattle.hla_base.specs.Tables.{upd, upd2}
 use Rattle.hla_catalogue.specs.CatalogueValue.{CatalogueValue}
+use Rattle.hla_catalogue.specs.declared.declared.Order.{Order}
 use Rattle.hla_catalogue.specs.Lookup.{object_lineage}
-use Rattle.hla_machine.specs.Directory.{Directory, Object, new_directory, served_object, discovery_at, discovery_of, with_discoveries_made, with_object_discovered, with_member, without_member, with_published, with_subscribed, with_published_interaction, with_subscribed_interaction, with_object, without_object}
+use Rattle.hla_machine.specs.Directory.{Directory, Object, new_directory, served_object, discovery_at, discovery_of, with_discoveries_made, with_object_discovered, with_member, without_member, with_published, with_subscribed, with_published_interaction, with_subscribed_interaction, with_object, without_object, with_attribute_orders, with_interaction_order}
 use Rattle.hla_components.specs.Invariant.{DirectoryInv}
 use Rattle.hla_base.proofs.Tables.{upd_each, by_number, upd_same, upd_other, upd2_other, upd2_each}
 use Rattle.hla_components.proofs.Upkeep.Objects.{KeepsOwners}
@@ -40,6 +41,12 @@ directory_published d f class o inv = record { members = inv.members; owners = i
 
 pub directory_published_interaction : (d : Directory) (f class : ℕ) (b : Bool) → DirectoryInv d → DirectoryInv (with_published_interaction d f class b)
 directory_published_interaction d f class b inv = record { members = inv.members; owners = inv.owners; served = inv.served; declared = inv.declared }
+
+pub directory_ordered : (d : Directory) (f class : ℕ) (order : Order) → DirectoryInv d → DirectoryInv (with_interaction_order d f class order)
+directory_ordered d f class order inv = record { members = inv.members; owners = inv.owners; served = inv.served; declared = inv.declared }
+
+pub directory_reordered : (d : Directory) (h : ℕ) (attributes : List ℕ) (order : Order) → DirectoryInv d → DirectoryInv (with_attribute_orders d h attributes order)
+directory_reordered d h attributes order inv = record { members = inv.members; owners = inv.owners; served = inv.served; declared = inv.declared }
 
 pub directory_subscribed_interaction : (d : Directory) (f class : ℕ) (b : Bool) → DirectoryInv d → DirectoryInv (with_subscribed_interaction d f class b)
 directory_subscribed_interaction d f class b inv = record { members = inv.members; owners = inv.owners; served = inv.served; declared = inv.declared }

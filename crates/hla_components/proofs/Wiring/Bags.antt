@@ -1,8 +1,7 @@
 -- What the bag is after each change of a federation
-use Rattle.std.proofs.Common.{◌≡◌, ◌≢◌, ◌⊎◌, ℕ, ◌+◌, ◌≤◌, cond, eqb, ◌&&◌, Bool, true, false, refl, sym, ap, ◌∙◌, inl, inr, subst, ⊎_elim, arith, eqb-true, eq-eqb, ne_eqb, List, [], ◌∷◌, ◌++◌, Option, Some, None, option_map}
+use Rattle.std.proofs.Common.{◌≡◌, ◌≢◌, ◌⊎◌, ℕ, ◌+◌, ◌≤◌, cond, true, false, refl, sym, ap, ◌∙◌, inl, inr, ⊎_elim, arith, eq-eqb, List, [], ◌∷◌, ◌++◌, Option, Some, None, option_map}
 use Rattle.std.proofs.lemmas.Bool.{cond_both, and_parts, and_cases, and_from, cases_Bool, not-true, not-false}
 use Rattle.std.proofs.lemmas.Bool.Decides.{nat_tests}
-use Rattle.std.proofs.Math.Path.{fun_ext}
 use Rattle.hla_base.specs.declared.content.Content.{Content}
 use Rattle.hla_base.specs.declared.content.Event.{Event}
 use Rattle.hla_null_message.specs.declared.message.Message.{Message}
@@ -10,7 +9,7 @@ use Rattle.hla_null_message.specs.declared.message.Message.TheVariants as messag
 use Rattle.hla_base.specs.Tables.{or_else, is_other, upd, upd2}
 use Rattle.hla_base.specs.Rows.{is_disabled}
 use Rattle.hla_machine.specs.Directory.{Outgoing, content_for}
-use Rattle.hla_machine.specs.Central.{Central, Copy, Ro, Tso, at3, is_key, at_key, with_copies, demoted_copy}
+use Rattle.hla_machine.specs.Central.{Copy, Ro, Tso, is_key, at_key, with_copies, demoted_copy}
 use Rattle.hla_machine.specs.Sends.{is_ordered, kept_stamp, copy_for}
 use Rattle.hla_order_queues.specs.Queues.{is_event, find_event, occurrences, insert_event}
 use Rattle.hla_null_message.specs.Wires.{events}
@@ -18,7 +17,7 @@ use Rattle.hla_components.specs.Components.{Components}
 use Rattle.hla_components.specs.Next.{put_event, event_of, with_message_sent, with_event_accepted}
 use Rattle.hla_local.specs.Arriving.{is_kept_in_order}
 use Rattle.hla_components.specs.CentralOf.{wire_copy, tso_copy, ro_copy, bag_of}
-use Rattle.hla_machine.proofs.Basics.Bags.{bag_ext, central_ext, or_else-none, key_parts, by_key, copies_here, copies_else, at_key_here, at_key_else, at3_here, at3_else, at_key_self, key_other_number, key_other_sender}
+use Rattle.hla_machine.proofs.Basics.Bags.{bag_ext, or_else-none, by_key, copies_here, copies_else, at_key_here, at_key_else, at_key_self, key_other_number, key_other_sender}
 use Rattle.hla_base.proofs.Tables.{by_number, upd_same, upd_other, upd_row_here, upd_row_self, upd_row_other, upd2_same, upd2_other}
 use Rattle.hla_components.proofs.Wiring.Queues.{find-none, find-append, find-insert, find-cons, occurs-cons, find-occurs}
 use Rattle.hla_components.proofs.Wiring.Wires.{events-put_event, find-front, occurs-event}

@@ -5,6 +5,7 @@ use Rattle.hla_machine.specs.declared.service.ResignAction.TheVariants as action
 use Rattle.hla_machine.specs.declared.step.Answer.TheVariants as answer
 use Rattle.hla_machine.specs.declared.step.Carried.TheVariants as carried
 use Rattle.hla_base.specs.declared.fault.Fault.TheVariants as fault
+use Rattle.hla_catalogue.specs.declared.declared.Order.TheVariants.{Receive, Timestamp}
 use Rattle.hla_callbacks.specs.declared.callback.Callback.TheVariants as callback
 use Rattle.hla_callbacks.specs.declared.callback.Delivery.TheVariants as delivery
 use Rattle.hla_machine.specs.declared.step.Step.TheVariants.{Join, Call, Carry, Announce, Tick}
@@ -81,6 +82,36 @@ TwoOrdersAndATie = Shows (
     ∷ Tick C ⟶ outcome_ticked (callback.ReflectAttributeValues 1 (pair pos_attribute (codes "3") ∷ []) (event 1 2) (delivery.TimeStamp 5))
     ∷ Tick C ⟶ outcome_ticked (callback.ReceiveInteraction hit_class [] (event 2 1) (delivery.TimeStamp 5))
     ∷ Tick C ⟶ outcome_ticked (callback.TimeAdvanceGrant 5)
+    ∷ [])
+
+-- a federate that changes the order of its hits, and that of an attribute of its car, changes what it sends from then on
+abbrev pub OrdersThatChange : Type 0
+OrdersThatChange = Shows (
+    Join (codes "A") ⟶ outcome_with (answer.Federate 1)
+    ∷ Join (codes "B") ⟶ outcome_with (answer.Federate 2)
+    ∷ Call A (service.PublishInteractionClass hit_class) ⟶ ok
+    ∷ Call B (service.SubscribeInteractionClass hit_class) ⟶ ok
+    ∷ Call A (service.PublishObjectClass car_class (pos_attribute ∷ paint_attribute ∷ [])) ⟶ ok
+    ∷ Call B (service.SubscribeObjectClassAttributes car_class (pos_attribute ∷ paint_attribute ∷ [])) ⟶ ok
+    ∷ Call A (service.RegisterObjectInstance car_class None) ⟶ outcome_with (answer.Registered 1 (codes "object-1"))
+    ∷ Call A (service.EnableTimeRegulation 0 1) ⟶ ok
+    ∷ Tick A ⟶ outcome_ticked (callback.TimeRegulationEnabled 0)
+    ∷ Call A (service.SendInteraction hit_class [] (Some 9)) ⟶ outcome_sent (Some (event 1 1))
+    ∷ Call A (service.ChangeInteractionOrderType hit_class Receive) ⟶ ok
+    ∷ Call A (service.SendInteraction hit_class [] (Some 9)) ⟶ outcome_sent None
+    ∷ Call B (service.ChangeInteractionOrderType hit_class Timestamp) ⟶ outcome_refused fault.InteractionClassNotPublished
+    ∷ Call A (service.ChangeAttributeOrderType 1 (paint_attribute ∷ []) Timestamp) ⟶ ok
+    ∷ Call A (service.UpdateAttributeValues 1 (pair pos_attribute (codes "3") ∷ pair paint_attribute (codes "red") ∷ []) (Some 9)) ⟶ outcome_sent (Some (event 1 3))
+    ∷ Call B (service.ChangeAttributeOrderType 1 (paint_attribute ∷ []) Receive) ⟶ outcome_refused fault.AttributeNotOwned
+    ∷ Carry A B ⟶ outcome_carried (carried.Discovery 1)
+    ∷ Carry A B ⟶ outcome_carried (carried.Null 1)
+    ∷ Carry A B ⟶ outcome_carried (carried.Event (event 1 1))
+    ∷ Carry A B ⟶ outcome_carried (carried.Event (event 1 2))
+    ∷ Carry A B ⟶ outcome_carried (carried.Event (event 1 3))
+    ∷ Tick B ⟶ outcome_ticked (callback.DiscoverObjectInstance 1 car_class (codes "object-1"))
+    ∷ Tick B ⟶ outcome_ticked (callback.ReceiveInteraction hit_class [] (event 1 1) (delivery.Demoted 9))
+    ∷ Tick B ⟶ outcome_ticked (callback.ReceiveInteraction hit_class [] (event 1 2) delivery.Receive)
+    ∷ Tick B ⟶ outcome_ticked (callback.ReflectAttributeValues 1 (pair pos_attribute (codes "3") ∷ pair paint_attribute (codes "red") ∷ []) (event 1 3) (delivery.Demoted 9))
     ∷ [])
 
 -- joining under a name in use, resigning with objects, an action that is not offered, a federate that has resigned

@@ -9,7 +9,6 @@ use Rattle.hla_base.specs.declared.content.HandleValuePair.{HandleValuePair}
 use Rattle.hla_base.specs.declared.row.TimeRow.{TimeRow}
 use Rattle.hla_base.specs.Tables.{one_if}
 use Rattle.hla_catalogue.specs.CatalogueValue.{CatalogueValue}
-use Rattle.hla_catalogue.specs.Lookup.{attribute_order}
 use Rattle.hla_catalogue.specs.declared.declared.Order.{Order}
 use Rattle.hla_catalogue.specs.declared.declared.Order.TheVariants.{Receive, Timestamp}
 use Rattle.hla_declaration.specs.Declarations.{DeclarationsValue}
@@ -22,7 +21,7 @@ use Rattle.hla_machine.specs.declared.service.Service.{Service}
 use Rattle.hla_machine.specs.declared.step.Answer.{Answer}
 use Rattle.hla_machine.specs.declared.step.Outcome.TheVariants as outcome
 use Rattle.hla_machine.specs.declared.step.Step.TheVariants.{Call, Tick}
-use Rattle.hla_machine.specs.Directory.{Directory, by_handle, is_of_order, part_sent, values_of_order, update_sent}
+use Rattle.hla_machine.specs.Directory.{Directory, by_handle, is_of_order, part_sent, values_of_order, update_sent, order_of_attribute}
 use Rattle.hla_machine.specs.Refusals.{refusal, call_tests, is_out_of_serials}
 use Rattle.hla_machine.specs.Sends.{sent_handle}
 use Rattle.hla_members.specs.Noting.{handle_noted}
@@ -37,7 +36,7 @@ use Rattle.hla_federation.specs.Steps.State.{Answers, AreWhole, state_of, state_
 use Rattle.hla_federation.proofs.Steps.Declaring.{bound_of}
 use Rattle.hla_federation.proofs.Steps.Doing.{does_next}
 use Rattle.hla_federation.proofs.Steps.Noting.{parts_handle}
-use Rattle.hla_federation.proofs.Steps.Updates.{any-by_handle, length-part, length-update}
+use Rattle.hla_federation.proofs.Steps.Updates.{any-by_handle, length-part}
 
 -- a joined federate is refused by the tests of its service
 pub called : (v : FederationValue) (f : ℕ) (x : Service) → MayCall v f → refusal (components_seen (state_of v)) (Call f x) ≡ first_fault (call_tests (components_seen (state_of v)) f x)
@@ -66,11 +65,11 @@ answers_allowed v f x (Err e) none refused = elim refused.0 [
 ]
 
 -- ---- the handle of an update
-abbrev has_of : Directory → Order → List HandleValuePair → Bool
-has_of d order values = list_any (λ (v : HandleValuePair). is_of_order order (attribute_order d.catalogue v.handle)) values
+abbrev has_of : Directory → ℕ → Order → List HandleValuePair → Bool
+has_of d object order values = list_any (λ (v : HandleValuePair). is_of_order order (order_of_attribute d object v.handle)) values
 
-part_count : (d : Directory) (made order : Order) (object : ℕ) (values : List HandleValuePair) → length (part_sent made object (values_of_order d order (by_handle values))) ≡ cond (has_of d order values) 1 0
-part_count d made order object values = length-part made object (λ v. is_of_order order (attribute_order d.catalogue v.handle)) (by_handle values) ∙ ap (λ (b : Bool). cond b 1 0) (any-by_handle (λ h. is_of_order order (attribute_order d.catalogue h)) values)
+part_count : (d : Directory) (made order : Order) (object : ℕ) (values : List HandleValuePair) → length (part_sent made object (values_of_order d object order (by_handle values))) ≡ cond (has_of d object order values) 1 0
+part_count d made order object values = length-part made object (λ v. is_of_order order (order_of_attribute d object v.handle)) (by_handle values) ∙ ap (λ (b : Bool). cond b 1 0) (any-by_handle (λ h. is_of_order order (order_of_attribute d object h)) values)
 
 abbrev told_of : Bool → Option (List Bool)
 told_of b = cond b (Some []) None
@@ -83,22 +82,20 @@ handle_of_noted : (f serial : ℕ) (o : Option ℕ) → handle_noted f (option_m
 handle_of_noted f serial None = refl
 handle_of_noted f serial (Some t) = refl
 
-pub update_handle_at : (d : Directory) (f m serial : ℕ) (r : TimeRow) (stamp : Option ℕ) (object : ℕ) (values : List HandleValuePair) → serial ≡ m + cond (has_of d Receive values) 1 0
-    → sent_handle f r stamp m (update_sent d object values) ≡ cond (has_of d Timestamp values) (handle_under (heading_of f serial r stamp Timestamp)) None
+pub update_handle_at : (d : Directory) (f m serial : ℕ) (r : TimeRow) (stamp : Option ℕ) (object : ℕ) (values : List HandleValuePair) → serial ≡ m + cond (has_of d object Receive values) 1 0
+    → sent_handle f r stamp m (update_sent d object values) ≡ cond (has_of d object Timestamp values) (handle_under (heading_of f serial r stamp Timestamp)) None
 update_handle_at d f m serial r stamp object values is =
-    parts_handle d f m serial r stamp object (values_of_order d Receive (by_handle values)) (values_of_order d Timestamp (by_handle values)) (told_of (has_of d Timestamp values))
+    parts_handle d f m serial r stamp object (values_of_order d object Receive (by_handle values)) (values_of_order d object Timestamp (by_handle values)) (told_of (has_of d object Timestamp values))
     (is ∙ ap (λ (k : ℕ). m + k) (sym (part_count d Receive Receive object values)))
-    (told_one (has_of d Timestamp values) ∙ sym (part_count d Receive Timestamp object values))
-    ∙ by_told (has_of d Timestamp values)
+    (told_one (has_of d object Timestamp values) ∙ sym (part_count d Receive Timestamp object values))
+    ∙ by_told (has_of d object Timestamp values)
   where
     by_told : (b : Bool) → handle_noted f (option_and_then (λ rs. note_under (heading_of f serial r stamp Timestamp) rs) (told_of b)) ≡ cond b (handle_under (heading_of f serial r stamp Timestamp)) None
     by_told true = handle_of_noted f serial (heading_of f serial r stamp Timestamp).stamp
     by_told false = refl
 
-pub few_serials : (d : Directory) (serial object other : ℕ) (values : List HandleValuePair) → is_out_of_serials serial (update_sent d object values) ≡ false → serial + length (update_sent d other values) ≤ 1000000000000000001
-few_serials d serial object other values none =
-    let few : serial + length (update_sent d object values) ≤ 1000000000000000001 = grind (arith, nat_tests) in
-    omega (arith, few, length-update d object values, length-update d other values)
+pub few_serials : (d : Directory) (serial object : ℕ) (values : List HandleValuePair) → is_out_of_serials serial (update_sent d object values) ≡ false → serial + length (update_sent d object values) ≤ 1000000000000000001
+few_serials d serial object values none = grind (arith, nat_tests)
 
 -- ---- the copy of what a tick would give
 or-second : (a b : Bool) → b ≡ true → a || b ≡ true

@@ -152,7 +152,7 @@ posted_last s f m outs next o is numbers = fun_ext (λ g. fun_ext (λ h. at g h)
 -- ---- leaving
 module _ (c : CatalogueValue) (d : DeclarationsValue) (r : RegistryValue) (m : MemberTables) (f : ℕ) where
   abbrev pub withdrawn_declarations : DeclarationsValue
-  withdrawn_declarations = record d { published = upd d.published f (λ _. None); subscribed = upd d.subscribed f (λ _. None); published_interaction = upd d.published_interaction f (λ _. false); subscribed_interaction = upd d.subscribed_interaction f (λ _. false) }
+  withdrawn_declarations = record d { published = upd d.published f (λ _. None); subscribed = upd d.subscribed f (λ _. None); published_interaction = upd d.published_interaction f (λ _. false); subscribed_interaction = upd d.subscribed_interaction f (λ _. false); interaction_orders = upd d.interaction_orders f (λ _. None) }
 
   abbrev left_member : LocalValue
   left_member = resigned_local (m.local f)

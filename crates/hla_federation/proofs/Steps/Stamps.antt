@@ -9,9 +9,8 @@ use Rattle.hla_base.specs.declared.fault.Fault.{Fault}
 use Rattle.hla_base.specs.declared.fault.Fault.TheVariants as fault
 use Rattle.hla_base.specs.declared.row.TimeRow.{TimeRow}
 use Rattle.hla_base.specs.Rows.{is_enabled, least_stamp}
-use Rattle.hla_catalogue.specs.Lookup.{attribute_order}
 use Rattle.hla_catalogue.specs.declared.declared.Order.TheVariants.{Receive, Timestamp}
-use Rattle.hla_machine.specs.Directory.{Directory, Outgoing, by_handle, is_of_order, part_sent, values_of_order, update_sent}
+use Rattle.hla_machine.specs.Directory.{Directory, Outgoing, by_handle, is_of_order, part_sent, values_of_order, update_sent, order_of_attribute}
 use Rattle.hla_machine.specs.Refusals.{is_bad_stamp}
 use Rattle.hla_machine.specs.Sends.{is_ordered, is_some_ordered}
 use Rattle.hla_federation.proofs.Steps.Updates.{any-by_handle}
@@ -40,13 +39,13 @@ any_part object p (x ∷ xs) = ⊎_elim
     (cases_Bool (p x))
 
 pub any_stamped : (d : Directory) (object : ℕ) (values : List HandleValuePair) → list_any is_stamped (update_sent d object values)
-    ≡ list_any (λ (v : HandleValuePair). is_of_order Timestamp (attribute_order d.catalogue v.handle)) values
+    ≡ list_any (λ (v : HandleValuePair). is_of_order Timestamp (order_of_attribute d object v.handle)) values
 any_stamped d object values =
-    let one = values_of_order d Receive (by_handle values) in
-    any_append (part_sent Receive object one) (part_sent Timestamp object (values_of_order d Timestamp (by_handle values)))
-    ∙ ap (λ (b : Bool). b || list_any is_stamped (part_sent Timestamp object (values_of_order d Timestamp (by_handle values)))) (none_received object one)
-    ∙ any_part object (λ v. is_of_order Timestamp (attribute_order d.catalogue v.handle)) (by_handle values)
-    ∙ any-by_handle (λ h. is_of_order Timestamp (attribute_order d.catalogue h)) values
+    let one = values_of_order d object Receive (by_handle values) in
+    any_append (part_sent Receive object one) (part_sent Timestamp object (values_of_order d object Timestamp (by_handle values)))
+    ∙ ap (λ (b : Bool). b || list_any is_stamped (part_sent Timestamp object (values_of_order d object Timestamp (by_handle values)))) (none_received object one)
+    ∙ any_part object (λ v. is_of_order Timestamp (order_of_attribute d object v.handle)) (by_handle values)
+    ∙ any-by_handle (λ h. is_of_order Timestamp (order_of_attribute d object h)) values
 
 pub one_stamped : (out : Outgoing) → list_any is_stamped (out ∷ []) ≡ is_stamped out
 one_stamped out = or_none (is_stamped out)

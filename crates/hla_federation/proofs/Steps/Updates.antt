@@ -8,7 +8,6 @@ use Rattle.std.proofs.lemmas.List.{append-nil}
 use Rattle.hla_base.specs.declared.content.HandleValuePair.{HandleValuePair}
 use Rattle.hla_base.specs.declared.fault.Fault.{Fault}
 use Rattle.hla_base.specs.declared.fault.Fault.TheVariants as fault
-use Rattle.hla_catalogue.specs.Lookup.{attribute_order}
 use Rattle.hla_catalogue.specs.declared.declared.Order.{Order}
 use Rattle.hla_catalogue.specs.declared.declared.Order.TheVariants.{Receive, Timestamp}
 use Rattle.hla_base.specs.declared.row.TimeRow.{TimeRow}
@@ -18,7 +17,7 @@ use Rattle.hla_machine.specs.Sends.{sent_handle}
 use Rattle.hla_base.specs.Tables.{one_if}
 use Rattle.hla_retraction.specs.SentEvents.{SentEvent}
 use Rattle.hla_retraction.specs.Receivers.{receiver_set}
-use Rattle.hla_machine.specs.Directory.{Directory, Outgoing, AnUpdate, put_pair, put_pairs, by_handle, is_of_order, is_receiver, part_sent, values_of_order, update_sent}
+use Rattle.hla_machine.specs.Directory.{Directory, Outgoing, AnUpdate, put_pair, put_pairs, by_handle, is_of_order, is_receiver, part_sent, values_of_order, update_sent, order_of_attribute}
 use Rattle.hla_members.specs.declared.note.Note.{Note}
 use Rattle.hla_members.specs.Noting.{IsUnsentFrom, with_noted, handle_noted}
 use Rattle.hla_members.specs.MemberValue.{item}
@@ -81,17 +80,17 @@ length-part order object p (x ∷ xs) = ⊎_elim
     (cases_Bool (p x))
 
 pub length-update : (d : Directory) (object : ℕ) (values : List HandleValuePair) → length (update_sent d object values)
-    ≡ cond (list_any (λ (v : HandleValuePair). is_of_order Receive (attribute_order d.catalogue v.handle)) values) 1 0
-    + cond (list_any (λ (v : HandleValuePair). is_of_order Timestamp (attribute_order d.catalogue v.handle)) values) 1 0
+    ≡ cond (list_any (λ (v : HandleValuePair). is_of_order Receive (order_of_attribute d object v.handle)) values) 1 0
+    + cond (list_any (λ (v : HandleValuePair). is_of_order Timestamp (order_of_attribute d object v.handle)) values) 1 0
 length-update d object values =
-    let one = part_sent Receive object (values_of_order d Receive (by_handle values)) in
-    let two = part_sent Timestamp object (values_of_order d Timestamp (by_handle values)) in
-    let first : length one ≡ cond (list_any (λ (v : HandleValuePair). is_of_order Receive (attribute_order d.catalogue v.handle)) values) 1 0
-    = length-part Receive object (λ v. is_of_order Receive (attribute_order d.catalogue v.handle)) (by_handle values)
-    ∙ ap (λ (b : Bool). cond b 1 0) (any-by_handle (λ h. is_of_order Receive (attribute_order d.catalogue h)) values) in
-    let second : length two ≡ cond (list_any (λ (v : HandleValuePair). is_of_order Timestamp (attribute_order d.catalogue v.handle)) values) 1 0
-    = length-part Timestamp object (λ v. is_of_order Timestamp (attribute_order d.catalogue v.handle)) (by_handle values)
-    ∙ ap (λ (b : Bool). cond b 1 0) (any-by_handle (λ h. is_of_order Timestamp (attribute_order d.catalogue h)) values) in
+    let one = part_sent Receive object (values_of_order d object Receive (by_handle values)) in
+    let two = part_sent Timestamp object (values_of_order d object Timestamp (by_handle values)) in
+    let first : length one ≡ cond (list_any (λ (v : HandleValuePair). is_of_order Receive (order_of_attribute d object v.handle)) values) 1 0
+    = length-part Receive object (λ v. is_of_order Receive (order_of_attribute d object v.handle)) (by_handle values)
+    ∙ ap (λ (b : Bool). cond b 1 0) (any-by_handle (λ h. is_of_order Receive (order_of_attribute d object h)) values) in
+    let second : length two ≡ cond (list_any (λ (v : HandleValuePair). is_of_order Timestamp (order_of_attribute d object v.handle)) values) 1 0
+    = length-part Timestamp object (λ v. is_of_order Timestamp (order_of_attribute d object v.handle)) (by_handle values)
+    ∙ ap (λ (b : Bool). cond b 1 0) (any-by_handle (λ h. is_of_order Timestamp (order_of_attribute d object h)) values) in
     length-append one two ∙ rw (first, second) refl
 
 -- ---- the fault of an update, test by test
@@ -140,20 +139,20 @@ part_messages order d f n r stamp object [] h = refl
 part_messages order d f n r stamp object (v ∷ vs) h = sym (append-nil (message_to d (heading_of f n r stamp order) (AnUpdate object (v ∷ vs)) h))
 
 module _ (d : Directory) (f n m : ℕ) (r : TimeRow) (stamp : Option ℕ) (object : ℕ) (values received ordered : List HandleValuePair) (count : ℕ)
-    (is_received : received ≡ values_of_order d Receive (by_handle values)) (is_ordered : ordered ≡ values_of_order d Timestamp (by_handle values))
+    (is_received : received ≡ values_of_order d object Receive (by_handle values)) (is_ordered : ordered ≡ values_of_order d object Timestamp (by_handle values))
     (same : n ≡ m) (one : count ≡ length (part_sent Receive object received)) where
   abbrev first_part : List Outgoing
-  first_part = part_sent Receive object (values_of_order d Receive (by_handle values))
+  first_part = part_sent Receive object (values_of_order d object Receive (by_handle values))
 
   abbrev second_part : List Outgoing
-  second_part = part_sent Timestamp object (values_of_order d Timestamp (by_handle values))
+  second_part = part_sent Timestamp object (values_of_order d object Timestamp (by_handle values))
 
   one_is : count ≡ length first_part
   one_is = one ∙ ap (λ (vs : List HandleValuePair). length (part_sent Receive object vs)) is_received
 
   pub parts_counted : (more : ℕ) → more ≡ length (part_sent Receive object ordered) → count + more ≡ length (update_sent d object values)
   parts_counted more two =
-      let second : more ≡ length second_part = two ∙ ap (λ (vs : List HandleValuePair). length (part_sent Receive object vs)) is_ordered ∙ part_length Receive Timestamp object (values_of_order d Timestamp (by_handle values)) in
+      let second : more ≡ length second_part = two ∙ ap (λ (vs : List HandleValuePair). length (part_sent Receive object vs)) is_ordered ∙ part_length Receive Timestamp object (values_of_order d object Timestamp (by_handle values)) in
       sum_is count more (length first_part) (length second_part) one_is second ∙ sym (length-append first_part second_part)
 
   pub parts_added : (old middle new : List (List Message)) → AreQuiet old → HasAdded (part_to d (heading_of f n r stamp Receive) object received) old middle
@@ -161,9 +160,9 @@ module _ (d : Directory) (f n m : ℕ) (r : TimeRow) (stamp : Option ℕ) (objec
   parts_added old middle new quiet first second =
       two_added d f n m (n + count) r stamp first_part second_part old middle new quiet
       (λ h. first h ∙ ap (λ (vs : List HandleValuePair). item [] old h ++ part_to d (heading_of f n r stamp Receive) object vs h) is_received
-      ∙ ap (λ (ms : List Message). item [] old h ++ ms) (part_messages Receive d f n r stamp object (values_of_order d Receive (by_handle values)) h))
+      ∙ ap (λ (ms : List Message). item [] old h ++ ms) (part_messages Receive d f n r stamp object (values_of_order d object Receive (by_handle values)) h))
       (λ h. second h ∙ ap (λ (vs : List HandleValuePair). item [] middle h ++ part_to d (heading_of f (n + count) r stamp Timestamp) object vs h) is_ordered
-      ∙ ap (λ (ms : List Message). item [] middle h ++ ms) (part_messages Timestamp d f (n + count) r stamp object (values_of_order d Timestamp (by_handle values)) h))
+      ∙ ap (λ (ms : List Message). item [] middle h ++ ms) (part_messages Timestamp d f (n + count) r stamp object (values_of_order d object Timestamp (by_handle values)) h))
       same (ap (λ (k : ℕ). n + k) one_is)
 
   -- what is noted of it, and its handle
@@ -171,16 +170,16 @@ module _ (d : Directory) (f n m : ℕ) (r : TimeRow) (stamp : Option ℕ) (objec
     abbrev pub update_note : Option Note
     update_note = option_and_then (λ rs. note_under (heading_of f (n + count) r stamp Timestamp) rs) told
 
-    next_is : n + count ≡ m + length (part_sent Receive object (values_of_order d Receive (by_handle values)))
+    next_is : n + count ≡ m + length (part_sent Receive object (values_of_order d object Receive (by_handle values)))
     next_is = sum_is n count m (length first_part) same one_is
 
-    two_is : one_if (is_some told) ≡ length (part_sent Receive object (values_of_order d Timestamp (by_handle values)))
+    two_is : one_if (is_some told) ≡ length (part_sent Receive object (values_of_order d object Timestamp (by_handle values)))
     two_is = two ∙ ap (λ (vs : List HandleValuePair). length (part_sent Receive object vs)) is_ordered
 
     pub update_noted : (sent : ℕ → ℕ → SentEvent) → IsUnsentFrom (sent f) m → IfSome told (λ rs. receiver_set rs ≡ is_receiver d f (AnUpdate object ordered))
         → sent_events d f m r stamp (update_sent d object values) sent ≡ with_noted sent f update_note
-    update_noted sent none receivers = parts_noted d f m (n + count) r stamp object (values_of_order d Receive (by_handle values)) (values_of_order d Timestamp (by_handle values)) told next_is two_is sent none
+    update_noted sent none receivers = parts_noted d f m (n + count) r stamp object (values_of_order d object Receive (by_handle values)) (values_of_order d object Timestamp (by_handle values)) told next_is two_is sent none
         (subst (λ (vs : List HandleValuePair). IfSome told (λ rs. receiver_set rs ≡ is_receiver d f (AnUpdate object vs))) is_ordered receivers)
 
     pub update_handle : sent_handle f r stamp m (update_sent d object values) ≡ handle_noted f update_note
-    update_handle = parts_handle d f m (n + count) r stamp object (values_of_order d Receive (by_handle values)) (values_of_order d Timestamp (by_handle values)) told next_is two_is
+    update_handle = parts_handle d f m (n + count) r stamp object (values_of_order d object Receive (by_handle values)) (values_of_order d object Timestamp (by_handle values)) told next_is two_is

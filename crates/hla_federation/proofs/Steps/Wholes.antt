@@ -5,6 +5,7 @@ use Rattle.std.proofs.lemmas.Bool.Decides.{nat_tests}
 use Rattle.hla_base.specs.declared.fault.Fault.TheVariants as fault
 use Rattle.hla_base.specs.Tables.{upd, upd2}
 use Rattle.hla_catalogue.specs.CatalogueValue.{CatalogueValue}
+use Rattle.hla_catalogue.specs.declared.declared.Order.{Order}
 use Rattle.hla_declaration.specs.Declarations.{DeclarationsValue}
 use Rattle.hla_lbts.specs.Peers.{peers_of}
 use Rattle.hla_local.specs.LocalValue.{LocalValue, resigned_local}
@@ -55,6 +56,18 @@ whole_published c d m whole published interactions = record {
   unmet = whole.unmet;
 }
 
+-- nor does an order that changed
+pub whole_ordered : (c : CatalogueValue) (d : DeclarationsValue) (m : MemberTables) → AreWhole c d m → (orders : ℕ → ℕ → Option Order)
+    → AreWhole c (record d { interaction_orders = orders }) m
+whole_ordered c d m whole orders = record {
+  few = whole.few;
+  federates = whole.federates;
+  object_classes = whole.object_classes;
+  interaction_classes = whole.interaction_classes;
+  silent = λ g k no. record { objects = (whole.silent g k no).objects; interactions = (whole.silent g k no).interactions };
+  unmet = whole.unmet;
+}
+
 -- nor do messages and serials
 pub whole_same : (c : CatalogueValue) (d : DeclarationsValue) (m n : MemberTables) → AreWhole c d m → n.next_federate ≡ m.next_federate → n.joined ≡ m.joined
     → ((f g : ℕ) → m.next_federate ≤ g → IsUnmet (peers_of (n.local f).peers) g) → AreWhole c d n
@@ -85,7 +98,7 @@ whole_admitted c d m name local whole few own = record {
 
 -- one federate fewer
 pub whole_withdrawn : (c : CatalogueValue) (d : DeclarationsValue) (m n : MemberTables) (f : ℕ) → AreWhole c d m → n.next_federate ≡ m.next_federate → n.joined ≡ upd m.joined f false → n.local ≡ upd m.local f (resigned_local (m.local f))
-    → AreWhole c (record d { published = upd d.published f (λ _. None); subscribed = upd d.subscribed f (λ _. None); published_interaction = upd d.published_interaction f (λ _. false); subscribed_interaction = upd d.subscribed_interaction f (λ _. false) }) n
+    → AreWhole c (record d { published = upd d.published f (λ _. None); subscribed = upd d.subscribed f (λ _. None); published_interaction = upd d.published_interaction f (λ _. false); subscribed_interaction = upd d.subscribed_interaction f (λ _. false); interaction_orders = upd d.interaction_orders f (λ _. None) }) n
 whole_withdrawn c d m n f whole next joined local = record {
   few = rw next whole.few;
   federates = whole.federates ∙ sym next;

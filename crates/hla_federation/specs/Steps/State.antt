@@ -31,9 +31,11 @@ directory_from c d r m = record {
   subscribed = d.subscribed;
   published_interaction = d.published_interaction;
   subscribed_interaction = d.subscribed_interaction;
+  interaction_orders = d.interaction_orders;
   next_object = r.next_object;
   object = r.object;
   known = r.known;
+  attribute_orders = r.orders;
 }
 
 abbrev pub state_from : CatalogueValue → DeclarationsValue → RegistryValue → MemberTables → Components
@@ -65,6 +67,7 @@ nothing_declared object_classes interaction_classes = record {
   subscribed = λ _ _. None;
   published_interaction = λ _ _. false;
   subscribed_interaction = λ _ _. false;
+  interaction_orders = λ _ _. None;
 }
 
 -- a federate that is not joined subscribes nothing of a class

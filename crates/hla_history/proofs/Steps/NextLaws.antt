@@ -57,8 +57,10 @@ call_stays s f (service.SubscribeInteractionClass class) other = record { joined
 call_stays s f (service.UnsubscribeInteractionClass class) other = record { joined = refl; next = refl }
 call_stays s f (service.RegisterObjectInstance class name) other = record { joined = refl; next = refl }
 call_stays s f (service.UpdateAttributeValues object values stamp) other = stays_same s.directory _ (sent_directory s f stamp (update_sent s.directory object values))
-call_stays s f (service.SendInteraction class values stamp) other = stays_same s.directory _ (sent_directory s f stamp (interaction_sent s.directory class values))
+call_stays s f (service.SendInteraction class values stamp) other = stays_same s.directory _ (sent_directory s f stamp (interaction_sent s.directory f class values))
 call_stays s f (service.DeleteObjectInstance object stamp) other = let same = sent_directory s f stamp (deletion_sent s.directory object) in record { joined = ap (λ (x : Directory). x.joined) same; next = ap (λ (x : Directory). x.next_federate) same }
+call_stays s f (service.ChangeAttributeOrderType object attributes order) other = record { joined = refl; next = refl }
+call_stays s f (service.ChangeInteractionOrderType class order) other = record { joined = refl; next = refl }
 call_stays s f (service.Retract event) other = record { joined = refl; next = refl }
 call_stays s f (service.EnableTimeRegulation time lookahead) other = record { joined = refl; next = refl }
 call_stays s f service.DisableTimeRegulation other = record { joined = refl; next = refl }
@@ -98,6 +100,8 @@ call_silent s f (service.RegisterObjectInstance class name) = (refl, refl)
 call_silent s f (service.UpdateAttributeValues object values stamp) = (refl, refl)
 call_silent s f (service.SendInteraction class values stamp) = (refl, refl)
 call_silent s f (service.DeleteObjectInstance object stamp) = (refl, refl)
+call_silent s f (service.ChangeAttributeOrderType object attributes order) = (refl, refl)
+call_silent s f (service.ChangeInteractionOrderType class order) = (refl, refl)
 call_silent s f (service.Retract event) = (refl, refl)
 call_silent s f (service.EnableTimeRegulation time lookahead) = (refl, refl)
 call_silent s f service.DisableTimeRegulation = (refl, refl)

@@ -1,6 +1,5 @@
 -- What a grant rests on, by whether the federate is constrained and whether it flushes
-use Rattle.std.proofs.Common.{◌≡◌, ◌⊎◌, ℕ, Bool, true, false, refl, subst, ⊎_elim}
-use Rattle.std.proofs.lemmas.Bool.{cases_Bool}
+use Rattle.std.proofs.Common.{◌≡◌, ℕ, Bool, true, false, refl, subst}
 use Rattle.hla_base.specs.declared.row.AdvanceRequest.{AdvanceRequest}
 use Rattle.hla_base.specs.Rows.{is_flush, is_constrained, grant_time}
 use Rattle.hla_machine.specs.Central.{Central, Reached}

@@ -1,5 +1,5 @@
 -- Each message of a call is sent to each federate that receives it, and to no other
-use Rattle.std.proofs.Common.{◌≡◌, ◌⊎◌, ⊎_elim, ℕ, ◌+◌, ◌≤◌, ◌<◌, cond, eqb, ◌&&◌, Bool, true, false, refl, sym, ◌∙◌, le_trans, subst, inl, inr, arith, eq-eqb, List, [], ◌∷◌, Option, Some, None, is_some, option_map, unwrap_or}
+use Rattle.std.proofs.Common.{◌≡◌, ℕ, ◌+◌, ◌≤◌, ◌<◌, cond, ◌&&◌, Bool, true, false, refl, sym, ◌∙◌, subst, arith, eq-eqb, List, [], ◌∷◌, Option, Some, None, is_some, option_map, unwrap_or}
 use Rattle.std.proofs.lemmas.Bool.{and_parts}
 use Rattle.std.proofs.lemmas.Bool.Decides.{nat_tests}
 use Rattle.hla_base.specs.declared.content.Content.{Content}
@@ -19,7 +19,7 @@ use Rattle.hla_catalogue.specs.declared.declared.Order.{Order}
 use Rattle.hla_catalogue.specs.declared.declared.Order.TheVariants.{Receive, Timestamp}
 use Rattle.hla_machine.specs.Directory.{Directory, Outgoing, is_of_order, is_receiver, content_for, objects_of, update_sent, interaction_sent, deletion_sent, deletions_sent}
 use Rattle.hla_base.specs.declared.row.TimeRow.{TimeRow}
-use Rattle.hla_machine.specs.Central.{Central, Copy, CopyOrder, Ro, Tso, with_copies, is_key}
+use Rattle.hla_machine.specs.Central.{Central, Copy, CopyOrder, Ro, Tso, with_copies}
 use Rattle.hla_machine.specs.Sends.{copy_for, is_ordered, kept_stamp, after_message, after_messages}
 use Rattle.hla_machine.specs.CentralInvariant.{CentralInv}
 use Rattle.hla_machine.specs.Machine.{after_leaving, after_call, after}
@@ -123,7 +123,7 @@ left_sent d r stamp b f m (out ∷ outs) are = (
 
 call_sent : (c : Central) (f : ℕ) (s : Service) (o : Choice) → CentralInv c → AreSentTo c.directory (c.row f) (stamp_given s) (after_call c f s o).bag f (c.serial f) (messages_of c.directory f s)
 call_sent c f (service.UpdateAttributeValues object values stamp) o laws = messages_sent c f stamp (update_sent c.directory object values) (none_ahead c f laws)
-call_sent c f (service.SendInteraction class values stamp) o laws = messages_sent c f stamp (interaction_sent c.directory class values) (none_ahead c f laws)
+call_sent c f (service.SendInteraction class values stamp) o laws = messages_sent c f stamp (interaction_sent c.directory f class values) (none_ahead c f laws)
 call_sent c f (service.DeleteObjectInstance object stamp) o laws = messages_sent c f stamp (deletion_sent c.directory object) (none_ahead c f laws)
 call_sent c f (service.Resign DeleteObjects) o laws =
     let outs = deletions_sent (objects_of c.directory f) in left_sent c.directory (c.row f) None (after_messages c f None outs) f (c.serial f) outs (messages_sent c f None outs (none_ahead c f laws))

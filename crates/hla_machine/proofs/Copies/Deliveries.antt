@@ -1,5 +1,5 @@
 -- Who is given a message, and how often
-use Rattle.std.proofs.Common.{◌≡◌, ◌≢◌, ◌⊎◌, ⊎_elim, ℕ, ◌+◌, ◌≤◌, ◌<◌, cond, not, eqb, ◌&&◌, Bool, true, false, refl, sym, subst, inl, inr, arith, le_trans, ◌∙◌, List, [], ◌∷◌, Option, Some, None, option_map}
+use Rattle.std.proofs.Common.{◌≡◌, ◌≢◌, ◌⊎◌, ⊎_elim, ℕ, ◌+◌, ◌≤◌, ◌<◌, cond, Bool, true, refl, sym, subst, inl, inr, arith, le_trans, ◌∙◌, List, [], ◌∷◌, Option, Some, None, option_map}
 use Rattle.std.proofs.lemmas.Bool.{cond_both, cases_eq, cases_lt}
 use Rattle.std.proofs.lemmas.Bool.Decides.{nat_tests}
 use Rattle.hla_base.specs.declared.content.Content.{Content}
@@ -8,7 +8,7 @@ use Rattle.hla_base.specs.declared.content.Discovery.{Discovery}
 use Rattle.hla_base.specs.declared.number.EventHandle.{EventHandle}
 use Rattle.std.specs.List.{All}
 use Rattle.hla_base.specs.Rows.{is_disabled}
-use Rattle.hla_base.specs.Tables.{upd, is_other}
+use Rattle.hla_base.specs.Tables.{is_other}
 use Rattle.hla_base.proofs.Tables.{by_number, upd_same, upd_other, upd_each}
 use Rattle.hla_catalogue.specs.CatalogueValue.{CatalogueValue}
 use Rattle.hla_callbacks.specs.declared.callback.Callback.{Callback}
@@ -29,8 +29,8 @@ use Rattle.hla_machine.specs.declared.step.Outcome.TheVariants as outcome
 use Rattle.hla_machine.specs.declared.step.Choice.{Choice}
 use Rattle.hla_machine.specs.declared.step.Choice.TheVariants as choice
 use Rattle.hla_machine.specs.Directory.{Outgoing, deletion_sent, deletions_sent, objects_of, update_sent, interaction_sent}
-use Rattle.hla_machine.specs.Central.{Central, new_central, Copy, Ro, Tso, Demoted, at_key, demoted_copy}
-use Rattle.hla_machine.specs.Callbacks.{IsCopy, IsFirstRo, IsDiscovered, MayDeliver, MayPickUp, with_demoted, after_delivery, after_constraint, after_pick}
+use Rattle.hla_machine.specs.Central.{Central, new_central, Copy, Ro, Demoted, at_key, demoted_copy}
+use Rattle.hla_machine.specs.Callbacks.{IsCopy, IsFirstRo, IsDiscovered, MayDeliver, MayPickUp, after_delivery, after_constraint, after_pick}
 use Rattle.hla_machine.specs.CentralInvariant.{CentralInv}
 use Rattle.hla_machine.specs.Sends.{copy_for, after_message, after_messages}
 use Rattle.hla_machine.specs.Machine.{MayEnd, after_leaving, after_enter, after_cease, after_call, after_carry, after_done, after}
@@ -107,7 +107,7 @@ call_brings : (c : Central) (f : ℕ) (s : Service) (o : Choice) → Brought c (
 call_brings c f (service.Resign DeleteObjects) o = let outs = deletions_sent (objects_of c.directory f) in leaving_brings c (after_messages c f None outs) f (messages_bring c f None outs)
 call_brings c f (service.Resign NoAction) o = leaving_brings c c f (same_bag c c refl refl)
 call_brings c f (service.UpdateAttributeValues object values stamp) o = messages_bring c f stamp (update_sent c.directory object values)
-call_brings c f (service.SendInteraction class values stamp) o = messages_bring c f stamp (interaction_sent c.directory class values)
+call_brings c f (service.SendInteraction class values stamp) o = messages_bring c f stamp (interaction_sent c.directory f class values)
 call_brings c f (service.DeleteObjectInstance object stamp) o = let b = messages_bring c f stamp (deletion_sent c.directory object) in record { serials = b.serials; bag = b.bag }
 call_brings c f (service.EnableTimeRegulation time lookahead) o = enter_brings c f lookahead o
 call_brings c f service.DisableTimeConstrained o = cease_brings c f o

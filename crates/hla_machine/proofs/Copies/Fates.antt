@@ -106,7 +106,7 @@ module _ (g m f : ℕ) (k : Copy) (tso : k.order ≡ Tso) where
     call_fate a (service.Resign DeleteObjects) o member = let outs = deletions_sent (objects_of c.directory a) in left_fate (after_messages c a None outs) a member (sends_stay c a None outs low is)
     call_fate a (service.Resign NoAction) o member = left_fate c a member is
     call_fate a (service.UpdateAttributeValues object values stamp) o member = Stays (sends_stay c a stamp (update_sent c.directory object values) low is)
-    call_fate a (service.SendInteraction class values stamp) o member = Stays (sends_stay c a stamp (interaction_sent c.directory class values) low is)
+    call_fate a (service.SendInteraction class values stamp) o member = Stays (sends_stay c a stamp (interaction_sent c.directory a class values) low is)
     call_fate a (service.DeleteObjectInstance object stamp) o member = Stays (sends_stay c a stamp (deletion_sent c.directory object) low is)
     call_fate a (service.EnableTimeRegulation time lookahead) o member = enter_fate a lookahead o
     call_fate a service.DisableTimeConstrained o member = cease_fate a o

@@ -1,9 +1,7 @@
 -- What is on its way to a federate stays so until it is settled
-use Rattle.std.proofs.Common.{◌≡◌, ◌≢◌, ◌⊎◌, ℕ, ◌+◌, ◌≤◌, ◌<◌, eqb, ◌&&◌, Bool, true, false, refl, sym, ◌∙◌, le_trans, subst, inl, inr, ⊎_elim, arith, eqb-true, List, [], ◌∷◌, Option, Some, None, option_map}
-use Rattle.std.proofs.lemmas.Bool.{cases_eq, cond_both, cases_Bool, and_parts}
+use Rattle.std.proofs.Common.{◌≡◌, ◌≢◌, ◌⊎◌, ℕ, ◌+◌, ◌≤◌, ◌<◌, true, false, refl, sym, ◌∙◌, le_trans, subst, inl, inr, ⊎_elim, arith, List, [], ◌∷◌, Option, Some, None, option_map}
+use Rattle.std.proofs.lemmas.Bool.{cases_eq, cond_both}
 use Rattle.hla_base.specs.declared.number.EventHandle.{EventHandle}
-use Rattle.hla_base.specs.declared.content.Content.{Content}
-use Rattle.hla_base.specs.declared.content.Content.TheVariants as content
 use Rattle.hla_base.specs.Tables.{upd}
 use Rattle.hla_base.specs.Rows.{is_disabled}
 use Rattle.hla_callbacks.specs.declared.callback.Callback.{Callback}
@@ -24,22 +22,18 @@ use Rattle.hla_machine.specs.declared.step.Outcome.TheVariants as outcome
 use Rattle.hla_machine.specs.declared.step.Choice.{Choice}
 use Rattle.hla_machine.specs.declared.step.Choice.TheVariants as choice
 use Rattle.hla_machine.specs.Directory.{Outgoing, deletion_sent, deletions_sent, objects_of, update_sent, interaction_sent}
-use Rattle.hla_machine.specs.Central.{Central, Copy, Ro, Tso, Demoted, at_key, is_key, with_copies, demoted_copy}
-use Rattle.hla_machine.specs.Callbacks.{IsCopy, MayDeliver, MayPickUp, is_among, with_demoted, after_delivery, after_constraint, after_pick}
+use Rattle.hla_machine.specs.Central.{Central, Copy, at_key, demoted_copy}
+use Rattle.hla_machine.specs.Callbacks.{with_demoted, after_delivery, after_constraint, after_pick}
 use Rattle.hla_machine.specs.Sends.{after_message, after_messages, copy_for}
-use Rattle.hla_machine.specs.Refusals.{refusal}
-use Rattle.hla_machine.specs.Machine.{central_seen, MayCarry, MayDo, MayEnd, after_leaving, after_enter, after_cease, after_call, after_arrival, after_carry, after_done, after}
+use Rattle.hla_machine.specs.Machine.{MayCarry, MayDo, MayEnd, after_leaving, after_enter, after_cease, after_call, after_arrival, after_carry, after_done, after}
 use Rattle.hla_machine.specs.Central.{new_central}
 use Rattle.hla_machine.specs.CentralInvariant.{CentralInv}
 use Rattle.hla_machine.specs.Runs.{Happening, IsRun}
-use Rattle.hla_machine.specs.History.{GivesCallback, Names, Hears, Happens, IsOnItsWay, IsSettled, HasHistory, next_state}
+use Rattle.hla_machine.specs.History.{GivesCallback, Names, Happens, IsOnItsWay, IsSettled, HasHistory, next_state}
 use Rattle.hla_base.proofs.Tables.{by_number, upd_same, upd_other}
-use Rattle.hla_retraction.specs.SentEvents.{SentEvent}
-use Rattle.hla_machine.proofs.Basics.Tests.{caller_joined}
 use Rattle.hla_machine.proofs.Upkeep.CentralInvariant.{laws_after, laws_start}
 use Rattle.hla_machine.proofs.Copies.Fates.{Owing, at_cases, copies_stay, demoted_cases, handle_is}
 use Rattle.hla_machine.proofs.Copies.Retractions.{AreRetractionsSound, step_onward, sound_start}
-use Rattle.hla_machine.proofs.Upkeep.Ahead.{given_of}
 
 -- a copy lies in the bag
 abbrev Lies : (ℕ → ℕ → ℕ → Option Copy) → ℕ → ℕ → ℕ → Type 0
@@ -87,7 +81,7 @@ module _ (g m f : ℕ) where
     call_course a (service.Resign DeleteObjects) o = let outs = deletions_sent (objects_of c.directory a) in left_course (after_messages c a None outs) a (sends_lie c a None outs low is)
     call_course a (service.Resign NoAction) o = left_course c a is
     call_course a (service.UpdateAttributeValues object values stamp) o = Lasts (sends_lie c a stamp (update_sent c.directory object values) low is)
-    call_course a (service.SendInteraction class values stamp) o = Lasts (sends_lie c a stamp (interaction_sent c.directory class values) low is)
+    call_course a (service.SendInteraction class values stamp) o = Lasts (sends_lie c a stamp (interaction_sent c.directory a class values) low is)
     call_course a (service.DeleteObjectInstance object stamp) o = Lasts (sends_lie c a stamp (deletion_sent c.directory object) low is)
     call_course a (service.EnableTimeRegulation time lookahead) o = enter_course a lookahead o
     call_course a service.DisableTimeConstrained o = cease_course a o

@@ -155,7 +155,7 @@ call_onward : (c : Central) (a : ℕ) (s : Service) (o : Choice) → refusal (ce
 call_onward c a (service.Resign DeleteObjects) o none k = let outs = deletions_sent (objects_of c.directory a) in left_onward c (after_messages c a None outs) a (sends_onward c a None outs k)
 call_onward c a (service.Resign NoAction) o none k = left_onward c c a (onward_same c k)
 call_onward c a (service.UpdateAttributeValues object values stamp) o none k = sends_onward c a stamp (update_sent c.directory object values) k
-call_onward c a (service.SendInteraction class values stamp) o none k = sends_onward c a stamp (interaction_sent c.directory class values) k
+call_onward c a (service.SendInteraction class values stamp) o none k = sends_onward c a stamp (interaction_sent c.directory a class values) k
 call_onward c a (service.DeleteObjectInstance object stamp) o none k = let on = sends_onward c a stamp (deletion_sent c.directory object) k in record { kept = on.kept; stays = on.stays }
 call_onward c a (service.Retract event) o none k = let x = clear_call (central_seen c) a (service.Retract event) none in
     retract_onward c a event.serial k (is_able (c.row a) (c.sent a event.serial) (and_parts (eqb event.sender a) _ (not-is-false _ x.0)).1)

@@ -1,10 +1,9 @@
 -- Who is told of an event by a call that answers its handle waits for it
-use Rattle.std.proofs.Common.{◌≡◌, ◌≢◌, ⊎_elim, ℕ, ◌+◌, ◌<◌, cond, not, ◌&&◌, Bool, true, false, refl, sym, ap, ◌∙◌, inl, subst, arith, inr, is_some, List, [], ◌∷◌, Option, Some, None, option_map}
+use Rattle.std.proofs.Common.{◌≡◌, ◌≢◌, ⊎_elim, ℕ, ◌<◌, cond, true, false, refl, sym, ap, ◌∙◌, inl, subst, arith, inr, is_some, List, [], ◌∷◌, Option, Some, None, option_map}
 use Rattle.std.proofs.lemmas.Bool.{cases_Bool, and_parts}
 use Rattle.hla_base.specs.declared.content.Content.{Content}
 use Rattle.hla_base.specs.declared.number.EventHandle.{EventHandle}
 use Rattle.hla_base.specs.declared.row.TimeRow.{TimeRow}
-use Rattle.hla_base.specs.Tables.{upd, upd2, is_other, or_else, when}
 use Rattle.hla_base.proofs.Tables.{upd_same, upd2_same, upd2_other}
 use Rattle.hla_retraction.specs.SentEvents.{SentEvent, no_event}
 use Rattle.hla_machine.specs.declared.service.Service.{Service}
@@ -94,5 +93,5 @@ pub sent_waits : (c : Central) (f : ℕ) (s : Service) (e : EventHandle) (o : Ch
     → (let d = after c (Call f s) (outcome.Done (answer.Sent (Some e))) o in
     (d.sent e.sender e.serial).receivers g ≡ true → WaitsInOrder d g e (d.sent e.sender e.serial).stamp)
 sent_waits c f (service.UpdateAttributeValues object values stamp) e o g may told = waits_among f stamp (update_sent c.directory object values) c e g may told
-sent_waits c f (service.SendInteraction class values stamp) e o g may told = waits_among f stamp (interaction_sent c.directory class values) c e g may told
+sent_waits c f (service.SendInteraction class values stamp) e o g may told = waits_among f stamp (interaction_sent c.directory f class values) c e g may told
 sent_waits c f s e o g may told = absurd may

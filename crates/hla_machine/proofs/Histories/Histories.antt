@@ -1,11 +1,10 @@
 -- Records that are a run of all executions are lawful, execution by execution
-use Rattle.std.proofs.Common.{◌≡◌, ℕ, refl, subst, List, [], ◌∷◌, ◌++◌, Option, Some, None}
+use Rattle.std.proofs.Common.{refl, subst, List, [], ◌∷◌, ◌++◌, Option, Some, None}
 use Rattle.hla_machine.specs.declared.step.Record.{Record}
 use Rattle.hla_machine.specs.Central.{Central, new_central}
 use Rattle.hla_machine.specs.Runs.{IsRun, Executions, no_executions, after_act, AreRun}
-use Rattle.hla_machine.specs.Projection.{Story, story_of, TellsOf}
+use Rattle.hla_machine.specs.Projection.{Story, TellsOf}
 use Rattle.hla_machine.specs.History.{HasHistory}
-use Rattle.hla_machine.specs.Lawful.{IsLawful}
 use Rattle.hla_machine.specs.Histories.{AreLawful}
 use Rattle.hla_machine.proofs.Histories.Lawful.{each_lawful}
 use Rattle.hla_machine.proofs.Histories.Projections.{cut_to_one}

@@ -20,6 +20,7 @@ use Rattle.hla_machine.proofs.Copies.Sending.{sent_waits}
 use Rattle.hla_machine.proofs.Histories.Grants.{grant_after_all}
 use Rattle.hla_machine.proofs.Copies.Deliveries.{heard_from_another, heard_once, heard_on_its_way, given_to_a_member, heard_in_order, discovered_before, told_as_sent}
 use Rattle.hla_machine.proofs.Copies.Addressing.{sent_by_call}
+use Rattle.hla_machine.proofs.Copies.Ordering.{goes_in_its_order}
 use Rattle.hla_machine.proofs.Copies.Reaching.{settled_or_on_its_way, reliable_at}
 use Rattle.hla_machine.proofs.Histories.Registrations.{registered_apart}
 
@@ -89,6 +90,7 @@ module _ (c : Central) (happenings : List Happening) (end : Central) (is : HasHi
     joined = λ now h f k o gives. given_to_a_member now h f k (occurs_happens now h o) gives;
     in_order = λ now h between then i f e x o first second same. heard_in_order now h between then i f e x (occur_after now h between then i o) first second same;
     sent = λ now h f service a o is_call is_done. sent_by_call now h.step h.outcome h.choice f service a (reliable_at now h (occurs_happens now h o)) is_call is_done;
+    ordered = λ now h f service o is_call. goes_in_its_order now.directory f service;
     reaches = λ now between then h f e o way. let l = occurs_later now between then h o in settled_or_on_its_way now between then f e (record { catalogue = l.catalogue; before = l.before; run = l.start }) l.run way;
     from = λ now h f e o hears. heard_on_its_way now h f e (occurs_happens now h o) hears;
     tells = λ now between then h f e k x o way gives names. told_as_sent now between then h f e k x (occurs_later now between then h o) way gives names;

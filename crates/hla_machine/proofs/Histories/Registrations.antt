@@ -1,21 +1,20 @@
 -- Numbers and names of objects are never given twice
-use Rattle.std.proofs.Common.{◌≡◌, ◌≢◌, ⊎_elim, ℕ, zero, suc, ◌+◌, ◌≤◌, ◌<◌, not, eqb, ◌&&◌, ◌||◌, Bool, true, false, refl, sym, ap, subst, ◌∙◌, arith, le_trans, List, [], ◌∷◌, ◌++◌, Option, Some, None}
+use Rattle.std.proofs.Common.{◌≡◌, ◌≢◌, ⊎_elim, ℕ, zero, suc, ◌+◌, ◌≤◌, ◌<◌, not, eqb, ◌&&◌, ◌||◌, Bool, true, false, refl, sym, ap, subst, ◌∙◌, arith, le_trans, List, [], ◌∷◌, Option, Some, None}
 use Rattle.std.proofs.lemmas.Bool.{cases_eq}
 use Rattle.std.proofs.lemmas.Bool.Decides.{nat_tests}
 use Rattle.std.proofs.lemmas.Slice.Eq.{bytes_eq-Decides}
 use Rattle.std.proofs.lemmas.List.Folds.{list_any-append}
 use Rattle.std.specs.List.{list_any}
 use Rattle.std.specs.Str.{bytes_eq}
-use Rattle.hla_base.specs.Tables.{upd, numbers_below}
+use Rattle.hla_base.specs.Tables.{numbers_below}
 use Rattle.hla_base.proofs.Tables.{upd_same, upd_other, upd_each}
-use Rattle.hla_catalogue.specs.CatalogueValue.{CatalogueValue}
 use Rattle.hla_callbacks.specs.declared.callback.Callback.{Callback}
 use Rattle.hla_callbacks.specs.declared.callback.Callback.TheVariants as callback
 use Rattle.hla_callbacks.specs.declared.callback.Delivery.{Delivery}
 use Rattle.hla_callbacks.specs.declared.callback.Delivery.TheVariants as delivery
 use Rattle.hla_machine.specs.declared.service.Service.{Service}
 use Rattle.hla_machine.specs.declared.service.Service.TheVariants as service
-use Rattle.hla_machine.specs.declared.service.ResignAction.TheVariants.{DeleteObjects, NoAction}
+use Rattle.hla_machine.specs.declared.service.ResignAction.TheVariants.{DeleteObjects}
 use Rattle.hla_machine.specs.declared.step.Step.{Step}
 use Rattle.hla_machine.specs.declared.step.Step.TheVariants.{Join, Call, Carry, Tick}
 use Rattle.hla_machine.specs.declared.step.Carried.{Carried}
@@ -33,7 +32,7 @@ use Rattle.hla_machine.specs.Sends.{after_message, after_messages}
 use Rattle.hla_machine.specs.Refusals.{refusal, is_name_used}
 use Rattle.hla_machine.specs.Machine.{central_seen, MayEnd, MayAnswer, after_enter, after_cease, after_call, after_carry, after_done, after}
 use Rattle.hla_machine.specs.Runs.{Happening, IsRun}
-use Rattle.hla_machine.specs.History.{Happens, HappenAfter, next_state}
+use Rattle.hla_machine.specs.History.{HappenAfter, next_state}
 use Rattle.hla_machine.proofs.Basics.Tests.{clear_call}
 
 -- objects that were registered keep their names, and numbers grow
@@ -80,7 +79,7 @@ cease_registers c f (choice.Moved events) = registers_none c.directory
 call_registers : (c : Central) (f : ℕ) (s : Service) (o : Choice) → Registers c.directory (after_call c f s o).directory
 call_registers c f (service.Resign DeleteObjects) o = let s = sent_registers c f None (deletions_sent (objects_of c.directory f)) in record { next = s.next; names = s.names }
 call_registers c f (service.UpdateAttributeValues object values stamp) o = sent_registers c f stamp (update_sent c.directory object values)
-call_registers c f (service.SendInteraction class values stamp) o = sent_registers c f stamp (interaction_sent c.directory class values)
+call_registers c f (service.SendInteraction class values stamp) o = sent_registers c f stamp (interaction_sent c.directory f class values)
 call_registers c f (service.DeleteObjectInstance object stamp) o = deleted_registers c f object stamp
 call_registers c f (service.RegisterObjectInstance class name) o = let r = object_registers c.directory f class (name_or_default c.directory.next_object name) in record { next = r.next; names = r.names }
 call_registers c f (service.EnableTimeRegulation time lookahead) o = enter_registers c f lookahead o

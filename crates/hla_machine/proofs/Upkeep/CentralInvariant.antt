@@ -304,8 +304,10 @@ call_laws c f (service.SubscribeInteractionClass class) o none laws = directory_
 call_laws c f (service.UnsubscribeInteractionClass class) o none laws = directory_laws c _ c.discoveries refl laws
 call_laws c f (service.RegisterObjectInstance class name) o none laws = directory_laws c _ _ refl laws
 call_laws c f (service.UpdateAttributeValues object values stamp) o none laws = sends_laws c f stamp (update_sent c.directory object values) laws
-call_laws c f (service.SendInteraction class values stamp) o none laws = sends_laws c f stamp (interaction_sent c.directory class values) laws
+call_laws c f (service.SendInteraction class values stamp) o none laws = sends_laws c f stamp (interaction_sent c.directory f class values) laws
 call_laws c f (service.DeleteObjectInstance object stamp) o none laws = let outs = deletion_sent c.directory object in let t = after_messages c f stamp outs in directory_laws t _ t.discoveries refl (sends_laws c f stamp outs laws)
+call_laws c f (service.ChangeAttributeOrderType object attributes order) o none laws = directory_laws c _ c.discoveries refl laws
+call_laws c f (service.ChangeInteractionOrderType class order) o none laws = directory_laws c _ c.discoveries refl laws
 call_laws c f (service.Retract event) o none laws = retract_laws c f event.serial (and_parts _ _ (and_parts _ _ (and_parts _ _ (and_parts _ _ (not-is-false _ (clear_call (central_seen c) f (service.Retract event) none).0)).1).0).0).1 laws
 call_laws c f (service.EnableTimeRegulation time lookahead) o none laws = enter_laws c f lookahead o laws
 call_laws c f service.DisableTimeRegulation o none laws = row_laws c _ laws

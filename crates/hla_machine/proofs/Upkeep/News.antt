@@ -110,7 +110,7 @@ call_change c f (service.Resign DeleteObjects) a o none may k = let outs = delet
 call_change c f (service.Resign NoAction) a o none may k = left_change c c f (calm c c (no_news c) (refl, refl))
 call_change c f (service.UpdateAttributeValues object values stamp) a o none may k = let x = clear_call (central_seen c) f (service.UpdateAttributeValues object values stamp) none in let outs = update_sent c.directory object values in
     let x1 = x.1 in let x2 = x1.1 in let x3 = x2.1 in let x4 = x3.1 in sends_change c f stamp outs (high_stamps (c.row f) stamp outs x4.0) k
-call_change c f (service.SendInteraction class values stamp) a o none may k = let x = clear_call (central_seen c) f (service.SendInteraction class values stamp) none in let outs = interaction_sent c.directory class values in
+call_change c f (service.SendInteraction class values stamp) a o none may k = let x = clear_call (central_seen c) f (service.SendInteraction class values stamp) none in let outs = interaction_sent c.directory f class values in
     let x1 = x.1 in let x2 = x1.1 in let x3 = x2.1 in sends_change c f stamp outs (high_stamps (c.row f) stamp outs x3.0) k
 call_change c f (service.DeleteObjectInstance object stamp) a o none may k = let x = clear_call (central_seen c) f (service.DeleteObjectInstance object stamp) none in let outs = deletion_sent c.directory object in
     let x1 = x.1 in let x2 = x1.1 in let ch = sends_change c f stamp outs (high_stamps (c.row f) stamp outs x2.0) k in record { news = ch.news; joins = record { up = ch.joins.up; old = ch.joins.old } }

@@ -1,5 +1,5 @@
 -- The numbers of each row stay within their limits
-use Rattle.std.proofs.Common.{◌≡◌, ◌⊎◌, ⊎_elim, ℕ, ◌+◌, ◌-◌, ◌*◌, ◌≤◌, ◌<◌, max, cond, eqb, ltb, not, ◌&&◌, ◌||◌, ◌≢◌, Bool, true, false, refl, sym, subst, arith, le_trans, eqb-true, eq-eqb, Option, Some, None}
+use Rattle.std.proofs.Common.{◌≡◌, ⊎_elim, ℕ, ◌+◌, ◌-◌, ◌*◌, ◌≤◌, ◌<◌, max, cond, eqb, not, ◌&&◌, ◌||◌, ◌≢◌, Bool, true, false, refl, sym, subst, arith, le_trans, eqb-true, eq-eqb, Option, Some, None}
 use Rattle.std.proofs.lemmas.Bool.{cases_Bool, cond_both, ltb-false, ltb-true}
 use Rattle.std.proofs.lemmas.Bool.Decides.{nat_tests}
 use Rattle.hla_base.specs.declared.row.Role.{Role}
@@ -12,8 +12,8 @@ use Rattle.hla_base.specs.declared.content.Content.{Content}
 use Rattle.hla_base.specs.declared.content.Content.TheVariants as content
 use Rattle.hla_base.specs.declared.number.EventHandle.{EventHandle}
 use Rattle.hla_base.specs.Limits.{max_time, max_enablings}
-use Rattle.hla_base.specs.Tables.{upd, or_else, greatest, when}
-use Rattle.hla_base.specs.Rows.{is_strict, is_next, is_flush, is_constrained, new_row, width, row_after_request, row_with_entry, row_after_regulation_enabled, row_after_constraint_enabled, row_after_pick, first_or, grant_time, row_after_grant, bar_after, keep_if, RowNumbers, bar_of}
+use Rattle.hla_base.specs.Tables.{upd, or_else, when}
+use Rattle.hla_base.specs.Rows.{is_strict, is_next, is_flush, is_constrained, new_row, width, row_after_request, row_with_entry, row_after_regulation_enabled, row_after_constraint_enabled, row_after_pick, first_or, row_after_grant, bar_after, keep_if, RowNumbers, bar_of}
 use Rattle.hla_callbacks.specs.declared.callback.Callback.{Callback}
 use Rattle.hla_callbacks.specs.declared.callback.Callback.TheVariants as callback
 use Rattle.hla_callbacks.specs.declared.callback.Delivery.{Delivery}
@@ -33,8 +33,7 @@ use Rattle.hla_machine.specs.declared.step.Choice.{Choice}
 use Rattle.hla_machine.specs.declared.step.Choice.TheVariants as choice
 use Rattle.hla_machine.specs.Directory.{deletion_sent, deletions_sent, objects_of, update_sent, interaction_sent}
 use Rattle.hla_machine.specs.Central.{Central, BelowAllTso, BelowWake, low_entry, BelowSomeWake}
-use Rattle.hla_machine.specs.Callbacks.{MayPickIn, MayDeliver, MayPickUp, MayGrant, MayConstrain, row_after, after_delivery, after_constraint, after_pick}
-use Rattle.hla_machine.specs.Sends.{after_messages}
+use Rattle.hla_machine.specs.Callbacks.{MayDeliver, MayPickUp, MayGrant, after_delivery, after_constraint, after_pick}
 use Rattle.hla_base.specs.RowRefusals.{request_tests, regulation_tests}
 use Rattle.hla_machine.specs.Refusals.{refusal}
 use Rattle.hla_machine.specs.Machine.{central_seen, MayEnter, MayAnswer, MayDo, MayEnd, after_enter, after_cease, after_call, after_carry, after_done, after}
@@ -291,7 +290,7 @@ call_numbers : (c : Central) (f : ℕ) (s : Service) (a : Answer) (o : Choice) �
 call_numbers c f (service.Resign DeleteObjects) a o none may all = leave_numbers c _ (sent_rows c f None (deletions_sent (objects_of c.directory f))) f all
 call_numbers c f (service.Resign NoAction) a o none may all = leave_numbers c c.row refl f all
 call_numbers c f (service.UpdateAttributeValues object values stamp) a o none may all = sent_numbers c _ (sent_rows c f stamp (update_sent c.directory object values)) all
-call_numbers c f (service.SendInteraction class values stamp) a o none may all = sent_numbers c _ (sent_rows c f stamp (interaction_sent c.directory class values)) all
+call_numbers c f (service.SendInteraction class values stamp) a o none may all = sent_numbers c _ (sent_rows c f stamp (interaction_sent c.directory f class values)) all
 call_numbers c f (service.DeleteObjectInstance object stamp) a o none may all = sent_numbers c _ (sent_rows c f stamp (deletion_sent c.directory object)) all
 call_numbers c f (service.EnableTimeRegulation time lookahead) a o none may all =
     enter_numbers c f time lookahead o all (clear_call (central_seen c) f (service.EnableTimeRegulation time lookahead) none) (entry_may c f time lookahead a o may)

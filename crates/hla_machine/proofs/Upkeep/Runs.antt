@@ -50,7 +50,7 @@ call_keeps : (c : Central) (f : ℕ) (s : Service) (a : Answer) (o : Choice) →
 call_keeps c f (service.Resign way) a o none may k = resign_keeps c f way k
 call_keeps c f (service.UpdateAttributeValues object values stamp) a o none may k = let x = clear_call (central_seen c) f (service.UpdateAttributeValues object values stamp) none in let outs = update_sent c.directory object values in
     let x1 = x.1 in let x2 = x1.1 in let x3 = x2.1 in let x4 = x3.1 in sends_keep c f stamp outs (high_stamps (c.row f) stamp outs x4.0) k
-call_keeps c f (service.SendInteraction class values stamp) a o none may k = let x = clear_call (central_seen c) f (service.SendInteraction class values stamp) none in let outs = interaction_sent c.directory class values in
+call_keeps c f (service.SendInteraction class values stamp) a o none may k = let x = clear_call (central_seen c) f (service.SendInteraction class values stamp) none in let outs = interaction_sent c.directory f class values in
     let x1 = x.1 in let x2 = x1.1 in let x3 = x2.1 in sends_keep c f stamp outs (high_stamps (c.row f) stamp outs x3.0) k
 call_keeps c f (service.DeleteObjectInstance object stamp) a o none may k = let x = clear_call (central_seen c) f (service.DeleteObjectInstance object stamp) none in let outs = deletion_sent c.directory object in
     let x1 = x.1 in let x2 = x1.1 in sends_keep c f stamp outs (high_stamps (c.row f) stamp outs x2.0) k

@@ -30,7 +30,7 @@ use Rattle.hla_machine.specs.declared.step.Choice.{Choice}
 use Rattle.hla_machine.specs.declared.step.Choice.TheVariants as choice
 use Rattle.hla_machine.specs.Directory.{Outgoing, deletion_sent, deletions_sent, objects_of, update_sent, interaction_sent}
 use Rattle.hla_machine.specs.Central.{Central, Tso, low_entry}
-use Rattle.hla_machine.specs.Callbacks.{IsCopy, MayPickIn, MayDeliver, MayPickUp, MayGrant, MayConstrain, row_after, after_delivery, after_constraint, after_pick}
+use Rattle.hla_machine.specs.Callbacks.{IsCopy, MayPickIn, MayDeliver, MayPickUp, MayGrant, MayConstrain, after_delivery, after_constraint, after_pick}
 use Rattle.hla_machine.specs.Sends.{after_message, after_messages}
 use Rattle.hla_base.specs.RowRefusals.{request_tests}
 use Rattle.hla_machine.specs.Refusals.{refusal}
@@ -103,7 +103,7 @@ call_turn : (c : Central) (f : ℕ) (s : Service) (a : Answer) (o : Choice) → 
 call_turn c f (service.Resign DeleteObjects) a o none may = left_turn c (after_messages c f None (deletions_sent (objects_of c.directory f))) (sent_rows c f None (deletions_sent (objects_of c.directory f))) f
 call_turn c f (service.Resign NoAction) a o none may = left_turn c c refl f
 call_turn c f (service.UpdateAttributeValues object values stamp) a o none may = λ i. still c _ (sent_rows c f stamp (update_sent c.directory object values)) i _
-call_turn c f (service.SendInteraction class values stamp) a o none may = λ i. still c _ (sent_rows c f stamp (interaction_sent c.directory class values)) i _
+call_turn c f (service.SendInteraction class values stamp) a o none may = λ i. still c _ (sent_rows c f stamp (interaction_sent c.directory f class values)) i _
 call_turn c f (service.DeleteObjectInstance object stamp) a o none may = λ i. still c _ (sent_rows c f stamp (deletion_sent c.directory object)) i _
 call_turn c f (service.EnableTimeRegulation time lookahead) a o none may =
     let x = clear_call (central_seen c) f (service.EnableTimeRegulation time lookahead) none in let x1 = x.1 in let x2 = x1.1 in let x3 = x2.1 in

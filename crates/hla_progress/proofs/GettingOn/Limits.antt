@@ -1,5 +1,5 @@
 -- The more is asked for, the more is due before it
-use Rattle.std.proofs.Common.{◌≡◌, ℕ, zero, suc, ◌+◌, ◌≤◌, ◌<◌, cond, leb, ◌&&◌, ◌||◌, Bool, true, false, refl, le_trans, ⊎_elim, arith, List, [], ◌∷◌, length, Option, Some, None}
+use Rattle.std.proofs.Common.{◌≡◌, ℕ, zero, suc, ◌≤◌, cond, leb, Bool, true, false, refl, le_trans, ⊎_elim, arith, List, [], ◌∷◌, Option, Some, None}
 use Rattle.std.proofs.lemmas.Bool.{and_parts, and_from, cases_Bool, leb-true}
 use Rattle.hla_base.specs.declared.content.Event.{Event}
 use Rattle.hla_base.specs.declared.row.AdvanceRequest.{AdvanceRequest}

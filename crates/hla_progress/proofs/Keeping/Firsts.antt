@@ -92,7 +92,7 @@ module _ (s : Components) (f : ℕ) (k : KeepsFirsts s) (inv : Inv s) where
   call_firsts (service.Resign ReleaseAttributes) = k
   call_firsts (service.Resign DeleteObjectsAndReleaseAttributes) = k
   call_firsts (service.UpdateAttributeValues object values stamp) = firsts_sent s f stamp (update_sent s.directory object values) k
-  call_firsts (service.SendInteraction class values stamp) = firsts_sent s f stamp (interaction_sent s.directory class values) k
+  call_firsts (service.SendInteraction class values stamp) = firsts_sent s f stamp (interaction_sent s.directory f class values) k
   call_firsts (service.DeleteObjectInstance object stamp) = firsts_sent s f stamp (deletion_sent s.directory object) k
   call_firsts (service.EnableTimeRegulation time lookahead) = firsts_row s k f (row_with_entry (s.row f) lookahead (regulation_entry s f (time + lookahead))) (k f)
   call_firsts service.DisableTimeRegulation = firsts_row s k f (record (s.row f) { regulating = Disabled }) (k f)

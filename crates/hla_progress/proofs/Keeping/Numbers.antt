@@ -40,7 +40,7 @@ numbered_call s f (service.Resign NoAction) n = record { next = n.next; nobody =
 numbered_call s f (service.Resign ReleaseAttributes) n = n
 numbered_call s f (service.Resign DeleteObjectsAndReleaseAttributes) n = n
 numbered_call s f (service.UpdateAttributeValues object values stamp) n = numbered_sent s f stamp (update_sent s.directory object values) n
-numbered_call s f (service.SendInteraction class values stamp) n = numbered_sent s f stamp (interaction_sent s.directory class values) n
+numbered_call s f (service.SendInteraction class values stamp) n = numbered_sent s f stamp (interaction_sent s.directory f class values) n
 numbered_call s f (service.DeleteObjectInstance object stamp) n = let t = numbered_sent s f stamp (deletion_sent s.directory object) n in record { next = t.next; nobody = t.nobody }
 numbered_call s f x n = record { next = n.next; nobody = n.nobody }
 

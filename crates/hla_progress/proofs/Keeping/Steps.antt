@@ -60,8 +60,10 @@ module _ (s : Components) (f : ℕ) (k : KeepsPromises s) (inv : Inv s) where
   call_keeps (service.UnsubscribeInteractionClass class) none = k
   call_keeps (service.RegisterObjectInstance class name) none = keeps_discovered s k (with_object s.directory f class (name_or_default s.directory.next_object name)) f
   call_keeps (service.UpdateAttributeValues object values stamp) none = sends stamp (update_sent s.directory object values)
-  call_keeps (service.SendInteraction class values stamp) none = sends stamp (interaction_sent s.directory class values)
+  call_keeps (service.SendInteraction class values stamp) none = sends stamp (interaction_sent s.directory f class values)
   call_keeps (service.DeleteObjectInstance object stamp) none = sends stamp (deletion_sent s.directory object)
+  call_keeps (service.ChangeAttributeOrderType object attributes order) none = k
+  call_keeps (service.ChangeInteractionOrderType class order) none = k
   call_keeps (service.Retract event) none = retracts event.serial
   call_keeps (service.EnableTimeRegulation time lookahead) none =
       keeps_enabled s k inv f lookahead (regulation_entry s f (time + lookahead)) (at_rest (s.row f) (clear_call (components_seen s) f (service.EnableTimeRegulation time lookahead) none).0)

@@ -1,5 +1,5 @@
 -- What is told of a call that chooses nothing, whatever the service
-use Rattle.std.proofs.Common.{◌≡◌, ◌≢◌, ℕ, cond, Bool, true, false, Option, None, refl, sym, ◌∙◌, subst}
+use Rattle.std.proofs.Common.{◌≡◌, ℕ, cond, Bool, true, false, Option, None, refl, sym, ◌∙◌, subst}
 use Rattle.std.specs.Bool.{Decides}
 use mathlib.Core.Bool.{false≢true}
 use Rattle.hla_base.specs.declared.fault.Fault.{Fault}

@@ -1,8 +1,7 @@
 -- The message is demoted at its place, where much waits.
-use Rattle.std.proofs.Common.{◌≡◌, List, Some, None, [], ◌∷◌, get_or, subst, ap, sym, ◌∙◌, rules}
-use Rattle.std.specs.List.{position}
+use Rattle.std.proofs.Common.{◌≡◌, List, None, [], ◌∷◌, get_or, subst, ap, ◌∙◌, rules}
 use Rattle.hla_accounts.specs.declared.bag.Waiting.{Waiting}
-use Rattle.hla_accounts.specs.Bags.{is_of, waiting_at, with_listed_demoted, AreApart}
+use Rattle.hla_accounts.specs.Bags.{waiting_at, with_listed_demoted, AreApart}
 use Rattle.hla_accounts.specs.Bounds.{ordered_stamp}
 use Rattle.hla_accounts.proofs.Bags.Places.{demoted_at, none_demoted_one, found_none, unmoved}
 use Rattle.hla_accounts.proofs.bag.Bag.demote_among_many.Goals as goal

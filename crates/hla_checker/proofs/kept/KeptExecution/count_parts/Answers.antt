@@ -9,8 +9,8 @@ byte_is true = refl
 byte_is false = refl
 
 pub returns : goal.returns
-returns c object =
-    length-update (directory_of c.args.self.now) object c.args.values.now
+returns c =
+    length-update (directory_of c.args.self.now) c.args.object c.args.values.now
     ∙ sym (sum_is c.from.result c.from-2.result _ _
     (c.from.ensures ∙ byte_is c.has_order-received.result ∙ ap (λ (b : Bool). cond b 1 0) c.has_order-received.ensures)
     (c.from-2.ensures ∙ byte_is c.has_order-stamped.result ∙ ap (λ (b : Bool). cond b 1 0) c.has_order-stamped.ensures))

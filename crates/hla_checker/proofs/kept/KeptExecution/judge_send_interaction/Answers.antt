@@ -1,4 +1,4 @@
-use Rattle.std.proofs.Common.{List, ap, refl, ◌∙◌}
+use Rattle.std.proofs.Common.{List, ap, refl, ◌∙◌, ℕ}
 use Rattle.hla_base.specs.RowRefusals.{first_fault}
 use Rattle.hla_base.specs.declared.content.HandleValuePair.{HandleValuePair}
 use Rattle.hla_machine.specs.Directory.{Directory, interaction_sent}
@@ -17,7 +17,7 @@ pub returns-then-not-is_sent-clause-ok : goal.returns-then-not-is_sent-clause-ok
 returns-then-not-is_sent-clause-ok c =
     let now = central_of c.args.self.now in
     let x = services.SendInteraction c.args.class c.args.values.now c.args.stamp in
-    sending_wrong now c.args.federate x c.args.stamp (λ (d : Directory). interaction_sent d c.args.class c.args.values.now) (interaction_sending c.args.class c.args.values.now c.args.stamp)
+    sending_wrong now c.args.federate x c.args.stamp (λ (d : Directory) (f : ℕ). interaction_sent d f c.args.class c.args.values.now) (interaction_sending c.args.class c.args.values.now c.args.stamp)
     c.args.outcome.now c.in-Ok.answer.now c.args.choice.now c.interaction_handle-handle.result (c.interaction_handle-handle.ensures c.args.values.now) c.in-Ok.ensures.answered.1
     now c.is_sent.result c.is_sent.ensures c.if-not-is_sent.true
 
@@ -39,8 +39,8 @@ returns-in_ok-send_interaction-in-Ok-clause-ok c =
     ∙ ap (λ (vs : List HandleValuePair). first_fault (call_tests (central_seen now) c.args.federate (services.SendInteraction c.args.class vs c.args.stamp))) c.as_slice.ensures
     ∙ joined_refusal now c.args.federate x c.requires.joined in
     let follows = c.in_ok-send_interaction-in-Ok.ensures.sent
-    ∙ ap (λ (vs : List HandleValuePair). after_messages now c.args.federate c.args.stamp (interaction_sent (directory_of c.args.self.now) c.args.class vs)) c.as_slice-in-Ok.ensures in
-    let done = sending_done now c.args.federate x c.args.stamp (λ (d : Directory). interaction_sent d c.args.class c.args.values.now) (interaction_sending c.args.class c.args.values.now c.args.stamp)
+    ∙ ap (λ (vs : List HandleValuePair). after_messages now c.args.federate c.args.stamp (interaction_sent (directory_of c.args.self.now) c.args.federate c.args.class vs)) c.as_slice-in-Ok.ensures in
+    let done = sending_done now c.args.federate x c.args.stamp (λ (d : Directory) (f : ℕ). interaction_sent d f c.args.class c.args.values.now) (interaction_sending c.args.class c.args.values.now c.args.stamp)
     c.args.outcome.now c.in-Ok.answer.now c.args.choice.now c.interaction_handle-handle.result (c.interaction_handle-handle.ensures c.args.values.now) c.in-Ok.ensures.answered.1
     (central_of c.send_interaction.new.self) c.interaction_fault-fault.result found c.in-Ok.ensures.answered.0 (c.is_sent.ensures.0 c.if-not-is_sent.false) c.in-Ok.ensures.answered.2 follows in
     (done.0, (done.1, c.in_ok-send_interaction-in-Ok.ensures.consistent))

@@ -1,4 +1,4 @@
-use Rattle.std.proofs.Common.{◌≤◌, ◌+◌, List, length, ap, sym, subst, refl, ◌∙◌}
+use Rattle.std.proofs.Common.{◌≤◌, ◌+◌, List, length, ap, sym, subst, refl, ◌∙◌, ℕ}
 use Rattle.hla_base.specs.Limits.{max_serial}
 use Rattle.hla_base.specs.RowRefusals.{first_fault}
 use Rattle.hla_base.specs.declared.content.HandleValuePair.{HandleValuePair}
@@ -20,9 +20,9 @@ pub returns-then-not-is_sent-clause-ok : goal.returns-then-not-is_sent-clause-ok
 returns-then-not-is_sent-clause-ok c =
     let now = central_of c.args.self.now in
     let x = services.UpdateAttributeValues c.args.object c.args.values.now c.args.stamp in
-    let handle = c.update_handle-handle.ensures c.args.object
+    let handle = c.update_handle-handle.ensures
     ∙ ap (λ (vs : List HandleValuePair). send_answer now c.args.federate c.args.stamp (update_sent (directory_of c.args.self.now) c.args.object vs)) c.as_slice-in-Ok.ensures in
-    sending_wrong now c.args.federate x c.args.stamp (λ (d : Directory). update_sent d c.args.object c.args.values.now) (update_sending c.args.object c.args.values.now c.args.stamp)
+    sending_wrong now c.args.federate x c.args.stamp (λ (d : Directory) (f : ℕ). update_sent d c.args.object c.args.values.now) (update_sending c.args.object c.args.values.now c.args.stamp)
     c.args.outcome.now c.in-Ok.answer.now c.args.choice.now c.update_handle-handle.result handle c.in-Ok.ensures.answered.1
     now c.is_sent.result c.is_sent.ensures c.if-not-is_sent.true
 
@@ -51,11 +51,11 @@ returns-in_ok-send_update-in-Ok-clause-ok c =
     let found = c.update_fault-fault.ensures
     ∙ ap (λ (vs : List HandleValuePair). first_fault (call_tests (central_seen now) c.args.federate (services.UpdateAttributeValues c.args.object vs c.args.stamp))) c.as_slice.ensures
     ∙ joined_refusal now c.args.federate x c.requires.joined in
-    let handle = c.update_handle-handle.ensures c.args.object
+    let handle = c.update_handle-handle.ensures
     ∙ ap (λ (vs : List HandleValuePair). send_answer now c.args.federate c.args.stamp (update_sent (directory_of c.args.self.now) c.args.object vs)) c.as_slice-in-Ok.ensures in
     let follows = c.in_ok-send_update-in-Ok.ensures.sent
     ∙ ap (λ (vs : List HandleValuePair). after_messages now c.args.federate c.args.stamp (update_sent (directory_of c.args.self.now) c.args.object vs)) c.as_slice-in-Ok-2.ensures in
-    let done = sending_done now c.args.federate x c.args.stamp (λ (d : Directory). update_sent d c.args.object c.args.values.now) (update_sending c.args.object c.args.values.now c.args.stamp)
+    let done = sending_done now c.args.federate x c.args.stamp (λ (d : Directory) (f : ℕ). update_sent d c.args.object c.args.values.now) (update_sending c.args.object c.args.values.now c.args.stamp)
     c.args.outcome.now c.in-Ok.answer.now c.args.choice.now c.update_handle-handle.result handle c.in-Ok.ensures.answered.1
     (central_of c.send_update.new.self) c.update_fault-fault.result found c.in-Ok.ensures.answered.0 (c.is_sent.ensures.0 c.if-not-is_sent.false) c.in-Ok.ensures.answered.2 follows in
     (done.0, (done.1, c.in_ok-send_update-in-Ok.ensures.consistent))

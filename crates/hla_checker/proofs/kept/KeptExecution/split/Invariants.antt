@@ -8,4 +8,4 @@ use Rattle.hla_checker.proofs.kept.KeptExecution.split.Given as goal
 abbrev pub invariant-loop-value : goal.invariant-loop-value
 invariant-loop-value l =
     (goal.iterator-loop-value).can_next l.value-iterator × (goal.iterator-loop-value).is_finite l.value-iterator
-    × (l.received ≡ values_of_order (directory_of l.self) Receive l.yielded) × (l.stamped ≡ values_of_order (directory_of l.self) Timestamp l.yielded)
+    × (l.received ≡ values_of_order (directory_of l.self) l.object Receive l.yielded) × (l.stamped ≡ values_of_order (directory_of l.self) l.object Timestamp l.yielded)

@@ -40,5 +40,5 @@ returns-else-lacks_publication c =
     let owned = sym c.lacks_ownership.ensures ∙ c.if-lacks_ownership.false in
     let published = ap (λ (k : ℕ). list_any (λ (v : HandleValuePair). not (is_published (directory_of now) f k v.handle)) c.args.values.now) class ∙ sym c.lacks_publication.ensures ∙ c.if-lacks_publication.false in
     let any = any_stamped (directory_of now) h c.args.values.now ∙ sym c.has_order-is_stamped.ensures in
-    c.sending_fault.ensures outs any (c.count_parts-count.ensures h) ∙ ap (λ (v : KeptValue). first_fault (sending_tests (account_at v.accounts f) c.args.stamp outs)) c.self.view_is
+    c.sending_fault.ensures outs any c.count_parts-count.ensures ∙ ap (λ (v : KeptValue). first_fault (sending_tests (account_at v.accounts f) c.args.stamp outs)) c.self.view_is
     ∙ update_rest _ _ _ _ false rest known defined owned published

@@ -2,9 +2,8 @@ use Rattle.std.proofs.Common.{◌≡◌, ◌+◌, Bool, cond, true, false, refl,
 use Rattle.std.specs.List.{list_any}
 use mir.Val.{bool_byte}
 use Rattle.hla_base.specs.declared.content.HandleValuePair.{HandleValuePair}
-use Rattle.hla_catalogue.specs.Lookup.{attribute_order}
 use Rattle.hla_catalogue.specs.declared.declared.Order.TheVariants.{Receive, Timestamp}
-use Rattle.hla_machine.specs.Directory.{is_of_order}
+use Rattle.hla_machine.specs.Directory.{is_of_order, order_of_attribute}
 use Rattle.hla_accounts.specs.Accounts.{account_at}
 use Rattle.hla_accounts.specs.Sendings.{is_sent_in_order}
 use Rattle.hla_verdicts.specs.Kept.{KeptValue, directory_of}
@@ -17,15 +16,17 @@ byte_is true = refl
 byte_is false = refl
 
 pub returns-then-not-has_order : goal.returns-then-not-has_order
-returns-then-not-has_order c object =
+returns-then-not-has_order c =
+    let object = c.args.object in
     let now = c.args.self.now in
     let a = account_at now.accounts c.args.federate in
-    let received = list_any (λ (v : HandleValuePair). is_of_order Receive (attribute_order now.catalogue v.handle)) c.args.values.now in
+    let received = list_any (λ (v : HandleValuePair). is_of_order Receive (order_of_attribute (directory_of now) object v.handle)) c.args.values.now in
     update_handle_is c.args.federate a.state c.args.stamp object (directory_of now) a.next_serial (a.next_serial + cond received 1 0) c.args.values.now received false (is_sent_in_order a.state Timestamp c.args.stamp)
     refl (sym c.if-not-has_order.true ∙ c.has_order.ensures) refl refl
 
 pub returns : goal.returns
-returns c object =
+returns c =
+    let object = c.args.object in
     let now = c.args.self.now in
     let a = account_at now.accounts c.args.federate in
     let in_order = c.is_sent_in_order.ensures ∙ ap (λ (v : KeptValue). is_sent_in_order (account_at v.accounts c.args.federate).state Timestamp c.args.stamp) c.self.view_is in

@@ -2,10 +2,9 @@ use Rattle.std.proofs.Common.{◌≡◌, List, [], ◌++◌, Bool, false, length
 use Rattle.std.specs.List.{list_any}
 use Rattle.std.proofs.lemmas.List.{append-nil}
 use Rattle.hla_base.specs.declared.content.HandleValuePair.{HandleValuePair}
-use Rattle.hla_catalogue.specs.Lookup.{attribute_order}
 use Rattle.hla_catalogue.specs.declared.declared.Order.TheVariants.{Receive}
 use Rattle.hla_retraction.specs.Receivers.{receiver_set}
-use Rattle.hla_machine.specs.Directory.{AnUpdate, is_of_order, is_receiver, part_sent}
+use Rattle.hla_machine.specs.Directory.{AnUpdate, is_of_order, is_receiver, part_sent, order_of_attribute}
 use Rattle.hla_members.specs.MemberValue.{item}
 use Rattle.hla_federation.specs.Steps.Sending.{part_to}
 use Rattle.hla_federation.specs.Steps.State.{state_of}
@@ -14,13 +13,13 @@ use Rattle.hla_federation.proofs.parts.Parts.address_order.Goals as goal
 
 pub returns-then-not-has_order-clause-count : goal.returns-then-not-has_order-clause-count
 returns-then-not-has_order-clause-count c =
-    let has : HandleValuePair → Bool = λ (v : HandleValuePair). is_of_order c.args.order (attribute_order c.args.self.now.catalogue v.handle) in
+    let has : HandleValuePair → Bool = λ (v : HandleValuePair). is_of_order c.args.order (order_of_attribute (state_of c.args.self.now).directory c.args.object v.handle) in
     let none : list_any has c.args.values.now ≡ false = ap (list_any has) (sym c.as_slice.ensures) ∙ sym c.has_order.ensures ∙ c.if-not-has_order.true in
     ap (λ (vs : List HandleValuePair). length (part_sent Receive c.args.object vs)) (sym (none_kept has c.args.values.now none))
 
 pub returns-then-not-has_order-clause-ok : goal.returns-then-not-has_order-clause-ok
 returns-then-not-has_order-clause-ok c =
-    let has : HandleValuePair → Bool = λ (v : HandleValuePair). is_of_order c.args.order (attribute_order c.args.self.now.catalogue v.handle) in
+    let has : HandleValuePair → Bool = λ (v : HandleValuePair). is_of_order c.args.order (order_of_attribute (state_of c.args.self.now).directory c.args.object v.handle) in
     let none : list_any has c.args.values.now ≡ false = ap (list_any has) (sym c.as_slice.ensures) ∙ sym c.has_order.ensures ∙ c.if-not-has_order.true in
     λ h. sym (append-nil (item [] c.args.outbox.now h))
     ∙ ap (λ (vs : List HandleValuePair). item [] c.args.outbox.now h ++ part_to (state_of c.args.self.now).directory c.args.heading c.args.object vs h) (sym (none_kept has c.args.values.now none))

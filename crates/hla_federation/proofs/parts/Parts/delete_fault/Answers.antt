@@ -1,10 +1,9 @@
 use Rattle.std.proofs.Common.{◌≡◌, eqb, true, ap, sym, refl, ◌∙◌, arith}
 use Rattle.std.proofs.lemmas.Bool.Decides.{nat_tests}
-use Rattle.hla_catalogue.specs.Lookup.{deletion_order}
 use Rattle.hla_catalogue.specs.declared.declared.Order.TheVariants.{Timestamp}
 use Rattle.hla_object_registry.specs.Queries.{is_known_in}
 use Rattle.hla_object_registry.specs.Registered.{registry_of}
-use Rattle.hla_machine.specs.Directory.{ADeletion, deletion_sent, is_of_order}
+use Rattle.hla_machine.specs.Directory.{ADeletion, deletion_sent, is_of_order, order_of_deletion}
 use Rattle.hla_federation.specs.FederationValue.{FederationValue}
 use Rattle.hla_members.specs.Members.{members_of}
 use Rattle.hla_federation.specs.Steps.State.{state_of}
@@ -17,9 +16,8 @@ returns-then-is_bad_stamp c =
     let now = c.args.self.now in
     let f = c.args.federate in
     let h = c.args.object in
-    let order = λ (v : FederationValue). is_of_order Timestamp (deletion_order v.catalogue ((registry_of v.objects).object h).class) in
-    let any = one_stamped (record { order = deletion_order now.catalogue ((registry_of now.objects).object h).class; body = ADeletion h })
-    ∙ sym (c.is_timestamp-is_stamped.ensures ∙ ap (is_of_order Timestamp) (c.deletion_order.ensures ∙ ap (deletion_order c.self.inside.catalogue) c.class_of.ensures) ∙ ap order c.self.view_is) in
+    let any = one_stamped (record { order = order_of_deletion (state_of now).directory h; body = ADeletion h })
+    ∙ sym (c.is_timestamp-is_stamped.ensures ∙ ap (is_of_order Timestamp) c.order_of_deletion.ensures) in
     let known = ap (λ (v : FederationValue). is_known_in (registry_of v.objects) f h) (sym c.self.view_is) ∙ sym c.is_known.ensures ∙ c.if-not-is_known.false in
     let owner : ((registry_of now.objects).object h).owner ≡ f = ap (λ (v : FederationValue). ((registry_of v.objects).object h).owner) (sym c.self.view_is) ∙ sym c.owner.ensures ∙ c.if-owner-federate.false in
     let owned : eqb ((registry_of now.objects).object h).owner f ≡ true = grind (arith, nat_tests) in
@@ -31,9 +29,8 @@ returns-then-next_serial-gt-MAX_SERIAL c =
     let f = c.args.federate in
     let h = c.args.object in
     let outs = deletion_sent (state_of now).directory h in
-    let order = λ (v : FederationValue). is_of_order Timestamp (deletion_order v.catalogue ((registry_of v.objects).object h).class) in
-    let any = one_stamped (record { order = deletion_order now.catalogue ((registry_of now.objects).object h).class; body = ADeletion h })
-    ∙ sym (c.is_timestamp-is_stamped.ensures ∙ ap (is_of_order Timestamp) (c.deletion_order.ensures ∙ ap (deletion_order c.self.inside.catalogue) c.class_of.ensures) ∙ ap order c.self.view_is) in
+    let any = one_stamped (record { order = order_of_deletion (state_of now).directory h; body = ADeletion h })
+    ∙ sym (c.is_timestamp-is_stamped.ensures ∙ ap (is_of_order Timestamp) c.order_of_deletion.ensures) in
     let known = ap (λ (v : FederationValue). is_known_in (registry_of v.objects) f h) (sym c.self.view_is) ∙ sym c.is_known.ensures ∙ c.if-not-is_known.false in
     let owner : ((registry_of now.objects).object h).owner ≡ f = ap (λ (v : FederationValue). ((registry_of v.objects).object h).owner) (sym c.self.view_is) ∙ sym c.owner.ensures ∙ c.if-owner-federate.false in
     let owned : eqb ((registry_of now.objects).object h).owner f ≡ true = grind (arith, nat_tests) in
@@ -47,9 +44,8 @@ returns-else-next_serial-gt-MAX_SERIAL c =
     let f = c.args.federate in
     let h = c.args.object in
     let outs = deletion_sent (state_of now).directory h in
-    let order = λ (v : FederationValue). is_of_order Timestamp (deletion_order v.catalogue ((registry_of v.objects).object h).class) in
-    let any = one_stamped (record { order = deletion_order now.catalogue ((registry_of now.objects).object h).class; body = ADeletion h })
-    ∙ sym (c.is_timestamp-is_stamped.ensures ∙ ap (is_of_order Timestamp) (c.deletion_order.ensures ∙ ap (deletion_order c.self.inside.catalogue) c.class_of.ensures) ∙ ap order c.self.view_is) in
+    let any = one_stamped (record { order = order_of_deletion (state_of now).directory h; body = ADeletion h })
+    ∙ sym (c.is_timestamp-is_stamped.ensures ∙ ap (is_of_order Timestamp) c.order_of_deletion.ensures) in
     let known = ap (λ (v : FederationValue). is_known_in (registry_of v.objects) f h) (sym c.self.view_is) ∙ sym c.is_known.ensures ∙ c.if-not-is_known.false in
     let owner : ((registry_of now.objects).object h).owner ≡ f = ap (λ (v : FederationValue). ((registry_of v.objects).object h).owner) (sym c.self.view_is) ∙ sym c.owner.ensures ∙ c.if-owner-federate.false in
     let owned : eqb ((registry_of now.objects).object h).owner f ≡ true = grind (arith, nat_tests) in

@@ -2,10 +2,9 @@ use Rattle.hla_base.specs.Limits.{largest_number}
 use Rattle.std.proofs.Common.{◌≡◌, ◌+◌, ◌≤◌, [], ◌++◌, length, Bool, true, false, not, ◌&&◌, ltb, None, refl, ap, sym, subst, ◌∙◌, arith}
 use Rattle.std.proofs.lemmas.Bool.Decides.{nat_tests}
 use Rattle.hla_base.specs.Tables.{upd, max_time}
-use Rattle.hla_catalogue.specs.Lookup.{deletion_order}
 use Rattle.hla_catalogue.specs.declared.declared.Order.{Order}
 use Rattle.hla_object_registry.specs.Registered.{RegistryValue, registry_of}
-use Rattle.hla_machine.specs.Directory.{Outgoing, ADeletion, deletion_sent}
+use Rattle.hla_machine.specs.Directory.{Outgoing, ADeletion, deletion_sent, order_of_deletion}
 use Rattle.hla_machine.specs.Refusals.{refusal, tests}
 use Rattle.hla_machine.specs.declared.service.Service.TheVariants as service
 use Rattle.hla_machine.specs.declared.step.Step.TheVariants.{Call}
@@ -62,13 +61,13 @@ returns-clause-whole c =
     let r = (state_of now).row f in
     let m = (members_of now.members).serial f in
     let outs = deletion_sent d c.args.object in
-    let out : Outgoing = record { order = deletion_order now.catalogue ((registry_of now.objects).object c.args.object).class; body = ADeletion c.args.object } in
+    let out : Outgoing = record { order = order_of_deletion d c.args.object; body = ADeletion c.args.object } in
     let o = item [] c.address_removal.new.outbox in
     let is = c.in_ok-send_all.ensures.ok
     ∙ ap (λ (v : FederationValue). record (members_of v.members) { serial = upd (members_of v.members).serial f ((members_of v.members).serial f + 1); wire = wires_posted_below (From f) o (members_of v.members).next_federate (members_of v.members).wire }) c.self.view_is in
     let gone = c.delete.ensures
     ∙ ap (λ (v : FederationValue). record (registry_of v.objects) { object = upd (registry_of v.objects).object c.args.object (record ((registry_of v.objects).object c.args.object) { exists = false }) }) c.self.view_is in
-    let order = c.deletion_order-order.ensures ∙ ap (deletion_order c.self.inside.catalogue) c.class_of.ensures ∙ ap (λ (v : FederationValue). deletion_order v.catalogue ((registry_of v.objects).object c.args.object).class) c.self.view_is in
+    let order = c.order_of_deletion-order.ensures in
     let head = c.heading-heading.ensures ∙ ap (λ (k : Order). heading_of f c.next_serial-serial.result r c.args.stamp k) order in
     let added = one_added d f c.next_serial-serial.result m r c.args.stamp out c.in_ok-outbox.outbox c.address_removal.new.outbox c.in_ok-outbox.ensures.ok
     (λ h. c.in_ok-address_removal.ensures.ok h ∙ ap (λ (x : Heading). item [] c.in_ok-outbox.outbox h ++ message_to d x (ADeletion c.args.object) h) head)
@@ -85,13 +84,13 @@ returns-clause-done c =
     let r = (state_of now).row f in
     let m = (members_of now.members).serial f in
     let outs = deletion_sent d c.args.object in
-    let out : Outgoing = record { order = deletion_order now.catalogue ((registry_of now.objects).object c.args.object).class; body = ADeletion c.args.object } in
+    let out : Outgoing = record { order = order_of_deletion d c.args.object; body = ADeletion c.args.object } in
     let o = item [] c.address_removal.new.outbox in
     let is = c.in_ok-send_all.ensures.ok
     ∙ ap (λ (v : FederationValue). record (members_of v.members) { serial = upd (members_of v.members).serial f ((members_of v.members).serial f + 1); wire = wires_posted_below (From f) o (members_of v.members).next_federate (members_of v.members).wire }) c.self.view_is in
     let gone = c.delete.ensures
     ∙ ap (λ (v : FederationValue). record (registry_of v.objects) { object = upd (registry_of v.objects).object c.args.object (record ((registry_of v.objects).object c.args.object) { exists = false }) }) c.self.view_is in
-    let order = c.deletion_order-order.ensures ∙ ap (deletion_order c.self.inside.catalogue) c.class_of.ensures ∙ ap (λ (v : FederationValue). deletion_order v.catalogue ((registry_of v.objects).object c.args.object).class) c.self.view_is in
+    let order = c.order_of_deletion-order.ensures in
     let head = c.heading-heading.ensures ∙ ap (λ (k : Order). heading_of f c.next_serial-serial.result r c.args.stamp k) order in
     let added = one_added d f c.next_serial-serial.result m r c.args.stamp out c.in_ok-outbox.outbox c.address_removal.new.outbox c.in_ok-outbox.ensures.ok
     (λ h. c.in_ok-address_removal.ensures.ok h ∙ ap (λ (x : Heading). item [] c.in_ok-outbox.outbox h ++ message_to d x (ADeletion c.args.object) h) head)

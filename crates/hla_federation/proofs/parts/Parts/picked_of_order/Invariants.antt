@@ -5,4 +5,4 @@ use Rattle.hla_federation.proofs.parts.Parts.picked_of_order.Given as goal
 
 -- those of the order among the values so far
 abbrev pub invariant-loop-value : goal.invariant-loop-value
-invariant-loop-value l = l.part ≡ values_of_order (state_of l.self).directory l.order (take l.value-index l.values)
+invariant-loop-value l = l.part ≡ values_of_order (state_of l.self).directory l.object l.order (take l.value-index l.values)

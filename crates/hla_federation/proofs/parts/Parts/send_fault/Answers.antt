@@ -1,8 +1,8 @@
 use Rattle.std.proofs.Common.{ap, sym, refl, ◌∙◌, arith}
-use Rattle.hla_catalogue.specs.Lookup.{interaction_order, is_interaction_class}
+use Rattle.hla_catalogue.specs.Lookup.{is_interaction_class}
 use Rattle.hla_catalogue.specs.declared.declared.Order.TheVariants.{Timestamp}
 use Rattle.hla_declaration.specs.Declarations as declared
-use Rattle.hla_machine.specs.Directory.{AnInteraction, by_handle, interaction_sent, is_of_order}
+use Rattle.hla_machine.specs.Directory.{AnInteraction, by_handle, interaction_sent, is_of_order, order_of_interaction}
 use Rattle.hla_federation.specs.FederationValue.{FederationValue}
 use Rattle.hla_members.specs.Members.{members_of}
 use Rattle.hla_federation.specs.Steps.State.{state_of}
@@ -14,9 +14,9 @@ pub returns-then-is_bad_stamp : goal.returns-then-is_bad_stamp
 returns-then-is_bad_stamp c =
     let now = c.args.self.now in
     let f = c.args.federate in
-    let outs = interaction_sent (state_of now).directory c.args.class c.args.values.now in
-    let any = one_stamped (record { order = interaction_order now.catalogue c.args.class; body = AnInteraction c.args.class (by_handle c.args.values.now) })
-    ∙ sym (c.is_timestamp-is_stamped.ensures ∙ ap (is_of_order Timestamp) c.interaction_order.ensures ∙ ap (λ (v : FederationValue). is_of_order Timestamp (interaction_order v.catalogue c.args.class)) c.self.view_is) in
+    let outs = interaction_sent (state_of now).directory f c.args.class c.args.values.now in
+    let any = one_stamped (record { order = order_of_interaction (state_of now).directory f c.args.class; body = AnInteraction c.args.class (by_handle c.args.values.now) })
+    ∙ sym (c.is_timestamp-is_stamped.ensures ∙ ap (is_of_order Timestamp) c.order_of_interaction.ensures) in
     let defined = ap (λ (v : FederationValue). is_interaction_class v.catalogue c.args.class) (sym c.self.view_is) ∙ sym c.is_interaction_class.ensures ∙ c.if-not-is_interaction_class.false in
     let known = sym c.lacks_parameter.ensures ∙ c.if-lacks_parameter.false in
     let published = ap (λ (v : FederationValue). (declared.declarations_of v.declarations).published_interaction f c.args.class) (sym c.self.view_is) ∙ sym c.publishes_interaction_class.ensures ∙ c.if-not-publishes_interaction_class.false in
@@ -26,9 +26,9 @@ pub returns-then-next_serial-gt-MAX_SERIAL : goal.returns-then-next_serial-gt-MA
 returns-then-next_serial-gt-MAX_SERIAL c =
     let now = c.args.self.now in
     let f = c.args.federate in
-    let outs = interaction_sent (state_of now).directory c.args.class c.args.values.now in
-    let any = one_stamped (record { order = interaction_order now.catalogue c.args.class; body = AnInteraction c.args.class (by_handle c.args.values.now) })
-    ∙ sym (c.is_timestamp-is_stamped.ensures ∙ ap (is_of_order Timestamp) c.interaction_order.ensures ∙ ap (λ (v : FederationValue). is_of_order Timestamp (interaction_order v.catalogue c.args.class)) c.self.view_is) in
+    let outs = interaction_sent (state_of now).directory f c.args.class c.args.values.now in
+    let any = one_stamped (record { order = order_of_interaction (state_of now).directory f c.args.class; body = AnInteraction c.args.class (by_handle c.args.values.now) })
+    ∙ sym (c.is_timestamp-is_stamped.ensures ∙ ap (is_of_order Timestamp) c.order_of_interaction.ensures) in
     let defined = ap (λ (v : FederationValue). is_interaction_class v.catalogue c.args.class) (sym c.self.view_is) ∙ sym c.is_interaction_class.ensures ∙ c.if-not-is_interaction_class.false in
     let known = sym c.lacks_parameter.ensures ∙ c.if-lacks_parameter.false in
     let published = ap (λ (v : FederationValue). (declared.declarations_of v.declarations).published_interaction f c.args.class) (sym c.self.view_is) ∙ sym c.publishes_interaction_class.ensures ∙ c.if-not-publishes_interaction_class.false in
@@ -40,9 +40,9 @@ pub returns-else-next_serial-gt-MAX_SERIAL : goal.returns-else-next_serial-gt-MA
 returns-else-next_serial-gt-MAX_SERIAL c =
     let now = c.args.self.now in
     let f = c.args.federate in
-    let outs = interaction_sent (state_of now).directory c.args.class c.args.values.now in
-    let any = one_stamped (record { order = interaction_order now.catalogue c.args.class; body = AnInteraction c.args.class (by_handle c.args.values.now) })
-    ∙ sym (c.is_timestamp-is_stamped.ensures ∙ ap (is_of_order Timestamp) c.interaction_order.ensures ∙ ap (λ (v : FederationValue). is_of_order Timestamp (interaction_order v.catalogue c.args.class)) c.self.view_is) in
+    let outs = interaction_sent (state_of now).directory f c.args.class c.args.values.now in
+    let any = one_stamped (record { order = order_of_interaction (state_of now).directory f c.args.class; body = AnInteraction c.args.class (by_handle c.args.values.now) })
+    ∙ sym (c.is_timestamp-is_stamped.ensures ∙ ap (is_of_order Timestamp) c.order_of_interaction.ensures) in
     let defined = ap (λ (v : FederationValue). is_interaction_class v.catalogue c.args.class) (sym c.self.view_is) ∙ sym c.is_interaction_class.ensures ∙ c.if-not-is_interaction_class.false in
     let known = sym c.lacks_parameter.ensures ∙ c.if-lacks_parameter.false in
     let published = ap (λ (v : FederationValue). (declared.declarations_of v.declarations).published_interaction f c.args.class) (sym c.self.view_is) ∙ sym c.publishes_interaction_class.ensures ∙ c.if-not-publishes_interaction_class.false in

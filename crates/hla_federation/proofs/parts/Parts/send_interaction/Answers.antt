@@ -4,10 +4,9 @@ use Rattle.std.proofs.lemmas.Bool.Decides.{nat_tests}
 use Rattle.hla_base.specs.declared.content.HandleValuePair.{HandleValuePair}
 use Rattle.hla_base.specs.declared.number.EventHandle.{EventHandle}
 use Rattle.hla_base.specs.Tables.{upd, max_time}
-use Rattle.hla_catalogue.specs.Lookup.{interaction_order}
 use Rattle.hla_catalogue.specs.declared.declared.Order.{Order}
 use Rattle.hla_retraction.specs.Receivers.{receiver_set}
-use Rattle.hla_machine.specs.Directory.{Outgoing, AnInteraction, by_handle, interaction_sent, is_receiver}
+use Rattle.hla_machine.specs.Directory.{Outgoing, AnInteraction, by_handle, interaction_sent, is_receiver, order_of_interaction}
 use Rattle.hla_machine.specs.Refusals.{refusal, tests}
 use Rattle.hla_machine.specs.declared.service.Service.TheVariants as service
 use Rattle.hla_machine.specs.declared.step.Answer.TheVariants as answer
@@ -62,13 +61,13 @@ returns-clause-whole c =
     let d = (state_of now).directory in
     let r = (state_of now).row f in
     let m = (members_of now.members).serial f in
-    let outs = interaction_sent d c.args.class c.args.values.now in
-    let out : Outgoing = record { order = interaction_order now.catalogue c.args.class; body = AnInteraction c.args.class (by_handle c.args.values.now) } in
+    let outs = interaction_sent d f c.args.class c.args.values.now in
+    let out : Outgoing = record { order = order_of_interaction d f c.args.class; body = AnInteraction c.args.class (by_handle c.args.values.now) } in
     let o = item [] c.address_interaction.new.outbox in
     let is = c.in_ok-send_all.ensures.ok
     ∙ ap (λ (v : FederationValue). record (members_of v.members) { serial = upd (members_of v.members).serial f ((members_of v.members).serial f + 1); wire = wires_posted_below (From f) o (members_of v.members).next_federate (members_of v.members).wire; sent = with_noted (members_of v.members).sent f c.note-note.result }) c.self.view_is in
     let same = c.next_serial-serial.ensures ∙ ap (λ (v : FederationValue). (members_of v.members).serial f) c.self.view_is in
-    let order = c.interaction_order-order.ensures ∙ ap (λ (v : FederationValue). interaction_order v.catalogue c.args.class) c.self.view_is in
+    let order = c.order_of_interaction-order.ensures in
     let head = c.heading-heading.ensures ∙ ap (λ (k : Order). heading_of f c.next_serial-serial.result r c.args.stamp k) order in
     let values = c.in_ok-values.ensures.ok in
     let added = one_added d f c.next_serial-serial.result m r c.args.stamp out c.in_ok-outbox.outbox c.address_interaction.new.outbox c.in_ok-outbox.ensures.ok
@@ -87,13 +86,13 @@ returns-clause-done c =
     let d = (state_of now).directory in
     let r = (state_of now).row f in
     let m = (members_of now.members).serial f in
-    let outs = interaction_sent d c.args.class c.args.values.now in
-    let out : Outgoing = record { order = interaction_order now.catalogue c.args.class; body = AnInteraction c.args.class (by_handle c.args.values.now) } in
+    let outs = interaction_sent d f c.args.class c.args.values.now in
+    let out : Outgoing = record { order = order_of_interaction d f c.args.class; body = AnInteraction c.args.class (by_handle c.args.values.now) } in
     let o = item [] c.address_interaction.new.outbox in
     let is = c.in_ok-send_all.ensures.ok
     ∙ ap (λ (v : FederationValue). record (members_of v.members) { serial = upd (members_of v.members).serial f ((members_of v.members).serial f + 1); wire = wires_posted_below (From f) o (members_of v.members).next_federate (members_of v.members).wire; sent = with_noted (members_of v.members).sent f c.note-note.result }) c.self.view_is in
     let same = c.next_serial-serial.ensures ∙ ap (λ (v : FederationValue). (members_of v.members).serial f) c.self.view_is in
-    let order = c.interaction_order-order.ensures ∙ ap (λ (v : FederationValue). interaction_order v.catalogue c.args.class) c.self.view_is in
+    let order = c.order_of_interaction-order.ensures in
     let head = c.heading-heading.ensures ∙ ap (λ (k : Order). heading_of f c.next_serial-serial.result r c.args.stamp k) order in
     let values = c.in_ok-values.ensures.ok in
     let added = one_added d f c.next_serial-serial.result m r c.args.stamp out c.in_ok-outbox.outbox c.address_interaction.new.outbox c.in_ok-outbox.ensures.ok

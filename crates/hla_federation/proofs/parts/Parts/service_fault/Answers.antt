@@ -38,3 +38,14 @@ returns-in-SendInteraction c =
     let s = components_seen (state_of c.args.self.now) in
     c.send_fault.ensures ∙ ap (λ (vs : List HandleValuePair). refusal s (Call c.args.federate (service.SendInteraction c.in-SendInteraction.class vs c.in-SendInteraction.stamp))) c.as_slice-in-SendInteraction.ensures
     ∙ ap (λ (y : Service). refusal s (Call c.args.federate y)) (sym c.in-SendInteraction.is)
+
+pub returns-in-ChangeAttributeOrderType : goal.returns-in-ChangeAttributeOrderType
+returns-in-ChangeAttributeOrderType c =
+    let s = components_seen (state_of c.args.self.now) in
+    let x = c.in-ChangeAttributeOrderType in
+    c.attribute_order_fault.ensures x.order ∙ ap (λ (xs : List ℕ). refusal s (Call c.args.federate (service.ChangeAttributeOrderType x.object xs x.order))) c.as_slice-in-ChangeAttributeOrderType.ensures
+    ∙ ap (λ (y : Service). refusal s (Call c.args.federate y)) (sym x.is)
+
+pub returns-in-ChangeInteractionOrderType : goal.returns-in-ChangeInteractionOrderType
+returns-in-ChangeInteractionOrderType c =
+    c.interaction_order_fault.ensures c.in-ChangeInteractionOrderType.order ∙ ap (λ (y : Service). refusal (components_seen (state_of c.args.self.now)) (Call c.args.federate y)) (sym c.in-ChangeInteractionOrderType.is)

@@ -53,7 +53,7 @@ returns-then-next_serial-count_parts c =
     let published = ap (λ (k : ℕ). list_any (λ (v : HandleValuePair). not (is_published (state_of now).directory f k v.handle)) c.args.values.now) class ∙ sym c.lacks_publication.ensures ∙ c.if-lacks_publication.false in
     let any = any_stamped (state_of now).directory h c.args.values.now ∙ sym c.has_order-is_stamped.ensures in
     let serial = c.next_serial.ensures ∙ ap (λ (v : FederationValue). (members_of v.members).serial f) c.self.view_is in
-    let count = c.count_parts.ensures.count h in
+    let count = c.count_parts.ensures.count in
     let test = c.if-next_serial-count_parts.true in
     too_many _ _ _ _ _ _ _ joined known defined owned published (c.is_bad_stamp.ensures (update_sent (state_of now).directory h c.args.values.now) any ∙ c.if-is_bad_stamp.false)
     (past_serials ((members_of now.members).serial f) (update_sent (state_of now).directory h c.args.values.now) c.next_serial.result c.count_parts.result serial count c.count_parts.ensures.few test)
@@ -71,7 +71,7 @@ returns-else-next_serial-count_parts c =
     let published = ap (λ (k : ℕ). list_any (λ (v : HandleValuePair). not (is_published (state_of now).directory f k v.handle)) c.args.values.now) class ∙ sym c.lacks_publication.ensures ∙ c.if-lacks_publication.false in
     let any = any_stamped (state_of now).directory h c.args.values.now ∙ sym c.has_order-is_stamped.ensures in
     let serial = c.next_serial.ensures ∙ ap (λ (v : FederationValue). (members_of v.members).serial f) c.self.view_is in
-    let count = c.count_parts.ensures.count h in
+    let count = c.count_parts.ensures.count in
     let test = c.if-next_serial-count_parts.false in
     no_fault _ _ _ _ _ _ _ joined known defined owned published (c.is_bad_stamp.ensures (update_sent (state_of now).directory h c.args.values.now) any ∙ c.if-is_bad_stamp.false)
     (within_serials ((members_of now.members).serial f) (update_sent (state_of now).directory h c.args.values.now) c.next_serial.result c.count_parts.result serial count c.count_parts.ensures.few test)

@@ -1,4 +1,4 @@
-use Rattle.std.proofs.Common.{◌<◌, ◌+◌, length, false, ap, refl, sym, subst, ◌∙◌, arith}
+use Rattle.std.proofs.Common.{length, false, ap, refl, sym, subst, ◌∙◌, arith}
 use Rattle.hla_base.specs.Tables.{upd}
 use Rattle.hla_object_registry.specs.Registered.{registry_of}
 use Rattle.hla_object_registry.specs.Entries.{registered_objects, AreOwned}

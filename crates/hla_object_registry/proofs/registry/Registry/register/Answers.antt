@@ -12,11 +12,11 @@ invariant_of-self-2 c =
     record {
       few = one_longer c.self.inside.entries.entries c.insert.new.self.entries c.args.self.now _ _ c.self.view_is c.requires.few added;
       owned = subst AreOwned
-          (sym (entry_added c.self.inside.entries.entries c.insert.new.self.entries c.args.self.now c.into_vec.result c.args.name c.args.class c.args.owner c.args.attributes c.of.result c.self.view_is c.into_vec.ensures added c.of.ensures))
+          (sym (entry_added c.self.inside.entries.entries c.insert.new.self.entries c.args.self.now c.into_vec.result c.args.name c.args.class c.args.owner c.args.attributes c.of.result c.new.result c.self.view_is c.into_vec.ensures added c.of.ensures c.new.ensures))
           (owned_with (registry_of c.args.self.now) c.args.class c.args.name c.args.owner c.args.attributes (subst (λ rs. AreOwned (registry_of rs)) c.self.view_is c.self.invariant.owned) c.requires.some);
     }
 
 pub returns-clause-registered : goal.returns-clause-registered
 returns-clause-registered c =
-    entry_added c.self.inside.entries.entries c.insert.new.self.entries c.args.self.now c.into_vec.result c.args.name c.args.class c.args.owner c.args.attributes c.of.result c.self.view_is c.into_vec.ensures
-    (c.in-Ok.ensures.entries ∙ entry_inserted_last c.self.inside.entries.entries c.args.self.now c.args.name c.into_vec.result _ c.self.view_is c.into_vec.ensures c.requires.unused) c.of.ensures
+    entry_added c.self.inside.entries.entries c.insert.new.self.entries c.args.self.now c.into_vec.result c.args.name c.args.class c.args.owner c.args.attributes c.of.result c.new.result c.self.view_is c.into_vec.ensures
+    (c.in-Ok.ensures.entries ∙ entry_inserted_last c.self.inside.entries.entries c.args.self.now c.args.name c.into_vec.result _ c.self.view_is c.into_vec.ensures c.requires.unused) c.of.ensures c.new.ensures

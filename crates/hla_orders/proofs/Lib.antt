@@ -1,0 +1,2 @@
+-- What is read of a table of orders, after a change
+pub mod OrderLemmas

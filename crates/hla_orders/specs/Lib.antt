@@ -1,0 +1,2 @@
+-- Orders that were changed, by number
+pub mod Orders
