@@ -68,6 +68,14 @@ pub fn given(record: &Record) -> Option<&Callback> {
     }
 }
 
+/// The callback that a tick gave, also where the ambassador failed in it.
+pub fn callback_of(record: &Record) -> Option<&Callback> {
+    match &record.outcome {
+        Outcome::Failed(callback) => Some(callback),
+        _ => given(record),
+    }
+}
+
 /// The stamp, in ticks, in whose order a callback was given.
 pub fn stamp_of(callback: &Callback) -> Option<Ticks> {
     let delivery = match callback {

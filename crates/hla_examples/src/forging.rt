@@ -41,6 +41,16 @@ fn other_outcome(record: &Record) -> Result<Option<Record>, Fault> {
     Ok(Some(ending(record, Outcome::Refused(Fault::OutOfMemory))?))
 }
 
+/// Whether the checker tells of the record at a place once it is refused since the history is full. `OutOfMemory` where a copy was
+/// refused.
+pub fn tells_full(alloc: Global, records: &mut [Record], place: usize) -> Result<bool, Fault> {
+    let Some(record) = records.get(place) else {
+        return Ok(false);
+    };
+    let forged = ending(record, Outcome::Refused(Fault::HistoryFull))?;
+    Ok(tells(alloc, records, place, forged))
+}
+
 /// The record with something chosen where nothing is.
 fn other_choice(record: &Record) -> Result<Option<Record>, Fault> {
     if record.choice != Choice::None {

@@ -2,25 +2,36 @@
 //! records and tells each that is forged, at its place: another outcome, a choice where nothing is chosen, an entry too low, another
 //! stamp, a grant too early by one, a retracted interaction, a record of a federate that has resigned, two records exchanged, one
 //! left out. Each is played behind the lock, too, line by line, with the same transcript; some run with a thread for each federate,
-//! and end with records that the checker takes.
+//! and end with records that the checker takes. And to some is done what nobody wants: they stop behind each of their lines, or
+//! their history is full, or their ambassadors give trouble, or their text is cut off.
 //!
 //! It runs in the folder of the examples: for each name there is a script `NAME.script`, played over `text-f.fed`, and what it
 //! must print, `NAME.expected`.
 #![tactic(auto)]
 
+mod cutting;
 mod facts;
+mod failing;
+mod filling;
 mod forging;
+mod harming;
+mod listening;
 mod locking;
 mod ordering;
+mod playing;
+mod stopping;
+mod texts;
 
 use crate::forging::tells_forgeries;
+use crate::harming::harm_some;
 use crate::locking::{Example, is_run_on_threads, is_same_behind_the_lock};
 use crate::ordering::tells_order;
+use crate::texts::Listed;
 use hla_base::Fault;
 use hla_checker::check_run;
 use hla_machine::Record;
 use hla_script::{Watched, play};
-use std::alloc::Global;
+use std::alloc::{AllocError, Global};
 use std::process::ExitCode;
 use std::rt::Runtime;
 use std::sync::Wait;
@@ -121,6 +132,16 @@ impl Files {
             expected: self.expected.as_bytes(),
         }
     }
+
+    /// The example by its lines.
+    fn listed(&self, alloc: Global) -> Result<Listed<'_>, AllocError> {
+        Listed::new(
+            alloc,
+            self.fed.as_bytes(),
+            self.script.as_str(),
+            self.expected.as_str(),
+        )
+    }
 }
 
 /// How many records an example has; none where it prints something else than what is expected, or its records are not judged as
@@ -190,8 +211,8 @@ fn run_some<R: Runtime + AllocGlobal + Threads + Wait + Sync>(rt: &R) -> io::Res
 }
 
 fn main(rt: HostRuntime) -> ExitCode {
-    match (play_all(&rt), run_some(&rt)) {
-        (Ok(true), Ok(true)) => ExitCode::SUCCESS,
+    match (play_all(&rt), run_some(&rt), harm_some(&rt)) {
+        (Ok(true), Ok(true), Ok(true)) => ExitCode::SUCCESS,
         _ => ExitCode::from(DIFFERS),
     }
 }

@@ -2,7 +2,7 @@
 use Rattle.std.proofs.Common.{◌≡◌, ℕ, zero, suc, Bool, true, false, ◌||◌, List, [], ◌∷◌, length, take, Option, Some, None, IfSome, refl, sym, ap, subst, ◌∙◌, arith}
 use Rattle.std.specs.Prelude.{slice_get}
 use Rattle.std.specs.Io.KnownBytes.{Appends, Keeps}
-use Rattle.std.proofs.lemmas.List.{take_all}
+use Rattle.std.proofs.lemmas.List.{append-nil, take_all}
 use Rattle.std.proofs.lemmas.Option.{slice_get_within}
 use Rattle.hla_machine.specs.declared.step.Record.{Record}
 use Rattle.hla_machine.specs.Runs.{Executions, no_executions, AllowedAct, after_act, AreRun}
@@ -42,11 +42,27 @@ histories_found lent records None same run verdict = tt
 histories_found lent records (Some finding) same run verdict = history_found records finding run (subst (λ (rs : List Record). IsVerdict rs finding) same verdict)
 
 -- where no write failed
-pub stops_check : (fed script : List ℕ) (why : PlayFault) → StopsBy fed script None None why → (why ≡ unplayed.Write → ⊥) → StopsCheck fed script why
+pub stops_check : (fed script : List ℕ) (why : PlayFault) → StopsBy true fed script None None why → (why ≡ unplayed.Write → ⊥) → StopsCheck fed script why
 stops_check fed script (unplayed.Fed e) stops other = stops
 stops_check fed script (unplayed.Script e) stops other = stops
 stops_check fed script unplayed.Write stops other = absurd (other refl)
 stops_check fed script unplayed.Memory stops other = stops
+
+-- where all was played, and there was no memory to judge it
+pub unjudged : (fed script : List ℕ) (records : List Record) → HasRecords fed script records → StopsCheck fed script unplayed.Memory
+unjudged fed script records has =
+    let from = has.0.from in
+    record {
+      catalogue = from.catalogue;
+      lines = from.lines;
+      describes = from.describes;
+      says = from.says;
+      breaks = record {
+        records = records;
+        left = [];
+        played = record { done = from.lines; parts = sym (append-nil from.lines); played = record { played = from.played; remembered = λ all. has.0.remembered } };
+      };
+    }
 
 or-of-true : (a b : Bool) → (a || b) ≡ false → a ≡ true → ⊥
 or-of-true true b none some = absurd (cc none)

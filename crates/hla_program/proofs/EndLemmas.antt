@@ -1,12 +1,16 @@
 -- A line that is told, and bytes that are kept.
-use Rattle.std.proofs.Common.{◌≡◌, ◌≤◌, arith, ℕ, Bool, true, false, ◌||◌, not, List, take, Option, None, Some, Result, Ok, Err, IfOk, OnOk, OnErr, is_ok, refl, subst, inl, inr, ◌∙◌}
+use Rattle.std.proofs.Common.{◌≡◌, ◌≤◌, arith, ℕ, Bool, true, false, ◌||◌, not, List, [], length, take, Option, None, Some, Result, Ok, Err, IfOk, OnOk, OnErr, is_ok, refl, sym, subst, inl, inr, ◌∙◌}
 use Rattle.std.specs.Io.KnownBytes.{Appends, Keeps}
-use Rattle.hla_transcript.specs.Listed.{IsListed, is_failed_listing}
+use Rattle.std.proofs.lemmas.List.{take_all}
+use Rattle.hla_machine.specs.declared.step.Record.{Record}
+use Rattle.hla_transcript.specs.Listed.{IsListed, IsListedInPart, is_failed_listing, listing}
+use Rattle.hla_transcript.proofs.WriteLemmas.{appends_none}
 use Rattle.hla_transcript.specs.declared.listing.ListFault.{ListFault}
 use Rattle.hla_transcript.specs.declared.listing.ListFault.TheVariants as unlisted
 use Rattle.hla_script.specs.declared.player.PlayFault.{PlayFault}
 use Rattle.hla_script.specs.declared.player.PlayFault.TheVariants as unplayed
-use Rattle.hla_script.specs.Playing.{IsPlayedFrom, is_failed_transcript}
+use Rattle.hla_script.specs.Playing.{IsPlayedFrom, StopsBy, is_failed_transcript}
+use Rattle.hla_script.proofs.BreakLemmas.{broken_behind}
 use Rattle.hla_transcript.specs.Watching.{Stream}
 use Rattle.hla_run.specs.Running.{StopsRun, is_failed_text}
 use Rattle.hla_run.specs.declared.fault.RunFault.{RunFault}
@@ -39,6 +43,16 @@ appends_kept (Some xs) (Some ys) (Some zs) x grown kept = kept ∙ grown
 
 pub listed_kept : (fed : List ℕ) (a b c : Option (List ℕ)) → IsListed fed a b → Keeps b c → IsListed fed a c
 listed_kept fed a b c is kept = (is.0, is.1, appends_kept a b c _ is.2 kept)
+
+-- all of a list that could not be handed on
+pub listed_unheld : (fed : List ℕ) (a b c : Option (List ℕ)) → IsListed fed a b → Keeps b c → IsListedInPart fed a c
+listed_unheld fed a b c is kept =
+    let text = listing is.0 in
+    (is.0, is.1, (length text, subst (λ (t : List ℕ). Appends a c t) (sym (take_all (length text) text (omega arith))) (appends_kept a b c text is.2 kept)))
+
+-- all of a transcript that could not be handed on
+pub played_unheld : (fed script : List ℕ) (a b c : Option (List ℕ)) (records : List Record) → IsPlayedFrom fed script a b records → Keeps b c → StopsBy false fed script a c unplayed.Write
+played_unheld fed script a b c records is kept = broken_behind fed script a b c records is (appends_kept b b c [] (appends_none b) kept)
 
 pub played_kept : (fed script : List ℕ) (a b c : Option (List ℕ)) (records : _) → IsPlayedFrom fed script a b records → Keeps b c → IsPlayedFrom fed script a c records
 played_kept fed script a b c records is kept = record {

@@ -116,7 +116,7 @@ ListCause unlisted.Memory out = Unit {0}
 -- a script is played over a FED file: the records of what it printed follow the next-state function, and are a run of the machine
 pub data EndsPlaying (fed script : List ℕ) (out out' err err' : Stream) (status : ℕ) : Type 0 where
   Played : (records : List Record) → IsPlayedFrom fed script out.bytes out'.bytes records → FollowNext records → IsWholeRun records → out'.has_failed ≡ false → err' ≡ err → status ≡ 0 → EndsPlaying fed script out out' err err' status
-  PlayStopped : (why : PlayFault) → StopsBy fed script out.bytes out'.bytes why → PlayCause why out' → Complains err err' (play_stop_line why) → status ≡ 1 → EndsPlaying fed script out out' err err' status
+  PlayStopped : (why : PlayFault) → StopsBy false fed script out.bytes out'.bytes why → PlayCause why out' → Complains err err' (play_stop_line why) → status ≡ 1 → EndsPlaying fed script out out' err err' status
 
 -- ---- what the central machine says of a script's records
 -- the records that a script over a FED file makes, whatever its transcript is written to: no line ran out of memory, and they follow
@@ -127,7 +127,7 @@ HasRecords fed script records = IsPlayedWhole fed script None None records × Fo
 -- why there are none: as why it is not played, but that no write fails
 abbrev pub StopsCheck : List ℕ → List ℕ → PlayFault → Type 0
 StopsCheck fed script unplayed.Write = ⊥
-StopsCheck fed script why = StopsBy fed script None None why
+StopsCheck fed script why = StopsBy true fed script None None why
 
 -- so many records are a run of the machine; that one is no step of it is never found
 abbrev pub IsFound : List ℕ → List ℕ → Finding → Type 0

@@ -38,6 +38,7 @@ use Rattle.hla_run.specs.Turns.{HasTold, DoesAt, IsSet, RequestLeads, LineLeads,
 use Rattle.hla_run.specs.declared.in_order.Cast.{Cast}
 use Rattle.hla_run.specs.declared.player.Player.{Player}
 use Rattle.hla_run.specs.declared.player.Player.TheVariants as player
+use Rattle.hla_run.specs.declared.watching.Ran.{Ran}
 use Rattle.hla_run.specs.declared.player.Deed.{Deed}
 use Rattle.hla_run.specs.declared.player.Deed.TheVariants as deed
 use Rattle.hla_run.proofs.TurnLemmas.{itself_led, courier_led, call_led, tick_led, join_led, unjoined_led, answer_told, members_ended, append_nil, not_acted, does_more, left_front, left_last, has_just}
@@ -307,12 +308,12 @@ run_done fed script c lines old new history describes says done = record {
 }
 
 -- of a run that may have stopped
-pub ended_done : {E : Type 0} (c : CatalogueValue) (fed : List ℕ) (lines : List Line) (told : List (Option Outcome)) (office : Office) (lefts : List Leaver) (old new : Option (List ℕ)) (closed : Result (List Record) E) → HaveEnded c fed lines told office lefts
-    → OnOk closed (Appends old new (told_text c lines told)) → IfOk closed (λ history. AllAgree history lefts office.own) → IfOk closed (λ history. AreDone c fed lines old new history)
-ended_done c fed lines told office lefts old new (Ok history) ended writes agree = are_done c fed lines told office lefts old new history ended writes agree
+pub ended_done : {E : Type 0} (c : CatalogueValue) (fed : List ℕ) (lines : List Line) (told : List (Option Outcome)) (office : Office) (lefts : List Leaver) (old new : Option (List ℕ)) (ran : Result Ran E) → HaveEnded c fed lines told office lefts
+    → OnOk ran (Appends old new (told_text c lines told)) → IfOk ran (λ r. AllAgree r.closed lefts office.own) → IfOk ran (λ r. AreDone c fed lines old new r.closed)
+ended_done c fed lines told office lefts old new (Ok r) ended writes agree = are_done c fed lines told office lefts old new r.closed ended writes agree
 ended_done c fed lines told office lefts old new (Err e) ended writes agree = tt
 
-pub runs_done : {E : Type 0} (fed script : List ℕ) (c : CatalogueValue) (lines : List Line) (old new : Option (List ℕ)) (closed : Result (List Record) E) → Describes fed c → script_of script ≡ Ok lines → IfOk closed (λ history. AreDone c fed lines old new history)
-    → IfOk closed (λ history. IsRunInOrder fed script old new history)
-runs_done fed script c lines old new (Ok history) describes says done = run_done fed script c lines old new history describes says done
+pub runs_done : {E : Type 0} (fed script : List ℕ) (c : CatalogueValue) (lines : List Line) (old new : Option (List ℕ)) (ran : Result Ran E) → Describes fed c → script_of script ≡ Ok lines → IfOk ran (λ r. AreDone c fed lines old new r.closed)
+    → IfOk ran (λ r. IsRunInOrder fed script old new r.closed)
+runs_done fed script c lines old new (Ok r) describes says done = run_done fed script c lines old new r.closed describes says done
 runs_done fed script c lines old new (Err e) describes says done = tt

@@ -10,3 +10,5 @@ pub mod StandLemmas
 pub mod TurnLemmas
 -- What the functions that do the lines one after another lead to
 pub mod LeadLemmas
+-- How lines end in order that do not end well
+pub mod StopLemmas

@@ -9,7 +9,9 @@ use Rattle.hla_commands.specs.declared.lines.Command.{Command}
 use Rattle.hla_commands.specs.declared.lines.Line.{Line}
 use Rattle.hla_commands.specs.Script.{script_of}
 use Rattle.hla_fed_file.specs.Grammar.{Describes}
-use Rattle.hla_run.specs.Running.{told_text}
+use Rattle.hla_run.specs.Running.{told_text, IsCutText, IsUnread}
+use Rattle.hla_run.specs.declared.fault.RunFault.{RunFault}
+use Rattle.hla_run.specs.declared.fault.RunFault.TheVariants as stop
 use Rattle.hla_machine.specs.declared.step.Act.{Act}
 use Rattle.hla_machine.specs.declared.step.Act.TheVariants as act
 use Rattle.hla_machine.specs.declared.step.Answer.TheVariants as answer
@@ -120,3 +122,25 @@ pub record IsRunInOrder (fed script : List ℕ) (old new : Option (List ℕ)) (h
   pub does : Does catalogue fed [] lines outcomes records
   pub kept : HasJust history records
   pub writes : Appends old new (told_text catalogue lines (map (λ o. Some o) outcomes))
+
+-- the same of lines of which the history is not known: how they came out was written as is said of that text
+pub record IsDoneInOrder (fed script : List ℕ) (IsWritten : List ℕ → Type 0) : Type 0 where
+  pub catalogue : CatalogueValue
+  pub lines : List Line
+  pub outcomes : List Outcome
+  pub records : List Record
+  pub describes : Describes fed catalogue
+  pub says : script_of script ≡ Ok lines
+  pub does : Does catalogue fed [] lines outcomes records
+  pub writes : IsWritten (told_text catalogue lines (map (λ o. Some o) outcomes))
+
+-- why a script was not run in order to its end, for which there were so many ambassadors: before any step, and where memory ran out,
+-- nothing is written; where a write failed, a beginning of how the lines came out; else all of it
+abbrev pub StopsInOrder : List ℕ → List ℕ → ℕ → Option (List ℕ) → Option (List ℕ) → RunFault → Type 0
+StopsInOrder fed script ambassadors old new (stop.Fed e) = IsUnread fed script ambassadors (stop.Fed e) × Appends old new []
+StopsInOrder fed script ambassadors old new (stop.Script e) = IsUnread fed script ambassadors (stop.Script e) × Appends old new []
+StopsInOrder fed script ambassadors old new stop.Ambassadors = IsUnread fed script ambassadors stop.Ambassadors × Appends old new []
+StopsInOrder fed script ambassadors old new stop.Write = IsDoneInOrder fed script (IsCutText old new)
+StopsInOrder fed script ambassadors old new stop.Memory = Appends old new []
+StopsInOrder fed script ambassadors old new (stop.Close e) = IsDoneInOrder fed script (Appends old new)
+StopsInOrder fed script ambassadors old new stop.Monitor = IsDoneInOrder fed script (Appends old new)

@@ -55,6 +55,17 @@ pub record AreTold (catalogue : CatalogueValue) (lines : List Line) (old new : O
   pub done : AreAllDone lines outcomes
   pub writes : Appends old new (told_text catalogue lines outcomes)
 
+-- a beginning of a text was written
+abbrev pub IsCutText : Option (List ℕ) → Option (List ℕ) → List ℕ → Type 0
+IsCutText old new text = (n : ℕ) × Appends old new (take n text)
+
+-- the same, but only a beginning was written
+pub record AreToldInPart (catalogue : CatalogueValue) (lines : List Line) (old new : Option (List ℕ)) : Type 0 where
+  pub outcomes : List (Option Outcome)
+  pub each : length outcomes ≡ length lines
+  pub done : AreAllDone lines outcomes
+  pub writes : IsCutText old new (told_text catalogue lines outcomes)
+
 -- the FED file describes a catalogue, the script has these lines, each was done that does not carry or announce, and what was written
 -- is how they came out
 pub record IsRunFrom (fed script : List ℕ) (old new : Option (List ℕ)) : Type 0 where
@@ -66,6 +77,14 @@ pub record IsRunFrom (fed script : List ℕ) (old new : Option (List ℕ)) : Typ
   pub each : length outcomes ≡ length lines
   pub done : AreAllDone lines outcomes
   pub writes : Appends old new (told_text catalogue lines outcomes)
+
+-- the same, but only a beginning was written
+pub record IsRunInPart (fed script : List ℕ) (old new : Option (List ℕ)) : Type 0 where
+  pub catalogue : CatalogueValue
+  pub lines : List Line
+  pub describes : Describes fed catalogue
+  pub says : script_of script ≡ Ok lines
+  pub told : AreToldInPart catalogue lines old new
 
 -- what a monitor counts in a beginning of these records
 abbrev pub CountsBeginning : List Record → Status → Type 0
@@ -87,25 +106,36 @@ IsUnread fed script ambassadors stop.Memory = ⊥
 IsUnread fed script ambassadors (stop.Close e) = ⊥
 IsUnread fed script ambassadors stop.Monitor = ⊥
 
--- why a script was not run to its end, for which there were so many ambassadors: before any step nothing is written
+-- why a script was not run to its end, for which there were so many ambassadors: before any step, and where memory ran out, nothing is
+-- written; where a write failed, a beginning of how the lines came out; else all of it
 abbrev pub StopsRun : List ℕ → List ℕ → ℕ → Option (List ℕ) → Option (List ℕ) → RunFault → Type 0
 StopsRun fed script ambassadors old new (stop.Fed e) = IsUnread fed script ambassadors (stop.Fed e) × Appends old new []
 StopsRun fed script ambassadors old new (stop.Script e) = IsUnread fed script ambassadors (stop.Script e) × Appends old new []
 StopsRun fed script ambassadors old new stop.Ambassadors = IsUnread fed script ambassadors stop.Ambassadors × Appends old new []
-StopsRun fed script ambassadors old new stop.Write = Unit {0}
-StopsRun fed script ambassadors old new stop.Memory = Unit {0}
-StopsRun fed script ambassadors old new (stop.Close e) = Unit {0}
-StopsRun fed script ambassadors old new stop.Monitor = Unit {0}
+StopsRun fed script ambassadors old new stop.Write = IsRunInPart fed script old new
+StopsRun fed script ambassadors old new stop.Memory = Appends old new []
+StopsRun fed script ambassadors old new (stop.Close e) = IsRunFrom fed script old new
+StopsRun fed script ambassadors old new stop.Monitor = IsRunFrom fed script old new
 
--- a run ends so only once both texts are read, and there are ambassadors enough
-abbrev pub IsPastReading : RunFault → Type 0
-IsPastReading (stop.Fed e) = ⊥
-IsPastReading (stop.Script e) = ⊥
-IsPastReading stop.Ambassadors = ⊥
-IsPastReading stop.Write = Unit {0}
-IsPastReading stop.Memory = Unit {0}
-IsPastReading (stop.Close e) = Unit {0}
-IsPastReading stop.Monitor = Unit {0}
+-- how telling a text ends that does not end well: with nothing of it written, a beginning, or all of it
+abbrev pub StopsText : List ℕ → Option (List ℕ) → Option (List ℕ) → RunFault → Type 0
+StopsText text old new (stop.Fed e) = ⊥
+StopsText text old new (stop.Script e) = ⊥
+StopsText text old new stop.Ambassadors = ⊥
+StopsText text old new stop.Write = IsCutText old new text
+StopsText text old new stop.Memory = Appends old new []
+StopsText text old new (stop.Close e) = Appends old new text
+StopsText text old new stop.Monitor = Appends old new text
+
+-- how the lines of a script end on threads that do not end well, once both texts are read and there are ambassadors enough
+abbrev pub StopsTelling : CatalogueValue → List Line → Option (List ℕ) → Option (List ℕ) → RunFault → Type 0
+StopsTelling c lines old new (stop.Fed e) = ⊥
+StopsTelling c lines old new (stop.Script e) = ⊥
+StopsTelling c lines old new stop.Ambassadors = ⊥
+StopsTelling c lines old new stop.Write = AreToldInPart c lines old new
+StopsTelling c lines old new stop.Memory = Appends old new []
+StopsTelling c lines old new (stop.Close e) = AreTold c lines old new
+StopsTelling c lines old new stop.Monitor = AreTold c lines old new
 
 -- a write of the outcomes failed
 abbrev pub is_failed_text : RunFault → Bool

@@ -18,13 +18,15 @@ use Rattle.hla_requests.specs.declared.steps.Request.{Request}
 use Rattle.hla_requests.specs.declared.steps.Request.TheVariants as request
 use Rattle.hla_requests.specs.Members.{members, with_change, with_create, change_of}
 use Rattle.hla_run.specs.InOrder.{RequestEnds, LineComesOut, Does, callers, HasJust}
-use Rattle.hla_run.specs.Running.{told_text}
+use Rattle.hla_run.specs.Running.{told_text, IsCutText}
 use Rattle.hla_run.specs.declared.in_order.Cast.{Cast}
 use Rattle.hla_run.specs.Players.{Stand, IsBook, caller_of}
 use Rattle.hla_run.specs.declared.player.Player.{Player}
 use Rattle.hla_run.specs.declared.player.Player.TheVariants as player
 use Rattle.hla_run.specs.declared.player.Deed.{Deed}
 use Rattle.hla_run.specs.declared.player.Deed.TheVariants as deed
+use Rattle.hla_run.specs.declared.fault.RunFault.{RunFault}
+use Rattle.hla_run.specs.declared.fault.RunFault.TheVariants as stop
 
 -- ---- a caller's act
 -- an act was recorded, and came out as its record answers; or nothing was recorded, and the caller is as before
@@ -138,3 +140,20 @@ pub record AreDone (c : CatalogueValue) (fed : List ℕ) (lines : List Line) (ol
   pub does : Does c fed [] lines outcomes records
   pub kept : HasJust history records
   pub writes : Appends old new (told_text c lines (map (λ o. Some o) outcomes))
+
+-- lines have done so, and how they came out was written as is said of that text
+pub record AreDoneAs (c : CatalogueValue) (fed : List ℕ) (lines : List Line) (IsWritten : List ℕ → Type 0) : Type 0 where
+  pub outcomes : List Outcome
+  pub records : List Record
+  pub does : Does c fed [] lines outcomes records
+  pub writes : IsWritten (told_text c lines (map (λ o. Some o) outcomes))
+
+-- how lines end in order that do not end well, once both texts are read and there are ambassadors enough
+abbrev pub StopsDoing : CatalogueValue → List ℕ → List Line → Option (List ℕ) → Option (List ℕ) → RunFault → Type 0
+StopsDoing c fed lines old new (stop.Fed e) = ⊥
+StopsDoing c fed lines old new (stop.Script e) = ⊥
+StopsDoing c fed lines old new stop.Ambassadors = ⊥
+StopsDoing c fed lines old new stop.Write = AreDoneAs c fed lines (IsCutText old new)
+StopsDoing c fed lines old new stop.Memory = Appends old new []
+StopsDoing c fed lines old new (stop.Close e) = AreDoneAs c fed lines (Appends old new)
+StopsDoing c fed lines old new stop.Monitor = AreDoneAs c fed lines (Appends old new)

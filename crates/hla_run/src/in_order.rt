@@ -5,23 +5,24 @@
 
 ghost use Rattle.std.specs.Prelude.{◌≡◌, ◌||◌, ◌+◌, ◌<◌, ◌≤◌, ℕ, List, [], OnOk, IfOk, IfErr, codes, vec_len, vec_capacity};
 ghost use Rattle.std.specs.List.{All};
-ghost use Rattle.hla_base.specs.Limits.{ledger_parts};
+ghost use Rattle.hla_base.specs.Limits.{ledger_parts, max_history_limit};
 ghost use Rattle.hla_run.specs.Joining.{joins, joins_by, script_joins, step_joins};
 ghost use Rattle.hla_machine.specs.declared.step.Record.{Record};
 ghost use Rattle.hla_machine.specs.declared.step.Step.TheVariants as step;
 ghost use Rattle.hla_requests.specs.Members.{change_of, with_change, with_create};
 ghost use Rattle.hla_requests.specs.declared.steps.Request.TheVariants as request;
 ghost use Rattle.hla_rti.specs.Callers.{Office, new_caller};
-ghost use Rattle.hla_run.specs.InOrder.{IsRunInOrder, callers};
-ghost use Rattle.hla_run.specs.Running.{IsPastReading, StopsRun, is_unwritten_run};
-ghost use Rattle.hla_run.specs.Turns.{AreDone, HaveEnded, HaveLed, HaveLeft, IsSet, RequestLeads, LineLeads};
+ghost use Rattle.hla_run.specs.InOrder.{IsRunInOrder, StopsInOrder, callers};
+ghost use Rattle.hla_run.specs.Running.{IsSeen, is_unwritten_run};
+ghost use Rattle.hla_run.specs.Turns.{AreDone, StopsDoing, HaveEnded, HaveLed, HaveLeft, IsSet, RequestLeads, LineLeads};
 
-use crate::closing::close_told;
+use crate::closing::close_seen;
 use crate::fault::RunFault;
 use crate::joining::Ambassadors;
 use crate::outcomes::{Outcomes, outcome_of_announced, outcome_of_carried, outcome_of_done};
 use crate::player::{Deed, Player, act};
 use crate::texts::{Texts, read_texts};
+use crate::watching::{Ran, last_read, watcher};
 use hla_base::{ExecutionName, Fault, FederateNo, List, MAX_HISTORY, Plain};
 use hla_callbacks::FederateAmbassador;
 use hla_catalogue::Catalogue;
@@ -331,7 +332,8 @@ fn played<L: Ledger + Naming, B: FederateAmbassador, P: Publisher<L>>(
     }
 }
 
-/// Does the lines of a script one after another, writes how they came out, and closes.
+/// Does the lines of a script one after another, writes how they came out, and closes. Where `is_watched`, a monitor is there from
+/// before the first step on, and reads the counts once all is done.
 fn told_in_order<L: Ledger + Naming, B: FederateAmbassador, P: Publisher<L>, W: Write>(
     rt: &impl Wait,
     alloc: Global,
@@ -340,17 +342,24 @@ fn told_in_order<L: Ledger + Naming, B: FederateAmbassador, P: Publisher<L>, W: 
     catalogue: &Catalogue,
     lines: &[Line<'_>],
     ambassadors: Ambassadors<B>,
+    is_watched: bool,
     out: &mut Watched<W>,
-) -> Result<Closed, RunFault>
+) -> Result<Ran, RunFault>
     requires parts { L.parts ≡ ledger_parts }
     requires enough { joins lines.now ≤ ambassadors }
     requires first { rti ≡ record { handed = 0; couriers = 0; own = new_caller 0 } }
-    ensures told { IfOk result (λ history. AreDone catalogue.now fed.now lines.now
-        (W.contents out.old.inner) (W.contents out.new.inner) history) }
-    ensures late { IfErr result IsPastReading }
+    ensures told { IfOk result (λ r. AreDone catalogue.now fed.now lines.now
+        (W.contents out.old.inner) (W.contents out.new.inner) r.closed) }
+    ensures seen { IfOk result (λ r. IsSeen is_watched r.closed r.seen) }
+    ensures stopped { IfErr result (StopsDoing catalogue.now fed.now lines.now
+        (W.contents out.old.inner) (W.contents out.new.inner)) }
     ensures failure { out.new.has_failed ≡ (out.old.has_failed || is_unwritten_run result) }
 {
     let Ok(mut outcomes) = Outcomes::with_room(alloc, lines.len()) else {
+        drop(rti);
+        return Err(RunFault::Memory);
+    };
+    let Ok(monitor) = watcher(rt, &mut rti, is_watched) else {
         drop(rti);
         return Err(RunFault::Memory);
     };
@@ -364,8 +373,11 @@ fn told_in_order<L: Ledger + Naming, B: FederateAmbassador, P: Publisher<L>, W: 
         ambassadors,
         &mut outcomes,
     );
+    let seen = last_read(monitor);
     match played {
-        Ok(lefts) => close_told(rt, alloc, rti, lefts, catalogue, lines, &outcomes, out),
+        Ok(lefts) => close_seen(
+            rt, alloc, rti, lefts, catalogue, lines, &outcomes, seen, out,
+        ),
         Err(_) => {
             drop(rti);
             Err(RunFault::Memory)
@@ -380,7 +392,6 @@ fn told_in_order<L: Ledger + Naming, B: FederateAmbassador, P: Publisher<L>, W: 
 /// else `Ambassadors` where there are fewer than `joins` of the lines, with nothing written and no step done; `Memory` where a
 /// growth was refused outside the steps; `Write` only where the writer has failed; and `Close` where the infrastructure does
 /// not close.
-#[tactic(auto, using(crate::proofs::EndLemmas::ends, crate::proofs::LeadLemmas::runs_done))]
 pub fn run_in_order<L: Ledger + Naming, B: FederateAmbassador, R: Wait, W: Write>(
     rt: &R,
     alloc: Global,
@@ -405,15 +416,75 @@ pub fn run_in_order<L: Ledger + Naming, B: FederateAmbassador, R: Wait, W: Write
     // There were ambassadors enough.
     ensures enough { OnOk result (script_joins script.now ≤ vec_len ambassadors) }
 
-    // The first fault of the FED file, or else that of the script, or else too few ambassadors, with nothing written.
-    ensures stopped { IfErr result (StopsRun fed.now script.now (vec_len ambassadors)
+    // The first fault of the FED file, or else that of the script, or else too few ambassadors, with nothing written. Where
+    // memory ran out nothing is written, where a write failed a beginning of how the lines came out, and else all of it.
+    ensures stopped { IfErr result (StopsInOrder fed.now script.now (vec_len ambassadors)
+        (W.contents out.old.inner) (W.contents out.new.inner)) }
+
+    // A write has failed where that is answered, and nowhere else.
+    ensures failure { out.new.has_failed ≡ (out.old.has_failed || is_unwritten_run result) }
+{
+    let ran = run_in_order_within::<L, B, R, W>(
+        rt,
+        alloc,
+        blank,
+        opened,
+        fed,
+        script,
+        ambassadors,
+        MAX_HISTORY,
+        false,
+        out,
+    );
+    match ran {
+        Ok(Ran { closed, .. }) => Ok(closed),
+        Err(fault) => Err(fault),
+    }
+}
+
+/// Plays a script over a FED file as `run_in_order` does, with a history of at most `history_limit` records: a line that asks for
+/// one more is refused with `HistoryFull`. Where `is_watched`, a monitor is there from before the first step on, and reads the
+/// counts once all is done; then `Memory` also where there is none to be had, and `Monitor` where what it read are not the counts
+/// of a beginning of the history.
+#[tactic(auto, using(crate::proofs::StopLemmas::ends_in_order))]
+pub fn run_in_order_within<L: Ledger + Naming, B: FederateAmbassador, R: Wait, W: Write>(
+    rt: &R,
+    alloc: Global,
+    blank: Blank,
+    opened: Opened,
+    fed: &[u8],
+    script: &[u8],
+    ambassadors: Vec<B>,
+    history_limit: usize,
+    is_watched: bool,
+    out: &mut Watched<W>,
+) -> Result<Ran, RunFault>
+    requires name { blank.name ≡ L.name }
+    requires parts { blank.parts ≡ L.parts }
+    requires all { blank.parts ≡ ledger_parts }
+    requires book { opened.seen.book ≡ L.book }
+    requires heard { All (λ b. B.heard b ≡ []) ambassadors.items }
+    requires limit { history_limit ≤ max_history_limit }
+
+    // Each line has come out, as `run_in_order` says.
+    ensures done { IfOk result (λ r. IsRunInOrder fed.now script.now
+        (W.contents out.old.inner) (W.contents out.new.inner) r.closed) }
+
+    // What a monitor read last, where one was to watch, are the counts of a beginning of the records.
+    ensures seen { IfOk result (λ r. IsSeen is_watched r.closed r.seen) }
+
+    // There were ambassadors enough.
+    ensures enough { OnOk result (script_joins script.now ≤ vec_len ambassadors) }
+
+    // As of `run_in_order`.
+    ensures stopped { IfErr result (StopsInOrder fed.now script.now (vec_len ambassadors)
         (W.contents out.old.inner) (W.contents out.new.inner)) }
 
     // A write has failed where that is answered, and nowhere else.
     ensures failure { out.new.has_failed ≡ (out.old.has_failed || is_unwritten_run result) }
 {
     let Texts { catalogue, script } = read_texts(alloc, fed, script, ambassadors.len())?;
-    let Ok(rti) = open_rti::<L, B, &R>(alloc, rt, blank, opened, MAX_HISTORY) else {
+    let Ok(rti) = open_rti::<L, B, &R>(alloc, rt, blank, opened, history_limit) else {
         return Err(RunFault::Memory);
     };
     told_in_order(
@@ -424,6 +495,7 @@ pub fn run_in_order<L: Ledger + Naming, B: FederateAmbassador, R: Wait, W: Write
         &catalogue,
         script.as_slice(),
         Ambassadors::new(ambassadors),
+        is_watched,
         out,
     )
 }

@@ -17,7 +17,7 @@ mod watching;
 
 pub use fault::RunFault;
 pub use gate::{Gate, OpenGate};
-pub use in_order::run_in_order;
+pub use in_order::{run_in_order, run_in_order_within};
 pub use joining::{joins, recorders};
 pub use runner::run_scripts;
 pub use watching::Ran;

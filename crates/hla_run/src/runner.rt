@@ -4,7 +4,7 @@ ghost use Rattle.std.specs.Prelude.{◌≡◌, ◌||◌, ◌≤◌, [], IfOk, On
 ghost use Rattle.std.specs.List.{All};
 ghost use Rattle.hla_base.specs.Limits.{ledger_parts};
 ghost use Rattle.hla_run.specs.Joining.{joins, script_joins};
-ghost use Rattle.hla_run.specs.Running.{AreAllDone, AreTold, IsPastReading, IsRunFrom, IsSeen, StopsRun, is_unwritten_run};
+ghost use Rattle.hla_run.specs.Running.{AreAllDone, AreTold, IsRunFrom, IsSeen, StopsRun, StopsTelling, is_unwritten_run};
 
 use crate::closing::close_told;
 use crate::fault::RunFault;
@@ -154,7 +154,8 @@ fn told_on_threads<
     ensures told { OnOk result (AreTold catalogue.now lines.now (W.contents out.old.inner)
         (W.contents out.new.inner)) }
     ensures seen { IfOk result (λ r. IsSeen is_watched r.closed r.seen) }
-    ensures late { IfErr result IsPastReading }
+    ensures stopped { IfErr result (StopsTelling catalogue.now lines.now (W.contents out.old.inner)
+        (W.contents out.new.inner)) }
     ensures failure { out.new.has_failed ≡ (out.old.has_failed || is_unwritten_run result) }
 {
     let Ok(mut outcomes) = Outcomes::new(alloc, lines.len()) else {
@@ -238,7 +239,8 @@ pub fn run_scripts<
     // There were ambassadors enough.
     ensures enough { OnOk result (script_joins script.now ≤ vec_len ambassadors) }
 
-    // The first fault of the FED file, or else that of the script, or else too few ambassadors, with nothing written.
+    // The first fault of the FED file, or else that of the script, or else too few ambassadors, with nothing written. Where
+    // memory ran out nothing is written, where a write failed a beginning of how the lines came out, and else all of it.
     ensures stopped { IfErr result (StopsRun fed.now script.now (vec_len ambassadors)
         (W.contents out.old.inner) (W.contents out.new.inner)) }
 

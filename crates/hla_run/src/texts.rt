@@ -5,7 +5,7 @@ ghost use Rattle.std.specs.Io.KnownBytes.{Appends};
 ghost use Rattle.hla_fed_file.specs.Grammar.{Describes};
 ghost use Rattle.hla_commands.specs.Script.{script_of};
 ghost use Rattle.hla_run.specs.Joining.{script_joins};
-ghost use Rattle.hla_run.specs.Running.{IsUnread, told_text, is_unwritten_run};
+ghost use Rattle.hla_run.specs.Running.{IsUnread, StopsText, told_text, is_unwritten_run};
 
 use crate::fault::RunFault;
 use crate::joining::joins;
@@ -50,7 +50,7 @@ pub fn read_texts<'a>(
 }
 
 /// Writes how those lines came out that were done. `Memory` where a growth was refused, with nothing written; `Write` only
-/// where the writer has failed, and then a part may be written.
+/// where the writer has failed, and then a beginning is written.
 pub fn write_outcomes<W: Write>(
     alloc: Global,
     catalogue: &Catalogue,
@@ -61,6 +61,8 @@ pub fn write_outcomes<W: Write>(
     ensures ok { OnOk result (Appends (W.contents out.old.inner) (W.contents out.new.inner)
         (told_text catalogue.now lines.now outcomes.now)) }
     ensures err { IfErr result (λ e. (e ≡ RunFault.Write) ⊎ (e ≡ RunFault.Memory)) }
+    ensures stopped { IfErr result (StopsText (told_text catalogue.now lines.now outcomes.now)
+        (W.contents out.old.inner) (W.contents out.new.inner)) }
     ensures failure { out.new.has_failed ≡ (out.old.has_failed || is_unwritten_run result) }
 {
     let mut text = Text::new(alloc);

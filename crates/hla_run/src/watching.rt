@@ -27,7 +27,8 @@ pub fn watcher<L: Ledger + Naming, B: FederateAmbassador, P: Publisher<L>>(
     rti: &mut Rti<L, B, P>,
     is_watched: bool,
 ) -> Result<Option<Monitor<L>>, Fault>
-    ensures { IfOk result (λ m. is_some m ≡ is_watched) }
+    ensures watched { IfOk result (λ m. is_some m ≡ is_watched) }
+    ensures same { rti.new ≡ rti.old }
 {
     if !is_watched {
         return Ok(None);
@@ -54,6 +55,16 @@ fn counts_beginning(status: Status, records: &[Record]) -> bool
 {
     let steps = status.steps as usize;
     steps <= records.len() && status.is_of(&records[..steps])
+}
+
+/// Whether what was read last, if anything was, are the counts of a beginning of the records.
+pub fn is_seen(seen: Option<Status>, records: &[Record]) -> bool
+    ensures { IsTrue result → IsSeen (is_some seen) records.now seen }
+{
+    match seen {
+        None => true,
+        Some(status) => counts_beginning(status, records),
+    }
 }
 
 /// A run to its end, where what was read last are the counts of a beginning of the records; else `Monitor`.

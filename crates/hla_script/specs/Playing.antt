@@ -1,5 +1,5 @@
 -- What the lines of a script do
-use Rattle.std.specs.Prelude.{◌≡◌, ◌≢◌, ◌<◌, ◌≤◌, ℕ, List, [], ◌∷◌, ◌++◌, ◌⊎◌, length, Option, None, Some, Ok, Err, codes, Bool, true, false, Result}
+use Rattle.std.specs.Prelude.{◌≡◌, ◌≢◌, ◌<◌, ◌≤◌, ℕ, List, [], ◌∷◌, ◌++◌, ◌⊎◌, length, take, Option, None, Some, Ok, Err, codes, Bool, true, false, Result}
 use Rattle.std.specs.Io.KnownBytes.{Appends}
 use Rattle.hla_base.specs.Limits.{max_history}
 use Rattle.hla_base.specs.declared.fault.Fault.{Fault}
@@ -123,12 +123,72 @@ pub record IsPlayedAll (whole : Bool) (fed script : List ℕ) (old new : Option 
   pub from : IsPlayedFrom fed script old new records
   pub remembered : whole ≡ true → AreRemembered from.played.outcomes
 
--- why a script was not played to its end: the FED file is tested first, and a text at fault prints nothing
-abbrev pub StopsBy : List ℕ → List ℕ → Option (List ℕ) → Option (List ℕ) → PlayFault → Type 0
-StopsBy fed script old new (stop.Fed e) = reading.ReadsAs (Err e) (reading.reading_of fed) × Appends old new []
-StopsBy fed script old new (stop.Script e) = ((c : CatalogueValue) × Describes fed c) × ParsesAs (Err e) (script_of script) × Appends old new []
-StopsBy fed script old new stop.Write = Unit {0}
-StopsBy fed script old new stop.Memory = Unit {0}
+-- ---- a play that was broken off
+-- of how the first of these lines ends, if there is one, a beginning was written
+abbrev pub IsBegun : CatalogueValue → List Record → List Line → Option (List ℕ) → Option (List ℕ) → Type 0
+IsBegun c before [] old new = Appends old new []
+IsBegun c before (l ∷ ls) old new = (o : Outcome) × (added : List Record) × LineEnds c before l.command o added × ((n : ℕ) × Appends old new (take n (line_text c l.number o)))
+
+-- the first of these lines were played and written whole, and these records are theirs
+pub record IsPlayedUpTo (whole : Bool) (c : CatalogueValue) (lines : List Line) (old new : Option (List ℕ)) (records : List Record) (left : List Line) : Type 0 where
+  pub done : List Line
+  pub parts : lines ≡ done ++ left
+  pub played : IsPlayedAs whole c done old new records
+
+-- lines were played and written whole, up to one of which nothing was written
+pub record IsLeftAt (whole : Bool) (c : CatalogueValue) (lines : List Line) (old new : Option (List ℕ)) : Type 0 where
+  pub records : List Record
+  pub left : List Line
+  pub played : IsPlayedUpTo whole c lines old new records left
+
+-- lines were played and written whole, up to one of which no more than a beginning was written
+pub record IsLeftIn (whole : Bool) (c : CatalogueValue) (lines : List Line) (old new : Option (List ℕ)) : Type 0 where
+  pub records : List Record
+  pub left : List Line
+  pub middle : Option (List ℕ)
+  pub played : IsPlayedUpTo whole c lines old middle records left
+  pub begun : IsBegun c records left middle new
+
+-- why lines were not played to their end: what was written is whole up to where memory ran out, or a write failed
+abbrev pub BreaksOff : Bool → CatalogueValue → List Line → Option (List ℕ) → Option (List ℕ) → StopFault → Type 0
+BreaksOff whole c lines old new cut.Write = IsLeftIn whole c lines old new
+BreaksOff whole c lines old new cut.Memory = IsLeftAt whole c lines old new
+
+-- the FED file describes a catalogue, the script asks for these lines, and playing them was broken off
+pub record IsBrokenOff (whole : Bool) (fed script : List ℕ) (old new : Option (List ℕ)) (why : StopFault) : Type 0 where
+  pub catalogue : CatalogueValue
+  pub lines : List Line
+  pub describes : Describes fed catalogue
+  pub says : script_of script ≡ Ok lines
+  pub breaks : BreaksOff whole catalogue lines old new why
+
+-- why a script was not played to its end: the FED file is tested first, and a text at fault prints nothing; where a write failed, or
+-- there was no memory for a text, each line before is written whole, and of the next one a beginning where a write failed, else nothing
+abbrev pub StopsBy : Bool → List ℕ → List ℕ → Option (List ℕ) → Option (List ℕ) → PlayFault → Type 0
+StopsBy whole fed script old new (stop.Fed e) = reading.ReadsAs (Err e) (reading.reading_of fed) × Appends old new []
+StopsBy whole fed script old new (stop.Script e) = ((c : CatalogueValue) × Describes fed c) × ParsesAs (Err e) (script_of script) × Appends old new []
+StopsBy whole fed script old new stop.Write = IsBrokenOff whole fed script old new cut.Write
+StopsBy whole fed script old new stop.Memory = IsBrokenOff whole fed script old new cut.Memory
+
+-- the FED file describes a catalogue, the script asks for these lines, and what was written is a beginning of what they print that are
+-- played to their end
+pub record IsBeginning (fed script : List ℕ) (old new : Option (List ℕ)) : Type 0 where
+  pub catalogue : CatalogueValue
+  pub lines : List Line
+  pub describes : Describes fed catalogue
+  pub says : script_of script ≡ Ok lines
+  pub outcomes : List Outcome
+  pub records : List Record
+  pub plays : Plays catalogue [] lines outcomes records
+  pub written : ℕ
+  pub writes : Appends old new (take written (transcript catalogue lines outcomes))
+
+-- a fault of the texts leaves nothing written; any other, a beginning of a transcript of theirs
+abbrev pub BeginsBy : List ℕ → List ℕ → Option (List ℕ) → Option (List ℕ) → PlayFault → Type 0
+BeginsBy fed script old new (stop.Fed e) = Appends old new []
+BeginsBy fed script old new (stop.Script e) = Appends old new []
+BeginsBy fed script old new stop.Write = IsBeginning fed script old new
+BeginsBy fed script old new stop.Memory = IsBeginning fed script old new
 
 -- a write of the transcript failed
 abbrev pub is_cut_off : {X : Type 0} → Result X StopFault → Bool

@@ -3,13 +3,13 @@
 //! Here and in the modules below what is large goes to `drop` by name: such a call is proved once, and what goes out of scope
 //! is taken apart, variant by variant, in the proof of each function that lets it.
 
-ghost use Rattle.std.specs.Prelude.{◌≡◌, ◌||◌, ◌&&◌, not, [], IfOk, IfErr};
+ghost use Rattle.std.specs.Prelude.{◌≡◌, ◌||◌, ◌&&◌, not, [], false, true, IfOk, IfErr};
 ghost use Rattle.std.specs.Io.KnownBytes.{Appends};
 ghost use Rattle.hla_machine.specs.Histories.{AreDiscoveredInTurn, AreLawful};
 ghost use Rattle.hla_machine.specs.Runs as machine;
 ghost use Rattle.hla_machine.specs.Runs.{AreRun};
 ghost use Rattle.hla_components.specs.Executions.{Federations, no_federations, AreNext};
-ghost use Rattle.hla_script.specs.Playing.{IsPlayedAs, IsPlayedFrom, IsPlayedWhole, IsPlayedAll, StopsBy, is_unwritten_transcript, is_cut_off};
+ghost use Rattle.hla_script.specs.Playing.{IsPlayedAs, IsPlayedFrom, IsPlayedWhole, IsPlayedAll, BreaksOff, StopsBy, BeginsBy, is_unwritten_transcript, is_cut_off};
 
 use crate::execution::Execution;
 use crate::history::play_line;
@@ -84,6 +84,8 @@ fn play_lines<W: Write>(
     ensures played { IfOk result (IsPlayedAs is_whole catalogue script.now (W.contents out.old.inner)
         (W.contents out.new.inner)) }
     ensures next { IfOk result (λ records. (x : Federations) × AreNext no_federations records x) }
+    ensures broken { IfErr result (BreaksOff is_whole catalogue script.now (W.contents out.old.inner)
+        (W.contents out.new.inner)) }
     ensures failure { out.new.has_failed ≡ (out.old.has_failed || is_cut_off result) }
 {
     let Ok(name) = SharedList::from_slice(alloc, b"play") else {
@@ -126,7 +128,7 @@ fn play_from<W: Write>(
     ensures run { IfOk result (λ records. (y : machine.Executions) × AreRun machine.no_executions records y) }
     ensures laws { IfOk result AreLawful }
     ensures discoveries { IfOk result AreDiscoveredInTurn }
-    ensures stopped { IfErr result (StopsBy fed.now script.now (W.contents out.old.inner)
+    ensures stopped { IfErr result (StopsBy is_whole fed.now script.now (W.contents out.old.inner)
         (W.contents out.new.inner)) }
     ensures failure { out.new.has_failed ≡ (out.old.has_failed || is_unwritten_transcript result) }
 {
@@ -174,8 +176,13 @@ pub fn play<W: Write>(
     ensures laws { IfOk result AreLawful }
     ensures discoveries { IfOk result AreDiscoveredInTurn }
 
-    // The first fault of the FED file, or else that of the script, with nothing written.
-    ensures stopped { IfErr result (StopsBy fed.now script.now (W.contents out.old.inner)
+    // The first fault of the FED file, or else that of the script, with nothing written. Where a write failed or memory ran
+    // out, each line before is written whole, and of the next one a beginning where a write failed, else nothing.
+    ensures stopped { IfErr result (StopsBy false fed.now script.now (W.contents out.old.inner)
+        (W.contents out.new.inner)) }
+
+    // So what is written then is a beginning of what these texts print where each write takes all.
+    ensures begun { IfErr result (BeginsBy fed.now script.now (W.contents out.old.inner)
         (W.contents out.new.inner)) }
 
     // A write has failed where that is answered, and nowhere else.
@@ -201,8 +208,10 @@ pub fn play_whole<W: Write>(
     ensures laws { IfOk result AreLawful }
     ensures discoveries { IfOk result AreDiscoveredInTurn }
 
-    // As of `play`.
-    ensures stopped { IfErr result (StopsBy fed.now script.now (W.contents out.old.inner)
+    // As of `play`, and none of the lines that were written whole ran out of memory.
+    ensures stopped { IfErr result (StopsBy true fed.now script.now (W.contents out.old.inner)
+        (W.contents out.new.inner)) }
+    ensures begun { IfErr result (BeginsBy fed.now script.now (W.contents out.old.inner)
         (W.contents out.new.inner)) }
     ensures failure { out.new.has_failed ≡ (out.old.has_failed || is_unwritten_transcript result) }
 {

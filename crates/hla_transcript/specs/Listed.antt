@@ -1,5 +1,5 @@
 -- How a catalogue is listed
-use Rattle.std.specs.Prelude.{◌≡◌, ℕ, ◌+◌, ◌<◌, ◌≤◌, length, get_or, ◌==◌, Bool, true, false, List, [], ◌++◌, Option, Result, Ok, Err, codes, decimal, if◌then◌else◌}
+use Rattle.std.specs.Prelude.{◌≡◌, ℕ, ◌+◌, ◌<◌, ◌≤◌, length, get_or, ◌==◌, Bool, true, false, List, [], ◌++◌, Option, Result, Ok, Err, codes, decimal, take, if◌then◌else◌}
 use Rattle.std.specs.List.{flat_map, enumerate_from}
 use Rattle.std.specs.Io.KnownBytes.{Appends}
 use Rattle.hla_catalogue.specs.declared.declared.Attribute.{Attribute}
@@ -83,10 +83,14 @@ listing c = numbered_texts (object_text c.attributes) c.object_classes ++ number
 abbrev pub IsListed : List ℕ → Option (List ℕ) → Option (List ℕ) → Type 0
 IsListed fed old new = (c : CatalogueValue) × Describes fed c × Appends old new (listing c)
 
+-- the same, but only a beginning was written
+abbrev pub IsListedInPart : List ℕ → Option (List ℕ) → Option (List ℕ) → Type 0
+IsListedInPart fed old new = (c : CatalogueValue) × Describes fed c × ((n : ℕ) × Appends old new (take n (listing c)))
+
 -- why nothing was listed to its end; a text at fault prints nothing
 abbrev pub StopsListing : List ℕ → Option (List ℕ) → Option (List ℕ) → ListFault → Type 0
 StopsListing fed old new (stop.Fed e) = reading.ReadsAs (Err e) (reading.reading_of fed) × Appends old new []
-StopsListing fed old new stop.Write = (c : CatalogueValue) × Describes fed c
+StopsListing fed old new stop.Write = IsListedInPart fed old new
 StopsListing fed old new stop.Memory = ((c : CatalogueValue) × Describes fed c) × Appends old new []
 
 -- a write of the listing failed

@@ -244,12 +244,12 @@ fn listing_text(alloc: Global, catalogue: &Catalogue) -> Result<Text, Fault>
 /// Lists what a FED file declares: a line for each object class and behind it one for each attribute that it declares
 /// itself, then a line for each interaction class and behind it one for each parameter that it declares itself. Nothing is
 /// written before the list is whole. `Fed` with the first fault of the FED file, and `Memory` where a growth was refused
-/// behind it, with nothing written; `Write` only where the writer has failed.
+/// behind it, with nothing written; `Write` only where the writer has failed, with a beginning of the list written.
 pub fn list<W: Write>(alloc: Global, fed: &[u8], out: &mut Watched<W>) -> Result<(), ListFault>
     // What was written is the list of the catalogue that the FED file describes.
     ensures listed { OnOk result (IsListed fed.now (W.contents out.old.inner) (W.contents out.new.inner)) }
 
-    // The first fault of the FED file, with nothing written.
+    // The first fault of the FED file, with nothing written; or where a write failed, a beginning of the list.
     ensures stopped { IfErr result (StopsListing fed.now (W.contents out.old.inner)
         (W.contents out.new.inner)) }
 

@@ -1,6 +1,6 @@
 use Rattle.std.proofs.Common.{refl, sym, ◌∙◌}
 use Rattle.hla_program.specs.Program.{Played, PlayStopped}
-use Rattle.hla_program.proofs.EndLemmas.{played_kept, play_cause}
+use Rattle.hla_program.proofs.EndLemmas.{played_kept, played_unheld, play_cause}
 use Rattle.hla_script.specs.declared.player.PlayFault.TheVariants as stop
 use Rattle.hla_program.proofs.running.play_bytes.Goals as goal
 
@@ -8,7 +8,7 @@ pub returns-in-Err : goal.returns-in-Err
 returns-in-Err g c = PlayStopped c.in-Err.fault c.in-Err.ensures.stopped (play_cause c.in-Err.fault _ _ c.in-Err.ensures.failure) c.tell_play_stop.ensures.line c.tell_play_stop.ensures.status
 
 pub returns-then-has_failed : goal.returns-then-has_failed
-returns-then-has_failed g c = PlayStopped stop.Write tt (sym c.has_failed.ensures ∙ c.if-has_failed.true) c.tell_play_stop-then-has_failed.ensures.line c.tell_play_stop-then-has_failed.ensures.status
+returns-then-has_failed g c = PlayStopped stop.Write (played_unheld c.args.fed.now c.args.script.now _ _ _ c.in-Ok.records c.in-Ok.ensures.played c.flush.ensures.bytes) (sym c.has_failed.ensures ∙ c.if-has_failed.true) c.tell_play_stop-then-has_failed.ensures.line c.tell_play_stop-then-has_failed.ensures.status
 
 pub returns : goal.returns
 returns g c = Played c.in-Ok.records (played_kept c.args.fed.now c.args.script.now _ _ _ c.in-Ok.records c.in-Ok.ensures.played c.flush.ensures.bytes) c.in-Ok.ensures.next c.in-Ok.ensures.run (sym c.has_failed.ensures ∙ c.if-has_failed.false) refl refl

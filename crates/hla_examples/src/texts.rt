@@ -1,0 +1,69 @@
+//! Examples by their lines.
+
+use std::alloc::{AllocError, Global};
+
+/// An example with the lines of its script, each of which makes a record, and of what it must print.
+#[derive(Drop)]
+pub struct Listed<'a> {
+    pub fed: &'a [u8],
+    pub script: Vec<&'a str>,
+    pub expected: Vec<&'a str>,
+}
+
+impl<'a> Listed<'a> {
+    /// An example, of its FED file, its script and what it must print.
+    pub fn new(
+        alloc: Global,
+        fed: &'a [u8],
+        script: &'a str,
+        expected: &'a str,
+    ) -> Result<Listed<'a>, AllocError> {
+        Ok(Listed {
+            fed,
+            script: script.lines().collect(alloc)?,
+            expected: expected.lines().collect(alloc)?,
+        })
+    }
+
+    /// The text of the script's first lines, so many.
+    pub fn begun(&self, alloc: Global, count: usize) -> Result<Vec<u8>, AllocError> {
+        text_of(alloc, first(self.script.as_slice(), count))
+    }
+
+    /// What the script's first lines must print, so many.
+    pub fn printed(&self, alloc: Global, count: usize) -> Result<Vec<u8>, AllocError> {
+        text_of(alloc, first(self.expected.as_slice(), count))
+    }
+}
+
+/// The first of some lines, so many.
+pub fn first<'a>(lines: &'a [&'a str], count: usize) -> &'a [&'a str] {
+    &lines[..count.min(lines.len())]
+}
+
+/// Those from a place on.
+pub fn rest<'a>(lines: &'a [&'a str], place: usize) -> &'a [&'a str] {
+    &lines[place.min(lines.len())..]
+}
+
+/// Adds a line to a text, with its end.
+pub fn add_line(text: &mut Vec<u8>, line: &str) -> Result<(), AllocError> {
+    text.extend_from_slice(line.as_bytes())?;
+    text.push(b'\n')?;
+    Ok(())
+}
+
+/// Adds lines to a text.
+pub fn add_lines(text: &mut Vec<u8>, lines: &[&str]) -> Result<(), AllocError> {
+    for line in lines {
+        add_line(text, line)?;
+    }
+    Ok(())
+}
+
+/// The text of some lines.
+pub fn text_of(alloc: Global, lines: &[&str]) -> Result<Vec<u8>, AllocError> {
+    let mut text = Vec::new(alloc);
+    add_lines(&mut text, lines)?;
+    Ok(text)
+}
