@@ -8,12 +8,13 @@
 //! constrained, sends nothing, and asks for its time only when the others are done.
 
 use crate::digest::Digest;
+use crate::faltering::Faltering;
 use crate::random::Random;
 use crate::values::{ATTRIBUTES, chosen_values};
 use hla_base::{ExecutionName, Fault, FederateNo, List, ObjectNo, Ticks};
-use hla_callbacks::{Callback, Recorder};
+use hla_callbacks::Callback;
 use hla_machine::Carried;
-use hla_monitor::{Naming, Publisher};
+use hla_monitor::{Monitor, Naming, Publisher, Status};
 use hla_rti::{Courier, Federate};
 use std::alloc::Global;
 use std::sync::atomic::{AtomicBool, AtomicU32, Ordering};
@@ -69,13 +70,15 @@ impl Field {
 /// A federate, and how far it is.
 #[derive(Drop)]
 pub struct Player<L: Ledger + Naming, W: Publisher<L>> {
-    pub federate: Federate<L, Recorder, W>,
+    pub federate: Federate<L, Faltering, W>,
     pub random: Random,
     /// The number of its first object.
     pub first: ObjectNo,
     pub time: Ticks,
     pub is_waiting: bool,
     pub has_ended: bool,
+    /// In how many callbacks its ambassador failed.
+    pub failed: u64,
     pub digest: Digest,
     /// What stopped it, if anything did.
     pub fault: Option<Fault>,
@@ -168,19 +171,36 @@ impl<L: Ledger + Naming, W: Publisher<L>> Player<L, W> {
         }
     }
 
+    /// Is granted a time.
+    fn reach(&mut self, time: Ticks) {
+        self.time = time;
+        self.is_waiting = false;
+    }
+
+    /// Asks for its time after a callback in which its ambassador failed, which is not told: a grant is one to a later time.
+    fn look(&mut self, rt: &impl Wait) -> Result<Turn, Fault> {
+        self.failed = self.failed.wrapping_add(1);
+        let time = self.federate.query_federate_time(rt)?;
+        if time > self.time {
+            self.reach(time);
+        }
+        Ok(Turn::Again)
+    }
+
     /// Takes one callback.
     fn take(&mut self, rt: &impl Wait) -> Result<Turn, Fault> {
-        match self.federate.tick(rt)? {
-            None => Ok(Turn::Over),
-            Some(callback) => {
+        match self.federate.tick(rt) {
+            Ok(None) => Ok(Turn::Over),
+            Ok(Some(callback)) => {
                 if let Callback::TimeAdvanceGrant { time } = &callback {
-                    self.time = *time;
-                    self.is_waiting = false;
+                    self.reach(*time);
                 }
                 self.digest.add_callback(&callback);
                 drop(callback);
                 Ok(Turn::Again)
             }
+            Err(Fault::FederateInternalError) => self.look(rt),
+            Err(fault) => Err(fault),
         }
     }
 
@@ -238,7 +258,7 @@ impl<L: Ledger + Naming, W: Publisher<L>> Player<L, W> {
 /// The courier, and what it has carried.
 #[derive(Drop)]
 pub struct Carrier<L: Ledger + Naming, W: Publisher<L>> {
-    pub courier: Courier<L, Recorder, W>,
+    pub courier: Courier<L, Faltering, W>,
     pub digest: Digest,
     pub fault: Option<Fault>,
 }
@@ -314,13 +334,70 @@ impl<L: Ledger + Naming, W: Publisher<L>> Carrier<L, W> {
     }
 }
 
+/// What a monitor saw that was read all the while.
+#[derive(Clone, Copy)]
+pub struct Sight {
+    pub reads: u64,
+    /// The counts that it read last.
+    pub last: Status,
+    /// Whether counts ever fell.
+    pub has_fallen: bool,
+}
+
+/// A monitor that is read all the while.
+#[derive(Drop)]
+pub struct Watcher<L: Ledger + Naming> {
+    pub monitor: Monitor<L>,
+    pub sight: Sight,
+}
+
+impl<L: Ledger + Naming> Watcher<L> {
+    /// One that reads a monitor for the first time.
+    pub fn new(mut monitor: Monitor<L>) -> Watcher<L> {
+        let last = monitor.read();
+        Watcher {
+            monitor,
+            sight: Sight {
+                reads: 1,
+                last,
+                has_fallen: false,
+            },
+        }
+    }
+
+    /// Reads the monitor once more.
+    pub fn look(&mut self) {
+        let status = self.monitor.read();
+        let last = self.sight.last;
+        self.sight = Sight {
+            reads: self.sight.reads.wrapping_add(1),
+            last: status,
+            has_fallen: self.sight.has_fallen
+                || status.steps < last.steps
+                || status.callbacks < last.callbacks
+                || status.grants < last.grants,
+        };
+    }
+
+    /// Reads until all federates have come to their end.
+    pub fn live(mut self, field: &Field) -> Watcher<L> {
+        for _ in 0..u64::MAX {
+            self.look();
+            if field.is_over.load(Ordering::SeqCst) {
+                break;
+            }
+        }
+        self
+    }
+}
+
 /// A federate becomes ready to take part: it publishes, subscribes, and is constrained; all but the last regulate. An error
 /// is the fault of the first call that is refused, or `OutOfMemory` where a growth was refused. The calls before it stay
 /// done.
 pub fn prepare<L: Ledger + Naming, W: Publisher<L>>(
     rt: &impl Wait,
     field: &Field,
-    federate: &mut Federate<L, Recorder, W>,
+    federate: &mut Federate<L, Faltering, W>,
 ) -> Result<(), Fault> {
     let attributes = numbers(field.alloc)?;
     federate.subscribe_object_class_attributes(rt, 1, attributes)?;
@@ -352,7 +429,7 @@ fn numbers(alloc: Global) -> Result<List<u32>, Fault> {
 pub fn register<L: Ledger + Naming, W: Publisher<L>>(
     rt: &impl Wait,
     field: &Field,
-    federate: &mut Federate<L, Recorder, W>,
+    federate: &mut Federate<L, Faltering, W>,
 ) -> Result<ObjectNo, Fault> {
     let mut first = 0;
     for _ in 0..field.objects {

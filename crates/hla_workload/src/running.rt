@@ -4,11 +4,12 @@ ghost use Rattle.std.specs.Prelude.{◌≡◌};
 ghost use Rattle.hla_base.specs.Limits.{ledger_parts};
 
 use crate::digest::Digest;
-use crate::federates::{Carrier, FED, Field, Player, prepare, register};
+use crate::faltering::Faltering;
+use crate::federates::{Carrier, FED, Field, Player, Sight, Watcher, prepare, register};
 use crate::random::Random;
 use crate::sizes::Sizes;
 use hla_base::{ExecutionName, Fault, FederateNo, LEDGER_PARTS, List};
-use hla_callbacks::Recorder;
+use hla_checker::check_run;
 use hla_machine::Record;
 use hla_monitor::{Naming, Opened, Publisher};
 use hla_rti::{Left, Rti, open_rti};
@@ -23,18 +24,56 @@ use std::thread::Threads;
 /// How many records the history may hold.
 const HISTORY_LIMIT: usize = 1_048_576;
 
+/// In one of so many callbacks the ambassador of the first federate of a long run fails.
+const ODDS: u64 = 64;
+
+/// How a federation runs: its sizes, whether the ambassador of its first federate fails by chance, and whether a monitor is read all
+/// the while and its records are judged.
+#[derive(Clone, Copy)]
+pub struct Course {
+    pub sizes: Sizes,
+    pub is_hard: bool,
+}
+
+/// How a run ended.
+#[derive(Clone, Copy)]
+pub struct Endured {
+    pub digest: Digest,
+    /// How many records were judged.
+    pub judged: u64,
+    /// In how many callbacks an ambassador failed.
+    pub failed: u64,
+    /// How often a monitor was read.
+    pub reads: u64,
+}
+
+impl Endured {
+    /// Without records that are judged.
+    pub fn unjudged(digest: Digest) -> Endured {
+        Endured {
+            digest,
+            judged: 0,
+            failed: 0,
+            reads: 0,
+        }
+    }
+}
+
 /// What a thread has.
 #[derive(Drop)]
 enum Party<L: Ledger + Naming, W: Publisher<L>> {
     Player(Player<L, W>),
     Carrier(Carrier<L, W>),
+    Watcher(Watcher<L>),
 }
 
 /// What all threads leave behind.
 #[derive(Drop)]
-struct Rest<L: Ledger> {
-    lefts: List<Left<L, Recorder>>,
+struct Rest<L: Ledger + Naming> {
+    lefts: List<Left<L, Faltering>>,
     digest: Digest,
+    failed: u64,
+    watcher: Option<Watcher<L>>,
 }
 
 /// The name of the federate of a number.
@@ -48,12 +87,15 @@ fn name_of(alloc: Global, federate: FederateNo) -> Result<List<u8>, Fault> {
 fn join<L: Ledger + Naming, W: Publisher<L>>(
     rt: &impl Wait,
     field: &Field,
-    rti: &mut Rti<L, Recorder, W>,
+    rti: &mut Rti<L, Faltering, W>,
     number: FederateNo,
     random: Random,
+    is_failing: bool,
 ) -> Result<Player<L, W>, Fault> {
     let name = name_of(field.alloc, number)?;
-    match rti.join(rt, name, field.execution, Recorder::new(field.alloc)) {
+    let odds = if is_failing { ODDS } else { 0 };
+    let ambassador = Faltering::new(field.alloc, random, odds);
+    match rti.join(rt, name, field.execution, ambassador) {
         Ok(federate) => Ok(Player {
             federate,
             random,
@@ -61,6 +103,7 @@ fn join<L: Ledger + Naming, W: Publisher<L>>(
             time: 0,
             is_waiting: false,
             has_ended: false,
+            failed: 0,
             digest: Digest::new(),
             fault: None,
         }),
@@ -75,12 +118,14 @@ fn join<L: Ledger + Naming, W: Publisher<L>>(
 fn add_player<L: Ledger + Naming, W: Publisher<L>>(
     rt: &impl Wait,
     field: &Field,
-    rti: &mut Rti<L, Recorder, W>,
+    rti: &mut Rti<L, Faltering, W>,
     number: FederateNo,
-    seed: u32,
+    course: Course,
     parties: &mut List<Party<L, W>>,
 ) -> Result<(), Fault> {
-    let mut player = join(rt, field, rti, number, Random::new(seed, number))?;
+    let random = Random::new(course.sizes.seed, number);
+    let is_failing = course.is_hard && number == 1;
+    let mut player = join(rt, field, rti, number, random, is_failing)?;
     match prepare(rt, field, &mut player.federate) {
         Ok(()) => parties.push(Party::Player(player)),
         Err(fault) => {
@@ -110,7 +155,7 @@ fn register_all<L: Ledger + Naming, W: Publisher<L>>(
 fn add_carrier<L: Ledger + Naming, W: Publisher<L>>(
     rt: &impl Wait,
     field: &Field,
-    rti: &mut Rti<L, Recorder, W>,
+    rti: &mut Rti<L, Faltering, W>,
     parties: &mut Vec<Party<L, W>>,
 ) -> Result<(), Fault> {
     let mut carrier = Carrier {
@@ -134,26 +179,52 @@ fn add_carrier<L: Ledger + Naming, W: Publisher<L>>(
 fn join_all<L: Ledger + Naming, W: Publisher<L>>(
     rt: &impl Wait,
     field: &Field,
-    rti: &mut Rti<L, Recorder, W>,
-    seed: u32,
+    rti: &mut Rti<L, Faltering, W>,
+    course: Course,
     parties: &mut List<Party<L, W>>,
 ) -> Result<(), Fault> {
     rti.create(rt, field.execution, FED)?;
     for number in 1..=field.federates {
-        add_player(rt, field, rti, number, seed, parties)?;
+        add_player(rt, field, rti, number, course, parties)?;
     }
     Ok(())
+}
+
+/// Adds a monitor to the parties, where one is to watch.
+fn add_watcher<L: Ledger + Naming, W: Publisher<L>>(
+    rt: &impl Wait,
+    rti: &mut Rti<L, Faltering, W>,
+    course: Course,
+    parties: &mut List<Party<L, W>>,
+) -> Result<(), Fault> {
+    if !course.is_hard {
+        return Ok(());
+    }
+    let monitor = rti.monitor(rt)?;
+    parties.push(Party::Watcher(Watcher::new(monitor)))
+}
+
+/// Joins all federates, and adds a monitor, where one is to watch.
+fn add_others<L: Ledger + Naming, W: Publisher<L>>(
+    rt: &impl Wait,
+    field: &Field,
+    rti: &mut Rti<L, Faltering, W>,
+    course: Course,
+    parties: &mut List<Party<L, W>>,
+) -> Result<(), Fault> {
+    join_all(rt, field, rti, course, parties)?;
+    add_watcher(rt, rti, course, parties)
 }
 
 /// All parties of a run, ready for the first phase.
 fn all_parties<L: Ledger + Naming, W: Publisher<L>>(
     rt: &impl Wait,
     field: &Field,
-    rti: &mut Rti<L, Recorder, W>,
-    seed: u32,
+    rti: &mut Rti<L, Faltering, W>,
+    course: Course,
 ) -> Result<Vec<Party<L, W>>, Fault> {
     let mut parties = List::new(field.alloc);
-    if let Err(fault) = join_all(rt, field, rti, seed, &mut parties) {
+    if let Err(fault) = add_others(rt, field, rti, course, &mut parties) {
         drop(parties);
         return Err(fault);
     }
@@ -177,24 +248,42 @@ fn live<L: Ledger + Naming, W: Publisher<L>>(
     match party {
         Party::Player(player) => Party::Player(player.live(rt, field)),
         Party::Carrier(carrier) => Party::Carrier(carrier.live(rt, field)),
+        Party::Watcher(watcher) => Party::Watcher(watcher.live(field)),
     }
 }
 
-/// Adds what one who has lived leaves behind, or says what stopped it.
-fn add_rest<L: Ledger + Naming, W: Publisher<L>>(
-    rest: &mut Rest<L>,
-    party: Party<L, W>,
-) -> Result<(), Fault> {
-    let (left, digest, fault) = match party {
-        Party::Player(player) => (player.federate.leave(), player.digest, player.fault),
-        Party::Carrier(carrier) => (carrier.courier.leave(), carrier.digest, carrier.fault),
-    };
-    rest.digest.add(digest.value());
-    match fault {
-        None => rest.lefts.push(left),
-        Some(fault) => {
-            drop(left);
-            Err(fault)
+impl<L: Ledger + Naming> Rest<L> {
+    /// Adds what a caller leaves behind, or says what stopped it.
+    fn add_caller(
+        &mut self,
+        left: Left<L, Faltering>,
+        digest: Digest,
+        fault: Option<Fault>,
+    ) -> Result<(), Fault> {
+        self.digest.add(digest.value());
+        match fault {
+            None => self.lefts.push(left),
+            Some(fault) => {
+                drop(left);
+                Err(fault)
+            }
+        }
+    }
+
+    /// Adds what one who has lived leaves behind, or says what stopped it.
+    fn add<W: Publisher<L>>(&mut self, party: Party<L, W>) -> Result<(), Fault> {
+        match party {
+            Party::Player(player) => {
+                self.failed = self.failed.wrapping_add(player.failed);
+                self.add_caller(player.federate.leave(), player.digest, player.fault)
+            }
+            Party::Carrier(carrier) => {
+                self.add_caller(carrier.courier.leave(), carrier.digest, carrier.fault)
+            }
+            Party::Watcher(watcher) => {
+                self.watcher = Some(watcher);
+                Ok(())
+            }
         }
     }
 }
@@ -205,7 +294,7 @@ fn add_all<L: Ledger + Naming, W: Publisher<L>>(
     all: Vec<Party<L, W>>,
 ) -> Result<(), Fault> {
     for party in all {
-        add_rest(rest, party)?;
+        rest.add(party)?;
     }
     Ok(())
 }
@@ -214,16 +303,18 @@ fn add_all<L: Ledger + Naming, W: Publisher<L>>(
 fn play<L: Ledger + Naming + Send + Sync, W: Publisher<L> + Send, R: Threads + Wait + Sync>(
     rt: &R,
     field: &Field,
-    rti: &mut Rti<L, Recorder, W>,
-    seed: u32,
+    rti: &mut Rti<L, Faltering, W>,
+    course: Course,
 ) -> Result<Rest<L>, Fault> {
-    let parties = all_parties(rt, field, rti, seed)?;
+    let parties = all_parties(rt, field, rti, course)?;
     let Ok(all) = thread::map_vec(rt, parties, &|party| live(rt, field, party)) else {
         return Err(Fault::OutOfMemory);
     };
     let mut rest = Rest {
         lefts: List::new(field.alloc),
         digest: Digest::new(),
+        failed: 0,
+        watcher: None,
     };
     match add_all(&mut rest, all) {
         Ok(()) => Ok(rest),
@@ -246,30 +337,88 @@ fn add_records(digest: &mut Digest, records: &[Record]) {
     digest.add(refused);
 }
 
-/// Closes the infrastructure, or lets it go where a thread was stopped.
+/// What a monitor saw once it has learnt all that was published; nothing where none watched.
+fn last_sight<L: Ledger + Naming, W: Publisher<L>>(
+    rt: &impl Wait,
+    rti: &mut Rti<L, Faltering, W>,
+    watcher: Option<Watcher<L>>,
+) -> Option<Sight> {
+    let mut watcher = watcher?;
+    let told = rti.tell(rt);
+    watcher.monitor.learn(&told);
+    watcher.look();
+    let sight = watcher.sight;
+    drop(watcher);
+    Some(sight)
+}
+
+/// How a run ended whose records are these. Where a monitor watched, `FederateInternalError` where its counts fell, it did not read
+/// those of all records last, or the checker does not take these.
+fn end_of(
+    alloc: Global,
+    records: &[Record],
+    sight: Option<Sight>,
+    mut digest: Digest,
+    failed: u64,
+) -> Result<Endured, Fault> {
+    add_records(&mut digest, records);
+    let Some(sight) = sight else {
+        return Ok(Endured::unjudged(digest));
+    };
+    if sight.has_fallen || !sight.last.is_of(records) || check_run(alloc, records).is_err() {
+        return Err(Fault::FederateInternalError);
+    }
+    Ok(Endured {
+        digest,
+        judged: records.len() as u64,
+        failed,
+        reads: sight.reads,
+    })
+}
+
+/// Closes the infrastructure.
 fn close<L: Ledger + Naming, W: Publisher<L>>(
     rt: &impl Wait,
-    rti: Rti<L, Recorder, W>,
-    rest: Result<Rest<L>, Fault>,
-) -> Result<Digest, Fault>
+    alloc: Global,
+    mut rti: Rti<L, Faltering, W>,
+    rest: Rest<L>,
+) -> Result<Endured, Fault>
     requires { L.parts ≡ ledger_parts }
 {
-    let Rest { lefts, mut digest } = match rest {
-        Ok(rest) => rest,
-        Err(fault) => {
-            drop(rti);
-            return Err(fault);
-        }
-    };
+    let Rest {
+        lefts,
+        digest,
+        failed,
+        watcher,
+    } = rest;
+    let sight = last_sight(rt, &mut rti, watcher);
     match rti.close(rt, lefts.into_vec()) {
         Ok(closed) => {
-            add_records(&mut digest, closed.records());
+            let ended = end_of(alloc, closed.records(), sight, digest, failed);
             drop(closed);
-            Ok(digest)
+            ended
         }
         Err(refused) => {
             drop(refused);
             Err(Fault::FederateInternalError)
+        }
+    }
+}
+
+/// Closes the infrastructure, or lets it go where a thread was stopped.
+fn end_run<L: Ledger + Naming, W: Publisher<L>>(
+    rt: &impl Wait,
+    alloc: Global,
+    rti: Rti<L, Faltering, W>,
+    rest: Result<Rest<L>, Fault>,
+) -> Result<Endured, Fault>
+    requires { L.parts ≡ ledger_parts }
+{
+    match rest {
+        Ok(rest) => close(rt, alloc, rti, rest),
+        Err(fault) => {
+            drop(rti);
+            Err(fault)
         }
     }
 }
@@ -280,22 +429,28 @@ fn run_at<L: Ledger + Naming + Send + Sync, R: Threads + Wait + Sync>(
     field: &Field,
     blank: Blank,
     opened: Opened,
-    seed: u32,
-) -> Result<Digest, Fault>
+    course: Course,
+) -> Result<Endured, Fault>
     requires name { blank.name ≡ L.name }
     requires parts { blank.parts ≡ L.parts }
     requires all { blank.parts ≡ ledger_parts }
     requires book { opened.seen.book ≡ L.book }
 {
-    let mut rti = open_rti::<L, Recorder, &R>(field.alloc, rt, blank, opened, HISTORY_LIMIT)?;
-    let rest = play(rt, field, &mut rti, seed);
-    close(rt, rti, rest)
+    let mut rti = open_rti::<L, Faltering, &R>(field.alloc, rt, blank, opened, HISTORY_LIMIT)?;
+    let rest = play(rt, field, &mut rti, course);
+    end_run(rt, field.alloc, rti, rest)
 }
 
 /// Runs federates of which each but the last has so many objects, for so many steps. An error is the fault that stopped a
 /// federate or the courier (a refused update stops none), `OutOfMemory` where a growth or a thread was refused, or
-/// `FederateInternalError` where the infrastructure does not close.
-pub fn run<R: Threads + Wait + Sync>(rt: &R, alloc: Global, sizes: Sizes) -> Result<Digest, Fault> {
+/// `FederateInternalError` where the infrastructure does not close; and in a hard run, too, where the checker does not take its
+/// records, or a monitor saw other counts than theirs.
+pub fn run<R: Threads + Wait + Sync>(
+    rt: &R,
+    alloc: Global,
+    course: Course,
+) -> Result<Endured, Fault> {
+    let sizes = course.sizes;
     let field = Field {
         alloc,
         execution: ExecutionName::new(b"workload")?,
@@ -307,11 +462,5 @@ pub fn run<R: Threads + Wait + Sync>(rt: &R, alloc: Global, sizes: Sizes) -> Res
         may_begin: AtomicBool::new(false),
         is_over: AtomicBool::new(false),
     };
-    run_at::<Brand, R>(
-        rt,
-        &field,
-        Blank::new(LEDGER_PARTS),
-        Opened::new(),
-        sizes.seed,
-    )
+    run_at::<Brand, R>(rt, &field, Blank::new(LEDGER_PARTS), Opened::new(), course)
 }
