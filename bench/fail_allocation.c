@@ -1,6 +1,7 @@
 /* Put before the C library (LD_PRELOAD), lets the allocation numbered FAIL_ALLOCATION fail, counted from 1, and writes to the
  * file COUNT_ALLOCATIONS how many there were, once, when the program ends: by `exit`, which runs a destructor, or by `_exit`, which
- * runs none and is therefore defined here. Growing a block counts as an allocation. */
+ * runs none and is therefore defined here. Growing a block counts as an allocation. Where one fails, a line says so on standard
+ * error, among what the program itself writes there. */
 #define _GNU_SOURCE
 #include <dlfcn.h>
 #include <errno.h>
@@ -12,10 +13,14 @@
 
 static unsigned long counted;
 
+static const char failing[] = "an allocation fails\n";
+
 static int fails(void) {
     const char *which = getenv("FAIL_ALLOCATION");
     counted++;
-    return which && strtoul(which, NULL, 10) == counted;
+    if (!which || strtoul(which, NULL, 10) != counted) return 0;
+    if (write(STDERR_FILENO, failing, sizeof failing - 1) < 0) _exit(99);
+    return 1;
 }
 
 void *malloc(size_t size) {

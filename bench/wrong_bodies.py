@@ -1,7 +1,7 @@
 #!/usr/bin/env python3
 """Tells whether the prover refuses each wrong body of a crate, and by the contract of which function.
 
-`rt ci` tries the edits of ten crates' must-fail/, which tell much. All the others stand in wrong-bodies/, many in a file, and this
+`rt ci` tries the edits of eight crates' must-fail/, which tell much. All the others stand in wrong-bodies/, many in a file, and this
 program tries them and those. It applies a file, checks the crate once, and looks for an error in each function that the file changes. Of
 several wrong bodies of one function the first is checked so, and each other one alone, as is one of a function that calls another
 that the file changes. What turns a definition is refused by a theorem somewhere above it, so each of these is checked alone. It works

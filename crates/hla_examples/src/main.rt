@@ -6,7 +6,9 @@
 //! their history is full, or their ambassadors give trouble, or their text is cut off.
 //!
 //! It runs in the folder of the examples: for each name there is a script `NAME.script`, played over `text-f.fed`, and what it
-//! must print, `NAME.expected`.
+//! must print, `NAME.expected`. With words it plays one script by the calls of one layer, and prints its transcript:
+//!
+//!     hla_examples step|foresee|rti FED SCRIPT
 #![tactic(auto)]
 
 mod cutting;
@@ -15,6 +17,7 @@ mod failing;
 mod filling;
 mod forging;
 mod harming;
+mod layers;
 mod listening;
 mod locking;
 mod ordering;
@@ -24,6 +27,7 @@ mod texts;
 
 use crate::forging::tells_forgeries;
 use crate::harming::harm_some;
+use crate::layers::{Layer, printed};
 use crate::locking::{Example, is_run_on_threads, is_same_behind_the_lock};
 use crate::ordering::tells_order;
 use crate::texts::Listed;
@@ -31,12 +35,14 @@ use hla_base::Fault;
 use hla_checker::check_run;
 use hla_machine::Record;
 use hla_script::{Watched, play};
+use hla_transcript::write_whole;
 use std::alloc::{AllocError, Global};
+use std::env::Args;
 use std::process::ExitCode;
 use std::rt::Runtime;
 use std::sync::Wait;
 use std::thread::Threads;
-use std::{fs, io};
+use std::{env, fs, io};
 
 /// The examples, by name.
 const NAMES: [&str; 31] = [
@@ -85,8 +91,13 @@ const ON_THREADS: [&str; 7] = [
     "newcomer",
 ];
 
-/// The status where an example differs from what is expected, or could not be read.
+/// The status where an example differs from what is expected, or could not be read, or a script was stopped.
 const DIFFERS: u8 = 1;
+
+/// The status where words ask for nothing.
+const UNASKED: u8 = 2;
+
+const USAGE: &str = "usage: hla_examples [step|foresee|rti FED SCRIPT]";
 
 /// Whether the checker takes these records, and tells each that is forged at its place. `OutOfMemory` where a copy was refused.
 fn are_judged(alloc: Global, records: &mut Vec<Record>) -> Result<bool, Fault> {
@@ -210,9 +221,87 @@ fn run_some<R: Runtime + AllocGlobal + Threads + Wait + Sync>(rt: &R) -> io::Res
     Ok(are_all)
 }
 
+/// What the words of the command line ask for.
+#[derive(Drop)]
+enum Asked {
+    /// All that there is to see.
+    All,
+    /// A script, by the calls of a layer.
+    Script {
+        layer: Layer,
+        fed: String,
+        script: String,
+    },
+    /// Nothing.
+    Nothing,
+}
+
+/// A script by the calls of a layer, where words ask for it.
+fn script_asked(layer: &str, words: &mut Args) -> Option<Asked> {
+    let layer = Layer::named(layer)?;
+    let fed = words.next()?;
+    let script = words.next()?;
+    Some(Asked::Script { layer, fed, script })
+}
+
+/// What the words of the command line ask for.
+fn asked_for(words: &mut Args) -> Asked {
+    let _program = words.next();
+    match words.next() {
+        None => Asked::All,
+        Some(layer) => script_asked(layer.as_str(), words).unwrap_or(Asked::Nothing),
+    }
+}
+
+/// Plays a script by the calls of a layer, and prints its transcript; the status.
+fn print_script<R: Runtime + AllocGlobal + Wait>(
+    rt: &R,
+    layer: Layer,
+    fed: &str,
+    script: &str,
+) -> io::Result<u8> {
+    let fed = fs::read_to_string(rt, fed)?;
+    let script = fs::read_to_string(rt, script)?;
+    match printed(rt, rt.alloc(), layer, fed.as_bytes(), script.as_bytes()) {
+        Ok(text) => match write_whole(&mut Watched::new(io::writer(rt)), text.as_slice()) {
+            Ok(()) => Ok(0),
+            Err(_) => Ok(DIFFERS),
+        },
+        Err(fault) => {
+            eprintln!(rt; "{fault}")?;
+            Ok(DIFFERS)
+        }
+    }
+}
+
+/// Shows all that there is to see; the status.
+fn show_all<R: Runtime + AllocGlobal + Threads + Wait + Sync>(rt: &R) -> u8 {
+    match (play_all(rt), run_some(rt), harm_some(rt)) {
+        (Ok(true), Ok(true), Ok(true)) => 0,
+        _ => DIFFERS,
+    }
+}
+
+/// Does what the words of the command line ask for; the status.
+fn run<R: Runtime + AllocGlobal + Threads + Wait + Sync>(rt: &R) -> io::Result<u8> {
+    let mut words = env::args(rt)?;
+    let asked = asked_for(&mut words);
+    drop(words);
+    match asked {
+        Asked::All => Ok(show_all(rt)),
+        Asked::Script { layer, fed, script } => {
+            print_script(rt, layer, fed.as_str(), script.as_str())
+        }
+        Asked::Nothing => {
+            eprintln!(rt; "{USAGE}")?;
+            Ok(UNASKED)
+        }
+    }
+}
+
 fn main(rt: HostRuntime) -> ExitCode {
-    match (play_all(&rt), run_some(&rt), harm_some(&rt)) {
-        (Ok(true), Ok(true), Ok(true)) => ExitCode::SUCCESS,
-        _ => ExitCode::from(DIFFERS),
+    match run(&rt) {
+        Ok(status) => ExitCode::from(status),
+        Err(_) => ExitCode::from(DIFFERS),
     }
 }
