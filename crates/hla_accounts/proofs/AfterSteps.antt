@@ -8,6 +8,10 @@ pub mod Handles
 pub mod Counts
 -- Discoveries that wait for one federate, after a change
 pub mod Offers
+-- What federates are to be told of synchronization points, after a change
+pub mod Notices
+-- The accounts and the open points after a point is registered or achieved, and where points close
+pub mod Points
 -- The accounts after a federate joins or leaves
 pub mod Joins
 -- The accounts after a message is sent or retracted

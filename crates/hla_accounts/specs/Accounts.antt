@@ -34,7 +34,7 @@ copy_at ws g m = option_map copy_of (waiting_at ws g m)
 
 -- ---- accounts by number, counted from 1
 abbrev pub no_account : Account
-no_account = record { name = []; is_joined = false; state = new_row; next_serial = 1; sent = []; bag = []; offers = []; owed = []; due = [] }
+no_account = record { name = []; is_joined = false; state = new_row; next_serial = 1; sent = []; bag = []; offers = []; owed = []; due = []; notices = [] }
 
 abbrev pub account_at : List Account → ℕ → Account
 account_at accounts zero = no_account
@@ -68,6 +68,7 @@ central_with d accounts = record {
   sent = λ g. sent_of (account_at accounts g).sent;
   owed = λ g m f. times_listed (account_at accounts f).owed g m;
   due = λ g m f. times_listed (account_at accounts f).due g m;
+  notices = λ f. (account_at accounts f).notices;
 }
 
 -- ---- what accounts keep

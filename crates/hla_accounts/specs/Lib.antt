@@ -12,5 +12,7 @@ pub mod Ticks
 pub mod Calls
 -- What services and callbacks do to the row of a federate
 pub mod RowChanges
+-- What federates are told of synchronization points
+pub mod Notices
 -- What a federate sends to each other, and what it is to discover, as lists by federate
 pub mod Sendings

@@ -5,15 +5,16 @@ ghost use Rattle.hla_base.specs.declared.fault.Fault.TheVariants.{OutOfMemory};
 ghost use Rattle.hla_base.specs.Limits.{max_serial};
 ghost use Rattle.hla_base.specs.Rows.{new_row};
 ghost use Rattle.hla_base.specs.Tables.{upd};
-ghost use Rattle.hla_retraction.specs.Receivers.{receiver_set};
+ghost use Rattle.hla_base.specs.FederateSets.{federate_set};
 ghost use Rattle.hla_retraction.specs.SentEvents.{no_event};
 ghost use Rattle.hla_retraction.specs.SentRows.{sent_of};
 
 use crate::bag::Bag;
 use crate::handles::Handles;
+use crate::notices::Notices;
 use crate::offers::Offers;
-use hla_base::{Fault, List, Serial, Ticks};
-use hla_retraction::{Receivers, Sent};
+use hla_base::{Fault, FederateSet, List, Serial, Ticks};
+use hla_retraction::Sent;
 use hla_time_roles::TimeState;
 use std::alloc::Global;
 
@@ -35,11 +36,13 @@ pub struct Account {
     pub owed: Handles,
     /// The events that it is to be asked to take back.
     pub due: Handles,
+    /// What it is to be told of synchronization points, the first first.
+    pub notices: Notices,
 }
 
 impl Account {
-    /// Of a federate that has just joined; it takes no memory.
-    pub fn new(name: List<u8>, alloc: Global) -> Account
+    /// Of a federate that has just joined, and what it is to be told; it takes no memory.
+    pub fn new(name: List<u8>, notices: Notices, alloc: Global) -> Account
         ensures account { result ≡ record {
           name = name;
           is_joined = true;
@@ -50,6 +53,7 @@ impl Account {
           offers = [];
           owed = [];
           due = [];
+          notices = notices;
         } }
         ensures unsent { sent_of result.sent ≡ (λ _. no_event) }
     {
@@ -63,6 +67,7 @@ impl Account {
             offers: Offers::new(alloc),
             owed: Handles::new(alloc),
             due: Handles::new(alloc),
+            notices,
         }
     }
 
@@ -75,6 +80,7 @@ impl Account {
           offers = [];
           owed = [];
           due = [];
+          notices = [];
         } }
     {
         self.is_joined = false;
@@ -83,6 +89,7 @@ impl Account {
         self.offers.clear();
         self.owed.clear();
         self.due.clear();
+        self.notices.clear();
     }
 
     /// A message was sent that may not be retracted: it took the next serial.
@@ -95,7 +102,7 @@ impl Account {
 
     /// A message was sent that may be retracted: it took the next serial. Its stamp is in ticks. `OutOfMemory`, and all as
     /// it was, where a growth was refused.
-    pub fn note(&mut self, stamp: Ticks, receivers: Receivers) -> Result<(), Fault>
+    pub fn note(&mut self, stamp: Ticks, receivers: FederateSet) -> Result<(), Fault>
         requires unsent { (m : ℕ) → self.old.next_serial ≤ m → sent_of self.old.sent m ≡ no_event }
         requires room { self.old.next_serial ≤ max_serial }
         ensures account { OnOk result
@@ -107,7 +114,7 @@ impl Account {
           stamp = stamp;
           retractable = true;
           retracted = false;
-          receivers = receiver_set receivers;
+          receivers = federate_set receivers;
         })) }
         ensures err { IfErr result (λ e. e ≡ Fault.OutOfMemory) }
         ensures unchanged { OnErr result (self.new ≡ self.old) }

@@ -4,7 +4,7 @@ ghost use Rattle.std.specs.Prelude.{◌≡◌, ℕ, ◌+◌, ◌<◌, ◌≤◌,
 ghost use Rattle.hla_base.specs.declared.fault.Fault.TheVariants.{OutOfMemory};
 ghost use Rattle.hla_base.specs.Limits.{max_joins, max_serial};
 ghost use Rattle.hla_base.specs.Tables.{upd, upd2, is_other, or_else, when};
-ghost use Rattle.hla_retraction.specs.Receivers.{receiver_set};
+ghost use Rattle.hla_base.specs.FederateSets.{federate_set};
 ghost use Rattle.hla_retraction.specs.SentEvents.{no_event};
 ghost use Rattle.hla_retraction.specs.SentRows.{sent_of};
 ghost use Rattle.hla_machine.specs.Directory.{Directory, Outgoing};
@@ -15,10 +15,9 @@ ghost use Rattle.hla_accounts.specs.Sendings.{item_for, is_sent_in_order, stamp_
 
 use crate::accounts::Accounts;
 use crate::bag::Waiting;
-use hla_base::{Content, EventHandle, Fault, FederateNo, Serial, Ticks};
+use hla_base::{Content, EventHandle, Fault, FederateNo, FederateSet, Serial, Ticks};
 use hla_callbacks::Delivery;
 use hla_catalogue::Order;
-use hla_retraction::Receivers;
 
 /// Whether there is a content for a federate. The contents are by number, counted from 1.
 fn has_content(contents: &[Option<Content>], federate: FederateNo) -> bool
@@ -92,11 +91,11 @@ impl Accounts {
     }
 
     /// To whom a message of a federate goes.
-    fn receivers_of(&self, sender: FederateNo, contents: &[Option<Content>]) -> Receivers
-        ensures { receiver_set result ≡ (λ f. is_other (λ k. (account_at self.now k).is_joined) sender f
+    fn receivers_of(&self, sender: FederateNo, contents: &[Option<Content>]) -> FederateSet
+        ensures { federate_set result ≡ (λ f. is_other (λ k. (account_at self.now k).is_joined) sender f
             && is_some (item_for contents.now f)) }
     {
-        let mut receivers = Receivers::new();
+        let mut receivers = FederateSet::new();
         for federate in 1..self.next_federate() {
             if self.is_receiver(sender, contents, federate) {
                 receivers.add(federate);

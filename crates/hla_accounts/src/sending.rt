@@ -4,7 +4,7 @@ ghost use Rattle.std.specs.Prelude.{◌≡◌, ◌+◌, ◌<◌, ◌≤◌, true
 ghost use Rattle.hla_base.specs.declared.fault.Fault.TheVariants.{OutOfMemory};
 ghost use Rattle.hla_base.specs.Limits.{max_serial};
 ghost use Rattle.hla_base.specs.Tables.{upd, upd2};
-ghost use Rattle.hla_retraction.specs.Receivers.{receiver_set};
+ghost use Rattle.hla_base.specs.FederateSets.{federate_set};
 ghost use Rattle.hla_retraction.specs.SentRows.{sent_of};
 ghost use Rattle.hla_machine.specs.Directory.{Directory};
 ghost use Rattle.hla_machine.specs.Central.{at_key};
@@ -13,8 +13,7 @@ ghost use Rattle.hla_accounts.specs.Bags.{waiting_at};
 
 use crate::accounts::Accounts;
 use crate::bag::Waiting;
-use hla_base::{Fault, FederateNo, Serial, Ticks};
-use hla_retraction::Receivers;
+use hla_base::{Fault, FederateNo, FederateSet, Serial, Ticks};
 
 impl Accounts {
     /// A federate sends a message that it may not retract: the message takes its next serial.
@@ -35,7 +34,7 @@ impl Accounts {
         &mut self,
         federate: FederateNo,
         stamp: Ticks,
-        receivers: Receivers,
+        receivers: FederateSet,
     ) -> Result<(), Fault>
         requires some { 0 < federate }
         requires within { federate ≤ length self.old }
@@ -47,7 +46,7 @@ impl Accounts {
                 stamp = stamp;
                 retractable = true;
                 retracted = false;
-                receivers = receiver_set receivers;
+                receivers = federate_set receivers;
               });
             }) }
         ensures err { IfErr result (λ e. e ≡ Fault.OutOfMemory) }

@@ -1,7 +1,7 @@
 -- The numbers and names of faults
 use Rattle.std.specs.Prelude.{ℕ, List, codes}
 use Rattle.hla_base.specs.declared.fault.Fault.{Fault}
-use Rattle.hla_base.specs.declared.fault.Fault.TheVariants.{FederationExecutionAlreadyExists, FederationExecutionDoesNotExist, FederatesCurrentlyJoined, ErrorReadingFED, FederateAlreadyExecutionMember, FederateNotExecutionMember, FederateOwnsAttributes, ObjectClassNotDefined, AttributeNotDefined, ObjectClassNotPublished, AttributeNotPublished, ObjectClassNotSubscribed, InteractionClassNotDefined, InteractionParameterNotDefined, InteractionClassNotPublished, InteractionClassNotSubscribed, ObjectAlreadyRegistered, ObjectNotKnown, AttributeNotOwned, DeletePrivilegeNotHeld, InvalidFederationTime, InvalidLookahead, FederationTimeAlreadyPassed, TimeAdvanceAlreadyInProgress, TimeRegulationAlreadyEnabled, EnableTimeRegulationPending, TimeRegulationWasNotEnabled, TimeConstrainedAlreadyEnabled, EnableTimeConstrainedPending, TimeConstrainedWasNotEnabled, AsynchronousDeliveryAlreadyEnabled, AsynchronousDeliveryAlreadyDisabled, InvalidRetractionHandle, NameNotFound, FederateInternalError, LimitReached, HistoryFull, OutOfMemory, InvalidResignAction}
+use Rattle.hla_base.specs.declared.fault.Fault.TheVariants.{FederationExecutionAlreadyExists, FederationExecutionDoesNotExist, FederatesCurrentlyJoined, ErrorReadingFED, FederateAlreadyExecutionMember, FederateNotExecutionMember, FederateOwnsAttributes, ObjectClassNotDefined, AttributeNotDefined, ObjectClassNotPublished, AttributeNotPublished, ObjectClassNotSubscribed, InteractionClassNotDefined, InteractionParameterNotDefined, InteractionClassNotPublished, InteractionClassNotSubscribed, ObjectAlreadyRegistered, ObjectNotKnown, AttributeNotOwned, DeletePrivilegeNotHeld, InvalidFederationTime, InvalidLookahead, FederationTimeAlreadyPassed, TimeAdvanceAlreadyInProgress, TimeRegulationAlreadyEnabled, EnableTimeRegulationPending, TimeRegulationWasNotEnabled, TimeConstrainedAlreadyEnabled, EnableTimeConstrainedPending, TimeConstrainedWasNotEnabled, AsynchronousDeliveryAlreadyEnabled, AsynchronousDeliveryAlreadyDisabled, InvalidRetractionHandle, NameNotFound, FederateInternalError, LimitReached, HistoryFull, OutOfMemory, InvalidResignAction, SynchronizationPointLabelWasNotAnnounced}
 
 -- the number of a fault
 abbrev pub number_of : Fault → ℕ
@@ -44,6 +44,7 @@ number_of LimitReached = 36
 number_of HistoryFull = 37
 number_of OutOfMemory = 38
 number_of InvalidResignAction = 39
+number_of SynchronizationPointLabelWasNotAnnounced = 40
 
 -- its name
 abbrev pub name_of : Fault → List ℕ
@@ -86,3 +87,4 @@ name_of LimitReached = codes "LimitReached"
 name_of HistoryFull = codes "HistoryFull"
 name_of OutOfMemory = codes "OutOfMemory"
 name_of InvalidResignAction = codes "InvalidResignAction"
+name_of SynchronizationPointLabelWasNotAnnounced = codes "SynchronizationPointLabelWasNotAnnounced"

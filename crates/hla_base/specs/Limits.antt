@@ -25,6 +25,12 @@ max_parameters = 4096
 abbrev pub max_objects : ℕ
 max_objects = 4096
 
+abbrev pub max_point_label : ℕ
+max_point_label = 64
+
+abbrev pub max_open_points : ℕ
+max_open_points = 64
+
 abbrev pub max_value : ℕ
 max_value = 1024
 

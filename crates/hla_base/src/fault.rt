@@ -91,10 +91,12 @@ pub enum Fault {
     OutOfMemory,
     #[error("InvalidResignAction")]
     InvalidResignAction,
+    #[error("SynchronizationPointLabelWasNotAnnounced")]
+    SynchronizationPointLabelWasNotAnnounced,
 }
 
 impl Fault {
-    /// The number of the fault, from 1 to 39.
+    /// The number of the fault, from 1 to 40.
     pub fn number(self) -> u8
         ensures { result ≡ number_of self }
     {
@@ -138,6 +140,7 @@ impl Fault {
             Fault::HistoryFull => 37,
             Fault::OutOfMemory => 38,
             Fault::InvalidResignAction => 39,
+            Fault::SynchronizationPointLabelWasNotAnnounced => 40,
         }
     }
 
@@ -185,6 +188,9 @@ impl Fault {
             Fault::HistoryFull => "HistoryFull",
             Fault::OutOfMemory => "OutOfMemory",
             Fault::InvalidResignAction => "InvalidResignAction",
+            Fault::SynchronizationPointLabelWasNotAnnounced => {
+                "SynchronizationPointLabelWasNotAnnounced"
+            }
         }
     }
 }

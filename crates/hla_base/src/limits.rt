@@ -29,6 +29,13 @@ pub const MAX_PARAMETERS: usize = 4_096;
 /// The most objects that are registered in an execution's life; a further registration is refused with `LimitReached`.
 pub const MAX_OBJECTS: u32 = 4_096;
 
+/// The most bytes of a synchronization point's label, which has at least one; else Register Federation Synchronization Point
+/// is refused with `LimitReached`.
+pub const MAX_POINT_LABEL: usize = 64;
+
+/// The most synchronization points that are open at once; a further one is refused with `LimitReached`.
+pub const MAX_OPEN_POINTS: usize = 64;
+
 /// The most bytes of a value; a longer one is refused with `LimitReached`.
 pub const MAX_VALUE: usize = 1_024;
 

@@ -117,6 +117,48 @@ pub trait FederateAmbassador: Drop {
         requires { room self.old ≡ true }
         ensures heard { heard self.new ≡ heard self.old ++ callback.RequestRetraction event ∷ [] }
         ensures tag { tag self.new ≡ tag self.old };
+
+    /// Synchronization Point Registration Succeeded (HLA 1.3, federation management): the federate has registered the synchronization point of this
+    /// label.
+    /// `FederateFault` where it fails in it.
+    fn synchronization_point_registration_succeeded(
+        &mut self,
+        label: SharedList<u8>,
+    ) -> Result<(), FederateFault>
+        requires { room self.old ≡ true }
+        ensures heard { heard self.new
+            ≡ heard self.old ++ callback.SynchronizationPointRegistrationSucceeded label ∷ [] }
+        ensures tag { tag self.new ≡ tag self.old };
+
+    /// Synchronization Point Registration Failed (HLA 1.3, federation management): a synchronization point of this label was open when the federate
+    /// would have registered it.
+    /// `FederateFault` where it fails in it.
+    fn synchronization_point_registration_failed(
+        &mut self,
+        label: SharedList<u8>,
+    ) -> Result<(), FederateFault>
+        requires { room self.old ≡ true }
+        ensures heard { heard self.new
+            ≡ heard self.old ++ callback.SynchronizationPointRegistrationFailed label ∷ [] }
+        ensures tag { tag self.new ≡ tag self.old };
+
+    /// Announce Synchronization Point (HLA 1.3, federation management): the synchronization point of this label is open, and the federate may
+    /// achieve it.
+    /// `FederateFault` where it fails in it.
+    fn announce_synchronization_point(&mut self, label: SharedList<u8>) -> Result<(), FederateFault>
+        requires { room self.old ≡ true }
+        ensures heard { heard self.new
+            ≡ heard self.old ++ callback.AnnounceSynchronizationPoint label ∷ [] }
+        ensures tag { tag self.new ≡ tag self.old };
+
+    /// Federation Synchronized (HLA 1.3, federation management): each joined federate has achieved the synchronization point of this label, which
+    /// is closed.
+    /// `FederateFault` where it fails in it.
+    fn federation_synchronized(&mut self, label: SharedList<u8>) -> Result<(), FederateFault>
+        requires { room self.old ≡ true }
+        ensures heard { heard self.new
+            ≡ heard self.old ++ callback.FederationSynchronized label ∷ [] }
+        ensures tag { tag self.new ≡ tag self.old };
 }
 
 /// A box may stand for the ambassador in it.
@@ -183,5 +225,30 @@ impl FederateAmbassador for Box<dyn FederateAmbassador + Send> {
 
     fn request_retraction(&mut self, event: EventHandle) -> Result<(), FederateFault> {
         (**self).request_retraction(event)
+    }
+
+    fn synchronization_point_registration_succeeded(
+        &mut self,
+        label: SharedList<u8>,
+    ) -> Result<(), FederateFault> {
+        (**self).synchronization_point_registration_succeeded(label)
+    }
+
+    fn synchronization_point_registration_failed(
+        &mut self,
+        label: SharedList<u8>,
+    ) -> Result<(), FederateFault> {
+        (**self).synchronization_point_registration_failed(label)
+    }
+
+    fn announce_synchronization_point(
+        &mut self,
+        label: SharedList<u8>,
+    ) -> Result<(), FederateFault> {
+        (**self).announce_synchronization_point(label)
+    }
+
+    fn federation_synchronized(&mut self, label: SharedList<u8>) -> Result<(), FederateFault> {
+        (**self).federation_synchronized(label)
     }
 }

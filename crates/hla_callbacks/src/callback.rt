@@ -61,6 +61,22 @@ pub enum Callback {
     RequestRetraction {
         event: EventHandle,
     },
+    /// Synchronization Point Registration Succeeded.
+    SynchronizationPointRegistrationSucceeded {
+        label: SharedList<u8>,
+    },
+    /// Synchronization Point Registration Failed, of a point of that label that was open.
+    SynchronizationPointRegistrationFailed {
+        label: SharedList<u8>,
+    },
+    /// Announce Synchronization Point.
+    AnnounceSynchronizationPoint {
+        label: SharedList<u8>,
+    },
+    /// Federation Synchronized.
+    FederationSynchronized {
+        label: SharedList<u8>,
+    },
 }
 
 impl Plain for Delivery {

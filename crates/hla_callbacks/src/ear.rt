@@ -90,6 +90,14 @@ impl<B: FederateAmbassador> Ear<B> {
             Callback::TimeConstrainedEnabled { time } => to.time_constrained_enabled(time),
             Callback::TimeAdvanceGrant { time } => to.time_advance_grant(time),
             Callback::RequestRetraction { event } => to.request_retraction(event),
+            Callback::SynchronizationPointRegistrationSucceeded { label } =>
+                to.synchronization_point_registration_succeeded(label),
+            Callback::SynchronizationPointRegistrationFailed { label } =>
+                to.synchronization_point_registration_failed(label),
+            Callback::AnnounceSynchronizationPoint { label } => to.announce_synchronization_point(
+                label,
+            ),
+            Callback::FederationSynchronized { label } => to.federation_synchronized(label),
         }
     }
 }

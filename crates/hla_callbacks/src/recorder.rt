@@ -176,4 +176,29 @@ impl FederateAmbassador for Recorder {
     fn request_retraction(&mut self, event: EventHandle) -> Result<(), FederateFault> {
         self.hear(Callback::RequestRetraction { event })
     }
+
+    fn synchronization_point_registration_succeeded(
+        &mut self,
+        label: SharedList<u8>,
+    ) -> Result<(), FederateFault> {
+        self.hear(Callback::SynchronizationPointRegistrationSucceeded { label })
+    }
+
+    fn synchronization_point_registration_failed(
+        &mut self,
+        label: SharedList<u8>,
+    ) -> Result<(), FederateFault> {
+        self.hear(Callback::SynchronizationPointRegistrationFailed { label })
+    }
+
+    fn announce_synchronization_point(
+        &mut self,
+        label: SharedList<u8>,
+    ) -> Result<(), FederateFault> {
+        self.hear(Callback::AnnounceSynchronizationPoint { label })
+    }
+
+    fn federation_synchronized(&mut self, label: SharedList<u8>) -> Result<(), FederateFault> {
+        self.hear(Callback::FederationSynchronized { label })
+    }
 }

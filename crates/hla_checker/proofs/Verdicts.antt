@@ -14,3 +14,5 @@ pub mod Sends
 pub mod Deletions
 -- What tests of a change of an order tell
 pub mod Orderings
+-- What tests of a synchronization point tell
+pub mod Points

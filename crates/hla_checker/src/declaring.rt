@@ -65,6 +65,8 @@ pub(crate) fn declaration_of(service: &Service) -> Option<ClassDeclaration>
         | Service::DeleteObjectInstance { .. }
         | Service::ChangeAttributeOrderType { .. }
         | Service::ChangeInteractionOrderType { .. }
+        | Service::RegisterFederationSynchronizationPoint { .. }
+        | Service::SynchronizationPointAchieved { .. }
         | Service::Retract { .. }
         | Service::EnableTimeRegulation { .. }
         | Service::DisableTimeRegulation

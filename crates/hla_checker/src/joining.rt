@@ -8,12 +8,13 @@ ghost use Rattle.hla_machine.specs.declared.step.Step.TheVariants as steps;
 ghost use Rattle.hla_verdicts.specs.Kept.{IsConsistent, JudgedStep, central_of};
 
 use crate::kept::KeptExecution;
+use hla_accounts::Notices;
 use hla_base::{Fault, List, Plain};
 use hla_machine::{Choice, Outcome};
 use hla_verdicts::{Verdict, is_nothing, is_number};
 
 impl KeptExecution {
-    /// A federate joins under a name. `OutOfMemory` where a growth was refused.
+    /// A federate joins under a name, and is to be told of each open synchronization point. `OutOfMemory` where a growth was refused.
     fn admit(&mut self, name: &List<u8>) -> Result<(), Fault>
         requires consistent { IsConsistent self.old }
         requires room { length self.old.accounts < max_joins }
@@ -23,7 +24,9 @@ impl KeptExecution {
     {
         let own = name.copy()?;
         self.declarations.admit()?;
-        self.accounts.join(own, self.alloc)?;
+        let notices = self.points.announcements(self.alloc)?;
+        self.accounts
+            .join(own, Notices::from_vec(notices), self.alloc)?;
         Ok(())
     }
 

@@ -140,6 +140,10 @@ impl KeptExecution {
             }
             Service::ChangeAttributeOrderType { .. } | Service::ChangeInteractionOrderType { .. } =>
                 { self.judge_order_change(federate, service, outcome, choice) }
+            Service::RegisterFederationSynchronizationPoint { .. }
+            | Service::SynchronizationPointAchieved { .. } => {
+                self.judge_point_call(federate, service, outcome, choice)
+            }
             Service::Retract { .. }
             | Service::EnableTimeRegulation { .. }
             | Service::DisableTimeConstrained => {
@@ -237,6 +241,7 @@ impl KeptExecution {
             Step::Tick { federate } => {
                 let verdict = judge_tick(
                     &mut self.accounts,
+                    &mut self.points,
                     &self.registry,
                     *federate,
                     outcome,

@@ -12,6 +12,7 @@ use hla_accounts::Accounts;
 use hla_catalogue::Catalogue;
 use hla_declaration::Declarations;
 use hla_object_registry::Registry;
+use hla_synchronization::OpenPoints;
 use std::alloc::Global;
 use std::marker::Model;
 
@@ -24,6 +25,7 @@ pub(crate) struct KeptExecution {
     pub(crate) declarations: Declarations,
     pub(crate) registry: Registry,
     pub(crate) accounts: Accounts,
+    pub(crate) points: OpenPoints,
 }
 
 impl Model for KeptExecution {
@@ -31,7 +33,7 @@ impl Model for KeptExecution {
 
     ghost Value = { KeptValue };
 
-    ghost view = { λ k. record { catalogue = k.catalogue; declarations = k.declarations; objects = k.registry; accounts = k.accounts } };
+    ghost view = { λ k. record { catalogue = k.catalogue; declarations = k.declarations; objects = k.registry; accounts = k.accounts; points = k.points } };
 }
 
 /// Whether any federate is joined.
@@ -62,6 +64,7 @@ impl KeptExecution {
             declarations: Declarations::new(alloc, object_classes, interaction_classes),
             registry: Registry::new(alloc),
             accounts: Accounts::new(alloc),
+            points: OpenPoints::new(),
         }
     }
 

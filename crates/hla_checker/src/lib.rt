@@ -19,6 +19,7 @@ mod resigning;
 mod sending;
 mod sending_faults;
 mod subscribing;
+mod synchronizing;
 mod table;
 mod updating;
 mod values;

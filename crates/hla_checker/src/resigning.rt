@@ -19,16 +19,20 @@ use hla_machine::{Choice, Outcome, ResignAction};
 use hla_verdicts::{Verdict, answer_to_test, is_done};
 
 impl KeptExecution {
-    /// A joined federate leaves: what is for it goes, with its objects and declarations, and what it sent stays.
-    fn remove_member(&mut self, federate: FederateNo)
+    /// A joined federate leaves: what is for it goes, with its objects and declarations, and what it sent stays. Synchronization
+    /// points close that only it had not achieved. `OutOfMemory` where a growth was refused.
+    fn remove_member(&mut self, federate: FederateNo) -> Result<(), Fault>
         requires consistent { IsConsistent self.old }
         requires joined { (account_at self.old.accounts federate).is_joined ≡ true }
-        ensures left { central_of self.new ≡ after_leaving (central_of self.old) federate }
-        ensures consistent { IsConsistent self.new }
+        ensures left { OnOk result (central_of self.new ≡ after_leaving (central_of self.old) federate) }
+        ensures consistent { OnOk result (IsConsistent self.new) }
+        ensures err { IfErr result (λ e. e ≡ Fault.OutOfMemory) }
     {
         self.registry.delete_owned_by(federate);
         self.declarations.withdraw(federate);
         self.accounts.leave(federate);
+        self.accounts.close_points(&mut self.points, self.alloc)?;
+        Ok(())
     }
 
     /// A joined federate sends that these objects are deleted, one after another. `OutOfMemory` where a growth was refused.
@@ -69,7 +73,7 @@ impl KeptExecution {
     {
         let objects = self.registry.objects_owned_by(self.alloc, federate)?;
         self.send_deletions(federate, objects.as_slice())?;
-        self.remove_member(federate);
+        self.remove_member(federate)?;
         Ok(())
     }
 

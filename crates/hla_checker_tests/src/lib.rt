@@ -11,6 +11,8 @@ mod orders;
 #[cfg(test)]
 mod picks;
 #[cfg(test)]
+mod points;
+#[cfg(test)]
 mod rows;
 #[cfg(test)]
 mod runs;

@@ -82,12 +82,19 @@ object_verb_of word =
     else if bytes_eq word (codes "objectName") then Some verb.ObjectName
     else None
 
+-- what a word says of synchronization points, if it is one of their words
+unfoldable pub point_verb_of : List ℕ → Option Verb
+point_verb_of word =
+    if bytes_eq word (codes "syncRegister") then Some verb.RegisterPoint
+    else if bytes_eq word (codes "syncAchieve") then Some verb.AchievePoint
+    else None
+
 -- what a word behind a federate's name says, if it is known
 unfoldable pub verb_of : List ℕ → Option Verb
 verb_of word =
     if bytes_eq word (codes "tick") then Some verb.Tick
     else if bytes_eq word (codes "resign") then Some verb.Resign
-    else option_or (option_or (object_verb_of word) (declaration_verb_of word)) (option_map verb.Time (time_verb_of word))
+    else option_or (option_or (option_or (object_verb_of word) (declaration_verb_of word)) (point_verb_of word)) (option_map verb.Time (time_verb_of word))
 
 -- the action of a resignation that a word names, if it names one
 unfoldable pub action_of : List ℕ → Option ResignAction

@@ -27,7 +27,7 @@ pub fn next_word<'a>(words: &mut Words<'a>) -> Result<&'a [u8], ScriptFaultKind>
     }
 }
 
-/// A name from the FED file. `MissingWord` where no word is left.
+/// A name, or a label. `MissingWord` where no word is left.
 pub fn name<'a>(words: &mut Words<'a>) -> Result<Word<'a>, ScriptFaultKind>
     ensures { Gives result words.new (name_in words.old) }
 {

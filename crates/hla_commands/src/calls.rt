@@ -176,6 +176,12 @@ fn call_by<'a>(
         Verb::Delete => delete(words),
         Verb::AttributeOrder => attribute_order(alloc, words),
         Verb::InteractionOrder => interaction_order(words),
+        Verb::RegisterPoint => Ok(Call::RegisterPoint {
+            label: name(words)?,
+        }),
+        Verb::AchievePoint => Ok(Call::AchievePoint {
+            label: name(words)?,
+        }),
         Verb::ObjectHandle => Ok(Call::ObjectHandle { name: name(words)? }),
         Verb::ObjectName => Ok(Call::ObjectName {
             object: number(words)?,

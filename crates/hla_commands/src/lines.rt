@@ -92,6 +92,14 @@ pub enum Call<'a> {
         class: Word<'a>,
         order: Order,
     },
+    /// Register Federation Synchronization Point, of a label of any length.
+    RegisterPoint {
+        label: Word<'a>,
+    },
+    /// Synchronization Point Achieved.
+    AchievePoint {
+        label: Word<'a>,
+    },
     /// Get Object Instance Handle.
     ObjectHandle {
         name: Word<'a>,

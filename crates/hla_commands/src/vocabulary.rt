@@ -2,7 +2,7 @@
 
 ghost use Rattle.std.specs.Prelude.{◌≡◌};
 ghost use Rattle.std.specs.Str.{bytes_eq};
-ghost use Rattle.hla_commands.specs.Vocabulary.{opening_of, declaration_verb_of, time_service_named, query_of, time_verb_of, object_verb_of, verb_of, action_of, order_named};
+ghost use Rattle.hla_commands.specs.Vocabulary.{opening_of, declaration_verb_of, time_service_named, query_of, time_verb_of, object_verb_of, point_verb_of, verb_of, action_of, order_named};
 
 use crate::lines::Declaration;
 use hla_base::AdvanceKind;
@@ -147,6 +147,8 @@ pub enum Verb {
     Delete,
     AttributeOrder,
     InteractionOrder,
+    RegisterPoint,
+    AchievePoint,
     ObjectHandle,
     ObjectName,
     Time(TimeVerb),
@@ -205,6 +207,20 @@ impl Verb {
         }
     }
 
+    /// What a word says of synchronization points, if it is one of their words.
+    #[tactic(auto, unfolding(crate::specs::Vocabulary::point_verb_of))]
+    fn point_verb(word: &[u8]) -> Option<Verb>
+        ensures { result ≡ point_verb_of word.now }
+    {
+        if is(word, b"syncRegister") {
+            Some(Verb::RegisterPoint)
+        } else if is(word, b"syncAchieve") {
+            Some(Verb::AchievePoint)
+        } else {
+            None
+        }
+    }
+
     /// What a word says, if it is known.
     #[tactic(auto, unfolding(crate::specs::Vocabulary::verb_of))]
     pub fn of(word: &[u8]) -> Option<Verb>
@@ -217,6 +233,7 @@ impl Verb {
         } else {
             Verb::object_verb(word)
                 .or_else(|| Verb::declaration_verb(word))
+                .or_else(|| Verb::point_verb(word))
                 .or_else(|| TimeVerb::of(word).map(Verb::Time))
         }
     }

@@ -4,3 +4,5 @@ pub mod Objects
 pub mod Time
 -- Roles that change, the floor, and retraction
 pub mod Roles
+-- Synchronization points
+pub mod Points

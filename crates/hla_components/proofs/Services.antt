@@ -1,3 +1,5 @@
+-- Synchronization points: registered, achieved and told
+pub mod Telling
 -- A federate joins
 pub mod Joins
 -- A federate resigns

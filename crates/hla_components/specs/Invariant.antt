@@ -13,7 +13,7 @@ use Rattle.hla_base.specs.Rows.{is_regulator, is_constrained, is_pending, RowNum
 use Rattle.hla_machine.specs.Directory.{Directory, served_object}
 use Rattle.hla_machine.specs.CentralInvariant.{CentralInv}
 use Rattle.hla_order_queues.specs.declared.control.Control.{Control}
-use Rattle.hla_order_queues.specs.declared.control.Control.TheVariants.{ToDiscover, ToRetract}
+use Rattle.hla_order_queues.specs.declared.control.Control.TheVariants.{ToDiscover, ToRetract, ToTell}
 use Rattle.hla_order_queues.specs.Queues.{is_before, occurrences}
 use Rattle.hla_null_message.specs.Wires.{events, discoveries}
 use Rattle.hla_retraction.specs.SentEvents.{SentEvent}
@@ -151,6 +151,7 @@ IsWaiting d wire f e = IsTold d e.sender f e.content × IsBehind e.content (disc
 abbrev pub IsControl : Directory → ℕ → Control → Type 0
 IsControl d f (ToDiscover from x) = IsKnownOf d from f x.object
 IsControl d f (ToRetract e) = Unit {0}
+IsControl d f (ToTell n) = Unit {0}
 
 -- discoveries come before what is said of their objects
 pub record ObjectInv (d : Directory) (wire : ℕ → ℕ → List Message) (tso ro : ℕ → List Event) (controls : ℕ → List Control) : Type 0 where

@@ -6,7 +6,7 @@ use Rattle.hla_lbts.specs.declared.row.PeerRow.{PeerRow}
 use Rattle.hla_lbts.specs.Peers.{peers_of}
 use Rattle.hla_null_message.specs.declared.message.Message.{Message}
 use Rattle.hla_null_message.specs.declared.message.Message.TheVariants as message
-use Rattle.hla_order_queues.specs.declared.control.Control.TheVariants.{ToDiscover, ToRetract}
+use Rattle.hla_order_queues.specs.declared.control.Control.TheVariants.{ToDiscover, ToRetract, ToTell}
 use Rattle.hla_order_queues.specs.Queues.{handles_of}
 use Rattle.hla_local.specs.LocalValue.{LocalValue}
 use Rattle.hla_local.specs.declared.picked.Picked.{Picked}
@@ -21,9 +21,11 @@ use Rattle.hla_machine.specs.declared.step.Carried.{Carried}
 use Rattle.hla_machine.specs.declared.step.Carried.TheVariants as carried
 use Rattle.hla_machine.specs.declared.step.Choice.{Choice}
 use Rattle.hla_machine.specs.declared.step.Choice.TheVariants as choice
+use Rattle.hla_machine.specs.Directory.{with_points}
+use Rattle.hla_synchronization.specs.Points.{Point, points_after_notice}
 use Rattle.hla_components.specs.Components.{Components}
 use Rattle.hla_components.specs.Invariant.{Inv}
-use Rattle.hla_components.specs.Next.{answer_outcome, chosen_outcome, carry_outcome, tick_outcome, carried_event, event_callback, delivery_of}
+use Rattle.hla_components.specs.Next.{answer_outcome, chosen_outcome, carry_outcome, tick_outcome, carried_event, event_callback, delivery_of, notice_callback}
 
 -- the component of f, with rows that say what it knows of its peers
 abbrev pub local_of : Components → ℕ → List PeerRow → LocalValue
@@ -54,6 +56,7 @@ abbrev pub callback_given : Picked → Option Callback
 callback_given picked.Nothing = None
 callback_given (picked.Control (ToDiscover from d)) = Some (callback.DiscoverObjectInstance d.object d.class d.name)
 callback_given (picked.Control (ToRetract e)) = Some (callback.RequestRetraction e)
+callback_given (picked.Control (ToTell n)) = Some (notice_callback n.kind n.label)
 callback_given (picked.Received e) = Some (event_callback (delivery_of e) e)
 callback_given (picked.Regulation t) = Some (callback.TimeRegulationEnabled t)
 callback_given (picked.Constraint t) = Some (callback.TimeConstrainedEnabled t)
@@ -65,10 +68,16 @@ abbrev pub choice_given : LocalValue → Pick → Choice
 choice_given l PickConstrains = choice.Moved (handles_of (filter (is_below l.row.time) l.tso))
 choice_given l p = choice.None
 
--- what a tick answers, chooses and changes is what the federate's component alone picks up
+-- and who was told of a synchronization point, where that is what was picked up
+abbrev pub points_given : ℕ → Picked → List Point → List Point
+points_given f (picked.Control (ToTell n)) points = points_after_notice f n points
+points_given f p points = points
+
+-- what a tick answers, chooses and changes is what the federate's component alone picks up, and that it was told of a point
 abbrev pub EachTickIsLocal : Type 0
 EachTickIsLocal = (s : Components) (f : ℕ) (peers : List PeerRow) → KnowsPeers s f peers → let l = local_of s f peers in
-    tick_outcome s f ≡ chosen_outcome (answer.Ticked (callback_given (picked_by l.row (local_pick l)))) (choice_given l (local_pick l)) (with_local s f (local_picking l (local_pick l)))
+    tick_outcome s f ≡ chosen_outcome (answer.Ticked (callback_given (picked_by l.row (local_pick l)))) (choice_given l (local_pick l))
+    (record (with_local s f (local_picking l (local_pick l))) { directory = with_points s.directory (points_given f (picked_by l.row (local_pick l)) s.directory.points) })
 
 -- ---- a message that comes
 -- what is said of one from g

@@ -7,6 +7,9 @@ use Rattle.hla_base.specs.declared.content.Content.TheVariants as content
 use Rattle.hla_base.specs.declared.content.Event.{Event}
 use Rattle.hla_base.specs.declared.content.Discovery.{Discovery}
 use Rattle.hla_base.specs.declared.number.EventHandle.{EventHandle}
+use Rattle.hla_base.specs.declared.notice.Notice.{Notice}
+use Rattle.hla_base.specs.declared.notice.NoticeKind.{NoticeKind}
+use Rattle.hla_base.specs.declared.notice.NoticeKind.TheVariants as notices
 use Rattle.hla_base.specs.declared.row.Role.TheVariants.{Disabled, Pending}
 use Rattle.hla_base.specs.declared.row.AdvanceKind.{AdvanceKind}
 use Rattle.hla_base.specs.declared.row.AdvanceKind.TheVariants as kind
@@ -19,6 +22,7 @@ use Rattle.hla_base.specs.Rows.{is_regulator, row_after_request, row_with_entry,
 use Rattle.hla_lbts.specs.Peers.{null_bound}
 use Rattle.hla_catalogue.specs.Lookup.{object_class_named, interaction_class_named, attribute_named, parameter_named}
 use Rattle.hla_retraction.specs.SentEvents.{SentEvent}
+use Rattle.hla_synchronization.specs.Points.{points_after_notice}
 use Rattle.hla_callbacks.specs.declared.callback.Callback.{Callback}
 use Rattle.hla_callbacks.specs.declared.callback.Callback.TheVariants as callback
 use Rattle.hla_callbacks.specs.declared.callback.Delivery.{Delivery}
@@ -37,12 +41,12 @@ use Rattle.hla_machine.specs.declared.step.Outcome.{Outcome}
 use Rattle.hla_machine.specs.declared.step.Outcome.TheVariants as outcome
 use Rattle.hla_machine.specs.declared.step.Choice.{Choice}
 use Rattle.hla_machine.specs.declared.step.Choice.TheVariants as choice
-use Rattle.hla_machine.specs.Directory.{Directory, Outgoing, name_or_default, objects_of, interaction_sent, update_sent, deletion_sent, deletions_sent, content_for, discoveries_of, with_discoveries_made, with_object_discovered, with_member, without_member, with_published, with_subscribed, with_published_interaction, with_subscribed_interaction, with_object, without_object, with_attribute_orders, with_interaction_order}
+use Rattle.hla_machine.specs.Directory.{Directory, Outgoing, name_or_default, objects_of, interaction_sent, update_sent, deletion_sent, deletions_sent, content_for, discoveries_of, with_discoveries_made, with_object_discovered, with_member, without_member, with_published, with_subscribed, with_published_interaction, with_subscribed_interaction, with_object, without_object, with_attribute_orders, with_interaction_order, with_points, with_point_registered, registration_notices, with_point_achieved, with_points_left, closing_notices, joining_notices}
 use Rattle.hla_machine.specs.Sends.{is_ordered, kept_stamp, sent_event, sent_handle, is_told}
 use Rattle.hla_machine.specs.Refusals.{Seen, refusal, is_known}
 use Rattle.hla_machine.specs.Machine.{is_removal}
 use Rattle.hla_order_queues.specs.declared.control.Control.{Control}
-use Rattle.hla_order_queues.specs.declared.control.Control.TheVariants.{ToDiscover, ToRetract}
+use Rattle.hla_order_queues.specs.declared.control.Control.TheVariants.{ToDiscover, ToRetract, ToTell}
 use Rattle.hla_order_queues.specs.Queues.{remove_event, handle_of, handles_of}
 use Rattle.hla_components.specs.Components.{Components}
 use Rattle.hla_components.specs.Component.{local_bound, promise, regulation_entry}
@@ -132,23 +136,33 @@ with_regulation_enabled s f lookahead e = record s {
 abbrev pub with_regulation_disabled : Components → ℕ → Components
 with_regulation_disabled s f = with_null_announced (with_row s f (record (s.row f) { regulating = Disabled })) f forever
 
+-- ---- synchronization points: what there is to be told of them waits with the controls, at once
+abbrev pub with_notices : Components → (ℕ → List Notice) → Components
+with_notices s more = record s { controls = λ g. s.controls g ++ map ToTell (more g) }
+
+abbrev pub with_point_opened : Components → ℕ → List ℕ → Components
+with_point_opened s f label = with_notices (with_directory s (with_point_registered s.directory label)) (registration_notices s.directory f label)
+
+abbrev pub with_complete_closed : Components → Components
+with_complete_closed s = with_notices (with_directory s (with_points_left s.directory)) (closing_notices s.directory)
+
 -- ---- joining and resigning
--- a federate that joins takes over what each peer announced last
+-- a federate that joins takes over what each peer announced last, and is to be told of each open point
 abbrev pub with_federate_joined : Components → List ℕ → Components
-with_federate_joined s name = let n = s.directory.next_federate in record s {
+with_federate_joined s name = let n = s.directory.next_federate in with_notices (record s {
   directory = with_member s.directory name;
   row = upd s.row n new_row;
   wire = upd_new s.wire n (λ _. []) (λ _. []);
   bound = upd_new s.bound n s.last_announced (λ _. forever);
   known_epoch = upd_new s.known_epoch n s.epoch (λ _. s.epoch n);
-}
+}) (joining_notices s.directory)
 
 abbrev pub with_last_null : Components → ℕ → List Message → List Message
 with_last_null s f ms = cond (is_regulator (s.row f)) (put_behind (message.Null (s.epoch f) forever) ms) ms
 
--- a regulator that leaves announces FOREVER; what lies on wires to it is dropped
+-- a regulator that leaves announces FOREVER; what lies on wires to it is dropped, and points that only it had not achieved close
 abbrev pub with_federate_gone : Components → ℕ → Components
-with_federate_gone s f = record s {
+with_federate_gone s f = with_complete_closed (record s {
   directory = without_member s.directory f;
   row = upd s.row f new_row;
   last_announced = upd s.last_announced f forever;
@@ -156,7 +170,7 @@ with_federate_gone s f = record s {
   ro = upd s.ro f [];
   controls = upd s.controls f [];
   wire = upd_whole_column (upd_row s.wire s.directory.joined f (λ _. with_last_null s f)) f [];
-}
+})
 
 abbrev pub with_federate_resigned : Components → ℕ → ResignAction → Components
 with_federate_resigned s f DeleteObjects = with_federate_gone (with_messages_sent s f None (deletions_sent (objects_of s.directory f))) f
@@ -208,6 +222,8 @@ call_outcome s f (service.DeleteObjectInstance object stamp) = done_outcome (wit
 call_outcome s f (service.ChangeAttributeOrderType object attributes order) = done_outcome (with_directory s (with_attribute_orders s.directory object attributes order))
 call_outcome s f (service.ChangeInteractionOrderType class order) = done_outcome (with_directory s (with_interaction_order s.directory f class order))
 call_outcome s f (service.Retract event) = done_outcome (with_event_retracted s f event.serial)
+call_outcome s f (service.RegisterFederationSynchronizationPoint label) = done_outcome (with_point_opened s f label)
+call_outcome s f (service.SynchronizationPointAchieved label) = done_outcome (with_complete_closed (with_directory s (with_point_achieved s.directory f label)))
 call_outcome s f (service.EnableTimeRegulation time lookahead) = let e = regulation_entry s f (time + lookahead) in chosen_outcome answer.Done (choice.Entry e) (with_regulation_enabled s f lookahead e)
 call_outcome s f service.DisableTimeRegulation = done_outcome (with_regulation_disabled s f)
 call_outcome s f service.EnableTimeConstrained = done_outcome (with_row s f (record (s.row f) { constrained = Pending }))
@@ -289,9 +305,17 @@ constrain_outcome s f = let early = filter (is_below (s.row f).time) (s.tso f) i
     chosen_outcome (answer.Ticked (Some (callback.TimeConstrainedEnabled (s.row f).time))) (choice.Moved (handles_of early))
     (record s { row = upd s.row f (row_after_constraint_enabled (s.row f)); tso = upd s.tso f (filter (λ e. not (is_below (s.row f).time e)) (s.tso f)); ro = upd s.ro f (s.ro f ++ early) })
 
+abbrev pub notice_callback : NoticeKind → List ℕ → Callback
+notice_callback notices.RegistrationSucceeded label = callback.SynchronizationPointRegistrationSucceeded label
+notice_callback notices.RegistrationFailed label = callback.SynchronizationPointRegistrationFailed label
+notice_callback notices.Announced label = callback.AnnounceSynchronizationPoint label
+notice_callback notices.Synchronized label = callback.FederationSynchronized label
+
 abbrev pub control_outcome : Components → ℕ → Control → List Control → Outcomes
 control_outcome s f (ToDiscover from d) rest = callback_outcome (callback.DiscoverObjectInstance d.object d.class d.name) (record s { controls = upd s.controls f rest })
 control_outcome s f (ToRetract e) rest = callback_outcome (callback.RequestRetraction e) (record s { controls = upd s.controls f rest })
+control_outcome s f (ToTell n) rest = callback_outcome (notice_callback n.kind n.label)
+    (record s { directory = with_points s.directory (points_after_notice f n s.directory.points); controls = upd s.controls f rest })
 
 abbrev pub pick_outcome : Components → ℕ → Pick → Outcomes
 pick_outcome s f NoPick = answer_outcome (answer.Ticked None) s

@@ -3,6 +3,7 @@
 ghost use Rattle.hla_components.specs.Examples.Objects.{Ancestor, AsynchronousDelivery, TwoOrdersAndATie, OrdersThatChange, Refusals, LateSubscriber, CreateAndDestroy};
 ghost use Rattle.hla_components.specs.Examples.Time.{StaleBound, Boundary, Creep, CreepAvailable, Flush, LargestTime, PickThenGrant, NewestNull};
 ghost use Rattle.hla_components.specs.Examples.Roles.{Newcomer, Epoch, Retraction, Floor, RegulatorResigns, CeasingToBeConstrained, BarAboveEntry};
+ghost use Rattle.hla_components.specs.Examples.Points.{Synchronization, SynchronizationWithResignation, PointsAndMembership, PointsThatOneLeavingCloses};
 
 /// Declarations, objects and receive order.
 pub fn objects()
@@ -36,4 +37,12 @@ pub fn roles()
     ensures regulator_resigns { RegulatorResigns }
     ensures ceasing_to_be_constrained { CeasingToBeConstrained }
     ensures bar_above_entry { BarAboveEntry }
+{}
+
+/// Synchronization points.
+pub fn points()
+    ensures synchronization { Synchronization }
+    ensures synchronization_with_resignation { SynchronizationWithResignation }
+    ensures points_and_membership { PointsAndMembership }
+    ensures points_that_one_leaving_closes { PointsThatOneLeavingCloses }
 {}

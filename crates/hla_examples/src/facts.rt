@@ -135,3 +135,28 @@ pub fn receipt(record: &Record, event: EventHandle) -> Result<Option<Callback>, 
         _ => Ok(None),
     }
 }
+
+/// The callback told as that all have reached the label that it announces.
+pub fn synchronized_of(callback: &Callback) -> Result<Option<Callback>, Fault> {
+    match callback {
+        Callback::AnnounceSynchronizationPoint { label } => {
+            Ok(Some(Callback::FederationSynchronized {
+                label: label.copy()?,
+            }))
+        }
+        _ => Ok(None),
+    }
+}
+
+/// Whether a federate said that it has reached a label.
+pub fn is_achievement(record: &Record) -> bool {
+    match &record.act {
+        Act::Step(
+            Step::Call {
+                service: Service::SynchronizationPointAchieved { .. },
+                ..
+            },
+        ) => true,
+        _ => false,
+    }
+}

@@ -1,8 +1,8 @@
 //! Records that are forged, one at a time: the checker tells each at its place. Each forgery is undone behind it.
 
 use crate::facts::{
-    asked_entry, given, granted, has_flushed, is_resignation, receipt, retracted, stamp_of,
-    ticking, with_stamp,
+    asked_entry, given, granted, has_flushed, is_achievement, is_resignation, receipt, retracted,
+    stamp_of, synchronized_of, ticking, with_stamp,
 };
 use hla_base::{EventHandle, Fault, Plain};
 use hla_callbacks::Callback;
@@ -159,10 +159,33 @@ fn second_resignation(records: &[Record], place: usize) -> Result<Option<Record>
     Ok(last)
 }
 
+/// The record of an announcement, which tells instead that all have reached its label.
+fn early_synchronized(record: &Record) -> Result<Option<Record>, Fault> {
+    let Some(callback) = given(record) else {
+        return Ok(None);
+    };
+    match synchronized_of(callback)? {
+        Some(early) => Ok(Some(giving(record, early)?)),
+        None => Ok(None),
+    }
+}
+
+/// The record of one who says that it has reached a label, done where it was refused, and refused where it was done.
+fn other_achievement(record: &Record) -> Result<Option<Record>, Fault> {
+    if !is_achievement(record) {
+        return Ok(None);
+    }
+    let other = match &record.outcome {
+        Outcome::Done(_) => Outcome::Refused(Fault::SynchronizationPointLabelWasNotAnnounced),
+        _ => Outcome::Done(Answer::Done),
+    };
+    Ok(Some(ending(record, other)?))
+}
+
 /// The forgeries of the record at a place, one of each kind that it has.
-fn forgeries(records: &[Record], place: usize) -> Result<[Option<Record>; 7], Fault> {
+fn forgeries(records: &[Record], place: usize) -> Result<[Option<Record>; 9], Fault> {
     let Some(record) = records.get(place) else {
-        return Ok([None, None, None, None, None, None, None]);
+        return Ok([None, None, None, None, None, None, None, None, None]);
     };
     Ok([
         other_outcome(record)?,
@@ -172,6 +195,8 @@ fn forgeries(records: &[Record], place: usize) -> Result<[Option<Record>; 7], Fa
         early_grant(records, place, record)?,
         retracted_pick(records, place)?,
         second_resignation(records, place)?,
+        early_synchronized(record)?,
+        other_achievement(record)?,
     ])
 }
 

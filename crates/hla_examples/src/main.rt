@@ -1,7 +1,7 @@
 //! Plays each example and says whether its transcript is the expected one, and whether the checker of recorded runs takes its
 //! records and tells each that is forged, at its place: another outcome, a choice where nothing is chosen, an entry too low, another
-//! stamp, a grant too early by one, a retracted interaction, a record of a federate that has resigned, two records exchanged, one
-//! left out. Each is played behind the lock, too, line by line, with the same transcript; some run with a thread for each federate,
+//! stamp, a grant too early by one, a retracted interaction, a record of a federate that has resigned, synchronized told for an
+//! announcement, a label reached that may not be or not reached that may, two records exchanged, one left out. Each is played behind the lock, too, line by line, with the same transcript; some run with a thread for each federate,
 //! and end with records that the checker takes. And to some is done what nobody wants: they stop behind each of their lines, or
 //! their history is full, or their ambassadors give trouble, or their text is cut off.
 //!
@@ -45,7 +45,7 @@ use std::thread::Threads;
 use std::{env, fs, io};
 
 /// The examples, by name.
-const NAMES: [&str; 31] = [
+const NAMES: [&str; 36] = [
     "ancestor",
     "late_subscriber",
     "refusals",
@@ -77,11 +77,16 @@ const NAMES: [&str; 31] = [
     "interaction_order",
     "orders_stay_and_end",
     "orders_of_attributes",
+    "synchronization",
+    "synchronization_and_resigning",
+    "points_and_membership",
+    "points_that_close_together",
+    "starting_together",
 ];
 
 /// Those that run on threads, too. A tick that no callback answers there is repeated a thousand times, with what its federate has
 /// all announce and carries; in these few ticks are.
-const ON_THREADS: [&str; 7] = [
+const ON_THREADS: [&str; 8] = [
     "ancestor",
     "refusals",
     "lockstep",
@@ -89,6 +94,7 @@ const ON_THREADS: [&str; 7] = [
     "floor",
     "largest_time",
     "newcomer",
+    "starting_together",
 ];
 
 /// The status where an example differs from what is expected, or could not be read, or a script was stopped.

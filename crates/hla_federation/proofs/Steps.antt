@@ -40,6 +40,8 @@ pub mod Subscribing
 pub mod NewObjects
 -- The state after an object was registered
 pub mod Registering
+-- The state after federates are to be told of synchronization points, and after points opened or closed
+pub mod Notifying
 -- Resigning
 pub mod Resigning
 -- Each step of the code is a step of the machine

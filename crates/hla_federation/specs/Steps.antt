@@ -10,5 +10,7 @@ pub mod Discovering
 pub mod State
 -- Which steps may be refused for want of memory
 pub mod Memory
+-- Who was told of synchronization points
+pub mod Synchronizing
 -- What a federation keeps, and lists of steps
 pub mod Soundness

@@ -1,12 +1,30 @@
 //! Messages that arrive, and what a federate picks up.
 
+ghost use Rattle.std.specs.Prelude.{◌≡◌, ◌<◌, ◌≤◌};
+ghost use Rattle.hla_base.specs.Limits.{max_joins};
+ghost use Rattle.hla_synchronization.specs.OpenPoints.{points_of};
 ghost use Rattle.hla_machine.specs.declared.step.Step.TheVariants as step;
 ghost use Rattle.hla_federation.specs.Steps.Soundness.{IsSound};
 ghost use Rattle.hla_federation.specs.Steps.State.{IsWhole, Ends, EndsChosen};
+ghost use Rattle.hla_federation.specs.Steps.Synchronizing.{points_told};
 
 use crate::parts::Parts;
 use hla_base::{Fault, FederateNo};
+use hla_callbacks::Callback;
 use hla_machine::Answer;
+use hla_synchronization::OpenPoints;
+
+/// A federate that is given this callback was told of the synchronization point that it announces, if it announces one. It
+/// takes no memory.
+fn note_told(points: &mut OpenPoints, federate: FederateNo, callback: &Option<Callback>)
+    requires some { 0 < federate }
+    requires within { federate ≤ max_joins }
+    ensures { points_of points.new ≡ points_told federate callback.now (points_of points.old) }
+{
+    if let Some(Callback::AnnounceSynchronizationPoint { label }) = callback {
+        points.announce(federate, label.as_slice());
+    }
+}
 
 impl Parts {
     /// The first message on a wire comes to its receiver. Refused, it changes nothing: `FederateNotExecutionMember` where
@@ -36,6 +54,7 @@ impl Parts {
             return Err(fault);
         }
         let callback = self.members.pick_up(federate)?;
+        note_told(&mut self.points, federate, &callback);
         Ok(Answer::Ticked(callback))
     }
 }

@@ -78,6 +78,12 @@ impl Parts {
             Service::ChangeInteractionOrderType { class, order } => {
                 self.change_interaction_order_type(federate, *class, *order)
             }
+            Service::RegisterFederationSynchronizationPoint { label } => {
+                self.register_federation_synchronization_point(federate, label.as_slice())
+            }
+            Service::SynchronizationPointAchieved { label } => {
+                self.synchronization_point_achieved(federate, label.as_slice())
+            }
             Service::QueryLbts
             | Service::QueryFederateTime
             | Service::QueryMinNextEventTime

@@ -92,8 +92,8 @@ impl Federation {
     }
 
     /// How the next step would end and what it would choose, if it were this one. Nothing changes. `OutOfMemory` where a
-    /// growth was refused: it happens to no step but those that take memory themselves, and a tick that would give a message
-    /// or a discovery, of which the answer has a copy.
+    /// growth was refused: it happens to no step but those that take memory themselves, and a tick that would give a message,
+    /// a discovery or a notice, of which the answer has a copy.
     pub fn foresee(&self, step: &Step) -> Result<Foreseen, Fault>
         ensures outcome { IfOk result (λ x. x.outcome ≡ (next (state_of self.now) step.now).outcome) }
         ensures choice { IfOk result (λ x. x.choice ≡ (next (state_of self.now) step.now).choice) }

@@ -139,6 +139,12 @@ impl Parts {
             Service::ChangeInteractionOrderType { class, .. } => {
                 self.interaction_order_fault(federate, *class)
             }
+            Service::RegisterFederationSynchronizationPoint { label } => {
+                self.register_point_fault(federate, label.as_slice())
+            }
+            Service::SynchronizationPointAchieved { label } => {
+                self.achieve_fault(federate, label.as_slice())
+            }
             Service::GetObjectInstanceName { object } => self.object_name_fault(federate, *object),
             Service::QueryLbts
             | Service::QueryFederateTime
@@ -336,8 +342,8 @@ impl Parts {
     }
 
     /// How a step would end, and what it would choose; nothing changes. `OutOfMemory` where a growth was refused: it
-    /// happens to no step but those that take memory themselves, and a tick that would give a message or a discovery, of
-    /// which the answer has a copy.
+    /// happens to no step but those that take memory themselves, and a tick that would give a message, a discovery or a
+    /// notice, of which the answer has a copy.
     pub fn foresee(&self, step: &Step) -> Result<Foreseen, Fault>
         requires { IsSound self.now }
         ensures outcome { IfOk result (λ x. x.outcome ≡ (next (state_of self.now) step.now).outcome) }

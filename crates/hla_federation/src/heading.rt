@@ -7,10 +7,11 @@ ghost use Rattle.hla_machine.specs.Directory.{is_of_order};
 ghost use Rattle.hla_base.specs.declared.fault.Fault.TheVariants.{OutOfMemory};
 ghost use Rattle.hla_federation.specs.Steps.Sending.{said_under, handle_under, note_under};
 
-use hla_base::{Content, Event, EventHandle, Fault, FederateNo, Serial, SharedEvent, Ticks};
+use hla_base::{
+    Content, Event, EventHandle, Fault, FederateNo, FederateSet, Serial, SharedEvent, Ticks,
+};
 use hla_catalogue::Order;
 use hla_members::Note;
-use hla_retraction::Receivers;
 use std::alloc::Global;
 
 /// Whether messages of this order go in time-stamp order, where their sender gives a stamp and regulates.
@@ -56,7 +57,7 @@ impl Heading {
     }
 
     /// What is to be noted of an update or an interaction that goes to these: nothing if it goes in receive order.
-    pub fn note(self, receivers: Receivers) -> Option<Note>
+    pub fn note(self, receivers: FederateSet) -> Option<Note>
         ensures { result ≡ note_under self receivers }
     {
         self.stamp.map(|stamp| Note {
@@ -66,7 +67,7 @@ impl Heading {
         })
     }
     /// What is to be noted of a part of an update that goes to these: nothing if the part makes no message.
-    pub fn note_part(self, told: Option<Receivers>) -> Option<Note>
+    pub fn note_part(self, told: Option<FederateSet>) -> Option<Note>
         ensures { result ≡ option_and_then (λ receivers. note_under self receivers) told }
     {
         told.and_then(|receivers| self.note(receivers))

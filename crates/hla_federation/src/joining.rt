@@ -1,10 +1,13 @@
 //! Joining and resigning.
 
 ghost use Rattle.hla_base.specs.Limits.{max_joins, largest_number};
-ghost use Rattle.std.specs.Prelude.{◌≡◌, ◌+◌, ◌<◌, ◌≤◌, ◌++◌, ℕ, [], length, None, OnOk, IfOk, IfErr};
+ghost use Rattle.std.specs.Prelude.{◌≡◌, ◌+◌, ◌<◌, ◌≤◌, ◌++◌, ℕ, [], length, map, None, OnOk, IfOk, IfErr};
 ghost use Rattle.hla_base.specs.declared.fault.Fault.TheVariants.{OutOfMemory};
 ghost use Rattle.hla_lbts.specs.Peers.{peers_of};
 ghost use Rattle.hla_local.specs.LocalValue.{new_local};
+ghost use Rattle.hla_local.specs.Telling.{local_told};
+ghost use Rattle.hla_synchronization.specs.Points.{announcement_of};
+ghost use Rattle.hla_synchronization.specs.OpenPoints.{points_of};
 ghost use Rattle.hla_members.specs.MemberValue.{item};
 ghost use Rattle.hla_members.specs.Members.{members_of, new_member, AreQuiet};
 ghost use Rattle.hla_retraction.specs.SentEvents.{no_event};
@@ -24,14 +27,16 @@ use hla_machine::{Answer, ResignAction};
 use hla_members::{Member, Outbox};
 
 impl Parts {
-    /// A federate of this name that has just joined and knows what each other one announced last.
+    /// A federate of this name that has just joined, knows what each other one announced last, and is to be told of each
+    /// synchronization point that is open.
     fn newcomer(&self, name: &[u8]) -> Result<Member, Fault>
         requires few { (members_of self.now.members).next_federate ≤ max_joins }
         ensures new { IfOk result (λ m. m.shown ≡ record (new_member name.now [] m.shown.incoming) {
           local = m.shown.local;
           sent = m.shown.sent;
         }) }
-        ensures local { IfOk result (λ m. m.shown.local ≡ new_local m.shown.local.peers) }
+        ensures local { IfOk result (λ m. m.shown.local ≡ local_told
+            (map announcement_of (points_of self.now.points)) (new_local m.shown.local.peers)) }
         ensures peers { IfOk result (λ m. peers_of m.shown.local.peers ≡ record {
           bound = λ g. ((members_of self.now.members).local g).last_announced;
           known_epoch = λ g. ((members_of self.now.members).local g).epoch;
@@ -43,6 +48,8 @@ impl Parts {
         let name = name_copy(self.alloc, name)?;
         let mut member = Member::new(self.alloc, name)?;
         self.members.introduce(&mut member);
+        let announcements = self.points.announcements(self.alloc)?;
+        member.tell(announcements.as_slice())?;
         Ok(member)
     }
 
@@ -128,7 +135,8 @@ impl Parts {
         Ok(outbox)
     }
 
-    /// Resign Federation Execution. Refused, it changes nothing: by `DeleteObjects` `LimitReached` where the deletions need
+    /// Resign Federation Execution. Synchronization points close that all the others have achieved, and these are to be told
+    /// so. Refused, it changes nothing: by `DeleteObjects` `LimitReached` where the deletions need
     /// more serials than are left; by `NoAction` `FederateOwnsAttributes` while the federate has objects; by the other
     /// actions `InvalidResignAction`; else `OutOfMemory` where a growth was refused.
     pub fn resign(&mut self, federate: FederateNo, action: ResignAction) -> Result<Answer, Fault>
@@ -139,15 +147,19 @@ impl Parts {
         if let Some(fault) = self.resign_fault(federate, action) {
             return Err(fault);
         }
+        let others = self.members.joined_but(federate);
+        let closings = self.points.closings(self.alloc, others)?;
         let serial = self.members.next_serial(federate);
         let objects = self.registry.objects_owned_by(self.alloc, federate)?;
         let count = objects.len() as u64;
         let parting = self.parting(federate, serial, objects.as_slice());
         drop(objects);
-        self.members.send_all(federate, parting?, count, None)?;
+        self.members
+            .send_and_tell_all(federate, parting?, count, closings.as_slice())?;
         self.registry.delete_owned_by(federate);
         self.declarations.withdraw(federate);
         self.members.resign(federate);
+        self.points.close(others);
         Ok(Answer::Done)
     }
 }

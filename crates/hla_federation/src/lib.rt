@@ -22,6 +22,7 @@ mod registering;
 mod regulating;
 mod retracting;
 mod sending;
+mod synchronizing;
 
 pub use federation::Federation;
 pub use foreseeing::Foreseen;

@@ -19,7 +19,8 @@ use crate::heading::is_timestamp;
 use crate::parts::Parts;
 use hla_base::{
     AttributeNo, ClassNo, EventHandle, Fault, FederateNo, HandleValuePair, List, MAX_FEDERATE_NAME,
-    MAX_JOINS, MAX_NAME, MAX_OBJECTS, MAX_SERIAL, MAX_TIME, ObjectNo, ParameterNo, Ticks,
+    MAX_JOINS, MAX_NAME, MAX_OBJECTS, MAX_POINT_LABEL, MAX_SERIAL, MAX_TIME, ObjectNo, ParameterNo,
+    Ticks,
 };
 use hla_catalogue::Order;
 use hla_machine::ResignAction;
@@ -544,6 +545,36 @@ impl Parts {
             None
         } else {
             Some(Fault::InvalidRetractionHandle)
+        }
+    }
+
+    /// Why a federate may not register a synchronization point of this label, if it may not.
+    pub fn register_point_fault(&self, federate: FederateNo, label: &[u8]) -> Option<Fault>
+        requires { MayCall self.now federate }
+        ensures { result ≡ refusal (components_seen (state_of self.now)) (step.Call federate
+            (service.RegisterFederationSynchronizationPoint label.now)) }
+    {
+        let _caller = federate;
+        if !fits_name(label, MAX_POINT_LABEL)
+            || (!self.points.is_open(label) && self.points.is_full())
+        {
+            Some(Fault::LimitReached)
+        } else {
+            None
+        }
+    }
+
+    /// Why a federate may not achieve the synchronization point of this label, if it may not: it was not told of it, has
+    /// achieved it, or none is open.
+    pub fn achieve_fault(&self, federate: FederateNo, label: &[u8]) -> Option<Fault>
+        requires { MayCall self.now federate }
+        ensures { result ≡ refusal (components_seen (state_of self.now)) (step.Call federate
+            (service.SynchronizationPointAchieved label.now)) }
+    {
+        if self.points.may_achieve(federate, label) {
+            None
+        } else {
+            Some(Fault::SynchronizationPointLabelWasNotAnnounced)
         }
     }
 

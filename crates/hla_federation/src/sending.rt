@@ -8,7 +8,7 @@ ghost use Rattle.hla_base.specs.Tables.{is_other, one_if};
 ghost use Rattle.std.specs.List.{list_all};
 ghost use Rattle.hla_catalogue.specs.Lookup.{contains_number, has_parameter};
 ghost use Rattle.hla_catalogue.specs.declared.declared.Order.TheVariants.{Receive};
-ghost use Rattle.hla_retraction.specs.Receivers.{receiver_set};
+ghost use Rattle.hla_base.specs.FederateSets.{federate_set};
 ghost use Rattle.hla_machine.specs.Directory.{AnInteraction, AnUpdate, ADeletion, is_receiver, values_of_order, part_sent, is_of_order, order_of_attribute};
 ghost use Rattle.hla_machine.specs.declared.service.Service.TheVariants as service;
 ghost use Rattle.hla_machine.specs.declared.step.Step.TheVariants as step;
@@ -21,14 +21,13 @@ use crate::heading::{Heading, is_timestamp};
 use crate::pairs::shared_by_handle;
 use crate::parts::Parts;
 use hla_base::{
-    ClassNo, Content, EventHandle, Fault, FederateNo, HandleValuePair, List, MAX_JOINS, ObjectNo,
-    Plain, Serial, SharedEvent, SharedList, Ticks,
+    ClassNo, Content, EventHandle, Fault, FederateNo, FederateSet, HandleValuePair, List,
+    MAX_JOINS, ObjectNo, Plain, Serial, SharedEvent, SharedList, Ticks,
 };
 use hla_catalogue::Order;
 use hla_machine::Answer;
 use hla_members::{Note, Outbox};
 use hla_null_message::Message;
-use hla_retraction::Receivers;
 
 /// How many messages an update makes at most: two to each federate that may join, one of either order.
 const UPDATE_ROOM: usize = 2 * MAX_JOINS;
@@ -215,15 +214,15 @@ impl Parts {
         heading: Heading,
         class: ClassNo,
         values: &SharedList<HandleValuePair>,
-    ) -> Result<Receivers, Fault>
+    ) -> Result<FederateSet, Fault>
         requires { IsWhole self.now }
-        ensures receivers { IfOk result (λ rs. receiver_set rs ≡ is_receiver (state_of self.now).directory
+        ensures receivers { IfOk result (λ rs. federate_set rs ≡ is_receiver (state_of self.now).directory
             heading.sender (AnInteraction class values.now)) }
         ensures ok { OnOk result (HasAdded (message_to (state_of self.now).directory heading
             (AnInteraction class values.now)) outbox.old outbox.new) }
         ensures err { IfErr result (λ e. e ≡ Fault.OutOfMemory) }
     {
-        let mut told = Receivers::new();
+        let mut told = FederateSet::new();
         let receivers = self
             .declarations
             .receivers_of_interaction_class(self.alloc, &self.catalogue, heading.sender, class)?;
@@ -243,15 +242,15 @@ impl Parts {
         heading: Heading,
         object: ObjectNo,
         values: &SharedList<HandleValuePair>,
-    ) -> Result<Receivers, Fault>
+    ) -> Result<FederateSet, Fault>
         requires { IsWhole self.now }
-        ensures receivers { IfOk result (λ rs. receiver_set rs ≡ is_receiver (state_of self.now).directory
+        ensures receivers { IfOk result (λ rs. federate_set rs ≡ is_receiver (state_of self.now).directory
             heading.sender (AnUpdate object values.now)) }
         ensures ok { OnOk result (HasAdded (message_to (state_of self.now).directory heading
             (AnUpdate object values.now)) outbox.old outbox.new) }
         ensures err { IfErr result (λ e. e ≡ Fault.OutOfMemory) }
     {
-        let mut told = Receivers::new();
+        let mut told = FederateSet::new();
         let class = self.registry.class_of(object);
         let receivers = self
             .declarations
@@ -316,11 +315,11 @@ impl Parts {
         heading: Heading,
         object: ObjectNo,
         values: &SharedList<HandleValuePair>,
-    ) -> Result<Option<Receivers>, Fault>
+    ) -> Result<Option<FederateSet>, Fault>
         requires { IsWhole self.now }
         ensures count { IfOk result
             (λ told. one_if (is_some told) ≡ length (part_sent Receive object values.now)) }
-        ensures receivers { IfOk result (λ told. IfSome told (λ rs. receiver_set rs ≡ is_receiver
+        ensures receivers { IfOk result (λ told. IfSome told (λ rs. federate_set rs ≡ is_receiver
             (state_of self.now).directory heading.sender (AnUpdate object values.now))) }
         ensures ok { OnOk result (HasAdded (part_to (state_of self.now).directory heading object values.now)
             outbox.old outbox.new) }
@@ -342,11 +341,11 @@ impl Parts {
         object: ObjectNo,
         order: Order,
         values: &SharedList<HandleValuePair>,
-    ) -> Result<Option<Receivers>, Fault>
+    ) -> Result<Option<FederateSet>, Fault>
         requires { IsWhole self.now }
         ensures count { IfOk result (λ told. one_if (is_some told) ≡ length (part_sent Receive object
             (values_of_order (state_of self.now).directory object order values.now))) }
-        ensures receivers { IfOk result (λ told. IfSome told (λ rs. receiver_set rs ≡ is_receiver
+        ensures receivers { IfOk result (λ told. IfSome told (λ rs. federate_set rs ≡ is_receiver
             (state_of self.now).directory heading.sender (AnUpdate object
             (values_of_order (state_of self.now).directory object order values.now)))) }
         ensures ok { OnOk result (HasAdded (part_to (state_of self.now).directory heading object

@@ -6,3 +6,5 @@ pub mod Picking
 pub mod Arriving
 -- What it promises, and where a newcomer among the regulators may enter
 pub mod Promising
+-- What it is to be told of synchronization points
+pub mod Telling

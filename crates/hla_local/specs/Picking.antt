@@ -14,7 +14,7 @@ use Rattle.hla_local.specs.declared.picked.NextPick.TheVariants as next
 use Rattle.hla_local.specs.declared.picked.Picked.{Picked}
 use Rattle.hla_local.specs.declared.picked.Picked.TheVariants as picked
 use Rattle.hla_order_queues.specs.declared.control.Control.{Control}
-use Rattle.hla_order_queues.specs.declared.control.Control.TheVariants.{ToDiscover}
+use Rattle.hla_order_queues.specs.declared.control.Control.TheVariants.{ToDiscover, ToTell}
 use Rattle.hla_order_queues.specs.Queues.{first_stamp}
 
 -- ---- what a tick picks up: the first that there is
@@ -84,9 +84,10 @@ picked_by r PickConstrains = picked.Constraint r.time
 picked_by r (PickTso q e rest) = picked.Ordered e
 picked_by r (PickGrant q t) = picked.Grant t
 
--- does a copy of it take memory: that of a message or a discovery does
+-- may a copy of it be refused: that of a message or a discovery takes memory, and that of a notice one more share of its label
 abbrev pub copies_content : Picked → Bool
 copies_content (picked.Control (ToDiscover from d)) = true
+copies_content (picked.Control (ToTell n)) = true
 copies_content (picked.Received e) = true
 copies_content (picked.Ordered e) = true
 copies_content p = false

@@ -15,7 +15,8 @@ use hla_base::{AdvanceRequest, Event, EventHandle, Fault, Plain, Ticks};
 use hla_order_queues::Control;
 use std::alloc::Global;
 
-/// A copy of what may be given at any tick; `OutOfMemory` where that of a discovery was refused.
+/// A copy of what may be given at any tick; `OutOfMemory` where that of a discovery, or one more share of a notice's label,
+/// was refused.
 fn control_copy(control: &Control) -> Result<Control, Fault>
     ensures ok { IfOk result (λ c. c ≡ control.now) }
     ensures err { IfErr result (λ e. e ≡ Fault.OutOfMemory) }
@@ -27,6 +28,9 @@ fn control_copy(control: &Control) -> Result<Control, Fault>
             discovery: discovery.copy()?,
         }),
         Control::ToRetract { event } => Ok(Control::ToRetract { event: *event }),
+        Control::ToTell { notice } => Ok(Control::ToTell {
+            notice: notice.copy()?,
+        }),
     }
 }
 
@@ -45,7 +49,7 @@ impl Local {
     }
 
     /// A copy of what the federate would pick up now, as `pick` would answer it. Nothing changes. `OutOfMemory` where a
-    /// message or a discovery would be picked up and its copy was refused.
+    /// message, a discovery or a notice would be picked up and its copy was refused.
     pub fn next_picked(&self) -> Result<Picked, Fault>
         ensures ok { IfOk result (λ p. p ≡ picked_by self.now.row (local_pick self.now)) }
         ensures err { IfErr result (λ e. e ≡ Fault.OutOfMemory) }

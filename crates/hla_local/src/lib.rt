@@ -6,6 +6,7 @@ mod foreseeing;
 mod local;
 mod picked;
 mod picking;
+mod telling;
 #[cfg(test)]
 mod tests;
 

@@ -8,7 +8,7 @@ use hla_order_queues::Control;
 pub enum Picked {
     /// There is nothing to pick up.
     Nothing,
-    /// An object to discover, or a message to take back.
+    /// An object to discover, a message to take back, or what there is to be told of a synchronization point.
     Control(Control),
     /// A message in receive order.
     Received(Event),
@@ -27,7 +27,7 @@ pub enum Picked {
 pub enum NextPick {
     /// There is nothing to pick up.
     Nothing,
-    /// An object to discover, or a message to take back.
+    /// An object to discover, a message to take back, or what there is to be told of a synchronization point.
     Control,
     /// A message in receive order.
     Received,

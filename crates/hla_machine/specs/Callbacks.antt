@@ -5,6 +5,8 @@ use Rattle.hla_base.specs.declared.number.EventHandle.{EventHandle}
 use Rattle.hla_base.specs.declared.content.Content.{Content}
 use Rattle.hla_base.specs.declared.content.Content.TheVariants as content
 use Rattle.hla_base.specs.declared.content.Discovery.{Discovery}
+use Rattle.hla_base.specs.declared.notice.Notice.{Notice}
+use Rattle.hla_base.specs.declared.notice.NoticeKind.TheVariants as kind
 use Rattle.hla_base.specs.declared.row.AdvanceRequest.{AdvanceRequest}
 use Rattle.hla_base.specs.declared.row.TimeRow.{TimeRow}
 use Rattle.hla_base.specs.Tables.{upd, upd2}
@@ -15,6 +17,8 @@ use Rattle.hla_callbacks.specs.declared.callback.Delivery.{Delivery}
 use Rattle.hla_callbacks.specs.declared.callback.Delivery.TheVariants as delivery
 use Rattle.hla_machine.specs.declared.step.Choice.{Choice}
 use Rattle.hla_machine.specs.declared.step.Choice.TheVariants as choice
+use Rattle.hla_synchronization.specs.Points.{notice, points_after_notice}
+use Rattle.hla_machine.specs.Directory.{with_points}
 use Rattle.hla_machine.specs.Central.{Central, Copy, Ro, Tso, Demoted, BelowAllTso, BelowBound, Reached, KeyLe, at_key, at3, demoted_copy}
 
 -- ---- messages
@@ -116,6 +120,10 @@ abbrev pub IsNextDiscovery : List Discovery → Discovery → Type 0
 IsNextDiscovery [] d = ⊥
 IsNextDiscovery (x ∷ xs) d = x ≡ d
 
+abbrev pub IsNextNotice : List Notice → Notice → Type 0
+IsNextNotice [] n = ⊥
+IsNextNotice (x ∷ xs) n = x ≡ n
+
 abbrev pub MayPickUp : Central → ℕ → Callback → Choice → Type 0
 MayPickUp c f (callback.DiscoverObjectInstance object class name) o =
     IsNextDiscovery (c.discoveries (c.directory.object object).owner f) (record { object = object; class = class; name = name })
@@ -126,6 +134,10 @@ MayPickUp c f (callback.TimeRegulationEnabled time) o = (is_pending (c.row f).re
 MayPickUp c f (callback.TimeConstrainedEnabled time) o = MayConstrain c f time o
 MayPickUp c f (callback.TimeAdvanceGrant time) o = WhileAdvancing (c.row f) (MayGrant c f time)
 MayPickUp c f (callback.RequestRetraction event) o = 1 ≤ c.due event.sender event.serial f
+MayPickUp c f (callback.SynchronizationPointRegistrationSucceeded label) o = IsNextNotice (c.notices f) (notice kind.RegistrationSucceeded label)
+MayPickUp c f (callback.SynchronizationPointRegistrationFailed label) o = IsNextNotice (c.notices f) (notice kind.RegistrationFailed label)
+MayPickUp c f (callback.AnnounceSynchronizationPoint label) o = IsNextNotice (c.notices f) (notice kind.Announced label)
+MayPickUp c f (callback.FederationSynchronized label) o = IsNextNotice (c.notices f) (notice kind.Synchronized label)
 
 -- ---- the state after it
 abbrev pub with_central_row : Central → ℕ → TimeRow → Central
@@ -148,6 +160,13 @@ abbrev pub after_constraint : Central → ℕ → Choice → Central
 after_constraint c f (choice.Moved events) = record c { row = upd c.row f (row_after_constraint_enabled (c.row f)); bag = with_demoted c.bag f events }
 after_constraint c f choice = c
 
+-- the first of what was to be told is told
+abbrev pub after_notice : Central → ℕ → Notice → Central
+after_notice c f n = record c {
+  directory = with_points c.directory (points_after_notice f n c.directory.points);
+  notices = upd c.notices f (drop 1 (c.notices f));
+}
+
 abbrev pub after_pick : Central → ℕ → Callback → Choice → Central
 after_pick c f (callback.DiscoverObjectInstance object class name) o = let g = (c.directory.object object).owner in
     record c { discoveries = upd2 c.discoveries g f (drop 1 (c.discoveries g f)) }
@@ -158,3 +177,7 @@ after_pick c f (callback.TimeRegulationEnabled time) o = with_central_row c f (r
 after_pick c f (callback.TimeConstrainedEnabled time) o = after_constraint c f o
 after_pick c f (callback.TimeAdvanceGrant time) o = with_central_row c f (row_after (c.row f) (c.row f).advance (λ q. row_after_grant (c.row f) q time))
 after_pick c f (callback.RequestRetraction event) o = record c { due = at3 c.due event.sender event.serial f (c.due event.sender event.serial f - 1) }
+after_pick c f (callback.SynchronizationPointRegistrationSucceeded label) o = after_notice c f (notice kind.RegistrationSucceeded label)
+after_pick c f (callback.SynchronizationPointRegistrationFailed label) o = after_notice c f (notice kind.RegistrationFailed label)
+after_pick c f (callback.AnnounceSynchronizationPoint label) o = after_notice c f (notice kind.Announced label)
+after_pick c f (callback.FederationSynchronized label) o = after_notice c f (notice kind.Synchronized label)

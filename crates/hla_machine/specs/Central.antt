@@ -3,6 +3,7 @@ use Rattle.std.specs.Prelude.{ℕ, ◌+◌, ◌≡◌, ◌≢◌, ◌≤◌, ◌
 use Rattle.hla_base.specs.Limits.{forever}
 use Rattle.hla_base.specs.declared.content.Content.{Content}
 use Rattle.hla_base.specs.declared.content.Discovery.{Discovery}
+use Rattle.hla_base.specs.declared.notice.Notice.{Notice}
 use Rattle.hla_base.specs.declared.row.AdvanceKind.{AdvanceKind}
 use Rattle.hla_base.specs.declared.row.AdvanceRequest.{AdvanceRequest}
 use Rattle.hla_base.specs.declared.row.TimeRow.{TimeRow}
@@ -33,6 +34,7 @@ pub record Central : Type 0 where
   pub sent : ℕ → ℕ → SentEvent
   pub owed : ℕ → ℕ → ℕ → ℕ  -- how many retractions of an event are under way to a receiver
   pub due : ℕ → ℕ → ℕ → ℕ  -- how many requests to take an event back wait for a receiver
+  pub notices : ℕ → List Notice  -- what each federate is to be told of synchronization points, the first first
 
 -- an execution that was just created
 abbrev pub new_central : CatalogueValue → Central
@@ -45,6 +47,7 @@ new_central catalogue = record {
   sent = λ _ _. no_event;
   owed = λ _ _ _. 0;
   due = λ _ _ _. 0;
+  notices = λ _. [];
 }
 
 -- ---- bounds, each as 'x is at most it'

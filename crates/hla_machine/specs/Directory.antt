@@ -1,6 +1,6 @@
 -- Who has joined, what each publishes and subscribes, which objects there are and who knows them
 -- (HLA 1.3, federation management, declaration management, object management)
-use Rattle.std.specs.Prelude.{ℕ, ◌+◌, cond, eqb, ltb, not, ◌&&◌, Bool, true, false, Option, Some, None, is_some, option_map, unwrap_or, List, [], ◌∷◌, ◌++◌, filter, find, codes}
+use Rattle.std.specs.Prelude.{ℕ, ◌+◌, cond, eqb, ltb, not, ◌&&◌, Bool, true, false, Option, Some, None, is_some, option_map, unwrap_or, List, [], ◌∷◌, ◌++◌, filter, find, map, codes}
 use Rattle.std.specs.List.{filter_map}
 use Rattle.std.specs.Option.{option_map_or, option_and_then}
 use Rattle.std.specs.Fmt.{decimal}
@@ -14,6 +14,9 @@ use Rattle.hla_catalogue.specs.declared.declared.Order.{Order}
 use Rattle.hla_catalogue.specs.declared.declared.Order.TheVariants.{Receive, Timestamp}
 use Rattle.hla_catalogue.specs.Lookup.{contains_number, object_lineage, interaction_lineage, has_parameter, attribute_order, interaction_order, deletion_privilege}
 use Rattle.hla_orders.specs.Orders.{orders_given}
+use Rattle.hla_base.specs.declared.notice.Notice.{Notice}
+use Rattle.hla_base.specs.declared.notice.NoticeKind.TheVariants as kind
+use Rattle.hla_synchronization.specs.Points.{Point, new_point, is_open, with_point, achieved_by, closing, left_open, notice, announcement_of, closing_of}
 
 -- an object that was registered; a deleted one no longer exists
 pub record Object : Type 0 where
@@ -37,6 +40,7 @@ pub record Directory : Type 0 where
   pub object : ℕ → Object
   pub known : ℕ → ℕ → Bool  -- to which federates an object is known
   pub attribute_orders : ℕ → ℕ → Option Order  -- in which order updates of an object's attribute go, where it was changed
+  pub points : List Point  -- the open synchronization points, in order of opening
 
 abbrev pub no_object : Object
 no_object = record { class = 0; name = []; owner = 0; attributes = []; exists = false }
@@ -57,6 +61,7 @@ new_directory catalogue = record {
   object = λ _. no_object;
   known = λ _ _. false;
   attribute_orders = λ _ _. None;
+  points = [];
 }
 
 -- ---- at which class a federate is served: the most derived one that it subscribes
@@ -172,6 +177,38 @@ with_discoveries_made d f = record d { known = λ h k. cond (eqb f k && is_some 
 -- the discovery of h that each other joined federate is to make now is made
 abbrev pub with_object_discovered : Directory → ℕ → Directory
 with_object_discovered d h = record d { known = λ j k. cond (eqb h j && d.joined k && is_some (discovery_of d k h)) true (d.known j k) }
+
+-- ---- synchronization points
+-- the members of each open point: who is joined, by rising number
+abbrev pub joined_federates : Directory → List ℕ
+joined_federates d = filter d.joined (numbers_below d.next_federate)
+
+abbrev pub with_points : Directory → List Point → Directory
+with_points d points = record d { points = points }
+
+-- a point opens, where none of its label is open
+abbrev pub with_point_registered : Directory → List ℕ → Directory
+with_point_registered d label = with_points d (cond (is_open label d.points) d.points (d.points ++ new_point label ∷ []))
+
+-- f is told that it has registered the point, and then each member, f too, that it is open; or f alone, that one of its label was open
+abbrev pub registration_notices : Directory → ℕ → List ℕ → ℕ → List Notice
+registration_notices d f label g = cond (is_open label d.points)
+    (cond (eqb f g) (notice kind.RegistrationFailed label ∷ []) [])
+    (cond (eqb f g) (notice kind.RegistrationSucceeded label ∷ []) [] ++ cond (d.joined g) (notice kind.Announced label ∷ []) [])
+
+abbrev pub with_point_achieved : Directory → ℕ → List ℕ → Directory
+with_point_achieved d f label = with_points d (with_point (achieved_by f) label d.points)
+
+-- each point closes that all its members have achieved, and each member is told so, in order of opening
+abbrev pub with_points_left : Directory → Directory
+with_points_left d = with_points d (left_open (joined_federates d) d.points)
+
+abbrev pub closing_notices : Directory → ℕ → List Notice
+closing_notices d g = cond (d.joined g) (map closing_of (closing (joined_federates d) d.points)) []
+
+-- a newcomer is told of each open point, in order of opening
+abbrev pub joining_notices : Directory → ℕ → List Notice
+joining_notices d g = cond (eqb d.next_federate g) (map announcement_of d.points) []
 
 -- ---- the directory after a service
 abbrev pub default_name : ℕ → List ℕ

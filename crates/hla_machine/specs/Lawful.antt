@@ -1,20 +1,23 @@
 -- What every run keeps, of the happenings of one run: each law a field
-use Rattle.std.specs.Prelude.{ℕ, ◌≡◌, ◌≢◌, ◌≤◌, ◌<◌, ◌⊎◌, true, Some, List, ◌++◌}
+use Rattle.std.specs.Prelude.{ℕ, ◌≡◌, ◌≢◌, ◌≤◌, ◌<◌, ◌⊎◌, true, false, Some, List, [], ◌∷◌, ◌++◌}
 use Rattle.std.specs.List.{All}
 use Rattle.hla_base.specs.declared.content.Discovery.{Discovery}
 use Rattle.hla_base.specs.declared.number.EventHandle.{EventHandle}
 use Rattle.hla_base.specs.declared.row.AdvanceRequest.{AdvanceRequest}
 use Rattle.hla_base.specs.Rows.{is_constrained, reach}
 use Rattle.hla_callbacks.specs.declared.callback.Callback.{Callback}
+use Rattle.hla_callbacks.specs.declared.callback.Callback.TheVariants as callback
+use Rattle.hla_catalogue.specs.CatalogueValue.{CatalogueValue}
 use Rattle.hla_machine.specs.declared.service.Service.{Service}
 use Rattle.hla_machine.specs.declared.step.Step.TheVariants.{Call}
 use Rattle.hla_machine.specs.declared.step.Answer.{Answer}
 use Rattle.hla_machine.specs.declared.step.Answer.TheVariants as answer
 use Rattle.hla_machine.specs.declared.step.Outcome.TheVariants as outcome
-use Rattle.hla_machine.specs.Central.{Central, Copy}
+use Rattle.hla_machine.specs.Central.{Central, Copy, new_central}
 use Rattle.hla_machine.specs.Callbacks.{IsCopy}
 use Rattle.hla_machine.specs.Runs.{Happening, IsRun}
 use Rattle.hla_machine.specs.History.{GivesCallback, SpeaksOf, Hears, HearsPlain, Picks, IsGranted, IsInNoFlush, IsInStrict, IsInOneAdvance, IsBefore, next_state, WaitsInOrder, IsPickedOrMoved, messages_of, stamp_given, AreSentTo, GoesInItsOrder, Names, TellsCopy, IsOnItsWay, IsSettled, HasHistory, central_after, Occurs, OccurAfter, OccursLater}
+use Rattle.hla_machine.specs.Synchronized.{IsPointOpen, Closes, HasAchieved, WaitsForSome, StaysJoined, IsSynchronizedAmong, due_over, told_over}
 use Rattle.hla_machine.specs.Laws.{IsSafe, IsAhead}
 
 pub record IsLawful (c : Central) (happenings : List Happening) : Type 0 where
@@ -50,6 +53,21 @@ pub record IsLawful (c : Central) (happenings : List Happening) : Type 0 where
   -- nothing is said of an object while its discovery waits
   pub discovered : (now : Central) (h : Happening) (f : ℕ) (k : Callback) (object : ℕ) → Occurs c happenings now h → GivesCallback h.step h.outcome f k → SpeaksOf k object →
       (g : ℕ) → All (λ (d : Discovery). d.object ≢ object) (now.discoveries g f)
+  -- ---- synchronization points, whatever run led from a new execution to a state
+  -- when a point closes, each federate that is joined after that was told of this point and has achieved it since
+  pub closed : (now : Central) (h : Happening) (label : List ℕ) (g : ℕ) (catalogue : CatalogueValue) (earlier : List Happening) → Occurs c happenings now h → IsRun (new_central catalogue) earlier now →
+      Closes now h label → (next_state now h).directory.joined g ≡ true → HasAchieved (new_central catalogue) (earlier ++ (h ∷ [])) g label
+  -- while a point is open, some joined federate has not achieved it
+  pub awaited : (before rest : List Happening) (label : List ℕ) (catalogue : CatalogueValue) (earlier : List Happening) → happenings ≡ before ++ rest → IsRun (new_central catalogue) earlier (central_after c before) →
+      IsPointOpen (central_after c before) label → WaitsForSome (new_central catalogue) earlier (central_after c before) label
+  -- when a federate is told that the federation is synchronized, the point had closed, and the federate is joined since
+  pub synchronized : (now : Central) (h : Happening) (f : ℕ) (label : List ℕ) (catalogue : CatalogueValue) (earlier : List Happening) → Occurs c happenings now h → IsRun (new_central catalogue) earlier now →
+      GivesCallback h.step h.outcome f (callback.FederationSynchronized label) → IsSynchronizedAmong (new_central catalogue) earlier f label
+  -- nothing of them waits for who is not joined
+  pub strangers : (before rest : List Happening) (f : ℕ) → happenings ≡ before ++ rest → (central_after c before).directory.joined f ≡ false → (central_after c before).notices f ≡ []
+  -- while a federate is joined, what becomes due to it is told to it, once and in that order
+  pub told : (before between rest : List Happening) (f : ℕ) → happenings ≡ before ++ (between ++ rest) → let now = central_after c before in StaysJoined now between f →
+      now.notices f ++ due_over now between f ≡ told_over between f ++ (central_after now between).notices f
   -- ---- time
   -- in each state each constrained federate has its time, its bar and its bound in order, and nothing before its time waits
   pub safe : (before rest : List Happening) → happenings ≡ before ++ rest → IsSafe (central_after c before)

@@ -1,5 +1,5 @@
 -- What every run of the machine keeps, whatever the components are
-use Rattle.std.specs.Prelude.{ℕ, ◌≡◌, ◌≢◌, ◌≤◌, ◌<◌, ◌⊎◌, true, Some, List}
+use Rattle.std.specs.Prelude.{ℕ, ◌≡◌, ◌≢◌, ◌≤◌, ◌<◌, ◌⊎◌, true, false, Some, List, [], ◌∷◌, ◌++◌}
 use Rattle.std.specs.List.{All}
 use Rattle.hla_base.specs.declared.content.Discovery.{Discovery}
 use Rattle.hla_base.specs.declared.number.EventHandle.{EventHandle}
@@ -8,6 +8,7 @@ use Rattle.hla_base.specs.Rows.{is_constrained, reach}
 use Rattle.hla_catalogue.specs.CatalogueValue.{CatalogueValue}
 use Rattle.hla_machine.specs.Central.{Central, new_central, BelowAllTso, BelowBound}
 use Rattle.hla_callbacks.specs.declared.callback.Callback.{Callback}
+use Rattle.hla_callbacks.specs.declared.callback.Callback.TheVariants as callback
 use Rattle.hla_machine.specs.declared.service.Service.{Service}
 use Rattle.hla_machine.specs.declared.step.Step.TheVariants.{Call}
 use Rattle.hla_machine.specs.declared.step.Answer.TheVariants as answer
@@ -16,6 +17,7 @@ use Rattle.hla_machine.specs.declared.step.Choice.{Choice}
 use Rattle.hla_machine.specs.Machine.{Allowed, after}
 use Rattle.hla_machine.specs.Runs.{Happening, IsRun}
 use Rattle.hla_machine.specs.History.{GivesCallback, SpeaksOf, Hears, HearsPlain, Picks, IsGranted, Happens, HappenAfter, IsInNoFlush, IsInStrict, IsInOneAdvance, IsBefore, next_state, HappensLater, WaitsInOrder, IsPickedOrMoved, GoesInItsOrder}
+use Rattle.hla_machine.specs.Synchronized.{IsPointOpen, Closes, HasAchieved, WaitsForSome, StaysJoined, IsSynchronizedAmong, due_over, told_over}
 
 -- a constrained federate is safe: its time is at most its bar, the bar is at most its bound, and nothing that is
 -- to be given in time-stamp order lies in its past
@@ -92,3 +94,32 @@ RegistrationsDiffer = (c : Central) (h : Happening) (between : List Happening) (
 abbrev pub DiscoveredBefore : Type 0
 DiscoveredBefore = (c : Central) (h : Happening) (f : ℕ) (k : Callback) (object : ℕ) → Happens c h → GivesCallback h.step h.outcome f k → SpeaksOf k object →
     (g : ℕ) → All (λ (d : Discovery). d.object ≢ object) (c.discoveries g f)
+
+-- when a point closes, each federate that is joined after that has achieved it: it was told of this point, and after that its call Synchronization
+-- Point Achieved was done
+abbrev pub ClosesAfterAll : Type 0
+ClosesAfterAll = (catalogue : CatalogueValue) (happenings : List Happening) (c : Central) (h : Happening) (label : List ℕ) (g : ℕ) →
+    IsRun (new_central catalogue) happenings c → Allowed c h.step h.outcome h.choice → Closes c h label → (next_state c h).directory.joined g ≡ true →
+    HasAchieved (new_central catalogue) (happenings ++ (h ∷ [])) g label
+
+-- an open point waits for some joined federate that has not achieved it: it closes as soon as all who are joined have
+abbrev pub EachOpenPointWaits : Type 0
+EachOpenPointWaits = (catalogue : CatalogueValue) (happenings : List Happening) (c : Central) (label : List ℕ) →
+    IsRun (new_central catalogue) happenings c → IsPointOpen c label → WaitsForSome (new_central catalogue) happenings c label
+
+-- when a federate is told that the federation is synchronized, the point had closed, so each that was then joined had achieved it; and the
+-- federate is joined since then
+abbrev pub SynchronizedAfterAll : Type 0
+SynchronizedAfterAll = (catalogue : CatalogueValue) (happenings : List Happening) (c : Central) (h : Happening) (f : ℕ) (label : List ℕ) →
+    IsRun (new_central catalogue) happenings c → Allowed c h.step h.outcome h.choice → GivesCallback h.step h.outcome f (callback.FederationSynchronized label) →
+    IsSynchronizedAmong (new_central catalogue) happenings f label
+
+-- nothing of synchronization points waits for who is not joined: so what is told to a federate became due since it joined
+abbrev pub NothingWaitsForStrangers : Type 0
+NothingWaitsForStrangers = (catalogue : CatalogueValue) (happenings : List Happening) (c : Central) (f : ℕ) → IsRun (new_central catalogue) happenings c → c.directory.joined f ≡ false → c.notices f ≡ []
+
+-- what waits for a federate and becomes due to it while it is joined is what it is told of synchronization points, and what then waits for it:
+-- so each is told once, in the order in which it became due, and nothing else is
+abbrev pub EachIsToldInTurn : Type 0
+EachIsToldInTurn = (catalogue : CatalogueValue) (happenings : List Happening) (c : Central) (between : List Happening) (d : Central) (f : ℕ) →
+    IsRun (new_central catalogue) happenings c → IsRun c between d → StaysJoined c between f → c.notices f ++ due_over c between f ≡ told_over between f ++ d.notices f

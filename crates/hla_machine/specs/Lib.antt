@@ -16,6 +16,8 @@ pub mod Runs
 pub mod History
 -- That each object is discovered first, and once
 pub mod Discovered
+-- What is told of synchronization points, and when
+pub mod Synchronized
 -- What the state keeps by itself
 pub mod CentralInvariant
 -- What every run keeps, in a federate's words

@@ -4,6 +4,7 @@ use Rattle.hla_base.specs.declared.number.EventHandle.{EventHandle}
 use Rattle.hla_base.specs.declared.content.Content.{Content}
 use Rattle.hla_base.specs.declared.content.Content.TheVariants as content
 use Rattle.hla_base.specs.declared.content.Discovery.{Discovery}
+use Rattle.hla_base.specs.declared.notice.Notice.{Notice}
 use Rattle.hla_base.specs.declared.row.Role.TheVariants.{Disabled, Pending}
 use Rattle.hla_base.specs.declared.row.AdvanceKind.{AdvanceKind}
 use Rattle.hla_base.specs.declared.row.AdvanceKind.TheVariants as kind
@@ -26,7 +27,7 @@ use Rattle.hla_machine.specs.declared.step.Outcome.{Outcome}
 use Rattle.hla_machine.specs.declared.step.Outcome.TheVariants as outcome
 use Rattle.hla_machine.specs.declared.step.Choice.{Choice}
 use Rattle.hla_machine.specs.declared.step.Choice.TheVariants as choice
-use Rattle.hla_machine.specs.Directory.{Directory, Outgoing, name_or_default, objects_of, interaction_sent, update_sent, deletion_sent, deletions_sent, discoveries_of, with_discoveries_made, with_object_discovered, with_member, without_member, with_published, with_subscribed, with_published_interaction, with_subscribed_interaction, with_object, without_object, with_attribute_orders, with_interaction_order}
+use Rattle.hla_machine.specs.Directory.{Directory, Outgoing, name_or_default, objects_of, interaction_sent, update_sent, deletion_sent, deletions_sent, discoveries_of, with_discoveries_made, with_object_discovered, with_member, without_member, with_published, with_subscribed, with_published_interaction, with_subscribed_interaction, with_object, without_object, with_attribute_orders, with_interaction_order, with_point_registered, registration_notices, with_point_achieved, with_points_left, closing_notices, joining_notices}
 use Rattle.hla_machine.specs.Central.{Central, Copy, Demoted, BelowAllTso, BelowOut, BelowBound, BelowSomeWake, low_entry, at_key, at3, demoted_copy}
 use Rattle.hla_machine.specs.Sends.{after_messages, sent_handle, is_told, owed_to_receivers}
 use Rattle.hla_machine.specs.Refusals.{Seen, refusal, is_known}
@@ -98,6 +99,8 @@ MayAnswer c f (service.DeleteObjectInstance object stamp) answer.Done o = Unit {
 MayAnswer c f (service.ChangeAttributeOrderType object attributes order) answer.Done o = Unit {0}
 MayAnswer c f (service.ChangeInteractionOrderType class order) answer.Done o = Unit {0}
 MayAnswer c f (service.Retract event) answer.Done o = Unit {0}
+MayAnswer c f (service.RegisterFederationSynchronizationPoint label) answer.Done o = Unit {0}
+MayAnswer c f (service.SynchronizationPointAchieved label) answer.Done o = Unit {0}
 MayAnswer c f service.DisableTimeRegulation answer.Done o = Unit {0}
 MayAnswer c f service.EnableTimeConstrained answer.Done o = Unit {0}
 MayAnswer c f (service.TimeAdvanceRequest time) answer.Done o = Unit {0}
@@ -193,16 +196,25 @@ with_central_directory c d = record c { directory = d }
 abbrev pub after_request : Central → ℕ → AdvanceKind → ℕ → Central
 after_request c f k a = with_central_row c f (row_after_request (c.row f) k a)
 
--- a federate leaves: what is for it goes, and what it sent stays
+-- each federate is to be told more
+abbrev pub with_told : Central → (ℕ → List Notice) → Central
+with_told c more = record c { notices = λ g. c.notices g ++ more g }
+
+-- each point closes that all who are joined have achieved, and they are to be told so
+abbrev pub with_points_closed : Central → Central
+with_points_closed c = with_told (with_central_directory c (with_points_left c.directory)) (closing_notices c.directory)
+
+-- a federate leaves: what is for it goes, what it sent stays, and points that only it had not achieved close
 abbrev pub after_leaving : Central → ℕ → Central
-after_leaving c f = record c {
+after_leaving c f = with_points_closed (record c {
   directory = without_member c.directory f;
   row = upd c.row f new_row;
   bag = λ g m. upd (c.bag g m) f None;
   discoveries = λ g. upd (c.discoveries g) f [];
   owed = λ g m. upd (c.owed g m) f 0;
   due = λ g m. upd (c.due g m) f 0;
-}
+  notices = upd c.notices f [];
+})
 
 -- its objects are deleted without a stamp, by rising number
 abbrev pub after_resign : Central → ℕ → ResignAction → Central
@@ -241,6 +253,13 @@ abbrev pub after_cease : Central → ℕ → Choice → Central
 after_cease c f (choice.Moved events) = record c { row = upd c.row f (record (c.row f) { constrained = Disabled }); bag = with_demoted c.bag f events }
 after_cease c f o = c
 
+-- synchronization points
+abbrev pub after_register_point : Central → ℕ → List ℕ → Central
+after_register_point c f label = with_told (with_central_directory c (with_point_registered c.directory label)) (registration_notices c.directory f label)
+
+abbrev pub after_achieve : Central → ℕ → List ℕ → Central
+after_achieve c f label = with_points_closed (with_central_directory c (with_point_achieved c.directory f label))
+
 abbrev pub after_call : Central → ℕ → Service → Choice → Central
 after_call c f (service.Resign way) o = after_resign c f way
 after_call c f (service.PublishObjectClass class attributes) o = with_central_directory c (with_published c.directory f class (Some attributes))
@@ -258,6 +277,8 @@ after_call c f (service.DeleteObjectInstance object stamp) o = after_delete c f 
 after_call c f (service.ChangeAttributeOrderType object attributes order) o = with_central_directory c (with_attribute_orders c.directory object attributes order)
 after_call c f (service.ChangeInteractionOrderType class order) o = with_central_directory c (with_interaction_order c.directory f class order)
 after_call c f (service.Retract event) o = after_retract c f event.serial
+after_call c f (service.RegisterFederationSynchronizationPoint label) o = after_register_point c f label
+after_call c f (service.SynchronizationPointAchieved label) o = after_achieve c f label
 after_call c f (service.EnableTimeRegulation time lookahead) o = after_enter c f lookahead o
 after_call c f service.DisableTimeRegulation o = with_central_row c f (record (c.row f) { regulating = Disabled })
 after_call c f service.EnableTimeConstrained o = with_central_row c f (record (c.row f) { constrained = Pending })
@@ -291,8 +312,10 @@ after_carry c g f (carried.Removal e) = after_arrival c g f e.serial
 after_carry c g f (carried.Retraction e) = after_retraction_arrival c g f e.serial
 after_carry c g f x = c
 
+-- a federate joins, and is to be told of each open point
 abbrev pub after_join : Central → List ℕ → Central
-after_join c name = let n = c.directory.next_federate in record c { directory = with_member c.directory name; row = upd c.row n new_row }
+after_join c name = let n = c.directory.next_federate in
+    with_told (record c { directory = with_member c.directory name; row = upd c.row n new_row }) (joining_notices c.directory)
 
 abbrev pub after_done : Central → Step → Answer → Choice → Central
 after_done c (Join name) a o = after_join c name

@@ -3,7 +3,7 @@ use Rattle.std.specs.Prelude.{ℕ, ◌+◌, eqb, ltb, not, ◌&&◌, ◌||◌, B
 use Rattle.std.specs.List.{list_any}
 use Rattle.std.specs.Option.{option_map_or}
 use Rattle.std.specs.Str.{bytes_eq}
-use Rattle.hla_base.specs.Limits.{max_federate_name, max_joins, max_name, max_objects, max_serial, max_time}
+use Rattle.hla_base.specs.Limits.{max_federate_name, max_joins, max_name, max_objects, max_open_points, max_point_label, max_serial, max_time}
 use Rattle.hla_base.specs.declared.fault.Fault.{Fault}
 use Rattle.hla_base.specs.declared.fault.Fault.TheVariants as fault
 use Rattle.hla_base.specs.declared.content.HandleValuePair.{HandleValuePair}
@@ -13,6 +13,7 @@ use Rattle.hla_base.specs.Rows.{least_stamp}
 use Rattle.hla_base.specs.RowRefusals.{Test, test_for, first_fault, request_tests, regulation_tests, unregulate_tests, constrain_tests, unconstrain_tests, lookahead_tests, asynchronous_on_tests, asynchronous_off_tests}
 use Rattle.hla_catalogue.specs.Lookup.{is_object_class, is_interaction_class, has_attribute, has_parameter, contains_number, object_class_named, interaction_class_named, attribute_named, parameter_named}
 use Rattle.hla_retraction.specs.SentEvents.{SentEvent, may_retract}
+use Rattle.hla_synchronization.specs.Points.{Point, is_open, may_achieve}
 use Rattle.hla_machine.specs.declared.service.Service.{Service}
 use Rattle.hla_machine.specs.declared.service.Service.TheVariants as service
 use Rattle.hla_machine.specs.declared.service.ResignAction.{ResignAction}
@@ -102,6 +103,10 @@ register_tests d f class name =
     ∷ test_for fault.LimitReached (ltb max_objects d.next_object || not (is_length_in 1 max_name (name_or_default d.next_object name)))
     ∷ []
 
+-- a point more would be open, and there is no room for it
+abbrev pub is_full_for : List ℕ → List Point → Bool
+is_full_for label points = not (is_open label points) && not (ltb (length points) max_open_points)
+
 abbrev pub no_object_class : Directory → ℕ → Test
 no_object_class d class = test_for fault.ObjectClassNotDefined (not (is_object_class d.catalogue class))
 
@@ -143,6 +148,10 @@ call_tests s f (service.DeleteObjectInstance object stamp) = deletion_tests s.di
 call_tests s f (service.ChangeAttributeOrderType object attributes order) = attribute_order_tests s.directory f object attributes
 call_tests s f (service.ChangeInteractionOrderType class order) = no_interaction_class s.directory class ∷ test_for fault.InteractionClassNotPublished (not (s.directory.published_interaction f class)) ∷ []
 call_tests s f (service.Retract event) = test_for fault.InvalidRetractionHandle (not (eqb event.sender f && may_retract (s.row f) (s.sent f event.serial))) ∷ []
+call_tests s f (service.RegisterFederationSynchronizationPoint label) =
+    test_for fault.LimitReached (not (is_length_in 1 max_point_label label) || is_full_for label s.directory.points) ∷ []
+call_tests s f (service.SynchronizationPointAchieved label) =
+    test_for fault.SynchronizationPointLabelWasNotAnnounced (not (may_achieve f label s.directory.points)) ∷ []
 call_tests s f (service.EnableTimeRegulation time lookahead) = regulation_tests (s.row f) (low_entry s.directory s.row (time + lookahead)) time lookahead
 call_tests s f service.DisableTimeRegulation = unregulate_tests (s.row f)
 call_tests s f service.EnableTimeConstrained = constrain_tests (s.row f)

@@ -8,7 +8,7 @@ use Rattle.hla_base.specs.contracts.content.HandleValuePairPlain.TheImpl.Laws.{l
 use Rattle.hla_catalogue.specs.declared.declared.Order.{Order}
 use Rattle.hla_machine.specs.declared.service.ResignAction.{ResignAction}
 use Rattle.hla_machine.specs.declared.service.Service.{Service}
-use Rattle.hla_machine.specs.declared.service.Service.TheVariants.{Resign, PublishObjectClass, UnpublishObjectClass, SubscribeObjectClassAttributes, UnsubscribeObjectClass, PublishInteractionClass, UnpublishInteractionClass, SubscribeInteractionClass, UnsubscribeInteractionClass, RegisterObjectInstance, UpdateAttributeValues, SendInteraction, DeleteObjectInstance, ChangeAttributeOrderType, ChangeInteractionOrderType, Retract, EnableTimeRegulation, DisableTimeRegulation, EnableTimeConstrained, DisableTimeConstrained, TimeAdvanceRequest, TimeAdvanceRequestAvailable, NextEventRequest, NextEventRequestAvailable, FlushQueueRequest, ModifyLookahead, EnableAsynchronousDelivery, DisableAsynchronousDelivery, QueryLbts, QueryFederateTime, QueryMinNextEventTime, QueryLookahead, GetObjectClassHandle, GetInteractionClassHandle, GetAttributeHandle, GetParameterHandle, GetObjectInstanceHandle, GetObjectInstanceName}
+use Rattle.hla_machine.specs.declared.service.Service.TheVariants.{Resign, PublishObjectClass, UnpublishObjectClass, SubscribeObjectClassAttributes, UnsubscribeObjectClass, PublishInteractionClass, UnpublishInteractionClass, SubscribeInteractionClass, UnsubscribeInteractionClass, RegisterObjectInstance, UpdateAttributeValues, SendInteraction, DeleteObjectInstance, ChangeAttributeOrderType, ChangeInteractionOrderType, Retract, RegisterFederationSynchronizationPoint, SynchronizationPointAchieved, EnableTimeRegulation, DisableTimeRegulation, EnableTimeConstrained, DisableTimeConstrained, TimeAdvanceRequest, TimeAdvanceRequestAvailable, NextEventRequest, NextEventRequestAvailable, FlushQueueRequest, ModifyLookahead, EnableAsynchronousDelivery, DisableAsynchronousDelivery, QueryLbts, QueryFederateTime, QueryMinNextEventTime, QueryLookahead, GetObjectClassHandle, GetInteractionClassHandle, GetAttributeHandle, GetParameterHandle, GetObjectInstanceHandle, GetObjectInstanceName}
 use Rattle.hla_machine.specs.contracts.service.ServicePartialEq.TheImpl.{ghosts as services}
 use Rattle.hla_machine.specs.contracts.service.ServiceClone.TheImpl.{ghosts as clones}
 
@@ -66,6 +66,12 @@ at_change_interaction_order_type class order other = elim other as (λ o. IsTold
 
 at_retract : (event : EventHandle) → Known (Retract event)
 at_retract event other = elim other as (λ o. IsToldApart (Retract event) o) [ Retract a ↦ search rules | _ ↦ inl refl ]
+
+at_register_federation_synchronization_point : (label : List ℕ) → Known (RegisterFederationSynchronizationPoint label)
+at_register_federation_synchronization_point label other = elim other as (λ o. IsToldApart (RegisterFederationSynchronizationPoint label) o) [ RegisterFederationSynchronizationPoint a ↦ search rules | _ ↦ inl refl ]
+
+at_synchronization_point_achieved : (label : List ℕ) → Known (SynchronizationPointAchieved label)
+at_synchronization_point_achieved label other = elim other as (λ o. IsToldApart (SynchronizationPointAchieved label) o) [ SynchronizationPointAchieved a ↦ search rules | _ ↦ inl refl ]
 
 at_enable_time_regulation : (time : ℕ) (lookahead : ℕ) → Known (EnableTimeRegulation time lookahead)
 at_enable_time_regulation time lookahead other = elim other as (λ o. IsToldApart (EnableTimeRegulation time lookahead) o) [ EnableTimeRegulation a b ↦ search rules | _ ↦ inl refl ]
@@ -150,6 +156,8 @@ same_service (DeleteObjectInstance object stamp) = at_delete_object_instance obj
 same_service (ChangeAttributeOrderType object attributes order) = at_change_attribute_order_type object attributes order
 same_service (ChangeInteractionOrderType class order) = at_change_interaction_order_type class order
 same_service (Retract event) = at_retract event
+same_service (RegisterFederationSynchronizationPoint label) = at_register_federation_synchronization_point label
+same_service (SynchronizationPointAchieved label) = at_synchronization_point_achieved label
 same_service (EnableTimeRegulation time lookahead) = at_enable_time_regulation time lookahead
 same_service DisableTimeRegulation = at_disable_time_regulation
 same_service EnableTimeConstrained = at_enable_time_constrained
@@ -224,6 +232,12 @@ cloned_change_interaction_order_type class order other = elim other as (λ o. cl
 
 cloned_retract : (event : EventHandle) → IsClonedAs (Retract event)
 cloned_retract event other = elim other as (λ o. clones.is_clone (Retract event) o → o ≡ (Retract event)) [ Retract a ↦ search rules | _ ↦ (λ h. absurd h) ]
+
+cloned_register_federation_synchronization_point : (label : List ℕ) → IsClonedAs (RegisterFederationSynchronizationPoint label)
+cloned_register_federation_synchronization_point label other = elim other as (λ o. clones.is_clone (RegisterFederationSynchronizationPoint label) o → o ≡ (RegisterFederationSynchronizationPoint label)) [ RegisterFederationSynchronizationPoint a ↦ search rules | _ ↦ (λ h. absurd h) ]
+
+cloned_synchronization_point_achieved : (label : List ℕ) → IsClonedAs (SynchronizationPointAchieved label)
+cloned_synchronization_point_achieved label other = elim other as (λ o. clones.is_clone (SynchronizationPointAchieved label) o → o ≡ (SynchronizationPointAchieved label)) [ SynchronizationPointAchieved a ↦ search rules | _ ↦ (λ h. absurd h) ]
 
 cloned_enable_time_regulation : (time : ℕ) (lookahead : ℕ) → IsClonedAs (EnableTimeRegulation time lookahead)
 cloned_enable_time_regulation time lookahead other = elim other as (λ o. clones.is_clone (EnableTimeRegulation time lookahead) o → o ≡ (EnableTimeRegulation time lookahead)) [ EnableTimeRegulation a b ↦ search rules | _ ↦ (λ h. absurd h) ]
@@ -308,6 +322,8 @@ cloned_service (DeleteObjectInstance object stamp) = cloned_delete_object_instan
 cloned_service (ChangeAttributeOrderType object attributes order) = cloned_change_attribute_order_type object attributes order
 cloned_service (ChangeInteractionOrderType class order) = cloned_change_interaction_order_type class order
 cloned_service (Retract event) = cloned_retract event
+cloned_service (RegisterFederationSynchronizationPoint label) = cloned_register_federation_synchronization_point label
+cloned_service (SynchronizationPointAchieved label) = cloned_synchronization_point_achieved label
 cloned_service (EnableTimeRegulation time lookahead) = cloned_enable_time_regulation time lookahead
 cloned_service DisableTimeRegulation = cloned_disable_time_regulation
 cloned_service EnableTimeConstrained = cloned_enable_time_constrained

@@ -3,7 +3,7 @@
 ghost use Rattle.hla_machine.specs.Histories.{EachHistoryIsLawful};
 ghost use Rattle.hla_machine.specs.Projection.{EachExecutionIsARun};
 ghost use Rattle.hla_machine.specs.Lawful.{EachRunIsLawful};
-ghost use Rattle.hla_machine.specs.Laws.{EachRunIsSafe, NothingIsInThePast, StampsNeverFall, KeysRise, ReceiversWait, EachGoesInItsOrder, NobodyHearsItself, EachMessageOnce, GivenToTheJoined, SendersOrder, RegistrationsDiffer, DiscoveredBefore, GrantedAfterAllBefore};
+ghost use Rattle.hla_machine.specs.Laws.{EachRunIsSafe, NothingIsInThePast, StampsNeverFall, KeysRise, ReceiversWait, EachGoesInItsOrder, ClosesAfterAll, EachOpenPointWaits, SynchronizedAfterAll, NothingWaitsForStrangers, EachIsToldInTurn, NobodyHearsItself, EachMessageOnce, GivenToTheJoined, SendersOrder, RegistrationsDiffer, DiscoveredBefore, GrantedAfterAllBefore};
 
 /// In each run of the machine each constrained federate is safe: its time is at most its bar, its bar at most its
 /// bound, and nothing that is to be given in time-stamp order lies in its past.
@@ -82,6 +82,35 @@ pub fn each_execution_is_a_run()
 /// discovery of that object waits for it any more.
 pub fn discovered_before()
     ensures { DiscoveredBefore }
+{}
+
+/// When a synchronization point closes, each federate that is joined after that has achieved it: it was told of this point, and after that
+/// its call Synchronization Point Achieved was done.
+pub fn closes_after_all()
+    ensures { ClosesAfterAll }
+{}
+
+/// An open synchronization point waits for some joined federate that has not achieved it: it closes as soon as all who are joined have.
+pub fn each_open_point_waits()
+    ensures { EachOpenPointWaits }
+{}
+
+/// When a federate is told that the federation is synchronized, the point had closed, so each federate that was joined then had achieved it;
+/// and the federate is joined since then.
+pub fn synchronized_after_all()
+    ensures { SynchronizedAfterAll }
+{}
+
+/// Nothing of synchronization points waits for a federate that is not joined: so what is told to it became due since it joined.
+pub fn nothing_waits_for_strangers()
+    ensures { NothingWaitsForStrangers }
+{}
+
+/// What becomes due to a federate of synchronization points while it is joined (the answer to a registration, the announcement of each point
+/// that opens or is open when it joins, and of each that closes that the federation is synchronized) is told to it once, in the order in
+/// which it became due, and nothing else is.
+pub fn each_is_told_in_turn()
+    ensures { EachIsToldInTurn }
 {}
 
 /// The happenings of each run, from a state to which a run leads from a new execution, are lawful: all the laws above at once,

@@ -93,6 +93,14 @@ pub enum Service {
     Retract {
         event: EventHandle,
     },
+    /// Register Federation Synchronization Point: a point of this label opens, unless one is open.
+    RegisterFederationSynchronizationPoint {
+        label: List<u8>,
+    },
+    /// Synchronization Point Achieved: the caller has achieved the point of this label.
+    SynchronizationPointAchieved {
+        label: List<u8>,
+    },
     /// Enable Time Regulation.
     EnableTimeRegulation {
         time: Ticks,

@@ -14,5 +14,7 @@ pub mod Lowering
 pub mod Posting
 -- Null messages put on the wires from one federate, one after another
 pub mod Announcing
+-- Who is told, and what is taken back of it
+pub mod Tidings
 -- The messages of an outbox, for each federate
 pub mod Outboxes

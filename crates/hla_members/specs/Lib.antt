@@ -10,3 +10,5 @@ pub mod Outboxes
 pub mod Members
 -- What services change of one component
 pub mod Changes
+-- What the joined federates are to be told of synchronization points
+pub mod Telling

@@ -3,7 +3,7 @@ use Rattle.std.specs.Prelude.{ℕ, ◌≡◌, ◌≤◌, true, false, Option, No
 use Rattle.hla_base.specs.Tables.{upd2}
 use Rattle.hla_base.specs.declared.number.EventHandle.{EventHandle}
 use Rattle.hla_retraction.specs.SentEvents.{SentEvent, no_event}
-use Rattle.hla_retraction.specs.Receivers.{receiver_set}
+use Rattle.hla_base.specs.FederateSets.{federate_set}
 use Rattle.hla_members.specs.declared.note.Note.{Note}
 
 -- nothing is noted of the messages from a serial on
@@ -11,7 +11,7 @@ abbrev pub IsUnsentFrom : (ℕ → SentEvent) → ℕ → Type 0
 IsUnsentFrom sent serial = (m : ℕ) → serial ≤ m → sent m ≡ no_event
 
 abbrev pub noted_event : Note → SentEvent
-noted_event note = record { stamp = note.stamp; retractable = true; retracted = false; receivers = receiver_set note.receivers }
+noted_event note = record { stamp = note.stamp; retractable = true; retracted = false; receivers = federate_set note.receivers }
 
 -- what each federate sent, with what is noted of one message of f
 abbrev pub with_noted : (ℕ → ℕ → SentEvent) → ℕ → Option Note → ℕ → ℕ → SentEvent

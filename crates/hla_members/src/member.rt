@@ -16,12 +16,13 @@ ghost use Rattle.hla_members.specs.MemberValue.{item};
 ghost use Rattle.hla_members.specs.Members.{carried_of, new_member, resigned_member, AreQuiet, MayArrive, HasAccepted};
 ghost use Rattle.hla_members.specs.Changes.{changed_local, local_unconstrained, peers_lowered, MayChange};
 ghost use Rattle.hla_members.specs.Members.{arrival_takes_memory};
+ghost use Rattle.hla_members.specs.Telling.{member_told, member_untold};
 
 use crate::change::Change;
 use crate::incoming::Incoming;
 use crate::messages::callback_of;
 use crate::note::Note;
-use hla_base::{Fault, FederateNo, List, Serial, Ticks};
+use hla_base::{Fault, FederateNo, List, Notice, Serial, Ticks};
 use hla_callbacks::Callback;
 use hla_local::Local;
 use hla_machine::Carried;
@@ -271,6 +272,27 @@ impl Member {
             peers_lowered peer epoch entry (peers_of self.old.shown.local.peers) }
     {
         self.local.lower(peer, epoch, entry);
+    }
+
+    /// It is to be told these, where it is joined; `OutOfMemory`, and all as it was, where a growth was refused.
+    pub fn tell(&mut self, notices: &[Notice]) -> Result<(), Fault>
+        ensures ok { OnOk result (self.new ≡ member_told notices.now self.old) }
+        ensures err { IfErr result (λ e. e ≡ Fault.OutOfMemory) }
+        ensures unchanged { OnErr result (self.new ≡ self.old) }
+    {
+        if !self.joined {
+            return Ok(());
+        }
+        self.local.tell(notices)
+    }
+
+    /// So many of what it may be given at any tick are taken back, the last first, where it is joined.
+    pub(crate) fn untell(&mut self, count: usize)
+        ensures { self.new ≡ member_untold count self.old }
+    {
+        if self.joined {
+            self.local.untell(count);
+        }
     }
 
     /// It resigns: what waits for it and what is under way to it is dropped.

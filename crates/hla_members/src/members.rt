@@ -41,7 +41,7 @@ use std::marker::Model;
 /// as tables by federate number, counted from 1.
 #[derive(Debug, Drop)]
 pub struct Members {
-    members: Vec<Member>,
+    pub(crate) members: Vec<Member>,
 }
 
 impl Model for Members {
@@ -372,7 +372,7 @@ impl Members {
     }
 
     /// Whether a federate is joined and another one than the sender.
-    fn is_other(&self, sender: FederateNo, peer: FederateNo) -> bool
+    pub(crate) fn is_other(&self, sender: FederateNo, peer: FederateNo) -> bool
         ensures { result ≡ is_other (members_of self.now.shown).joined sender peer }
     {
         sender != peer && self.is_joined(peer)

@@ -2,9 +2,9 @@
 
 ghost use Rattle.std.specs.Prelude.{◌≡◌};
 ghost use Rattle.hla_components.specs.Locals.{callback_given, carried_by};
-ghost use Rattle.hla_components.specs.Next.{carried_event, event_callback, delivery_of};
+ghost use Rattle.hla_components.specs.Next.{carried_event, event_callback, delivery_of, notice_callback};
 
-use hla_base::{Content, Event, EventHandle, FederateNo};
+use hla_base::{Content, Event, EventHandle, FederateNo, Notice, NoticeKind};
 use hla_callbacks::{Callback, Delivery};
 use hla_local::Picked;
 use hla_machine::Carried;
@@ -59,6 +59,7 @@ pub fn callback_of(picked: Picked) -> Option<Callback>
         Picked::Control(Control::ToRetract { event }) => Some(Callback::RequestRetraction {
             event,
         }),
+        Picked::Control(Control::ToTell { notice }) => Some(notice_callback(notice)),
         Picked::Received(event) => {
             let delivery = delivery_of(&event);
             Some(event_callback(delivery, event))
@@ -70,6 +71,23 @@ pub fn callback_of(picked: Picked) -> Option<Callback>
             event,
         )),
         Picked::Grant(time) => Some(Callback::TimeAdvanceGrant { time }),
+    }
+}
+
+/// The callback of what there is to be told of a synchronization point.
+fn notice_callback(notice: Notice) -> Callback
+    ensures { result ≡ notice_callback notice.kind notice.label }
+{
+    let label = notice.label;
+    match notice.kind {
+        NoticeKind::RegistrationSucceeded => {
+            Callback::SynchronizationPointRegistrationSucceeded { label }
+        }
+        NoticeKind::RegistrationFailed => Callback::SynchronizationPointRegistrationFailed {
+            label,
+        },
+        NoticeKind::Announced => Callback::AnnounceSynchronizationPoint { label },
+        NoticeKind::Synchronized => Callback::FederationSynchronized { label },
     }
 }
 

@@ -1,7 +1,6 @@
 //! What is noted of a message that may be retracted.
 
-use hla_base::{Serial, Ticks};
-use hla_retraction::Receivers;
+use hla_base::{FederateSet, Serial, Ticks};
 
 /// A message that its sender may retract: an update or an interaction in time-stamp order.
 #[derive(Debug, Drop)]
@@ -9,5 +8,5 @@ pub struct Note {
     pub serial: Serial,
     /// In ticks.
     pub stamp: Ticks,
-    pub receivers: Receivers,
+    pub receivers: FederateSet,
 }

@@ -1,6 +1,6 @@
 //! What a federate may be given at any tick.
 
-use hla_base::{Discovery, EventHandle, FederateNo};
+use hla_base::{Discovery, EventHandle, FederateNo, Notice};
 
 /// What a federate may be given at any tick, ahead of all messages.
 #[derive(Debug, Drop)]
@@ -13,5 +13,9 @@ pub enum Control {
     /// A message to take back that was picked up already.
     ToRetract {
         event: EventHandle,
+    },
+    /// What there is to be told of a synchronization point.
+    ToTell {
+        notice: Notice,
     },
 }

@@ -17,6 +17,8 @@ mod retraction;
 #[cfg(test)]
 mod shared_lists;
 #[cfg(test)]
+mod synchronization;
+#[cfg(test)]
 mod time_roles;
 #[cfg(test)]
 mod wires;

@@ -1,18 +1,18 @@
 ghost use Rattle.std.specs.Prelude.{◌<◌, ◌≤◌};
 
-use hla_base::{FederateNo, Serial, Ticks};
-use hla_retraction::{Receivers, Sent};
+use hla_base::{FederateNo, FederateSet, Serial, Ticks};
+use hla_retraction::Sent;
 use std::alloc::Global;
 use std::process::Abort;
 use std::test::Fail;
 
-fn pair(first: FederateNo, second: FederateNo) -> Receivers
+fn pair(first: FederateNo, second: FederateNo) -> FederateSet
     requires first_some { 0 < first }
     requires first_within { first ≤ 16 }
     requires second_some { 0 < second }
     requires second_within { second ≤ 16 }
 {
-    let mut receivers = Receivers::new();
+    let mut receivers = FederateSet::new();
     receivers.add(first);
     receivers.add(second);
     receivers
@@ -28,7 +28,7 @@ fn take_back(sent: &mut Sent, least: Ticks, serial: Serial) -> bool {
 }
 
 /// Which of the federates up to 39 receivers have, by a mask with a bit for each.
-fn mask(receivers: Receivers) -> u64 {
+fn mask(receivers: FederateSet) -> u64 {
     let mut mask = 0u64;
     for federate in 0..40u32 {
         if receivers.has(federate) {
@@ -40,7 +40,7 @@ fn mask(receivers: Receivers) -> u64 {
 
 #[test]
 fn receivers_are_those_that_were_added(rt: HostRuntime) {
-    let mut receivers = Receivers::new();
+    let mut receivers = FederateSet::new();
     receivers.add(16);
     let before = receivers;
     receivers.add(1);
@@ -97,7 +97,7 @@ fn a_message_is_retracted_once_and_keeps_its_receivers(rt: HostRuntime) -> Resul
 #[test]
 fn only_a_stamp_above_the_least_is_taken_back(rt: HostRuntime) -> Result<(), Fail> {
     let mut sent = Sent::new(rt.alloc());
-    sent.note(1, 20, Receivers::new())?;
+    sent.note(1, 20, FederateSet::new())?;
     let accepted = [
         sent.may_retract(true, 21, 1),
         sent.may_retract(true, 20, 1),

@@ -8,7 +8,7 @@ use Rattle.hla_base.specs.Tables.{upd, upd2, upd_row, upd_column, upd_new, upd_w
 use Rattle.hla_callbacks.specs.declared.callback.Callback.{Callback}
 use Rattle.hla_null_message.specs.declared.message.Message.{Message}
 use Rattle.hla_null_message.specs.declared.message.Message.TheVariants as message
-use Rattle.hla_order_queues.specs.declared.control.Control.TheVariants.{ToDiscover, ToRetract}
+use Rattle.hla_order_queues.specs.declared.control.Control.TheVariants.{ToDiscover, ToRetract, ToTell}
 use Rattle.hla_order_queues.specs.Queues.{insert_event, find_event, remove_event, least_ordered, handle_of, handles_of}
 use Rattle.hla_local.specs.Picking.{Pick, NoPick, PickControl, PickRo, PickRegulates, PickConstrains, PickTso, PickGrant}
 use Rattle.hla_machine.specs.declared.service.Service.TheVariants as service
@@ -66,6 +66,7 @@ still_tick s f (Some x) p e = refl
 still_tick s f None NoPick e = refl
 still_tick s f None (PickControl (ToDiscover from d) rest) e = absurd (cc)
 still_tick s f None (PickControl (ToRetract x) rest) e = absurd (cc)
+still_tick s f None (PickControl (ToTell n) rest) e = absurd (cc)
 still_tick s f None (PickRo x rest) e = absurd (cc)
 still_tick s f None PickRegulates e = absurd (cc)
 still_tick s f None PickConstrains e = absurd (cc)

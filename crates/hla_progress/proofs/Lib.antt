@@ -14,3 +14,5 @@ pub mod GettingOn
 pub mod Computed
 -- Two requests that hold each other hold others too
 pub mod Holding
+-- Synchronization points close once all have ticked and answered, and each member is told so
+pub mod Telling

@@ -14,3 +14,5 @@ pub mod GettingOn
 pub mod Examples
 -- Two requests that hold each other hold others too
 pub mod Holding
+-- What ticks bring of synchronization points, and when a point closes
+pub mod Synchronizing

@@ -7,3 +7,4 @@ pub mod creeping;
 pub mod examples;
 pub mod getting_on;
 pub mod promises;
+pub mod synchronizing;

@@ -175,7 +175,7 @@ time_service_of call.QueryMinNextEventTime = Some service.QueryMinNextEventTime
 time_service_of call.QueryLookahead = Some service.QueryLookahead
 time_service_of x = None
 
--- of objects and messages, or else of time
+-- of objects, messages and synchronization points, or else of time
 abbrev pub object_service_of : CatalogueValue → Call → Result (Option Service) Fault
 object_service_of c (call.Register name object) = optional_call (registration c name object)
 object_service_of c (call.Update object name values stamp) = optional_call (update_of c object name values stamp)
@@ -183,6 +183,8 @@ object_service_of c (call.Send name values stamp) = optional_call (interaction_o
 object_service_of c (call.Delete object stamp) = Ok (Some (service.DeleteObjectInstance (object_number object) stamp))
 object_service_of c (call.ChangeAttributeOrder object name order names) = optional_call (attribute_order_change c object name order names)
 object_service_of c (call.ChangeInteractionOrder name order) = optional_call (interaction_order_change c name order)
+object_service_of c (call.RegisterPoint label) = Ok (Some (service.RegisterFederationSynchronizationPoint label))
+object_service_of c (call.AchievePoint label) = Ok (Some (service.SynchronizationPointAchieved label))
 object_service_of c (call.ObjectHandle name) = Ok (Some (service.GetObjectInstanceHandle name))
 object_service_of c (call.ObjectName object) = Ok (Some (service.GetObjectInstanceName (object_number object)))
 object_service_of c x = Ok (time_service_of x)

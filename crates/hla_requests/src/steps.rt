@@ -232,7 +232,7 @@ fn time_service(call: &Call<'_>) -> Option<Service>
     }
 }
 
-/// The service of objects, messages or time that a federate calls, if it is one.
+/// The service of objects, messages, synchronization points or time that a federate calls, if it is one.
 fn object_service(
     alloc: Global,
     catalogue: &Catalogue,
@@ -266,6 +266,12 @@ fn object_service(
         Call::ChangeInteractionOrder { class, order } => {
             change_interaction_order(catalogue, class, *order)?
         }
+        Call::RegisterPoint { label } => Service::RegisterFederationSynchronizationPoint {
+            label: name_copy(alloc, label)?,
+        },
+        Call::AchievePoint { label } => Service::SynchronizationPointAchieved {
+            label: name_copy(alloc, label)?,
+        },
         Call::ObjectHandle { name } => Service::GetObjectInstanceHandle {
             name: name_copy(alloc, name)?,
         },

@@ -2,7 +2,5 @@
 mod RowLemmas
 -- What a binary search among the rows finds
 mod SearchLemmas
--- A set of federates after one was added
-mod ReceiverLemmas
 -- Where a table has nothing, for the next message
 pub mod FreeLemmas

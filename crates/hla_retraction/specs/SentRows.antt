@@ -2,11 +2,11 @@
 use Rattle.std.specs.Prelude.{◌≡◌, ℕ, ◌<◌, cond, eqb, true, false, List, [], ◌∷◌, length, slice_index_or}
 use Rattle.hla_retraction.specs.declared.sent.SentRow.{SentRow}
 use Rattle.hla_retraction.specs.SentEvents.{SentEvent, no_event}
-use Rattle.hla_retraction.specs.Receivers.{receiver_set}
+use Rattle.hla_base.specs.FederateSets.{federate_set}
 
 -- what a row keeps of its message
 abbrev pub row_event : SentRow → SentEvent
-row_event row = record { stamp = row.stamp; retractable = true; retracted = row.retracted; receivers = receiver_set row.receivers }
+row_event row = record { stamp = row.stamp; retractable = true; retracted = row.retracted; receivers = federate_set row.receivers }
 
 -- the message with a serial, where a row has it
 unfoldable pub sent_of : List SentRow → ℕ → SentEvent

@@ -6,11 +6,10 @@ ghost use Rattle.hla_base.specs.declared.row.TimeRow.{TimeRow};
 ghost use Rattle.hla_base.specs.Rows.{is_enabled, least_stamp};
 ghost use Rattle.hla_base.specs.Tables.{upd};
 ghost use Rattle.hla_retraction.specs.SentEvents.{no_event, may_retract};
-ghost use Rattle.hla_retraction.specs.Receivers.{receiver_set};
+ghost use Rattle.hla_base.specs.FederateSets.{federate_set};
 ghost use Rattle.hla_retraction.specs.SentRows.{sent_of, row_event, IsRowAt};
 
-use crate::receivers::Receivers;
-use hla_base::{Fault, FederateNo, Serial, Ticks};
+use hla_base::{Fault, FederateNo, FederateSet, Serial, Ticks};
 use std::alloc::Global;
 use std::marker::Model;
 
@@ -24,7 +23,7 @@ pub struct SentRow {
     /// Whether it was retracted.
     pub retracted: bool,
     /// To which federates it was sent.
-    pub receivers: Receivers,
+    pub receivers: FederateSet,
 }
 
 /// What one federate sent in time-stamp order and may take back (HLA 1.3, Retract). Contracts see the rows, by rising
@@ -59,13 +58,18 @@ impl Sent {
     /// A message was sent with this serial and this stamp, in ticks, to these receivers (HLA 1.3, Update Attribute Values
     /// and Send Interaction). `OutOfMemory`, and the table as it was, where a growth was refused. Over many calls the time
     /// of one is constant.
-    pub fn note(&mut self, serial: Serial, stamp: Ticks, receivers: Receivers) -> Result<(), Fault>
+    pub fn note(
+        &mut self,
+        serial: Serial,
+        stamp: Ticks,
+        receivers: FederateSet,
+    ) -> Result<(), Fault>
         requires { (m : ℕ) → serial ≤ m → sent_of self.old m ≡ no_event }
         ensures ok { OnOk result (sent_of self.new ≡ upd (sent_of self.old) serial (record {
           stamp = stamp;
           retractable = true;
           retracted = false;
-          receivers = receiver_set receivers;
+          receivers = federate_set receivers;
         })) }
         ensures err { IfErr result (λ e. e ≡ Fault.OutOfMemory) }
         ensures unchanged { OnErr result (self.new ≡ self.old) }

@@ -11,6 +11,7 @@ mod object_services;
 mod rti;
 mod seat;
 mod support_services;
+mod synchronization_services;
 mod time_services;
 
 pub use answers::Registration;

@@ -146,14 +146,28 @@ fn order_change(alloc: Global, random: &mut Random) -> Result<Service, Fault>
     })
 }
 
+/// A service about a synchronization point of one of two labels.
+fn synchronization_service(alloc: Global, random: &mut Random) -> Result<Service, Fault>
+    ensures { IfOk result (λ s. (f : ℕ) → IsPlain (step.Call f s)) }
+{
+    let mut label = List::new(alloc);
+    label.push(b'p'.wrapping_add(random.below(2).to_le_bytes()[0]))?;
+    if random.below(3) == 0 {
+        Ok(Service::RegisterFederationSynchronizationPoint { label })
+    } else {
+        Ok(Service::SynchronizationPointAchieved { label })
+    }
+}
+
 /// A service.
 fn made_service(alloc: Global, random: &mut Random) -> Result<Service, Fault>
     ensures { IfOk result (λ s. (f : ℕ) → IsPlain (step.Call f s)) }
 {
-    match random.below(5) {
+    match random.below(6) {
         0 => declaration(alloc, random),
         1 => Ok(time_service(random)),
         2 => order_change(alloc, random),
+        3 => synchronization_service(alloc, random),
         _ => object_service(alloc, random),
     }
 }

@@ -6,6 +6,7 @@ mod clocks;
 mod copies;
 mod members;
 mod object_books;
+mod point_books;
 mod receivers;
 mod service_books;
 mod texts;

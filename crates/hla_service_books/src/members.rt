@@ -1,6 +1,7 @@
 //! What the books keep of each federate, and of the wires between them.
 
 use crate::clocks::Clock;
+use crate::point_books::Tiding;
 use crate::receivers::Subscriptions;
 use crate::texts::{FOREVER, path_of};
 use std::alloc::{AllocError, Global};
@@ -15,9 +16,10 @@ struct Row {
 
 /// What a federate is told at any tick.
 #[derive(Clone, Copy)]
-pub enum Control {
+pub enum Control<'a> {
     Discovery { object: u32 },
     Retraction { sender: u32, serial: u32 },
+    Point { tiding: Tiding, label: &'a str },
 }
 
 /// A federate, by its number from 1 on.
@@ -32,7 +34,7 @@ pub struct BookedFederate<'a> {
     /// The interaction classes whose order it changed, whole paths, and whether they go in time-stamp order; the last counts.
     orders: Vec<(&'a str, bool)>,
     rows: Vec<Row>,
-    pub controls: Vec<Control>,
+    pub controls: Vec<Control<'a>>,
     /// The sender and the serial of what waits in receive order.
     pub received: Vec<(u32, u32)>,
     /// The stamp of what it was given last in time-stamp order, flushes left out.

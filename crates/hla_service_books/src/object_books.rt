@@ -136,6 +136,7 @@ impl<'a> Books<'a> {
         if let Some(member) = self.member_mut(federate) {
             member.leave();
         }
+        self.close_points()?;
         Ok(is_allowed)
     }
 

@@ -5,6 +5,7 @@
 use crate::clocks::Clock;
 use crate::copies::{BookedMessage, Copies, Said};
 use crate::members::{BookedFederate, Letter, Wires};
+use crate::point_books::BookedPoint;
 use crate::receivers::{Object, has_part};
 use crate::texts::{FOREVER, cut, handle, number, stamp_of};
 use std::alloc::{AllocError, Global};
@@ -28,6 +29,9 @@ pub struct Tally {
     pub refused: u32,
     /// Changes of orders.
     pub changed: u32,
+    /// How often a federate was told that the federation is synchronized, and how often an achievement was refused.
+    pub synchronized: u32,
+    pub unannounced: u32,
 }
 
 impl Tally {
@@ -43,6 +47,8 @@ impl Tally {
             ignored: 0,
             refused: 0,
             changed: 0,
+            synchronized: 0,
+            unannounced: 0,
         }
     }
 
@@ -57,6 +63,8 @@ impl Tally {
         self.ignored = self.ignored.saturating_add(other.ignored);
         self.refused = self.refused.saturating_add(other.refused);
         self.changed = self.changed.saturating_add(other.changed);
+        self.synchronized = self.synchronized.saturating_add(other.synchronized);
+        self.unannounced = self.unannounced.saturating_add(other.unannounced);
     }
 }
 
@@ -66,6 +74,8 @@ pub struct Books<'a> {
     pub alloc: Global,
     pub members: Vec<BookedFederate<'a>>,
     pub objects: Vec<Object>,
+    /// In order of opening.
+    pub points: Vec<BookedPoint<'a>>,
     pub copies: Copies<'a>,
     pub wires: Wires,
     pub tally: Tally,
@@ -78,6 +88,7 @@ impl<'a> Books<'a> {
             alloc,
             members: Vec::new(alloc),
             objects: Vec::new(alloc),
+            points: Vec::new(alloc),
             copies: Copies::new(alloc),
             wires: Wires::new(alloc),
             tally: Tally::new(),
@@ -148,6 +159,7 @@ impl<'a> Books<'a> {
             "create" | "destroy" => {
                 self.members.clear();
                 self.objects.clear();
+                self.points.clear();
                 self.copies.clear();
                 self.wires.clear();
                 Ok(said.is_empty())
@@ -199,6 +211,8 @@ impl<'a> Books<'a> {
             "attributeOrder" => self.may_refuse_attributes(federate, words, fault),
             "interactionOrder" => fault == 15,
             "retract" => fault == 33 && !self.may_retract(federate, handle(words)),
+            "syncRegister" => self.may_refuse_point(cut(words).0, fault),
+            "syncAchieve" => self.may_refuse_achievement(federate, cut(words).0, fault),
             _ => true,
         }
     }
@@ -234,6 +248,8 @@ impl<'a> Books<'a> {
                 self.change_interactions(federate, words)? && answer.is_empty(),
             ),
             "retract" => self.retract(federate, handle(words)),
+            "syncRegister" => Ok(self.register_point(federate, cut(words).0)? && answer.is_empty()),
+            "syncAchieve" => Ok(self.achieve_point(federate, cut(words).0)? && answer.is_empty()),
             "register" => self.register(federate, cut(words).0, number(cut(answer).0)),
             "resign" => self.resign(federate, words),
             "subscribeObject" => {
@@ -264,11 +280,12 @@ impl<'a> Books<'a> {
         Ok(true)
     }
 
-    /// A federate that joins knows at once what each other one announced last.
+    /// A federate that joins knows at once what each other one announced last, and is to be told of each open point.
     fn join(&mut self, name: &'a str, federate: u32) -> Result<bool, AllocError> {
         let mut newcomer = BookedFederate::new(self.alloc, federate, name);
         self.introduce(&mut newcomer)?;
         self.members.push(newcomer)?;
+        self.announce_points(federate)?;
         Ok(federate as usize == self.members.len())
     }
 

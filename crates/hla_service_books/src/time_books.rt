@@ -207,7 +207,7 @@ impl<'a> Books<'a> {
         let (kind, rest) = cut(callback);
         match self.due(federate) {
             Due::Nothing => Ok(callback == "nothing"),
-            Due::Control => Ok(self.control(federate, kind, rest)),
+            Due::Control => self.control(federate, callback),
             Due::Received => Ok(self.give_received(federate, callback)),
             Due::Regulation => Ok(kind == "regulationEnabled" && self.begin(federate, ticks(rest))),
             Due::Constraint => {
@@ -218,19 +218,26 @@ impl<'a> Books<'a> {
         }
     }
 
-    /// Discoveries and requests to take a message back come in the order of their arrival, each once.
-    fn control(&mut self, federate: u32, kind: &str, rest: &str) -> bool {
+    /// Discoveries, requests to take a message back and tidings of synchronization points come in the order of their arrival,
+    /// each once.
+    fn control(&mut self, federate: u32, callback: &str) -> Result<bool, AllocError> {
+        let (kind, rest) = cut(callback);
         let Some(member) = self.member_mut(federate) else {
-            return false;
+            return Ok(false);
         };
         if member.controls.is_empty() {
-            return false;
+            return Ok(false);
         }
         match member.controls.remove(0) {
-            Control::Discovery { object } => kind == "discover" && number(cut(rest).0) == object,
+            Control::Discovery { object } => {
+                Ok(kind == "discover" && number(cut(rest).0) == object)
+            }
             Control::Retraction { sender, serial } => {
                 self.tally.asked_back = self.tally.asked_back.saturating_add(1);
-                kind == "requestRetraction" && handle(rest) == (sender, serial)
+                Ok(kind == "requestRetraction" && handle(rest) == (sender, serial))
+            }
+            Control::Point { tiding, label } => {
+                self.note_tiding(federate, tiding, label, callback)
             }
         }
     }

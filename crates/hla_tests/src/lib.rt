@@ -7,6 +7,8 @@ mod federations;
 #[cfg(test)]
 mod forged_orders;
 #[cfg(test)]
+mod forged_points;
+#[cfg(test)]
 mod forged_services;
 #[cfg(test)]
 mod newcomer_run;

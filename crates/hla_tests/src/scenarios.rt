@@ -250,6 +250,40 @@ fn orders_that_change(rt: HostRuntime) -> Result<(), Fail> {
 }
 
 #[test]
+fn points_of_synchronization(rt: HostRuntime) -> Result<(), Fail> {
+    answers(
+        &rt,
+        rt.alloc(),
+        &[
+            ("create", "ok"),
+            ("join A", "ok 1"),
+            (
+                "A syncAchieve go",
+                "error 40 SynchronizationPointLabelWasNotAnnounced",
+            ),
+            ("A syncRegister go", "ok"),
+            ("A syncRegister go", "ok"),
+            ("A tick", "ok syncRegistered go"),
+            (
+                "A syncAchieve go",
+                "error 40 SynchronizationPointLabelWasNotAnnounced",
+            ),
+            ("A tick", "ok syncAnnounced go"),
+            ("A tick", "ok syncRefused go"),
+            ("A syncAchieve go", "ok"),
+            ("A syncRegister go", "ok"),
+            ("A tick", "ok synchronized go"),
+            ("A tick", "ok syncRegistered go"),
+            ("A resign NO_ACTION", "ok"),
+            ("join A", "ok 2"),
+            ("A tick", "ok nothing"),
+            ("A syncRegister go", "ok"),
+            ("A tick", "ok syncRegistered go"),
+        ],
+    )
+}
+
+#[test]
 fn names_of_those_that_resigned(rt: HostRuntime) -> Result<(), Fail> {
     answers(
         &rt,

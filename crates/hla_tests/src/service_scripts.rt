@@ -245,6 +245,38 @@ const ORDERS: &[&[&str]] = &[
 /// Of the scripts from this seed on, the orders change.
 const FIRST_OF_ORDERS: u64 = 3600;
 
+/// What happens where the federation synchronizes: points open, close and open again, and federates join and resign meanwhile.
+const POINTS: &[&[&str]] = &[
+    &["FEDERATE syncRegister LABEL", "FEDERATE tick"],
+    &["FEDERATE syncAchieve LABEL", "FEDERATE tick"],
+    &["A tick", "B tick", "C tick"],
+    &["A tick", "A tick", "A syncAchieve LABEL"],
+    &["B tick", "B tick", "B syncAchieve LABEL"],
+    &["C tick", "C tick", "C syncAchieve LABEL"],
+    &[
+        "A syncAchieve go",
+        "B syncAchieve go",
+        "C syncAchieve go",
+        "A tick",
+        "B tick",
+        "C tick",
+    ],
+    &[
+        "A syncRegister LABEL",
+        "B syncRegister LABEL",
+        "A tick",
+        "B tick",
+    ],
+    &["C resign DELETE_OBJECTS", "A tick", "B tick", "join C"],
+    &["join D", "D tick", "D syncAchieve LABEL", "D tick"],
+    &["D resign DELETE_OBJECTS", "A tick", "B tick"],
+    &["FEDERATE resign ACTION", "join NAME", "FEDERATE tick"],
+    &["FEDERATE register Car", "carry A B", "B syncAchieve LABEL"],
+];
+
+/// Of the scripts from this seed on, points of synchronization open and close.
+const FIRST_OF_POINTS: u64 = 3720;
+
 /// What a word of a line stands for; nothing for a word that stands for itself.
 fn texts_of(word: &str) -> &'static [&'static str] {
     match word {
@@ -263,6 +295,7 @@ fn texts_of(word: &str) -> &'static [&'static str] {
         "VALUES" => &["Pos=1", "Pos=2 Paint=red", "Paint=b", "privilegeToDelete=t"],
         "NUMBER" => &["1", "1", "2", "3"],
         "ORDER" => &["receive", "timestamp"],
+        "LABEL" => &["go", "go", "stop"],
         "CHANGED" => &["Pos", "Paint", "Pos Paint", "Paint privilegeToDelete"],
         "OBJECT" => &["x", "y", "object-1", "object-2"],
         "ACTION" => &["NO_ACTION", "DELETE_OBJECTS", "RELEASE_ATTRIBUTES"],
@@ -339,7 +372,7 @@ impl Author {
     }
 
     /// Adds the setting of a seed, and thirty-two things that happen, of which each fourth is a rare one, and in some scripts each
-    /// other fourth a change of orders.
+    /// other fourth a change of orders, or in others each other one something about points of synchronization.
     fn add_all(&mut self, seed: u64) -> Result<(), AllocError> {
         self.add_lines(&SETTING)?;
         match seed % 3 {
@@ -351,7 +384,8 @@ impl Author {
             self.now = place / 2;
             self.add_one(match place % 4 {
                 3 => RARE,
-                1 if seed >= FIRST_OF_ORDERS => ORDERS,
+                0 | 2 if seed >= FIRST_OF_POINTS => POINTS,
+                1 if (FIRST_OF_ORDERS..FIRST_OF_POINTS).contains(&seed) => ORDERS,
                 _ => COMMON,
             })?;
         }
@@ -447,5 +481,21 @@ fn keeps_the_books_where_orders_change(rt: HostRuntime) -> Result<(), Fail> {
     assert!(rt; all.changed >= 400, "only {} changed", all.changed);
     assert!(rt; all.picked >= 20, "only {} picked", all.picked);
     assert!(rt; all.refused >= 30, "only {} refused", all.refused);
+    Ok(())
+}
+
+#[test]
+fn keeps_the_books_where_the_federation_synchronizes(rt: HostRuntime) -> Result<(), Fail> {
+    let all = tally_scripts(&rt, rt.alloc(), FIRST_OF_POINTS..FIRST_OF_POINTS + 120)?;
+    assert!(rt;
+        all.synchronized >= 100,
+        "only {} synchronized",
+        all.synchronized
+    );
+    assert!(rt;
+        all.unannounced >= 200,
+        "only {} unannounced",
+        all.unannounced
+    );
     Ok(())
 }

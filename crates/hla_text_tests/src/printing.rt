@@ -181,6 +181,27 @@ fn prints_a_removal_and_a_retraction(rt: HostRuntime) -> Result<(), Fail> {
 }
 
 #[test]
+fn prints_callbacks_of_synchronization(rt: HostRuntime) -> Result<(), Fail> {
+    let alloc = rt.alloc();
+    let registered = Callback::SynchronizationPointRegistrationSucceeded {
+        label: SharedList::from_slice(alloc, b"go")?,
+    };
+    check_callback(&rt, alloc, registered, "7 ok syncRegistered go\n")?;
+    let refused = Callback::SynchronizationPointRegistrationFailed {
+        label: SharedList::from_slice(alloc, b"go")?,
+    };
+    check_callback(&rt, alloc, refused, "7 ok syncRefused go\n")?;
+    let announced = Callback::AnnounceSynchronizationPoint {
+        label: SharedList::from_slice(alloc, b"go")?,
+    };
+    check_callback(&rt, alloc, announced, "7 ok syncAnnounced go\n")?;
+    let synchronized = Callback::FederationSynchronized {
+        label: SharedList::from_slice(alloc, b"go")?,
+    };
+    check_callback(&rt, alloc, synchronized, "7 ok synchronized go\n")
+}
+
+#[test]
 fn prints_callbacks_of_time(rt: HostRuntime) -> Result<(), Fail> {
     let regulation = Callback::TimeRegulationEnabled { time: 0 };
     check_callback(&rt, rt.alloc(), regulation, "7 ok regulationEnabled 0\n")?;

@@ -12,7 +12,7 @@ fn fault_of(alloc: Global, text: &[u8]) -> (usize, &'static str) {
 }
 
 /// Scripts, and the line and the name of the first fault of each.
-const FAULTS: [(&str, usize, &str); 50] = [
+const FAULTS: [(&str, usize, &str); 54] = [
     ("create\ncreate x", 2, "ExtraWord"),
     ("\n\n # x", 3, "UnknownWord"),
     ("join", 1, "MissingWord"),
@@ -54,6 +54,10 @@ const FAULTS: [(&str, usize, &str); 50] = [
     ("A interactionOrder Hit", 1, "MissingWord"),
     ("A interactionOrder Hit time-stamp", 1, "BadWord"),
     ("A interactionOrder Hit receive x", 1, "ExtraWord"),
+    ("A syncRegister", 1, "MissingWord"),
+    ("A syncRegister go on", 1, "ExtraWord"),
+    ("A syncAchieve", 1, "MissingWord"),
+    ("A syncAchieve go on", 1, "ExtraWord"),
     ("A objectHandle", 1, "MissingWord"),
     ("A objectName /", 1, "BadNumber"),
     ("A objectName 1 2", 1, "ExtraWord"),
@@ -145,7 +149,7 @@ fn finds_faults_of_time_management(rt: HostRuntime) {
 }
 
 /// Scripts with no fault, and how many lines with a command each has.
-const SCRIPTS: [(&str, usize); 18] = [
+const SCRIPTS: [(&str, usize); 19] = [
     ("", 0usize),
     ("\r\n \t\n#A \n", 0),
     ("create\r\n\tjoin\tA \n", 2),
@@ -165,6 +169,7 @@ const SCRIPTS: [(&str, usize); 18] = [
         "A interactionOrder Hit receive\nA interactionOrder Hit timestamp",
         2,
     ),
+    ("A syncRegister go\nA syncAchieve syncRegister", 2),
     ("announce A\nannounce tick\njoin time", 3),
     ("A regulate 0 18446744073709551615\nA unregulate", 2),
     ("A constrain\nA unconstrain", 2),

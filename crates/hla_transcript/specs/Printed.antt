@@ -48,6 +48,10 @@ callback_text c (callback.TimeRegulationEnabled time) = codes " regulationEnable
 callback_text c (callback.TimeConstrainedEnabled time) = codes " constrainedEnabled " ++ decimal time
 callback_text c (callback.TimeAdvanceGrant time) = codes " grant " ++ decimal time
 callback_text c (callback.RequestRetraction event) = codes " requestRetraction " ++ event_text event
+callback_text c (callback.SynchronizationPointRegistrationSucceeded label) = codes " syncRegistered " ++ label
+callback_text c (callback.SynchronizationPointRegistrationFailed label) = codes " syncRefused " ++ label
+callback_text c (callback.AnnounceSynchronizationPoint label) = codes " syncAnnounced " ++ label
+callback_text c (callback.FederationSynchronized label) = codes " synchronized " ++ label
 
 -- what a carry took from its wire, behind a space
 abbrev pub carried_text : Carried → List ℕ

@@ -116,6 +116,22 @@ pub fn callback(text: &mut Text, catalogue: &Catalogue, callback: &Callback) -> 
         ),
         Callback::TimeAdvanceGrant { time } => text.word_and_number(" grant ", *time),
         Callback::RequestRetraction { event } => text.word_and_event(" requestRetraction ", *event),
+        Callback::SynchronizationPointRegistrationSucceeded { label } => text.word_and_bytes(
+            " syncRegistered ",
+            label.as_slice(),
+        ),
+        Callback::SynchronizationPointRegistrationFailed { label } => text.word_and_bytes(
+            " syncRefused ",
+            label.as_slice(),
+        ),
+        Callback::AnnounceSynchronizationPoint { label } => text.word_and_bytes(
+            " syncAnnounced ",
+            label.as_slice(),
+        ),
+        Callback::FederationSynchronized { label } => text.word_and_bytes(
+            " synchronized ",
+            label.as_slice(),
+        ),
     }
 }
 

@@ -4,3 +4,5 @@ pub mod Ticks
 pub mod Messages
 -- What tests of a discovery tell
 pub mod Discoveries
+-- What tests of what is told of synchronization points tell
+pub mod Notices

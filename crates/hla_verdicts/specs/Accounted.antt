@@ -1,6 +1,7 @@
 -- What tests of accounts alone tell, whatever the directory says besides
 use Rattle.std.specs.Prelude.{ℕ, ◌≡◌, Some, List}
-use Rattle.hla_machine.specs.Directory.{Directory}
+use Rattle.hla_synchronization.specs.Points.{Point}
+use Rattle.hla_machine.specs.Directory.{Directory, with_points}
 use Rattle.hla_callbacks.specs.declared.callback.Callback.{Callback}
 use Rattle.hla_machine.specs.Central.{Central}
 use Rattle.hla_machine.specs.Callbacks.{MayPickUp, after_pick}
@@ -15,6 +16,10 @@ use Rattle.hla_verdicts.specs.Verdicts.{Judged}
 
 abbrev pub JudgedWith : Directory → List Account → Step → Outcome → Choice → List Account → Verdict → Type 0
 JudgedWith d old step out o new verdict = Judged (Allowed (central_with d old) step out o) (central_with d new ≡ after (central_with d old) step out o) verdict
+
+-- likewise where the open points may change
+abbrev pub JudgedAmong : Directory → List Account → Step → Outcome → Choice → List Point → List Account → Verdict → Type 0
+JudgedAmong d old step out o points new verdict = Judged (Allowed (central_with d old) step out o) (central_with (with_points d points) new ≡ after (central_with d old) step out o) verdict
 
 abbrev pub JudgedPick : Central → ℕ → Callback → Choice → Central → Verdict → Type 0
 JudgedPick c f k o d verdict = Judged (MayPickUp c f k o × IsCallbackChoice (Some k) o) (d ≡ after_pick c f k o) verdict

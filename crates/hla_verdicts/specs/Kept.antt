@@ -5,7 +5,9 @@ use Rattle.hla_declaration.specs.Lists.{DeclarationLists}
 use Rattle.hla_declaration.specs.Declarations as declared
 use Rattle.hla_declaration.specs.Declarations.{DeclarationsValue}
 use Rattle.hla_object_registry.specs.Registered.{Registered, RegistryValue, registry_of}
-use Rattle.hla_machine.specs.Directory.{Directory}
+use Rattle.hla_synchronization.specs.declared.open_points.OpenPoint.{OpenPoint}
+use Rattle.hla_synchronization.specs.OpenPoints.{points_of}
+use Rattle.hla_machine.specs.Directory.{Directory, with_points}
 use Rattle.hla_machine.specs.Central.{Central}
 use Rattle.hla_machine.specs.Machine.{Allowed, after}
 use Rattle.hla_machine.specs.declared.step.Step.{Step}
@@ -22,8 +24,9 @@ pub record KeptValue : Type 0 where
   pub declarations : DeclarationLists
   pub objects : List Registered  -- by number, counted from 1
   pub accounts : List Account  -- by number, counted from 1
+  pub points : List OpenPoint  -- in order of opening
 
--- the directory, but for who has joined, which the accounts say
+-- the directory, but for who has joined, which the accounts say, and for the open points
 abbrev pub directory_kept : CatalogueValue → DeclarationsValue → RegistryValue → Directory
 directory_kept c d r = record {
   catalogue = c;
@@ -39,10 +42,15 @@ directory_kept c d r = record {
   object = r.object;
   known = r.known;
   attribute_orders = r.orders;
+  points = [];
 }
 
+-- with other declarations and objects
+abbrev pub directory_with : KeptValue → DeclarationsValue → RegistryValue → Directory
+directory_with v d r = with_points (directory_kept v.catalogue d r) (points_of v.points)
+
 abbrev pub directory_of : KeptValue → Directory
-directory_of v = directory_kept v.catalogue (declared.declarations_of v.declarations) (registry_of v.objects)
+directory_of v = directory_with v (declared.declarations_of v.declarations) (registry_of v.objects)
 
 abbrev pub central_of : KeptValue → Central
 central_of v = central_with (directory_of v) v.accounts

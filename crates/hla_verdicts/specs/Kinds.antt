@@ -32,14 +32,26 @@ IsOtherCall (service.SendInteraction class values stamp) = Unit {0}
 IsOtherCall (service.DeleteObjectInstance object stamp) = Unit {0}
 IsOtherCall (service.ChangeAttributeOrderType object attributes order) = Unit {0}
 IsOtherCall (service.ChangeInteractionOrderType class order) = Unit {0}
+IsOtherCall (service.RegisterFederationSynchronizationPoint label) = Unit {0}
+IsOtherCall (service.SynchronizationPointAchieved label) = Unit {0}
 IsOtherCall (service.Retract event) = Unit {0}
 IsOtherCall (service.EnableTimeRegulation time lookahead) = Unit {0}
 IsOtherCall service.DisableTimeConstrained = Unit {0}
 IsOtherCall s = IsLookUpCall s
 
--- the callbacks that bring no message with values and no discovery
+-- the calls that register or achieve a synchronization point
+abbrev pub IsPointCall : Service → Type 0
+IsPointCall (service.RegisterFederationSynchronizationPoint label) = Unit {0}
+IsPointCall (service.SynchronizationPointAchieved label) = Unit {0}
+IsPointCall s = ⊥
+
+-- the callbacks that bring no message with values, no discovery, and nothing of synchronization points
 abbrev pub IsPlainPick : Callback → Type 0
 IsPlainPick (callback.DiscoverObjectInstance object class name) = ⊥
 IsPlainPick (callback.ReflectAttributeValues object values event delivery) = ⊥
 IsPlainPick (callback.ReceiveInteraction class values event delivery) = ⊥
+IsPlainPick (callback.SynchronizationPointRegistrationSucceeded label) = ⊥
+IsPlainPick (callback.SynchronizationPointRegistrationFailed label) = ⊥
+IsPlainPick (callback.AnnounceSynchronizationPoint label) = ⊥
+IsPlainPick (callback.FederationSynchronized label) = ⊥
 IsPlainPick k = Unit {0}

@@ -10,6 +10,8 @@ pub mod Accounted
 pub mod RowServices
 -- Queries of a federate's times
 pub mod Queries
+-- What callbacks tell of synchronization points
+pub mod Notices
 -- Which calls and callbacks a test is for
 pub mod Kinds
 -- What calls of directory services choose and answer, and what is told of them

@@ -14,6 +14,7 @@ mod queries;
 mod regulating;
 mod retracting;
 mod row_services;
+mod telling;
 mod ticking;
 mod unconstraining;
 mod verdict;

@@ -62,6 +62,8 @@ pub fn time_query_of(service: &Service) -> Option<Query>
         | Service::DeleteObjectInstance { .. }
         | Service::ChangeAttributeOrderType { .. }
         | Service::ChangeInteractionOrderType { .. }
+        | Service::RegisterFederationSynchronizationPoint { .. }
+        | Service::SynchronizationPointAchieved { .. }
         | Service::Retract { .. }
         | Service::EnableTimeRegulation { .. }
         | Service::DisableTimeConstrained

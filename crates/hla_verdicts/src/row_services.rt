@@ -61,6 +61,8 @@ pub fn row_change_of(service: &Service) -> Option<RowChange>
         | Service::DeleteObjectInstance { .. }
         | Service::ChangeAttributeOrderType { .. }
         | Service::ChangeInteractionOrderType { .. }
+        | Service::RegisterFederationSynchronizationPoint { .. }
+        | Service::SynchronizationPointAchieved { .. }
         | Service::Retract { .. }
         | Service::EnableTimeRegulation { .. }
         | Service::DisableTimeConstrained

@@ -1,11 +1,12 @@
 //! Whether the central machine allows a tick.
 
-ghost use Rattle.std.specs.Prelude.{◌≡◌, ◌≤◌, true, length, IfOk, IfErr};
+ghost use Rattle.std.specs.Prelude.{◌≡◌, ◌≤◌, None, true, length, IfOk, IfErr};
 ghost use Rattle.hla_base.specs.declared.fault.Fault.TheVariants.{OutOfMemory};
 ghost use Rattle.std.specs.Bool.{Decides};
 ghost use Rattle.hla_base.specs.Rows.{is_pending, RowNumbers};
 ghost use Rattle.hla_object_registry.specs.Registered.{registry_of};
-ghost use Rattle.hla_machine.specs.Directory.{Directory};
+ghost use Rattle.hla_synchronization.specs.OpenPoints.{points_of};
+ghost use Rattle.hla_machine.specs.Directory.{Directory, with_points};
 ghost use Rattle.hla_machine.specs.Callbacks.{MayGrant, WhileAdvancing};
 ghost use Rattle.hla_machine.specs.Machine.{IsChoice, MayDo, after_done};
 ghost use Rattle.hla_machine.specs.declared.step.Outcome.TheVariants as outcomes;
@@ -13,19 +14,22 @@ ghost use Rattle.hla_machine.specs.declared.step.Step.TheVariants as steps;
 ghost use Rattle.hla_callbacks.specs.declared.callback.Callback.TheVariants as callbacks;
 ghost use Rattle.hla_accounts.specs.Accounts.{account_at, central_with};
 ghost use Rattle.hla_verdicts.specs.Kinds.{IsPlainPick};
-ghost use Rattle.hla_verdicts.specs.Accounted.{JudgedPick, JudgedWith};
+ghost use Rattle.hla_verdicts.specs.Accounted.{JudgedAmong, JudgedPick};
+ghost use Rattle.hla_verdicts.specs.Notices.{notice_in};
 ghost use Rattle.hla_verdicts.specs.Verdicts.{Judged};
 
 use crate::constraining::judge_constraint;
 use crate::discovering::judge_discovery;
 use crate::giving::{judge_interaction, judge_reflection, judge_removal};
 use crate::outcomes::is_nothing;
+use crate::telling::{judge_notice, notice_in};
 use crate::verdict::Verdict;
 use hla_accounts::{Accounts, RowChange};
 use hla_base::{EventHandle, Fault, FederateNo, Ticks};
 use hla_callbacks::Callback;
 use hla_machine::{Answer, Choice, Outcome};
 use hla_object_registry::Registry;
+use hla_synchronization::OpenPoints;
 use hla_time_roles::TimeState;
 
 /// The numbers of a federate's row are within the limits. It does nothing.
@@ -173,12 +177,16 @@ fn judge_plain_pick(
         } => judge_removal(accounts, federate, *object, *event, *delivery, choice),
         Callback::DiscoverObjectInstance { .. }
         | Callback::ReflectAttributeValues { .. }
-        | Callback::ReceiveInteraction { .. } => unreachable!(),
+        | Callback::ReceiveInteraction { .. }
+        | Callback::SynchronizationPointRegistrationSucceeded { .. }
+        | Callback::SynchronizationPointRegistrationFailed { .. }
+        | Callback::AnnounceSynchronizationPoint { .. }
+        | Callback::FederationSynchronized { .. } => unreachable!(),
     }
 }
 
-/// Whether a joined federate may be given a callback with this choice; where it may, it has picked it up. The registry says
-/// whose an object is. `OutOfMemory` where a growth was refused.
+/// Whether a joined federate may be given a callback that tells nothing of synchronization points, with this choice; where it
+/// may, it has picked it up. The registry says whose an object is. `OutOfMemory` where a growth was refused.
 fn judge_pick(
     accounts: &mut Accounts,
     registry: &Registry,
@@ -186,7 +194,8 @@ fn judge_pick(
     callback: &Callback,
     choice: &Choice,
 ) -> Result<Verdict, Fault>
-    requires { (account_at accounts.old federate).is_joined ≡ true }
+    requires joined { (account_at accounts.old federate).is_joined ≡ true }
+    requires untold { notice_in callback.now ≡ None }
     ensures ok { IfOk result
         (λ v. (d : Directory) → d.object ≡ (registry_of registry.now).object
         → JudgedPick (central_with d accounts.old) federate callback.now choice.now
@@ -234,6 +243,39 @@ fn judge_pick(
         | Callback::RequestRetraction { .. } => {
             Ok(judge_plain_pick(accounts, federate, callback, choice))
         }
+        Callback::SynchronizationPointRegistrationSucceeded { .. }
+        | Callback::SynchronizationPointRegistrationFailed { .. }
+        | Callback::AnnounceSynchronizationPoint { .. }
+        | Callback::FederationSynchronized { .. } => unreachable!(),
+    }
+}
+
+/// Whether a joined federate may be given a callback with this choice; where it may, it has picked it up. The registry says
+/// whose an object is. `OutOfMemory` where a growth was refused.
+fn judge_callback(
+    accounts: &mut Accounts,
+    points: &mut OpenPoints,
+    registry: &Registry,
+    federate: FederateNo,
+    callback: &Callback,
+    choice: &Choice,
+) -> Result<Verdict, Fault>
+    requires { (account_at accounts.old federate).is_joined ≡ true }
+    ensures ok { IfOk result
+        (λ v. (d : Directory) → d.object ≡ (registry_of registry.now).object
+        → d.points ≡ points_of points.old
+        → JudgedPick (central_with d accounts.old) federate callback.now choice.now
+        (central_with (with_points d (points_of points.new)) accounts.new) v) }
+    ensures err { IfErr result (λ e. e ≡ Fault.OutOfMemory) }
+    ensures size { length accounts.new ≡ length accounts.old }
+{
+    let told = notice_in(callback)?;
+    match told {
+        Some(notice) => Ok(judge_notice(accounts, points, federate, &notice, choice)),
+        None => {
+            let verdict = judge_pick(accounts, registry, federate, callback, choice)?;
+            Ok(verdict)
+        }
     }
 }
 
@@ -241,6 +283,7 @@ fn judge_pick(
 /// `OutOfMemory` where a growth was refused.
 fn judge_answer(
     accounts: &mut Accounts,
+    points: &mut OpenPoints,
     registry: &Registry,
     federate: FederateNo,
     answer: &Answer,
@@ -249,10 +292,11 @@ fn judge_answer(
     requires { (account_at accounts.old federate).is_joined ≡ true }
     ensures ok { IfOk result
         (λ v. (d : Directory) → d.object ≡ (registry_of registry.now).object
+        → d.points ≡ points_of points.old
         → let c = central_with d accounts.old in Judged
         (MayDo c (steps.Tick federate) answer.now choice.now
         × IsChoice (steps.Tick federate) (outcomes.Done answer.now) choice.now)
-        (central_with d accounts.new
+        (central_with (with_points d (points_of points.new)) accounts.new
         ≡ after_done c (steps.Tick federate) answer.now choice.now) v) }
     ensures err { IfErr result (λ e. e ≡ Fault.OutOfMemory) }
     ensures size { length accounts.new ≡ length accounts.old }
@@ -260,7 +304,9 @@ fn judge_answer(
     match answer {
         Answer::Ticked(told) => match told {
             Some(callback) => {
-                let verdict = judge_pick(accounts, registry, federate, callback, choice)?;
+                let verdict = judge_callback(
+                    accounts, points, registry, federate, callback, choice,
+                )?;
                 Ok(verdict)
             }
             None => Ok(Verdict::of(is_nothing(choice))),
@@ -278,16 +324,19 @@ fn judge_answer(
 }
 
 /// Whether the machine allows a tick that ended so and chose this; where it does, its callback has been picked up.
-/// `OutOfMemory` where a growth was refused; nothing is said of the accounts then.
+/// `OutOfMemory` where a growth was refused; nothing is said of the accounts and of the points then.
 pub fn judge_tick(
     accounts: &mut Accounts,
+    points: &mut OpenPoints,
     registry: &Registry,
     federate: FederateNo,
     outcome: &Outcome,
     choice: &Choice,
 ) -> Result<Verdict, Fault>
-    ensures ok { IfOk result (λ v. (d : Directory) → d.object ≡ (registry_of registry.now).object →
-        JudgedWith d accounts.old (steps.Tick federate) outcome.now choice.now accounts.new v) }
+    ensures ok { IfOk result (λ v. (d : Directory) → d.object ≡ (registry_of registry.now).object
+        → d.points ≡ points_of points.old
+        → JudgedAmong d accounts.old (steps.Tick federate) outcome.now choice.now
+        (points_of points.new) accounts.new v) }
     ensures err { IfErr result (λ e. e ≡ Fault.OutOfMemory) }
     ensures size { length accounts.new ≡ length accounts.old }
 {
@@ -302,14 +351,16 @@ pub fn judge_tick(
         Outcome::Failed(callback) => match fault {
             Some(_) => Ok(Verdict::Wrong),
             None => {
-                let verdict = judge_pick(accounts, registry, federate, callback, choice)?;
+                let verdict = judge_callback(
+                    accounts, points, registry, federate, callback, choice,
+                )?;
                 Ok(verdict)
             }
         },
         Outcome::Done(answer) => match fault {
             Some(_) => Ok(Verdict::Wrong),
             None => {
-                let verdict = judge_answer(accounts, registry, federate, answer, choice)?;
+                let verdict = judge_answer(accounts, points, registry, federate, answer, choice)?;
                 Ok(verdict)
             }
         },

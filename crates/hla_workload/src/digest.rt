@@ -118,6 +118,10 @@ impl Digest {
             | Callback::TimeConstrainedEnabled { time }
             | Callback::TimeAdvanceGrant { time } => self.add(*time),
             Callback::RequestRetraction { event } => self.add_event(*event),
+            Callback::SynchronizationPointRegistrationSucceeded { label }
+            | Callback::SynchronizationPointRegistrationFailed { label }
+            | Callback::AnnounceSynchronizationPoint { label }
+            | Callback::FederationSynchronized { label } => self.add_bytes(label.as_slice()),
         }
     }
 

@@ -128,4 +128,37 @@ impl FederateAmbassador for Faltering {
         let heard = self.recorder.request_retraction(event);
         self.answer(heard)
     }
+
+    fn synchronization_point_registration_succeeded(
+        &mut self,
+        label: SharedList<u8>,
+    ) -> Result<(), FederateFault> {
+        let heard = self
+            .recorder
+            .synchronization_point_registration_succeeded(label);
+        self.answer(heard)
+    }
+
+    fn synchronization_point_registration_failed(
+        &mut self,
+        label: SharedList<u8>,
+    ) -> Result<(), FederateFault> {
+        let heard = self
+            .recorder
+            .synchronization_point_registration_failed(label);
+        self.answer(heard)
+    }
+
+    fn announce_synchronization_point(
+        &mut self,
+        label: SharedList<u8>,
+    ) -> Result<(), FederateFault> {
+        let heard = self.recorder.announce_synchronization_point(label);
+        self.answer(heard)
+    }
+
+    fn federation_synchronized(&mut self, label: SharedList<u8>) -> Result<(), FederateFault> {
+        let heard = self.recorder.federation_synchronized(label);
+        self.answer(heard)
+    }
 }

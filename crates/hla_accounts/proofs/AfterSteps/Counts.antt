@@ -63,6 +63,7 @@ module _ (d : Directory) (accounts : List Account) (f : ℕ) (some : 0 < f) (wit
         sent = field_same accounts f some within a (λ x. sent_of x.sent) refl i;
         owed = λ g m. field accounts f some within a (λ x. times_listed x.owed g m) i;
         due = λ g m. field_same accounts f some within a (λ x. times_listed x.due g m) refl i;
+        notices = field_same accounts f some within a (λ x. x.notices) refl i;
       }
 
   -- one retraction more

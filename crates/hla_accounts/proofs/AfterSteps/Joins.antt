@@ -1,5 +1,5 @@
 -- The accounts after a federate joins or leaves
-use Rattle.std.proofs.Common.{◌≡◌, ◌≢◌, ℕ, zero, suc, ◌+◌, ◌-◌, ◌<◌, ◌≤◌, cond, eqb, true, false, List, [], ◌∷◌, ◌++◌, length, length-set, set, get_or, None, option_map, refl, sym, ap, ◌∙◌, ⊎_elim, subst, arith}
+use Rattle.std.proofs.Common.{◌≡◌, ◌≢◌, ℕ, zero, suc, ◌+◌, ◌-◌, ◌<◌, ◌≤◌, cond, eqb, true, false, List, [], ◌∷◌, ◌++◌, length, length-set, set, get_or, map, None, option_map, refl, sym, ap, ◌∙◌, ⊎_elim, subst, arith}
 use Rattle.std.proofs.lemmas.Bool.{cases_eq, cases_lt}
 use Rattle.std.proofs.lemmas.Bool.Decides.{nat_tests}
 use Rattle.std.proofs.lemmas.List.{length-append, get_or_append_left, get_or_past}
@@ -13,12 +13,16 @@ use Rattle.hla_retraction.specs.declared.sent.SentRow.{SentRow}
 use Rattle.hla_retraction.specs.SentEvents.{no_event}
 use Rattle.hla_retraction.specs.SentRows.{sent_of}
 use Rattle.hla_machine.specs.Directory.{Directory, without_member}
-use Rattle.hla_machine.specs.Machine.{after_join, after_leaving}
+use Rattle.hla_machine.specs.Machine.{after_join}
 use Rattle.hla_accounts.specs.declared.account.Account.{Account}
+use Rattle.hla_base.specs.declared.notice.Notice.{Notice}
+use Rattle.hla_synchronization.specs.Points.{announcement_of}
 use Rattle.hla_accounts.specs.Bags.{waiting_at, AreApart}
+use Rattle.hla_accounts.specs.Notices.{without_federate}
 use Rattle.hla_accounts.specs.Accounts.{AreKept, account_at, no_account, central_with, copy_at, copy_of, offers_from, times_listed}
 use Rattle.hla_accounts.proofs.AfterSteps.Accounts.{account_at-past, nothing_sent}
 use Rattle.hla_accounts.proofs.Bags.Contents.{waiting_at-nil}
+use Rattle.hla_accounts.proofs.AfterSteps.Notices.{notices_added}
 use Rattle.hla_accounts.proofs.AfterSteps.OneAccount.{fields, field, field_same, kept_changed, upd_itself, upd_read}
 
 no_copy : (g m : ℕ) → copy_at [] g m ≡ None
@@ -31,10 +35,10 @@ never_listed g m = refl
 -- ---- leaving
 -- an account of one that has left
 abbrev pub left : Account → Account
-left x = record x { is_joined = false; state = new_row; bag = []; offers = []; owed = []; due = [] }
+left x = record x { is_joined = false; state = new_row; bag = []; offers = []; owed = []; due = []; notices = [] }
 
 module _ (d : Directory) (accounts : List Account) (f : ℕ) (some : 0 < f) (within : f ≤ length accounts) where
-  left_changed : central_with (without_member d f) (set accounts (f - 1) (left (account_at accounts f))) ≡ after_leaving (central_with d accounts) f
+  left_changed : central_with (without_member d f) (set accounts (f - 1) (left (account_at accounts f))) ≡ without_federate (central_with d accounts) f
   left_changed =
       let a : Account = left (account_at accounts f) in
       λ i. record {
@@ -50,9 +54,10 @@ module _ (d : Directory) (accounts : List Account) (f : ℕ) (some : 0 < f) (wit
         sent = field_same accounts f some within a (λ x. sent_of x.sent) refl i;
         owed = λ g m. (field accounts f some within a (λ x. times_listed x.owed g m) ∙ ap (upd (λ h. times_listed (account_at accounts h).owed g m) f) (never_listed g m)) i;
         due = λ g m. (field accounts f some within a (λ x. times_listed x.due g m) ∙ ap (upd (λ h. times_listed (account_at accounts h).due g m) f) (never_listed g m)) i;
+        notices = field accounts f some within a (λ x. x.notices) i;
       }
 
-  pub left_set : (x a : Account) → x ≡ account_at accounts f → a ≡ left x → central_with (without_member d f) (set accounts (f - 1) a) ≡ after_leaving (central_with d accounts) f
+  pub left_set : (x a : Account) → x ≡ account_at accounts f → a ≡ left x → central_with (without_member d f) (set accounts (f - 1) a) ≡ without_federate (central_with d accounts) f
   left_set x a is gone = ap (λ (a : Account). central_with (without_member d f) (set accounts (f - 1) a)) (gone ∙ ap left is) ∙ left_changed
 
 pub left_kept : (accounts : List Account) (f : ℕ) → 0 < f → f ≤ length accounts → AreKept accounts → (x a : Account) → x ≡ account_at accounts f → a ≡ left x → AreKept (set accounts (f - 1) a)
@@ -81,8 +86,8 @@ account_at-push accounts a = fun_ext (λ g. at g)
             (cases_lt k (length accounts))
 
 -- the account of a newcomer
-abbrev pub newcomer : List ℕ → List SentRow → Account
-newcomer name sent = record { name = name; is_joined = true; state = new_row; next_serial = 1; sent = sent; bag = []; offers = []; owed = []; due = [] }
+abbrev pub newcomer : List ℕ → List SentRow → List Notice → Account
+newcomer name sent notices = record { name = name; is_joined = true; state = new_row; next_serial = 1; sent = sent; bag = []; offers = []; owed = []; due = []; notices = notices }
 
 module _ (accounts : List Account) (a : Account) where
   pushed : {Y : Type 0} (p : Account → Y) → fields p (accounts ++ a ∷ []) ≡ upd (fields p accounts) (length accounts + 1) (p a)
@@ -96,9 +101,17 @@ module _ (accounts : List Account) (a : Account) where
 sends_nothing : (sent : List SentRow) → sent_of sent ≡ (λ _. no_event) → sent_of sent ≡ sent_of []
 sends_nothing sent unsent = unsent ∙ fun_ext (λ m. sym (nothing_sent m))
 
-pub joined_set : (d : Directory) (accounts : List Account) (name : List ℕ) (sent : List SentRow) → sent_of sent ≡ (λ _. no_event) → central_with d (accounts ++ newcomer name sent ∷ []) ≡ after_join (central_with d accounts) name
-joined_set d accounts name sent unsent =
-    let a : Account = newcomer name sent in
+-- what a newcomer is to be told
+told_newcomer : (d : Directory) (accounts : List Account) (a : Account) → a.notices ≡ map announcement_of d.points → fields (λ x. x.notices) (accounts ++ a ∷ []) ≡ (λ g. (account_at accounts g).notices ++ cond (eqb (length accounts + 1) g) (map announcement_of d.points) [])
+told_newcomer d accounts a told =
+    let n = length accounts + 1 in
+    let none : [] ≡ (account_at accounts n).notices = ap (λ (x : Account). x.notices) (sym (account_at-past accounts n (omega arith))) in
+    pushed accounts a (λ x. x.notices) ∙ ap (upd (λ g. (account_at accounts g).notices) n) (told ∙ ap (λ (ns : List Notice). ns ++ map announcement_of d.points) none)
+    ∙ notices_added (λ g. (account_at accounts g).notices) n (map announcement_of d.points)
+
+pub joined_set : (d : Directory) (accounts : List Account) (name : List ℕ) (sent : List SentRow) (notices : List Notice) → sent_of sent ≡ (λ _. no_event) → notices ≡ map announcement_of d.points → central_with d (accounts ++ newcomer name sent notices ∷ []) ≡ after_join (central_with d accounts) name
+joined_set d accounts name sent notices unsent told =
+    let a : Account = newcomer name sent notices in
     λ i. record {
       directory = record d {
         next_federate = length-append accounts (a ∷ []) i + 1;
@@ -112,10 +125,11 @@ joined_set d accounts name sent unsent =
       sent = pushed_same accounts a (λ x. sent_of x.sent) (sends_nothing sent unsent) i;
       owed = λ g m. pushed_same accounts a (λ x. times_listed x.owed g m) refl i;
       due = λ g m. pushed_same accounts a (λ x. times_listed x.due g m) refl i;
+      notices = told_newcomer d accounts a told i;
     }
 
-pub joined_kept : (accounts : List Account) (name : List ℕ) (sent : List SentRow) → sent_of sent ≡ (λ _. no_event) → length accounts < max_joins → AreKept accounts → AreKept (accounts ++ newcomer name sent ∷ [])
-joined_kept accounts name sent unsent room kept = record {
+pub joined_kept : (accounts : List Account) (name : List ℕ) (sent : List SentRow) (notices : List Notice) → sent_of sent ≡ (λ _. no_event) → length accounts < max_joins → AreKept accounts → AreKept (accounts ++ newcomer name sent notices ∷ [])
+joined_kept accounts name sent notices unsent room kept = record {
   few = let size = length-append accounts (a ∷ []) in omega (arith, size, room);
   apart = λ g. rw table (upd_each (account_at accounts) n a (λ g x. AreApart x.bag) tt (λ g ne. kept.apart g) g);
   unused = λ g h m le. rw table (upd_each (account_at accounts) n a (λ g x. waiting_at x.bag h m ≡ None)
@@ -124,7 +138,7 @@ joined_kept accounts name sent unsent room kept = record {
 }
   where
     a : Account
-    a = newcomer name sent
+    a = newcomer name sent notices
 
     n : ℕ
     n = length accounts + 1
@@ -139,8 +153,8 @@ joined_kept accounts name sent unsent room kept = record {
     sents = pushed_same accounts a (λ x. sent_of x.sent) (sends_nothing sent unsent)
 
 -- a is the account that was made for the newcomer
-pub joins_set : (d : Directory) (accounts : List Account) (name : List ℕ) (a : Account) → a ≡ newcomer name a.sent → sent_of a.sent ≡ (λ _. no_event) → central_with d (accounts ++ a ∷ []) ≡ after_join (central_with d accounts) name
-joins_set d accounts name a is unsent = ap (λ (x : Account). central_with d (accounts ++ x ∷ [])) is ∙ joined_set d accounts name a.sent unsent
+pub joins_set : (d : Directory) (accounts : List Account) (name : List ℕ) (a : Account) (notices : List Notice) → a ≡ newcomer name a.sent notices → sent_of a.sent ≡ (λ _. no_event) → notices ≡ map announcement_of d.points → central_with d (accounts ++ a ∷ []) ≡ after_join (central_with d accounts) name
+joins_set d accounts name a notices is unsent told = ap (λ (x : Account). central_with d (accounts ++ x ∷ [])) is ∙ joined_set d accounts name a.sent notices unsent told
 
-pub joins_kept : (accounts : List Account) (name : List ℕ) (a : Account) → a ≡ newcomer name a.sent → sent_of a.sent ≡ (λ _. no_event) → length accounts < max_joins → AreKept accounts → AreKept (accounts ++ a ∷ [])
-joins_kept accounts name a is unsent room kept = subst (λ (x : Account). AreKept (accounts ++ x ∷ [])) (sym is) (joined_kept accounts name a.sent unsent room kept)
+pub joins_kept : (accounts : List Account) (name : List ℕ) (a : Account) (notices : List Notice) → a ≡ newcomer name a.sent notices → sent_of a.sent ≡ (λ _. no_event) → length accounts < max_joins → AreKept accounts → AreKept (accounts ++ a ∷ [])
+joins_kept accounts name a notices is unsent room kept = subst (λ (x : Account). AreKept (accounts ++ x ∷ [])) (sym is) (joined_kept accounts name a.sent notices unsent room kept)

@@ -118,6 +118,7 @@ module _ (d : Directory) (accounts : List Account) (f : ℕ) (some : 0 < f) (wit
         sent = field_same accounts f some within a (λ x. sent_of x.sent) refl i;
         owed = λ g m. field_same accounts f some within a (λ x. times_listed x.owed g m) refl i;
         due = λ g m. field_same accounts f some within a (λ x. times_listed x.due g m) refl i;
+        notices = field_same accounts f some within a (λ x. x.notices) refl i;
       }
 
   pub offers_set : (op : List Discovery → List Discovery) (x : Account) (os : List Offer) (from : ℕ) → x ≡ account_at accounts f → ((g : ℕ) → offers_from g os ≡ cond (eqb from g) (op (offers_from g x.offers)) (offers_from g x.offers)) →

@@ -119,6 +119,7 @@ module _ (d : Directory) (accounts : List Account) (f : ℕ) (some : 0 < f) (wit
         sent = field_same accounts f some within a (λ x. sent_of x.sent) refl i;
         owed = λ g m. field_same accounts f some within a (λ x. times_listed x.owed g m) refl i;
         due = λ g m. field_same accounts f some within a (λ x. times_listed x.due g m) refl i;
+        notices = field_same accounts f some within a (λ x. x.notices) refl i;
       }
 
   -- only the bag changes
@@ -138,6 +139,7 @@ module _ (d : Directory) (accounts : List Account) (f : ℕ) (some : 0 < f) (wit
         sent = field_same accounts f some within a (λ x. sent_of x.sent) refl i;
         owed = λ g m. field_same accounts f some within a (λ x. times_listed x.owed g m) refl i;
         due = λ g m. field_same accounts f some within a (λ x. times_listed x.due g m) refl i;
+        notices = field_same accounts f some within a (λ x. x.notices) refl i;
       }
 
   -- ---- a row
@@ -227,6 +229,7 @@ module _ (d : Directory) (accounts : List Account) (f : ℕ) (some : 0 < f) (wit
         sent = field_same accounts f some within a (λ x. sent_of x.sent) refl i;
         owed = λ g m. field_same accounts f some within a (λ x. times_listed x.owed g m) refl i;
         due = λ g m. field accounts f some within a (λ x. times_listed x.due g m) i;
+        notices = field_same accounts f some within a (λ x. x.notices) refl i;
       }
 
   -- one request less

@@ -127,6 +127,7 @@ module _ (d : Directory) (accounts : List Account) (f : ℕ) (some : 0 < f) (wit
         sent = field accounts f some within a (λ x. sent_of x.sent) i;
         owed = λ g m. field_same accounts f some within a (λ x. times_listed x.owed g m) refl i;
         due = λ g m. field_same accounts f some within a (λ x. times_listed x.due g m) refl i;
+        notices = field_same accounts f some within a (λ x. x.notices) refl i;
       }
 
   pub serial_set : (x : Account) → x ≡ account_at accounts f → central_with d (set accounts (f - 1) (record x { next_serial = x.next_serial + 1 }))

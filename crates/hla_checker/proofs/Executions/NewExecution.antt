@@ -6,7 +6,8 @@ use Rattle.hla_retraction.specs.SentEvents.{no_event}
 use Rattle.hla_retraction.specs.SentRows.{sent_of}
 use Rattle.hla_declaration.specs.Declarations.{DeclarationsValue}
 use Rattle.hla_object_registry.specs.Registered.{RegistryValue, new_registry}
-use Rattle.hla_machine.specs.Directory.{Directory}
+use Rattle.hla_synchronization.specs.Points.{Point}
+use Rattle.hla_machine.specs.Directory.{Directory, with_points}
 use Rattle.hla_machine.specs.Central.{new_central}
 use Rattle.hla_accounts.specs.declared.account.Account.{Account}
 use Rattle.hla_accounts.specs.Accounts.{central_with, copy_at, copy_of, offers_from, times_listed}
@@ -43,6 +44,7 @@ no_central : (d : Directory) → central_with d [] ≡ record {
   sent = λ _ _. no_event;
   owed = λ _ _ _. 0;
   due = λ _ _ _. 0;
+  notices = λ _. [];
 }
 no_central d = λ i. record {
   directory = record d { next_federate = 1; joined = λ f. (account_at-nil f i).is_joined; name = λ f. (account_at-nil f i).name };
@@ -53,12 +55,14 @@ no_central d = λ i. record {
   sent = λ g m. (ap (λ (a : Account). sent_of a.sent m) (account_at-nil g) ∙ nothing_sent m) i;
   owed = λ g m f. (ap (λ (a : Account). times_listed a.owed g m) (account_at-nil f) ∙ none_listed g m) i;
   due = λ g m f. (ap (λ (a : Account). times_listed a.due g m) (account_at-nil f) ∙ none_listed g m) i;
+  notices = λ f. (account_at-nil f i).notices;
 }
 
-pub new_execution : (c : CatalogueValue) (objects interactions : ℕ) (d : DeclarationsValue) (r : RegistryValue) (accounts : List Account) → d ≡ undeclared objects interactions → r ≡ new_registry → accounts ≡ []
-    → central_with (directory_kept c d r) accounts ≡ new_central c
-new_execution c objects interactions d r accounts declared registered nobody =
-    ap (λ (xs : List Account). central_with (directory_kept c d r) xs) nobody
+pub new_execution : (c : CatalogueValue) (objects interactions : ℕ) (d : DeclarationsValue) (r : RegistryValue) (accounts : List Account) (points : List Point) → d ≡ undeclared objects interactions → r ≡ new_registry → accounts ≡ [] → points ≡ []
+    → central_with (with_points (directory_kept c d r) points) accounts ≡ new_central c
+new_execution c objects interactions d r accounts points declared registered nobody none =
+    ap (λ (ps : List Point). central_with (with_points (directory_kept c d r) ps) accounts) none
+    ∙ ap (λ (xs : List Account). central_with (directory_kept c d r) xs) nobody
     ∙ ap (λ (x : DeclarationsValue). central_with (directory_kept c x r) []) declared
     ∙ ap (λ (x : RegistryValue). central_with (directory_kept c (undeclared objects interactions) x) []) registered
     ∙ no_central (directory_kept c (undeclared objects interactions) new_registry)

@@ -4,12 +4,11 @@ use Rattle.std.proofs.lemmas.Bool.{cases_lt}
 use mathlib.Core.Bool.{false≢true}
 use Rattle.hla_base.specs.declared.fault.Fault.{Fault}
 use Rattle.hla_base.specs.RowRefusals.{Test, first_fault}
-use Rattle.hla_catalogue.specs.CatalogueValue.{CatalogueValue}
 use Rattle.hla_catalogue.specs.Lookup.{item_numbered, is_interaction_class, is_object_class}
 use Rattle.hla_declaration.specs.Lists.{DeclarationLists}
 use Rattle.hla_declaration.specs.Declarations.{DeclarationsValue, declarations_of}
 use Rattle.hla_catalogue.proofs.ItemLemmas.{item_numbered_past}
-use Rattle.hla_object_registry.specs.Registered.{RegistryValue, registry_of}
+use Rattle.hla_object_registry.specs.Registered.{registry_of}
 use Rattle.hla_machine.specs.declared.service.Service.{Service}
 use Rattle.hla_machine.specs.declared.service.Service.TheVariants as service
 use Rattle.hla_machine.specs.declared.step.Step.TheVariants.{Call}
@@ -22,14 +21,13 @@ use Rattle.hla_machine.specs.Central.{Central}
 use Rattle.hla_machine.specs.Refusals.{Seen, call_tests, no_object_class}
 use Rattle.hla_machine.specs.Machine.{MayAnswer, after_call, central_seen}
 use Rattle.hla_machine.proofs.Basics.Tests.{all_clear, not-is-false}
-use Rattle.hla_accounts.specs.declared.account.Account.{Account}
 use Rattle.hla_accounts.specs.Accounts.{account_at, central_with}
 use Rattle.hla_checker.specs.declared.declaring.ClassDeclaration.{ClassDeclaration}
 use Rattle.hla_checker.specs.declared.declaring.ClassDeclaration.TheVariants.{UnpublishObject, UnsubscribeObject, PublishInteraction, UnpublishInteraction, SubscribeInteraction, UnsubscribeInteraction}
 use Rattle.hla_verdicts.specs.declared.verdict.Verdict.TheVariants as verdict
 use Rattle.hla_verdicts.specs.Calls.{AnswersDone, ChoosesNothing}
 use Rattle.hla_checker.specs.Declaring.{declaration_of, declaration_tests, with_declaration, IsOfClass}
-use Rattle.hla_verdicts.specs.Kept.{KeptValue, IsConsistent, JudgedStep, central_of, directory_kept, directory_of}
+use Rattle.hla_verdicts.specs.Kept.{KeptValue, IsConsistent, JudgedStep, central_of, directory_with, directory_of}
 use Rattle.hla_verdicts.proofs.Steps.Calls.{joined_within}
 use Rattle.hla_verdicts.proofs.Steps.Services.{joined_refusal}
 use Rattle.hla_verdicts.proofs.Steps.Endings.{ending_done}
@@ -102,8 +100,8 @@ pub record IsDeclaration (x : Service) (p : ClassDeclaration) : Type 0 where
   pub plain : ChoosesNothing x
   pub only : AnswersDone x
   pub answers : (c : Central) (f : ℕ) → MayAnswer c f x answer.Done choice.None
-  pub follows : (c : CatalogueValue) (t : DeclarationsValue) (r : RegistryValue) (accounts : List Account) (f : ℕ)
-      → central_with (directory_kept c (with_declaration t f p) r) accounts ≡ after_call (central_with (directory_kept c t r) accounts) f x choice.None
+  pub follows : (v : KeptValue) (t : DeclarationsValue) (f : ℕ)
+      → central_with (directory_with v (with_declaration t f p) (registry_of v.objects)) v.accounts ≡ after_call (central_with (directory_with v t (registry_of v.objects)) v.accounts) f x choice.None
 
 done_only : (x : Service) (p : ClassDeclaration) → declaration_of x ≡ Some p → AnswersDone x
 done_only (service.UnpublishObjectClass class) p is c f answer.Done o may = refl
@@ -123,22 +121,22 @@ done_only x p is c f a o may = cc
 pub declaration_is : (x : Service) (p : ClassDeclaration) → declaration_of x ≡ Some p → IsDeclaration x p
 declaration_is (service.UnpublishObjectClass class) p is =
     let same : UnpublishObject class ≡ p = cc in
-    subst (λ (y : ClassDeclaration). IsDeclaration (service.UnpublishObjectClass class) y) same (record { tests = λ s f. refl; plain = λ o. (λ e. e, λ e. e); only = done_only (service.UnpublishObjectClass class) (UnpublishObject class) refl; answers = λ c f. tt; follows = λ c t r accounts f. refl })
+    subst (λ (y : ClassDeclaration). IsDeclaration (service.UnpublishObjectClass class) y) same (record { tests = λ s f. refl; plain = λ o. (λ e. e, λ e. e); only = done_only (service.UnpublishObjectClass class) (UnpublishObject class) refl; answers = λ c f. tt; follows = λ v t f. refl })
 declaration_is (service.UnsubscribeObjectClass class) p is =
     let same : UnsubscribeObject class ≡ p = cc in
-    subst (λ (y : ClassDeclaration). IsDeclaration (service.UnsubscribeObjectClass class) y) same (record { tests = λ s f. refl; plain = λ o. (λ e. e, λ e. e); only = done_only (service.UnsubscribeObjectClass class) (UnsubscribeObject class) refl; answers = λ c f. tt; follows = λ c t r accounts f. refl })
+    subst (λ (y : ClassDeclaration). IsDeclaration (service.UnsubscribeObjectClass class) y) same (record { tests = λ s f. refl; plain = λ o. (λ e. e, λ e. e); only = done_only (service.UnsubscribeObjectClass class) (UnsubscribeObject class) refl; answers = λ c f. tt; follows = λ v t f. refl })
 declaration_is (service.PublishInteractionClass class) p is =
     let same : PublishInteraction class ≡ p = cc in
-    subst (λ (y : ClassDeclaration). IsDeclaration (service.PublishInteractionClass class) y) same (record { tests = λ s f. refl; plain = λ o. (λ e. e, λ e. e); only = done_only (service.PublishInteractionClass class) (PublishInteraction class) refl; answers = λ c f. tt; follows = λ c t r accounts f. refl })
+    subst (λ (y : ClassDeclaration). IsDeclaration (service.PublishInteractionClass class) y) same (record { tests = λ s f. refl; plain = λ o. (λ e. e, λ e. e); only = done_only (service.PublishInteractionClass class) (PublishInteraction class) refl; answers = λ c f. tt; follows = λ v t f. refl })
 declaration_is (service.UnpublishInteractionClass class) p is =
     let same : UnpublishInteraction class ≡ p = cc in
-    subst (λ (y : ClassDeclaration). IsDeclaration (service.UnpublishInteractionClass class) y) same (record { tests = λ s f. refl; plain = λ o. (λ e. e, λ e. e); only = done_only (service.UnpublishInteractionClass class) (UnpublishInteraction class) refl; answers = λ c f. tt; follows = λ c t r accounts f. refl })
+    subst (λ (y : ClassDeclaration). IsDeclaration (service.UnpublishInteractionClass class) y) same (record { tests = λ s f. refl; plain = λ o. (λ e. e, λ e. e); only = done_only (service.UnpublishInteractionClass class) (UnpublishInteraction class) refl; answers = λ c f. tt; follows = λ v t f. refl })
 declaration_is (service.SubscribeInteractionClass class) p is =
     let same : SubscribeInteraction class ≡ p = cc in
-    subst (λ (y : ClassDeclaration). IsDeclaration (service.SubscribeInteractionClass class) y) same (record { tests = λ s f. refl; plain = λ o. (λ e. e, λ e. e); only = done_only (service.SubscribeInteractionClass class) (SubscribeInteraction class) refl; answers = λ c f. tt; follows = λ c t r accounts f. refl })
+    subst (λ (y : ClassDeclaration). IsDeclaration (service.SubscribeInteractionClass class) y) same (record { tests = λ s f. refl; plain = λ o. (λ e. e, λ e. e); only = done_only (service.SubscribeInteractionClass class) (SubscribeInteraction class) refl; answers = λ c f. tt; follows = λ v t f. refl })
 declaration_is (service.UnsubscribeInteractionClass class) p is =
     let same : UnsubscribeInteraction class ≡ p = cc in
-    subst (λ (y : ClassDeclaration). IsDeclaration (service.UnsubscribeInteractionClass class) y) same (record { tests = λ s f. refl; plain = λ o. (λ e. e, λ e. e); only = done_only (service.UnsubscribeInteractionClass class) (UnsubscribeInteraction class) refl; answers = λ c f. tt; follows = λ c t r accounts f. refl })
+    subst (λ (y : ClassDeclaration). IsDeclaration (service.UnsubscribeInteractionClass class) y) same (record { tests = λ s f. refl; plain = λ o. (λ e. e, λ e. e); only = done_only (service.UnsubscribeInteractionClass class) (UnsubscribeInteraction class) refl; answers = λ c f. tt; follows = λ v t f. refl })
 declaration_is x p is = cc
 
 same_counts : (t : DeclarationsValue) (f : ℕ) (p : ClassDeclaration)
@@ -159,7 +157,7 @@ module _ (v w : KeptValue) (f : ℕ) (x : Service) (p : ClassDeclaration) (found
       → JudgedStep w (Call f x) out o (record v { declarations = dd }) verdict.Allowed
   declaration_done dd ends declared =
       done_judged v w (record v { declarations = dd }) f x found out o same joined declaration_fault_is ends of.plain (of.answers (central_of v) f)
-      (ap (λ (t : DeclarationsValue). central_with (directory_kept v.catalogue t (registry_of v.objects)) v.accounts) declared ∙ of.follows v.catalogue (declarations_of v.declarations) (registry_of v.objects) v.accounts f)
+      (ap (λ (t : DeclarationsValue). central_with (directory_with v t (registry_of v.objects)) v.accounts) declared ∙ of.follows v (declarations_of v.declarations) f)
       (declared_consistent v w dd (with_declaration (declarations_of v.declarations) f p) same kept declared (same_counts (declarations_of v.declarations) f p))
 
 -- ---- publishing an object class

@@ -19,15 +19,18 @@ use Rattle.hla_machine.specs.declared.service.ResignAction.TheVariants.{ReleaseA
 use Rattle.hla_machine.specs.declared.step.Answer.{Answer}
 use Rattle.hla_machine.specs.declared.step.Answer.TheVariants as answer
 use Rattle.hla_machine.specs.declared.step.Choice.{Choice}
-use Rattle.hla_machine.specs.Directory.{Directory, Outgoing, ADeletion, deletion_sent, deletions_sent, objects_of, without_member}
+use Rattle.hla_synchronization.specs.declared.open_points.OpenPoint.{OpenPoint}
+use Rattle.hla_synchronization.specs.OpenPoints.{points_of}
+use Rattle.hla_machine.specs.Directory.{Directory, Outgoing, ADeletion, deletion_sent, deletions_sent, objects_of, with_points, without_member}
 use Rattle.hla_machine.specs.Central.{Central}
 use Rattle.hla_machine.specs.Refusals.{Seen, call_tests, is_known}
 use Rattle.hla_machine.specs.Sends.{after_message, after_messages}
-use Rattle.hla_machine.specs.Machine.{MayAnswer, after_leaving, after_resign, central_seen}
+use Rattle.hla_machine.specs.Machine.{MayAnswer, after_leaving, after_resign, central_seen, with_points_closed}
 use Rattle.hla_machine.proofs.Basics.Tests.{all_clear, not-is-false}
 use Rattle.hla_accounts.specs.declared.account.Account.{Account}
+use Rattle.hla_accounts.specs.Notices.{without_federate}
 use Rattle.hla_accounts.specs.Accounts.{central_with}
-use Rattle.hla_verdicts.specs.Kept.{KeptValue, IsConsistent, central_of, directory_kept, directory_of}
+use Rattle.hla_verdicts.specs.Kept.{KeptValue, IsConsistent, central_of, directory_with, directory_of}
 use Rattle.hla_verdicts.proofs.Steps.Services.{IsPlainService}
 use Rattle.hla_checker.proofs.Sends.SendingTests.{count_deletions}
 use Rattle.hla_checker.proofs.Sends.Updates.{after_append, after_directory, after_serial, serials_left}
@@ -78,7 +81,7 @@ module _ (v : KeptValue) (decl : DeclarationLists) (objects : List Registered) (
   published_interaction = (without_member (directory_of v) f).published_interaction;
   subscribed_interaction = (without_member (directory_of v) f).subscribed_interaction;
   interaction_orders = (without_member (directory_of v) f).interaction_orders;
-}) (left_ : (d : Directory) → central_with (without_member d f) accounts ≡ after_leaving (central_with d v.accounts) f) where
+}) (left_ : (d : Directory) → central_with (without_member d f) accounts ≡ without_federate (central_with d v.accounts) f) where
   abbrev withdrawn_from : DeclarationsValue
   withdrawn_from = record (declarations_of v.declarations) {
     published = (without_member (directory_of v) f).published;
@@ -88,10 +91,10 @@ module _ (v : KeptValue) (decl : DeclarationLists) (objects : List Registered) (
     interaction_orders = (without_member (directory_of v) f).interaction_orders;
   }
 
-  pub left_central : registry_of objects ≡ without_owned (registry_of v.objects) f → central_of (record v { declarations = decl; objects = objects; accounts = accounts }) ≡ after_leaving (central_of v) f
+  pub left_central : registry_of objects ≡ without_owned (registry_of v.objects) f → central_of (record v { declarations = decl; objects = objects; accounts = accounts }) ≡ without_federate (central_of v) f
   left_central gone =
-      ap (λ (x : DeclarationsValue). central_with (directory_kept v.catalogue x (registry_of objects)) accounts) withdrawn
-      ∙ ap (λ (r : RegistryValue). central_with (directory_kept v.catalogue withdrawn_from r) accounts) gone
+      ap (λ (x : DeclarationsValue). central_with (directory_with v x (registry_of objects)) accounts) withdrawn
+      ∙ ap (λ (r : RegistryValue). central_with (directory_with v withdrawn_from r) accounts) gone
       ∙ left_ (directory_of v)
 
   pub left_consistent : IsConsistent v → IsConsistent (record v { declarations = decl; objects = objects; accounts = accounts })
@@ -101,6 +104,23 @@ module _ (v : KeptValue) (decl : DeclarationLists) (objects : List Registered) (
         federates = ap (λ (x : DeclarationsValue). x.federates) withdrawn ∙ k.federates ∙ same (length v.accounts) (length accounts) next;
         object_classes = ap (λ (x : DeclarationsValue). x.object_classes) withdrawn ∙ k.object_classes;
         interaction_classes = ap (λ (x : DeclarationsValue). x.interaction_classes) withdrawn ∙ k.interaction_classes;
+      }
+    where
+      same : (n m : ℕ) → m + 1 ≡ n + 1 → n ≡ m
+      same n m is = omega (arith, is)
+
+-- and points close
+module _ (v : KeptValue) (accounts : List Account) (points : List OpenPoint) (closed : (d : Directory) → d.points ≡ points_of v.points → central_with (with_points d (points_of points)) accounts ≡ with_points_closed (central_with d v.accounts)) where
+  pub closed_central : (c : Central) (f : ℕ) → central_of v ≡ without_federate c f → central_of (record v { accounts = accounts; points = points }) ≡ after_leaving c f
+  closed_central c f is = closed (directory_of v) refl ∙ ap with_points_closed is
+
+  pub closed_consistent : IsConsistent v → IsConsistent (record v { accounts = accounts; points = points })
+  closed_consistent k =
+      let next : length accounts + 1 ≡ length v.accounts + 1 = ap (λ (c : Central). c.directory.next_federate) (closed (directory_of v) refl) in
+      record {
+        federates = k.federates ∙ same (length v.accounts) (length accounts) next;
+        object_classes = k.object_classes;
+        interaction_classes = k.interaction_classes;
       }
     where
       same : (n m : ℕ) → m + 1 ≡ n + 1 → n ≡ m

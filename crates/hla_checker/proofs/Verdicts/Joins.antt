@@ -13,6 +13,7 @@ use Rattle.hla_machine.specs.declared.step.Outcome.{Outcome}
 use Rattle.hla_machine.specs.declared.step.Outcome.TheVariants as outcome
 use Rattle.hla_machine.specs.declared.step.Choice.{Choice}
 use Rattle.hla_machine.specs.declared.step.Choice.TheVariants as choice
+use Rattle.hla_synchronization.specs.OpenPoints.{points_of}
 use Rattle.hla_machine.specs.Directory.{Directory}
 use Rattle.hla_machine.specs.Central.{Central}
 use Rattle.hla_machine.specs.Refusals.{refusal, tests}
@@ -22,22 +23,22 @@ use Rattle.hla_accounts.specs.declared.account.Account.{Account}
 use Rattle.hla_accounts.specs.Accounts.{central_with}
 use Rattle.hla_verdicts.specs.declared.verdict.Verdict.TheVariants as verdict
 use Rattle.hla_verdicts.specs.Answers.{joiner_in}
-use Rattle.hla_verdicts.specs.Kept.{KeptValue, IsConsistent, central_of, directory_kept, directory_of}
+use Rattle.hla_verdicts.specs.Kept.{KeptValue, IsConsistent, central_of, directory_with, directory_of}
 use Rattle.hla_verdicts.proofs.Steps.Outcomes.{JudgedCentral}
 
 -- ---- after a joining
 module _ (v : KeptValue) (decl : DeclarationLists) (accounts : List Account) (name given : List ℕ)
     (admitted : declarations_of decl ≡ record (declarations_of v.declarations) { federates = (declarations_of v.declarations).federates + 1 })
-    (joins : (d : Directory) → central_with d accounts ≡ after_join (central_with d v.accounts) given) where
+    (joins : (d : Directory) → d.points ≡ points_of v.points → central_with d accounts ≡ after_join (central_with d v.accounts) given) where
   pub joined_central : given ≡ name → central_of (record v { declarations = decl; accounts = accounts }) ≡ after_join (central_of v) name
   joined_central same =
-      ap (λ (x : DeclarationsValue). central_with (directory_kept v.catalogue x (registry_of v.objects)) accounts) admitted
-      ∙ joins (directory_of v) ∙ ap (after_join (central_of v)) same
+      ap (λ (x : DeclarationsValue). central_with (directory_with v x (registry_of v.objects)) accounts) admitted
+      ∙ joins (directory_of v) refl ∙ ap (after_join (central_of v)) same
 
   pub joined_consistent : IsConsistent v → IsConsistent (record v { declarations = decl; accounts = accounts })
   joined_consistent k =
       let members : (declarations_of decl).federates ≡ (declarations_of v.declarations).federates + 1 = ap (λ (x : DeclarationsValue). x.federates) admitted in
-      let next : length accounts + 1 ≡ (length v.accounts + 1) + 1 = ap (λ (c : Central). c.directory.next_federate) (joins (directory_of v)) in
+      let next : length accounts + 1 ≡ (length v.accounts + 1) + 1 = ap (λ (c : Central). c.directory.next_federate) (joins (directory_of v) refl) in
       let old : (declarations_of v.declarations).federates ≡ length v.accounts = k.federates in
       record {
         federates = counted (declarations_of decl).federates (declarations_of v.declarations).federates (length accounts) (length v.accounts) members next old;

@@ -28,7 +28,7 @@ use Rattle.hla_accounts.proofs.AfterSteps.Counts.{same_size}
 use Rattle.hla_accounts.proofs.Sendings.Discoveries.{offers_in}
 use Rattle.hla_accounts.proofs.Sendings.Messages.{joined_in}
 use Rattle.hla_verdicts.specs.declared.verdict.Verdict.TheVariants as verdict
-use Rattle.hla_verdicts.specs.Kept.{KeptValue, IsConsistent, JudgedStep, central_of, directory_kept}
+use Rattle.hla_verdicts.specs.Kept.{KeptValue, IsConsistent, JudgedStep, central_of, directory_with}
 use Rattle.hla_checker.specs.Offering.{known_to_joined}
 use Rattle.hla_verdicts.proofs.Steps.Services.{joined_refusal}
 
@@ -36,25 +36,25 @@ use Rattle.hla_verdicts.proofs.Steps.Services.{joined_refusal}
 module _ (v : KeptValue) (q r : List Registered) (accounts : List Account) (f class : ℕ) (name : List ℕ) (attributes : List ℕ) where
   pub registered_central : attributes ≡ option_map_or (λ xs. xs) ((declarations_of v.declarations).published f class) []
       → registry_of q ≡ with_registered (registry_of v.objects) class name f attributes
-      → ((d : Directory) → central_with d accounts ≡ record (central_with d v.accounts) { discoveries = upd_row (offers_in v.accounts) (joined_in v.accounts) f (λ g discoveries. discoveries ++ discoveries_of (directory_kept v.catalogue (declarations_of v.declarations) (registry_of q)) f g) })
-      → registry_of r ≡ record (registry_of q) { known = known_to_joined (directory_kept v.catalogue (declarations_of v.declarations) (registry_of q)) (λ g. (account_at accounts g).is_joined) (registry_of v.objects).next_object }
+      → ((d : Directory) → central_with d accounts ≡ record (central_with d v.accounts) { discoveries = upd_row (offers_in v.accounts) (joined_in v.accounts) f (λ g discoveries. discoveries ++ discoveries_of (directory_with v (declarations_of v.declarations) (registry_of q)) f g) })
+      → registry_of r ≡ record (registry_of q) { known = known_to_joined (directory_with v (declarations_of v.declarations) (registry_of q)) (λ g. (account_at accounts g).is_joined) (registry_of v.objects).next_object }
       → central_of (record v { objects = r; accounts = accounts }) ≡ after_register (central_of v) f class name
   registered_central owned registered added known =
-      let joined : (λ g. (account_at accounts g).is_joined) ≡ joined_in v.accounts = ap (λ (c : Central). c.directory.joined) (added (directory_kept v.catalogue (declarations_of v.declarations) (registry_of v.objects))) in
+      let joined : (λ g. (account_at accounts g).is_joined) ≡ joined_in v.accounts = ap (λ (c : Central). c.directory.joined) (added (directory_with v (declarations_of v.declarations) (registry_of v.objects))) in
       let is : registry_of q ≡ with_registered (registry_of v.objects) class name f (option_map_or (λ xs. xs) ((declarations_of v.declarations).published f class) []) =
       registered ∙ ap (λ (a : List ℕ). with_registered (registry_of v.objects) class name f a) owned in
-      let knows : registry_of r ≡ record (registry_of q) { known = known_to_joined (directory_kept v.catalogue (declarations_of v.declarations) (registry_of q)) (joined_in v.accounts) (registry_of v.objects).next_object } =
-      known ∙ ap (λ (j : ℕ → Bool). record (registry_of q) { known = known_to_joined (directory_kept v.catalogue (declarations_of v.declarations) (registry_of q)) j (registry_of v.objects).next_object }) joined in
-      added (directory_kept v.catalogue (declarations_of v.declarations) (registry_of r))
-      ∙ ap (λ (x : RegistryValue). record (central_with (directory_kept v.catalogue (declarations_of v.declarations) x) v.accounts) {
-        discoveries = upd_row (offers_in v.accounts) (joined_in v.accounts) f (λ g discoveries. discoveries ++ discoveries_of (directory_kept v.catalogue (declarations_of v.declarations) (registry_of q)) f g);
+      let knows : registry_of r ≡ record (registry_of q) { known = known_to_joined (directory_with v (declarations_of v.declarations) (registry_of q)) (joined_in v.accounts) (registry_of v.objects).next_object } =
+      known ∙ ap (λ (j : ℕ → Bool). record (registry_of q) { known = known_to_joined (directory_with v (declarations_of v.declarations) (registry_of q)) j (registry_of v.objects).next_object }) joined in
+      added (directory_with v (declarations_of v.declarations) (registry_of r))
+      ∙ ap (λ (x : RegistryValue). record (central_with (directory_with v (declarations_of v.declarations) x) v.accounts) {
+        discoveries = upd_row (offers_in v.accounts) (joined_in v.accounts) f (λ g discoveries. discoveries ++ discoveries_of (directory_with v (declarations_of v.declarations) (registry_of q)) f g);
       }) knows
-      ∙ ap (λ (x : RegistryValue). record (central_with (directory_kept v.catalogue (declarations_of v.declarations) (record x { known = known_to_joined (directory_kept v.catalogue (declarations_of v.declarations) x) (joined_in v.accounts) (registry_of v.objects).next_object })) v.accounts) {
-        discoveries = upd_row (offers_in v.accounts) (joined_in v.accounts) f (λ g discoveries. discoveries ++ discoveries_of (directory_kept v.catalogue (declarations_of v.declarations) x) f g);
+      ∙ ap (λ (x : RegistryValue). record (central_with (directory_with v (declarations_of v.declarations) (record x { known = known_to_joined (directory_with v (declarations_of v.declarations) x) (joined_in v.accounts) (registry_of v.objects).next_object })) v.accounts) {
+        discoveries = upd_row (offers_in v.accounts) (joined_in v.accounts) f (λ g discoveries. discoveries ++ discoveries_of (directory_with v (declarations_of v.declarations) x) f g);
       }) is
 
 pub registered_consistent : (v : KeptValue) (q r : List Registered) (accounts : List Account) (f : ℕ)
-    → ((d : Directory) → central_with d accounts ≡ record (central_with d v.accounts) { discoveries = upd_row (offers_in v.accounts) (joined_in v.accounts) f (λ g discoveries. discoveries ++ discoveries_of (directory_kept v.catalogue (declarations_of v.declarations) (registry_of q)) f g) })
+    → ((d : Directory) → central_with d accounts ≡ record (central_with d v.accounts) { discoveries = upd_row (offers_in v.accounts) (joined_in v.accounts) f (λ g discoveries. discoveries ++ discoveries_of (directory_with v (declarations_of v.declarations) (registry_of q)) f g) })
     → IsConsistent v → IsConsistent (record v { objects = r; accounts = accounts })
 registered_consistent v q r accounts f added k = record {
   federates = k.federates ∙ sym (same_size v.accounts accounts (λ d. ap (λ (c : Central). c.directory.next_federate) (added d)));

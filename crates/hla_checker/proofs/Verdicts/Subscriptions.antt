@@ -14,7 +14,7 @@ use Rattle.hla_accounts.specs.declared.offers.Offer.{Offer}
 use Rattle.hla_accounts.specs.Accounts.{central_with, offers_from}
 use Rattle.hla_accounts.proofs.AfterSteps.Counts.{same_size}
 use Rattle.hla_verdicts.specs.Calls.{AnswersDone}
-use Rattle.hla_verdicts.specs.Kept.{KeptValue, IsConsistent, central_of, directory_kept}
+use Rattle.hla_verdicts.specs.Kept.{KeptValue, IsConsistent, central_of, directory_with}
 use Rattle.hla_checker.specs.Offering.{wanted_discoveries}
 
 pub subscribing_only : (class : ℕ) (attributes : List ℕ) → AnswersDone (service.SubscribeObjectClassAttributes class attributes)
@@ -24,17 +24,17 @@ subscribing_only class attributes c f a o may = absurd may
 -- ---- after a subscription
 module _ (v : KeptValue) (dd : DeclarationLists) (r : List Registered) (accounts : List Account) (offers : List Offer) (f class : ℕ) (a : List ℕ)
     (declared : declarations_of dd ≡ record (declarations_of v.declarations) { subscribed = upd2 (declarations_of v.declarations).subscribed f class (Some a) })
-    (offered : (g : ℕ) → offers_from g offers ≡ wanted_discoveries (directory_kept v.catalogue (declarations_of dd) (registry_of v.objects)) None g f)
+    (offered : (g : ℕ) → offers_from g offers ≡ wanted_discoveries (directory_with v (declarations_of dd) (registry_of v.objects)) None g f)
     (added : (d : Directory) → central_with d accounts ≡ record (central_with d v.accounts) { discoveries = λ g. upd ((central_with d v.accounts).discoveries g) f ((central_with d v.accounts).discoveries g f ++ offers_from g offers) })
-    (known : registry_of r ≡ record (registry_of v.objects) { known = (with_discoveries_made (directory_kept v.catalogue (declarations_of dd) (registry_of v.objects)) f).known }) where
+    (known : registry_of r ≡ record (registry_of v.objects) { known = (with_discoveries_made (directory_with v (declarations_of dd) (registry_of v.objects)) f).known }) where
   pub subscribed_central : central_of (record v { declarations = dd; objects = r; accounts = accounts }) ≡ after_subscribe (central_of v) f class (Some a)
   subscribed_central =
-      added (directory_kept v.catalogue (declarations_of dd) (registry_of r))
-      ∙ (λ i. record (central_with (directory_kept v.catalogue (declarations_of dd) (known i)) v.accounts) {
+      added (directory_with v (declarations_of dd) (registry_of r))
+      ∙ (λ i. record (central_with (directory_with v (declarations_of dd) (known i)) v.accounts) {
         discoveries = λ g. upd ((central_of v).discoveries g) f ((central_of v).discoveries g f ++ offered g i);
       })
-      ∙ ap (λ (t : DeclarationsValue). record (central_with (directory_kept v.catalogue t (record (registry_of v.objects) { known = (with_discoveries_made (directory_kept v.catalogue t (registry_of v.objects)) f).known })) v.accounts) {
-        discoveries = λ g. upd ((central_of v).discoveries g) f ((central_of v).discoveries g f ++ wanted_discoveries (directory_kept v.catalogue t (registry_of v.objects)) None g f);
+      ∙ ap (λ (t : DeclarationsValue). record (central_with (directory_with v t (record (registry_of v.objects) { known = (with_discoveries_made (directory_with v t (registry_of v.objects)) f).known })) v.accounts) {
+        discoveries = λ g. upd ((central_of v).discoveries g) f ((central_of v).discoveries g f ++ wanted_discoveries (directory_with v t (registry_of v.objects)) None g f);
       }) declared
 
   pub subscribed_consistent : IsConsistent v → IsConsistent (record v { declarations = dd; objects = r; accounts = accounts })

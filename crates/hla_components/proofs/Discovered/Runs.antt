@@ -18,7 +18,8 @@ use Rattle.hla_machine.specs.History.{GivesCallback, SpeaksOf, Names, next_state
 use Rattle.hla_machine.specs.Discovered.{Discovers, IsDiscoveredAmong, HasDiscovered, IsDiscoveredInTurn}
 use Rattle.hla_machine.proofs.Upkeep.Ahead.{given_of}
 use Rattle.hla_machine.proofs.Copies.Deliveries.{heard_from_another, discovered_before}
-use Rattle.hla_machine.proofs.Histories.Lawful.{first_run, occurs_happens}
+use Rattle.hla_machine.proofs.Upkeep.Runs.{first_run}
+use Rattle.hla_machine.proofs.Histories.Lawful.{occurs_happens}
 use Rattle.hla_components.specs.Components.{Components, new_components}
 use Rattle.hla_components.specs.CentralOf.{central}
 use Rattle.hla_components.specs.Invariant.{IsKnownOf, IsTold, Inv}

@@ -99,6 +99,10 @@ module _ (P : ℕ → ℕ → Type 0) (c : Central) (k : Discovering P c) (told 
   pick_discovers f (callback.TimeRegulationEnabled time) o may = no_discovery f _ _ (λ i class name e. absurd (cc)) (record { next = refl; objects = refl; joined = λ g j. j; known = refl; owner = λ h. refl; discoveries = λ g l. inl refl })
   pick_discovers f (callback.TimeAdvanceGrant time) o may = no_discovery f _ _ (λ i class name e. absurd (cc)) (record { next = refl; objects = refl; joined = λ g j. j; known = refl; owner = λ h. refl; discoveries = λ g l. inl refl })
   pick_discovers f (callback.RequestRetraction event) o may = no_discovery f _ _ (λ i class name e. absurd (cc)) (record { next = refl; objects = refl; joined = λ g j. j; known = refl; owner = λ h. refl; discoveries = λ g l. inl refl })
+  pick_discovers f (callback.SynchronizationPointRegistrationSucceeded label) o may = no_discovery f _ _ (λ i class name e. absurd (cc)) (record { next = refl; objects = refl; joined = λ g j. j; known = refl; owner = λ h. refl; discoveries = λ g l. inl refl })
+  pick_discovers f (callback.SynchronizationPointRegistrationFailed label) o may = no_discovery f _ _ (λ i class name e. absurd (cc)) (record { next = refl; objects = refl; joined = λ g j. j; known = refl; owner = λ h. refl; discoveries = λ g l. inl refl })
+  pick_discovers f (callback.AnnounceSynchronizationPoint label) o may = no_discovery f _ _ (λ i class name e. absurd (cc)) (record { next = refl; objects = refl; joined = λ g j. j; known = refl; owner = λ h. refl; discoveries = λ g l. inl refl })
+  pick_discovers f (callback.FederationSynchronized label) o may = no_discovery f _ _ (λ i class name e. absurd (cc)) (record { next = refl; objects = refl; joined = λ g j. j; known = refl; owner = λ h. refl; discoveries = λ g l. inl refl })
 
   -- ---- any step
   abbrev With : Happening → ℕ → ℕ → Type 0

@@ -8,7 +8,7 @@ use Rattle.hla_null_message.specs.declared.message.Message.{Message}
 use Rattle.hla_null_message.specs.declared.message.Message.TheVariants as message
 use Rattle.hla_null_message.specs.Wires.{events, discoveries}
 use Rattle.hla_order_queues.specs.declared.control.Control.{Control}
-use Rattle.hla_order_queues.specs.declared.control.Control.TheVariants.{ToDiscover, ToRetract}
+use Rattle.hla_order_queues.specs.declared.control.Control.TheVariants.{ToDiscover, ToRetract, ToTell}
 use Rattle.hla_order_queues.specs.Controls.{discoveries_from}
 use Rattle.hla_order_queues.specs.Queues.{find_event}
 use Rattle.hla_machine.specs.Directory.{Directory}
@@ -49,6 +49,7 @@ module _ (d : Directory) (g f : ℕ) where
       (λ e. (subst (λ (h : ℕ). IsKnownOf d h f x.object) (sym (eqb-true g from e)) c.0, control_discoveries ks c.1))
       (λ _. control_discoveries ks c.1)
   control_discoveries (ToRetract e ∷ ks) c = control_discoveries ks c.1
+  control_discoveries (ToTell n ∷ ks) c = control_discoveries ks c.1
 
 -- what waits in a queue
 queued_event : (s : Components) (g m f : ℕ) (e : Event) (es : List Event) → EachOf (IsWaiting s.directory s.wire f) es → find_event g m es ≡ Some e → IsTold s.directory g f e.content

@@ -4,12 +4,14 @@ use Rattle.std.proofs.lemmas.Bool.{cond_both}
 use Rattle.hla_base.specs.declared.content.Content.{Content}
 use Rattle.hla_base.specs.declared.content.Content.TheVariants as content
 use Rattle.hla_base.specs.declared.content.Event.{Event}
+use Rattle.hla_base.specs.declared.notice.NoticeKind.{NoticeKind}
+use Rattle.hla_base.specs.declared.notice.NoticeKind.TheVariants as notices
 use Rattle.hla_base.specs.declared.fault.Fault.{Fault}
 use Rattle.hla_base.specs.declared.number.EventHandle.{EventHandle}
 use Rattle.hla_base.specs.Rows.{is_regulator}
 use Rattle.hla_null_message.specs.declared.message.Message.{Message}
 use Rattle.hla_null_message.specs.declared.message.Message.TheVariants as message
-use Rattle.hla_order_queues.specs.declared.control.Control.TheVariants.{ToDiscover, ToRetract}
+use Rattle.hla_order_queues.specs.declared.control.Control.TheVariants.{ToDiscover, ToRetract, ToTell}
 use Rattle.hla_callbacks.specs.declared.callback.Delivery.{Delivery}
 use Rattle.hla_machine.specs.declared.service.Service.{Service}
 use Rattle.hla_machine.specs.declared.service.Service.TheVariants as service
@@ -24,7 +26,7 @@ use Rattle.hla_order_queues.specs.Queues.{occurrences, handles_of}
 use Rattle.hla_components.specs.Components.{Components}
 use Rattle.hla_components.specs.Component.{promise, local_bound}
 use Rattle.hla_local.specs.Picking.{pick, Pick, NoPick, PickControl, PickRo, PickRegulates, PickConstrains, PickTso, PickGrant, is_below}
-use Rattle.hla_components.specs.Next.{Outcomes, answer_outcome, step_outcome, call_outcome, carry_outcome, pick_outcome, with_null_announced, content_callback}
+use Rattle.hla_components.specs.Next.{Outcomes, answer_outcome, step_outcome, call_outcome, carry_outcome, pick_outcome, with_null_announced, content_callback, notice_callback}
 use Rattle.hla_components.specs.Invariant.{Kept}
 use Rattle.hla_components.proofs.Wiring.Queues.{find-none, occurs-cons, occurs-filter}
 use Rattle.hla_components.proofs.Wiring.Bags.{event_self}
@@ -69,10 +71,18 @@ content_choice d e (content.Interaction class values) = refl
 content_choice d e (content.Reflection object values) = refl
 content_choice d e (content.Removal object) = refl
 
+-- nor does a notice
+notice_choice : (k : NoticeKind) (label : List ℕ) → IsCallbackChoice (Some (notice_callback k label)) choice.None
+notice_choice notices.RegistrationSucceeded label = refl
+notice_choice notices.RegistrationFailed label = refl
+notice_choice notices.Announced label = refl
+notice_choice notices.Synchronized label = refl
+
 pick_choice : (s : Components) (f : ℕ) (p : Pick) → Kept s → IsChoice (Tick f) (pick_outcome s f p).outcome (pick_outcome s f p).choice
 pick_choice s f NoPick kept = refl
 pick_choice s f (PickControl (ToDiscover from d) rest) kept = refl
 pick_choice s f (PickControl (ToRetract e) rest) kept = refl
+pick_choice s f (PickControl (ToTell n) rest) kept = notice_choice n.kind n.label
 pick_choice s f (PickRo e rest) kept = content_choice _ _ e.content
 pick_choice s f PickRegulates kept = refl
 pick_choice s f PickConstrains kept = distinct_handles (filter (is_below (s.row f).time) (s.tso f))

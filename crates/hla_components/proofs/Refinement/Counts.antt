@@ -8,7 +8,7 @@ use Rattle.hla_base.proofs.Tables.{upd_each, upd_same, upd_other, by_number}
 use Rattle.hla_catalogue.specs.CatalogueValue.{CatalogueValue}
 use Rattle.hla_null_message.specs.declared.message.Message.{Message}
 use Rattle.hla_null_message.specs.declared.message.Message.TheVariants as message
-use Rattle.hla_order_queues.specs.declared.control.Control.TheVariants.{ToDiscover, ToRetract}
+use Rattle.hla_order_queues.specs.declared.control.Control.TheVariants.{ToDiscover, ToRetract, ToTell}
 use Rattle.hla_machine.specs.declared.service.Service.{Service}
 use Rattle.hla_machine.specs.declared.service.Service.TheVariants as service
 use Rattle.hla_machine.specs.declared.service.ResignAction.TheVariants.{DeleteObjects, NoAction}
@@ -119,6 +119,7 @@ pick_counts : (s : Components) (f : ℕ) (p : Pick) → EpochInv s → EpochInv 
 pick_counts s f NoPick k = k
 pick_counts s f (PickControl (ToDiscover from d) rest) k = record { counted = k.counted; unheard = k.unheard }
 pick_counts s f (PickControl (ToRetract e) rest) k = record { counted = k.counted; unheard = k.unheard }
+pick_counts s f (PickControl (ToTell n) rest) k = record { counted = k.counted; unheard = k.unheard }
 pick_counts s f (PickRo e rest) k = record { counted = k.counted; unheard = k.unheard }
 pick_counts s f PickRegulates k = row_counts s _ f _ refl refl refl refl k
 pick_counts s f PickConstrains k = row_counts s _ f _ refl refl refl refl k

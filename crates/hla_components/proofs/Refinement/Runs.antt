@@ -17,9 +17,9 @@ use Rattle.hla_machine.proofs.Upkeep.Numbers.{AllNumbers, numbers_new, numbers_a
 use Rattle.hla_machine.specs.Runs.{IsRun}
 use Rattle.hla_machine.specs.Machine.{IsChoice}
 use Rattle.hla_machine.proofs.Upkeep.Runs.{run_safe}
-use Rattle.hla_order_queues.specs.declared.control.Control.TheVariants.{ToDiscover, ToRetract}
+use Rattle.hla_order_queues.specs.declared.control.Control.TheVariants.{ToDiscover, ToRetract, ToTell}
 use Rattle.hla_null_message.specs.Wires.{discoveries, events, retractions}
-use Rattle.hla_order_queues.specs.Controls.{discoveries_from, dues}
+use Rattle.hla_order_queues.specs.Controls.{discoveries_from, dues, notices_in}
 use Rattle.hla_order_queues.specs.Queues.{occurrences, find_event}
 use Rattle.hla_components.specs.Components.{Components, new_components}
 use Rattle.hla_components.specs.Component.{local_bound}
@@ -49,6 +49,7 @@ use Rattle.hla_components.proofs.Services.Discoveries.{step_request, step_discov
 use Rattle.hla_components.proofs.Services.Registrations.{step_register}
 use Rattle.hla_components.proofs.Services.Updates.{step_update, step_delete}
 use Rattle.hla_components.proofs.Services.Resigns.{step_resign}
+use Rattle.hla_components.proofs.Services.Telling.{step_register_point, step_achieve_point, step_tell}
 
 -- ---- steps that are not refused
 call_step : (s : Components) (f : ℕ) (x : Service) → Inv s → refusal (components_seen s) (Call f x) ≡ None → IsKeptStep s (Call f x) (step_outcome s (Call f x))
@@ -68,6 +69,8 @@ call_step s f (service.DeleteObjectInstance object stamp) inv none = step_delete
 call_step s f (service.ChangeAttributeOrderType object attributes order) inv none = step_attribute_orders s f object attributes order inv.kept none
 call_step s f (service.ChangeInteractionOrderType class order) inv none = step_interaction_order s f class inv.kept order none
 call_step s f (service.Retract event) inv none = step_retract s f event inv.kept inv.laws none
+call_step s f (service.RegisterFederationSynchronizationPoint label) inv none = step_register_point s f label inv.kept none
+call_step s f (service.SynchronizationPointAchieved label) inv none = step_achieve_point s f label inv.kept none
 call_step s f (service.EnableTimeRegulation time lookahead) inv none = step_regulate s f time lookahead inv.kept none
 call_step s f service.DisableTimeRegulation inv none = step_stop s f inv.kept none
 call_step s f service.EnableTimeConstrained inv none = step_constrain s f inv.kept none
@@ -102,6 +105,7 @@ pick_step : (s : Components) (f : ℕ) (p : Pick) → Inv s → refusal (compone
 pick_step s f NoPick inv none facts = step_no_pick s f inv.kept none
 pick_step s f (PickControl (ToDiscover from d) rest) inv none facts = step_discover s f rest inv.kept from d facts none
 pick_step s f (PickControl (ToRetract e) rest) inv none facts = step_request s f rest inv.kept e facts none
+pick_step s f (PickControl (ToTell n) rest) inv none facts = step_tell s f rest n inv.kept facts none
 pick_step s f (PickRo e rest) inv none facts = step_ro s f e rest inv.kept facts.1 inv.laws facts.0 facts.2 none
 pick_step s f PickRegulates inv none facts = step_regulates s f inv.kept none facts
 pick_step s f PickConstrains inv none facts = step_constrains s f inv.kept (ticker_joined (components_seen s) f none) none facts
@@ -178,8 +182,8 @@ inv_start catalogue = record {
 
 -- it is the beginning of the machine
 pub central_start : (catalogue : CatalogueValue) → central (new_components catalogue) ≡ new_central catalogue
-unfolding events find_event retractions discoveries discoveries_from dues
-central_start catalogue = central_ext _ _ refl refl refl refl (bag_ext _ _ (λ _ _ _. refl)) (λ _ _. refl) (λ _ _ _. refl) (λ _ _ _. refl)
+unfolding events find_event retractions discoveries discoveries_from dues notices_in
+central_start catalogue = central_ext _ _ refl refl refl refl (bag_ext _ _ (λ _ _ _. refl)) (λ _ _. refl) (λ _ _ _. refl) (λ _ _ _. refl) (λ _. refl)
 
 -- what the components do from the beginning on is a run of the machine
 pub start_run : (catalogue : CatalogueValue) (steps : List Step) → IsRun (new_central catalogue) (happenings (new_components catalogue) steps) (central (state_after (new_components catalogue) steps))

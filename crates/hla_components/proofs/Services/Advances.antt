@@ -14,7 +14,7 @@ use Rattle.hla_callbacks.specs.declared.callback.Delivery.TheVariants as deliver
 use Rattle.hla_machine.specs.declared.step.Step.TheVariants.{Tick}
 use Rattle.hla_machine.specs.declared.step.Choice.TheVariants as choice
 use Rattle.hla_machine.specs.Central.{Reached, at_key}
-use Rattle.hla_machine.specs.Callbacks.{IsAtFirstPick, IsLeastKey, MayPick, MayPickIn, MayGrantFlush, row_after, after_delivery}
+use Rattle.hla_machine.specs.Callbacks.{IsLeastKey, MayPick, MayGrantFlush, row_after, after_delivery}
 use Rattle.hla_machine.specs.Callbacks as machine
 use Rattle.hla_machine.specs.Refusals.{refusal}
 use Rattle.hla_order_queues.specs.Queues.{find_event, is_event, handle_of, first_stamp}
@@ -303,6 +303,6 @@ module _ (s : Components) (f : ℕ) (q : AdvanceRequest) (e : Event) (rest : Lis
     follows = central_ext _ (after_delivery (central s) f (handle_of e) (delivery.TimeStamp e.stamp)) refl
         (ap (λ (r : TimeRow). upd s.row f r) (sym (row_after_is (s.row f) (s.row f).advance q (λ q. row_after_pick (s.row f) q e.stamp) facts.asks))) refl refl
         (subst (λ (o : ℕ → List Event). bag_of (record s { tso = upd s.tso f rest; ro = o }) ≡ at_key (bag_of s) e.sender e.serial f None) (upd_self s.ro f) (bag_tso_picked s f e rest kept.copies facts.front))
-        (λ _ _. refl) (λ _ _ _. refl) (λ _ _ _. refl)
+        (λ _ _. refl) (λ _ _ _. refl) (λ _ _ _. refl) (λ _. refl)
         ∙ after_give (central s) f (delivery.TimeStamp e.stamp) (handle_of e) e.content choice.None;
   }

@@ -39,6 +39,7 @@ use Rattle.hla_components.proofs.Wiring.Bags.{bag_same_wires}
 use Rattle.hla_components.proofs.Services.Retractions.{same_key_one, key_turned, dues-retract, dues-discover, dues-append, dues-nil, from-retract, from-discover, from-append, from-nil}
 use Rattle.hla_machine.proofs.Basics.Tests.{caller_joined}
 use Rattle.hla_components.proofs.Services.Steps.{wired_taken}
+use Rattle.hla_components.proofs.Services.Telling.{notices-retract, notices-discover, notices-put_discover}
 
 -- ---- what waits among the controls is given
 module _ (s : Components) (f : ℕ) (rest : List Control) (kept : Kept s) where
@@ -62,7 +63,8 @@ module _ (s : Components) (f : ℕ) (rest : List Control) (kept : Kept s) where
         (by_number f _ (rw (upd_same, at3_here, front, dues-retract) (rw same_key_one (omega arith))) (λ l ne. let k2 : (is_key e.sender e.serial e.sender e.serial ≡ false) ⊎ (f ≢ l) = inr ne in rw (upd_other, at3_else) refl))
         (λ h n other. by_number f _
         (let k2 : (is_key e.sender e.serial h n ≡ false) ⊎ (f ≢ f) = inl other in rw (upd_same, at3_else, front, dues-retract) (rw (key_turned e.sender e.serial h n, other) (omega arith)))
-        (λ l ne. let k2 : (is_key e.sender e.serial h n ≡ false) ⊎ (f ≢ l) = inr ne in rw (upd_other, at3_else) refl)));
+        (λ l ne. let k2 : (is_key e.sender e.serial h n ≡ false) ⊎ (f ≢ l) = inr ne in rw (upd_other, at3_else) refl)))
+        (by_number f _ (rw (upd_same, front, notices-retract) refl) (λ k ne. rw upd_other refl));
   }
 
   pub step_discover : (from : ℕ) (d : Discovery) → s.controls f ≡ ToDiscover from d ∷ rest → refusal (components_seen s) (Tick f) ≡ None → IsKeptStep s (Tick f) (pick_outcome s f (PickControl (ToDiscover from d) rest))
@@ -71,7 +73,8 @@ module _ (s : Components) (f : ℕ) (rest : List Control) (kept : Kept s) where
     allowed = (none, subst (λ g. IsNextDiscovery (discoveries_from g (s.controls f) ++ discoveries (s.wire g f)) d) (sym told.owner) (rw (front, from-discover, eq-eqb from from refl) refl));
     follows = central_ext _ _ refl refl refl refl refl (subst (λ g. (h k : ℕ) → discoveries_from h (upd s.controls f rest k) ++ discoveries (s.wire h k)
         ≡ upd2 (λ g f. discoveries_from g (s.controls f) ++ discoveries (s.wire g f)) g f (drop 1 (discoveries_from g (s.controls f) ++ discoveries (s.wire g f))) h k) (sym told.owner) shorter) (λ _ _ _. refl)
-        (λ g m. by_number f _ (rw (upd_same, front, dues-discover) refl) (λ k ne. rw upd_other refl));
+        (λ g m. by_number f _ (rw (upd_same, front, dues-discover) refl) (λ k ne. rw upd_other refl))
+        (by_number f _ (rw (upd_same, front, notices-discover) refl) (λ k ne. rw upd_other refl));
   }
     where
       told : IsKnownOf s.directory from f d.object
@@ -131,7 +134,8 @@ module _ (s : Components) (g f : ℕ) (d : Discovery) (ms : List Message) (kept 
     };
     allowed = (none, come_any);
     follows = central_ext _ _ refl refl refl refl (bag_same_wires s (upd2 s.wire g f ms) come_events) come_discoveries come_retractions
-        (λ h m. by_number f _ (rw (upd_same, dues-append, dues-discover, dues-nil) (omega arith)) (λ k ne. rw upd_other refl));
+        (λ h m. by_number f _ (rw (upd_same, dues-append, dues-discover, dues-nil) (omega arith)) (λ k ne. rw upd_other refl))
+        (by_number f _ (rw (upd_same, notices-put_discover) refl) (λ k ne. rw upd_other refl));
   }
 
 -- ---- the discoveries that are made
@@ -232,7 +236,7 @@ module _ (s : Components) (f class : ℕ) (o : Option (List ℕ)) (kept : Kept s
       (λ k ne. rw (upd_other, upd_other) refl)
 
   pub central_subscribes : central (with_class_subscribed s f (with_subscribed s.directory f class o)) ≡ after_subscribe (central s) f class o
-  central_subscribes = central_ext _ _ refl refl refl refl (bag_same_wires s wire subscribe_events) subscribe_discoveries subscribe_retractions (λ _ _ _. refl)
+  central_subscribes = central_ext _ _ refl refl refl refl (bag_same_wires s wire subscribe_events) subscribe_discoveries subscribe_retractions (λ _ _ _. refl) (λ _. refl)
 
 pub step_subscribe : (s : Components) (f class : ℕ) (attributes : List ℕ) → Kept s → refusal (components_seen s) (Call f (service.SubscribeObjectClassAttributes class attributes)) ≡ None
     → IsKeptStep s (Call f (service.SubscribeObjectClassAttributes class attributes)) (step_outcome s (Call f (service.SubscribeObjectClassAttributes class attributes)))

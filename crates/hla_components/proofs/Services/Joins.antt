@@ -5,12 +5,15 @@ use Rattle.std.proofs.lemmas.Bool.Decides.{nat_tests}
 use Rattle.hla_base.specs.Tables.{forever, upd, upd_new, is_other, least}
 use Rattle.hla_base.specs.Rows.{is_regulator, next_request, new_row}
 use Rattle.hla_machine.specs.declared.step.Step.TheVariants.{Join}
-use Rattle.hla_machine.specs.Directory.{with_member}
+use Rattle.hla_machine.specs.Directory.{with_member, joining_notices}
+use Rattle.hla_machine.specs.Central.{Central}
+use Rattle.hla_machine.specs.Machine.{with_told}
 use Rattle.hla_machine.specs.Refusals.{refusal}
 use Rattle.hla_null_message.specs.Wires.{events, discoveries, retractions}
 use Rattle.hla_order_queues.specs.Controls.{discoveries_from}
 use Rattle.hla_components.specs.Components.{Components}
-use Rattle.hla_components.specs.Next.{components_seen, step_outcome, with_federate_joined}
+use Rattle.hla_components.specs.Next.{components_seen, step_outcome}
+use Rattle.hla_components.specs.CentralOf.{central}
 use Rattle.hla_components.specs.Invariant.{Carries, RowInv, IsTimed, IsWired, is_wire, stamps, Kept}
 use Rattle.hla_components.specs.Headline.{IsKeptStep}
 use Rattle.hla_base.proofs.Tables.{by_number, upd_each, upd_same, upd_other, upd_new_here, upd_new_there, upd_new_else, least_le, le_least, least_le-forever}
@@ -20,6 +23,7 @@ use Rattle.hla_components.proofs.Upkeep.Objects.{objects_shift, tells_grows}
 use Rattle.hla_components.proofs.Upkeep.Directories.{directory_joined, grows_joined}
 use Rattle.hla_machine.proofs.Basics.Bags.{central_ext}
 use Rattle.hla_components.proofs.Wiring.Bags.{bag_same_wires}
+use Rattle.hla_components.proofs.Services.Telling.{notices_kept, central_notices}
 
 -- the row of a federate that has just joined
 pub row_start : RowInv new_row
@@ -68,7 +72,17 @@ module _ (s : Components) (name : List ℕ) (kept : Kept s) where
       (by_number s.directory.next_federate _ (λ _. rw upd_new_there (least_le-forever s.directory.next_federate (s.bound g)))
       (λ k ne2 l. rw upd_new_else (least_le s.directory.next_federate (s.bound g) k (omega arith))))
 
-  join_time : IsTimed (with_federate_joined s name)
+  -- it is there, and is told nothing yet
+  abbrev arrived : Components
+  arrived = record s {
+    directory = with_member s.directory name;
+    row = upd s.row s.directory.next_federate new_row;
+    wire = upd_new s.wire s.directory.next_federate (λ _. []) (λ _. []);
+    bound = upd_new s.bound s.directory.next_federate s.last_announced (λ _. forever);
+    known_epoch = upd_new s.known_epoch s.directory.next_federate s.epoch (λ _. s.epoch s.directory.next_federate);
+  }
+
+  join_time : IsTimed arrived
   join_time = record {
     queues = kept.time.queues;
     ordered = kept.time.ordered;
@@ -93,8 +107,8 @@ module _ (s : Components) (name : List ℕ) (kept : Kept s) where
       (λ (n : is_wire s.directory g f ≡ false). n)
       (cases_Bool (is_wire s.directory g f)))
 
-  pub kept_joined : Kept (with_federate_joined s name)
-  kept_joined = record {
+  kept_arrived : Kept arrived
+  kept_arrived = record {
     directory = directory_joined s.directory name kept.directory;
     wired = join_wired;
     time = join_time;
@@ -104,10 +118,13 @@ module _ (s : Components) (name : List ℕ) (kept : Kept s) where
         (λ g f x _ b. rw (same_wires g f) b) kept.objects;
   }
 
+  central_arrived : central arrived ≡ (let c = central s in record c { directory = with_member c.directory name; row = upd c.row c.directory.next_federate new_row })
+  central_arrived = central_ext _ _ refl refl refl refl (bag_same_wires s (upd_new s.wire s.directory.next_federate (λ _. []) (λ _. [])) (λ g f. ap events (same_wires g f)))
+      (λ g f. ap (λ ms. discoveries_from g (s.controls f) ++ discoveries ms) (same_wires g f)) (λ g m f. ap (retractions m) (same_wires g f)) (λ _ _ _. refl) (λ _. refl)
+
   pub step_join : refusal (components_seen s) (Join name) ≡ None → IsKeptStep s (Join name) (step_outcome s (Join name))
   step_join none = record {
-    kept = kept_joined;
+    kept = notices_kept arrived (joining_notices s.directory) kept_arrived;
     allowed = (none, refl);
-    follows = central_ext _ _ refl refl refl refl (bag_same_wires s (upd_new s.wire s.directory.next_federate (λ _. []) (λ _. [])) (λ g f. ap events (same_wires g f)))
-        (λ g f. ap (λ ms. discoveries_from g (s.controls f) ++ discoveries ms) (same_wires g f)) (λ g m f. ap (retractions m) (same_wires g f)) (λ _ _ _. refl);
+    follows = central_notices arrived (joining_notices s.directory) ∙ ap (λ (c : Central). with_told c (joining_notices s.directory)) central_arrived;
   }

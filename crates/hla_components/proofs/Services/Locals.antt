@@ -13,18 +13,20 @@ use Rattle.hla_lbts.specs.Peers.{PeersValue, peers_of, null_bound}
 use Rattle.hla_null_message.specs.declared.message.Message.{Message}
 use Rattle.hla_null_message.specs.declared.message.Message.TheVariants as message
 use Rattle.hla_order_queues.specs.declared.control.Control.{Control}
-use Rattle.hla_order_queues.specs.declared.control.Control.TheVariants.{ToDiscover, ToRetract}
+use Rattle.hla_order_queues.specs.declared.control.Control.TheVariants.{ToDiscover, ToRetract, ToTell}
 use Rattle.hla_order_queues.specs.Queues.{find_event, occurrences, is_event}
 use Rattle.hla_null_message.specs.Wires.{events}
 use Rattle.hla_local.specs.LocalValue.{LocalValue}
 use Rattle.hla_local.specs.Picking.{Pick, NoPick, PickControl, PickRo, PickRegulates, PickConstrains, PickTso, PickGrant, pick, picked_by, local_pick, local_picking, least_bound}
 use Rattle.hla_local.specs.Arriving.{MayCome, local_accepting, peers_accepting}
 use Rattle.hla_machine.specs.declared.step.Answer.TheVariants as answer
+use Rattle.hla_machine.specs.Directory.{with_points}
+use Rattle.hla_synchronization.specs.Points.{points_after_notice}
 use Rattle.hla_components.specs.Components.{Components}
 use Rattle.hla_components.specs.Component.{local_bound}
 use Rattle.hla_components.specs.Invariant.{Inv}
 use Rattle.hla_components.specs.Next.{Outcomes, answer_outcome, chosen_outcome, carry_outcome, pick_outcome, tick_outcome}
-use Rattle.hla_components.specs.Locals.{local_of, KnowsPeers, with_local, callback_given, choice_given, carried_by, EachTickIsLocal, EachArrivalIsLocal, EachMessageMayCome}
+use Rattle.hla_components.specs.Locals.{local_of, KnowsPeers, with_local, callback_given, choice_given, carried_by, EachTickIsLocal, EachArrivalIsLocal, EachMessageMayCome, points_given}
 use Rattle.hla_components.proofs.Wiring.Queues.{find-none, find-occurs, occurs-cons}
 
 -- ---- the least bound
@@ -96,12 +98,15 @@ module _ (s : Components) (f : ℕ) (peers : List PeerRow) (known : KnowsPeers s
   with_tso_changed row tso = with_queues_changed row (s.ro f) tso ∙ (λ i. record s { row = upd s.row f row; ro = upd_self s.ro f i; tso = upd s.tso f tso })
 
   abbrev picked_outcome : Pick → Outcomes
-  picked_outcome p = chosen_outcome (answer.Ticked (callback_given (picked_by l.row p))) (choice_given l p) (with_local s f (local_picking l p))
+  picked_outcome p = chosen_outcome (answer.Ticked (callback_given (picked_by l.row p))) (choice_given l p)
+      (record (with_local s f (local_picking l p)) { directory = with_points s.directory (points_given f (picked_by l.row p) s.directory.points) })
 
   given : (p : Pick) → pick_outcome s f p ≡ picked_outcome p
   given NoPick = ap (λ (t : Components). answer_outcome (answer.Ticked None) t) (sym unchanged)
   given (PickControl (ToDiscover from d) rest) = ap (λ (t : Components). record (picked_outcome (PickControl (ToDiscover from d) rest)) { state = t }) (sym (with_controls_changed rest))
   given (PickControl (ToRetract e) rest) = ap (λ (t : Components). record (picked_outcome (PickControl (ToRetract e) rest)) { state = t }) (sym (with_controls_changed rest))
+  given (PickControl (ToTell n) rest) = ap (λ (t : Components). record (picked_outcome (PickControl (ToTell n) rest)) { state = record t { directory = with_points s.directory (points_after_notice f n s.directory.points) } })
+      (sym (with_controls_changed rest))
   given (PickRo e rest) = ap (λ (t : Components). record (picked_outcome (PickRo e rest)) { state = t }) (sym (with_ro_changed rest))
   given PickRegulates = ap (λ (t : Components). record (picked_outcome PickRegulates) { state = t }) (sym (with_row_changed _))
   given PickConstrains = ap (λ (t : Components). record (picked_outcome PickConstrains) { state = t }) (sym (with_queues_changed _ _ _))

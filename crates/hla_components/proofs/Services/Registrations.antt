@@ -102,7 +102,7 @@ module _ (s : Components) (f class : ℕ) (name : List ℕ) (kept : Kept s) (mem
       (λ g ne k. rw (upd_row_other, upd_row_other) refl)
 
   pub central_registers : central (with_object_registered s f s.directory.next_object (with_object s.directory f class name)) ≡ after_register (central s) f class name
-  central_registers = central_ext _ _ refl refl refl refl (bag_same_wires s wire register_events) register_discoveries register_retractions (λ _ _ _. refl)
+  central_registers = central_ext _ _ refl refl refl refl (bag_same_wires s wire register_events) register_discoveries register_retractions (λ _ _ _. refl) (λ _. refl)
 
 pub step_register : (s : Components) (f class : ℕ) (name : Option (List ℕ)) → Kept s → refusal (components_seen s) (Call f (service.RegisterObjectInstance class name)) ≡ None
     → IsKeptStep s (Call f (service.RegisterObjectInstance class name)) (step_outcome s (Call f (service.RegisterObjectInstance class name)))

@@ -12,7 +12,8 @@ use Rattle.hla_machine.specs.declared.service.ResignAction.TheVariants.{ReleaseA
 use Rattle.hla_machine.specs.declared.step.Step.TheVariants.{Call}
 use Rattle.hla_machine.specs.Directory.{Directory, Outgoing, is_of_order, objects_of, deletions_sent, without_member}
 use Rattle.hla_machine.specs.Sends.{is_ordered}
-use Rattle.hla_machine.specs.Machine.{after_leaving}
+use Rattle.hla_machine.specs.Central.{Central}
+use Rattle.hla_machine.specs.Machine.{after_leaving, with_points_closed}
 use Rattle.hla_machine.specs.Refusals.{refusal}
 use Rattle.hla_order_queues.specs.Queues.{find_event}
 use Rattle.hla_null_message.specs.Wires.{events, discoveries, retractions, put_behind}
@@ -30,6 +31,7 @@ use Rattle.hla_components.proofs.Upkeep.Directories.{directory_left, grows_left}
 use Rattle.hla_machine.proofs.Basics.Bags.{bag_ext, central_ext}
 use Rattle.hla_components.proofs.Services.Retractions.{dues-nil, from-nil}
 use Rattle.hla_components.proofs.Services.Joins.{row_start}
+use Rattle.hla_components.proofs.Services.Telling.{notices-nil, closed_kept, central_closed}
 use Rattle.hla_machine.proofs.Basics.Tests.{clear_call, caller_joined}
 use Rattle.hla_components.proofs.Services.Steps.{IsSendable, wired_row, kept_sent_all, central_sent_all}
 use Rattle.hla_components.proofs.Services.Updates.{Told, deletion_told, sendable}
@@ -41,6 +43,18 @@ module _ (s : Components) (f : ℕ) (kept : Kept s) (member : s.directory.joined
 
   abbrev wire : ℕ → ℕ → List Message
   wire = upd_whole_column (upd_row s.wire s.directory.joined f (λ _. with_last_null s f)) f []
+
+  -- it is gone, and the points that only it had not achieved are still open
+  abbrev gone : Components
+  gone = record s {
+    directory = without_member s.directory f;
+    row = upd s.row f new_row;
+    last_announced = upd s.last_announced f forever;
+    tso = upd s.tso f [];
+    ro = upd s.ro f [];
+    controls = upd s.controls f [];
+    wire = wire;
+  }
 
   other_kept : (g k : ℕ) → is_other (upd s.directory.joined f false) g k ≡ true → is_other s.directory.joined g k ≡ true
   other_kept g k e = let p = and_parts _ _ e in and_from _ _ p.0 (upd_each s.directory.joined f false (λ j x. x ≡ true → s.directory.joined j ≡ true) (λ x. absurd (cc)) (λ _ _ x. x) k p.1)
@@ -78,7 +92,7 @@ module _ (s : Components) (f : ℕ) (kept : Kept s) (member : s.directory.joined
       (cases_Bool (is_other s.directory.joined f k))))
       (λ g ng k ne. rw (upd_other, upd_other, upd_row_other, upd_other) (kept.time.wires g k))
 
-  leave_time : IsTimed (with_federate_gone s f)
+  leave_time : IsTimed gone
   leave_time = record {
     queues = upd_each s.tso f [] (λ _ q. IsTsoQueue q) tt (λ k _. kept.time.queues k);
     ordered = upd_each s.tso f [] (λ _ q. IsInKeyOrder q) tt (λ k _. kept.time.ordered k);
@@ -122,8 +136,8 @@ module _ (s : Components) (f : ℕ) (kept : Kept s) (member : s.directory.joined
       (λ (n : is_wire s.directory g k ≡ false). n)
       (cases_Bool (is_wire s.directory g k)))))
 
-  pub kept_leaves : Kept (with_federate_gone s f)
-  kept_leaves = record {
+  kept_gone : Kept gone
+  kept_gone = record {
     directory = directory_left s.directory f kept.directory;
     wired = leave_wired;
     time = leave_time;
@@ -131,20 +145,39 @@ module _ (s : Components) (f : ℕ) (kept : Kept s) (member : s.directory.joined
     objects = leave_objects;
   }
 
+  pub kept_leaves : Kept (with_federate_gone s f)
+  kept_leaves = closed_kept gone kept_gone
+
   -- ---- the central state
   nothing_found : (g m : ℕ) → or_else (option_map wire_copy (find_event g m [])) (or_else (option_map tso_copy (find_event g m [])) (option_map ro_copy (find_event g m []))) ≡ None
   nothing_found g m = rw find-nil refl
 
-  leave_bag : bag_of (with_federate_gone s f) ≡ (λ g m. upd (bag_of s g m) f None)
+  leave_bag : bag_of gone ≡ (λ g m. upd (bag_of s g m) f None)
   leave_bag = bag_ext _ _ (λ g m. by_number f _
       (rw (upd_same, upd_same, upd_whole_column_here, events-nil, upd_same) (nothing_found g m))
       (λ k ne. rw (upd_other, upd_other, upd_whole_column_else, row_events, upd_other) refl))
 
-  pub central_leaves : central (with_federate_gone s f) ≡ after_leaving (central s) f
-  central_leaves = central_ext _ _ refl refl refl refl leave_bag
+  -- a federate leaves the machine, and no point closes yet
+  abbrev gone_from : Central → Central
+  gone_from c = record c {
+    directory = without_member c.directory f;
+    row = upd c.row f new_row;
+    bag = λ g m. upd (c.bag g m) f None;
+    discoveries = λ g. upd (c.discoveries g) f [];
+    owed = λ g m. upd (c.owed g m) f 0;
+    due = λ g m. upd (c.due g m) f 0;
+    notices = upd c.notices f [];
+  }
+
+  central_gone : central gone ≡ gone_from (central s)
+  central_gone = central_ext _ _ refl refl refl refl leave_bag
       (λ g. by_number f _ (rw (upd_same, upd_whole_column_here, discoveries-nil, from-nil, upd_same) refl) (λ k ne. rw (upd_other, upd_whole_column_else, row_discoveries, upd_other) refl))
       (λ g m. by_number f _ (rw (upd_whole_column_here, retractions-nil, upd_same) refl) (λ k ne. rw (upd_whole_column_else, row_retractions, upd_other) refl))
       (λ g m. by_number f _ (rw (upd_same, dues-nil, upd_same) refl) (λ k ne. rw (upd_other, upd_other) refl))
+      (by_number f _ (rw (upd_same, notices-nil, upd_same) refl) (λ k ne. rw (upd_other, upd_other) refl))
+
+  pub central_leaves : central (with_federate_gone s f) ≡ after_leaving (central s) f
+  central_leaves = central_closed gone ∙ ap with_points_closed central_gone
 
 -- ---- its objects are deleted first
 pub sent_directory : (s : Components) (f : ℕ) (stamp : Option ℕ) (outs : List Outgoing) → (with_messages_sent s f stamp outs).directory ≡ s.directory

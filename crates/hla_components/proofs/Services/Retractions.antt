@@ -16,10 +16,10 @@ use Rattle.hla_machine.specs.Central.{is_key, at_key, at3}
 use Rattle.hla_machine.specs.Sends.{is_told, owed_to_receivers}
 use Rattle.hla_machine.specs.Refusals.{refusal}
 use Rattle.hla_order_queues.specs.declared.control.Control.{Control}
-use Rattle.hla_order_queues.specs.declared.control.Control.TheVariants.{ToDiscover, ToRetract}
+use Rattle.hla_order_queues.specs.declared.control.Control.TheVariants.{ToDiscover, ToRetract, ToTell}
 use Rattle.hla_order_queues.specs.Queues.{is_event, find_event, remove_event, occurrences}
 use Rattle.hla_null_message.specs.Wires.{events, discoveries, retractions, put_behind}
-use Rattle.hla_order_queues.specs.Controls.{discoveries_from, dues}
+use Rattle.hla_order_queues.specs.Controls.{discoveries_from, dues, notices_in}
 use Rattle.hla_components.specs.Components.{Components}
 use Rattle.hla_components.specs.Next.{components_seen, step_outcome, put_retraction, with_event_retracted, with_retraction_accepted, carry_outcome}
 use Rattle.hla_components.specs.CentralOf.{central, bag_of, wire_copy, tso_copy, ro_copy}
@@ -31,6 +31,7 @@ use Rattle.hla_components.proofs.Wiring.Queues.{find-none, find-remove, find-rem
 use Rattle.hla_components.proofs.Wiring.Wires.{events-put_retraction, events-retraction, discoveries-put_retraction, discoveries-retraction, retractions-put, retractions-cons, retractions-here}
 use Rattle.hla_components.proofs.Upkeep.Times.{CarriesIn}
 use Rattle.hla_components.proofs.Upkeep.Epochs.{time_retracts, time_retraction_came}
+use Rattle.hla_components.proofs.Services.Telling.{notices-put_retract}
 use Rattle.hla_components.proofs.Wiring.Copies.{copies_wires, copies_retraction_came}
 use Rattle.hla_components.proofs.Upkeep.Objects.{objects_wires, objects_retraction_came, tells_retraction}
 use Rattle.hla_machine.proofs.Basics.Bags.{by_key, at3_here, at3_else, central_ext}
@@ -106,7 +107,7 @@ step_retract s f event kept laws none =
           (omega (arith, last_le_least s f kept reg, high));
       allowed = (none, tt);
       follows = central_ext _ _ refl refl refl refl (bag_same_wires s (upd_row s.wire s.directory.joined f (put_retraction s.directory f (s.sent f m) m)) (retract_events s f m))
-          (λ g k. ap (λ ds. discoveries_from g (s.controls k) ++ ds) (sym (retract_discoveries s f m g k))) (owed_retract s f m) (λ _ _ _. refl);
+          (λ g k. ap (λ ds. discoveries_from g (s.controls k) ++ ds) (sym (retract_discoveries s f m g k))) (owed_retract s f m) (λ _ _ _. refl) (λ _. refl);
     }
 
 -- ---- controls
@@ -129,6 +130,7 @@ unfolding dues
 dues-append g m [] ys = omega arith
 dues-append g m (ToRetract e ∷ xs) ys = omega (arith, dues-append g m xs ys)
 dues-append g m (ToDiscover h d ∷ xs) ys = dues-append g m xs ys
+dues-append g m (ToTell n ∷ xs) ys = dues-append g m xs ys
 
 pub dues-nil : (g m : ℕ) → dues g m [] ≡ 0
 unfolding dues
@@ -146,6 +148,7 @@ pub from-append : (g : ℕ) (xs ys : List Control) → discoveries_from g (xs ++
 unfolding discoveries_from
 from-append g [] ys = refl
 from-append g (ToRetract e ∷ xs) ys = from-append g xs ys
+from-append g (ToTell n ∷ xs) ys = from-append g xs ys
 from-append g (ToDiscover h d ∷ xs) ys = ⊎_elim
     (λ (y : eqb g h ≡ true). rw y (ap (λ ds. d ∷ ds) (from-append g xs ys)))
     (λ (n : eqb g h ≡ false). rw n (from-append g xs ys))
@@ -205,6 +208,10 @@ module _ (s : Components) (g f m : ℕ) (ms : List Message) (front : s.wire g f 
   same_discoveries : (h k : ℕ) → discoveries (upd2 s.wire g f ms h k) ≡ discoveries (s.wire h k)
   same_discoveries = upd2_each s.wire g f ms (λ h k ns. discoveries ns ≡ discoveries (s.wire h k)) (rw (front, discoveries-retraction) refl) (λ _ _. refl)
 
+  same_notices : (b : Bool) (ks : List Control) → notices_in (cond b (ks ++ ToRetract (record { sender = g; serial = m }) ∷ []) ks) ≡ notices_in ks
+  same_notices true ks = notices-put_retract ks (record { sender = g; serial = m })
+  same_notices false ks = refl
+
   same_from : (h : ℕ) (b : Bool) (ks : List Control) → discoveries_from h (cond b (ks ++ ToRetract (record { sender = g; serial = m }) ∷ []) ks) ≡ discoveries_from h ks
   same_from h true ks = from-append h ks (ToRetract (record { sender = g; serial = m }) ∷ []) ∙ (ap (λ ds. discoveries_from h ks ++ ds) (from-retract h (record { sender = g; serial = m }) [] ∙ from-nil h) ∙ append-nil (discoveries_from h ks))
   same_from h false ks = refl
@@ -226,5 +233,6 @@ module _ (s : Components) (g f m : ℕ) (ms : List Message) (front : s.wire g f 
           objects = objects_retraction_came s g f m ms kept.objects front;
         };
         allowed = (none, (refl, rw front (retractions-here m ms)));
-        follows = central_ext _ _ refl refl refl refl (bag_retraction kept at.2) came_discoveries owed_taken (due_added at.2);
+        follows = central_ext _ _ refl refl refl refl (bag_retraction kept at.2) came_discoveries owed_taken (due_added at.2)
+            (by_number f _ (rw upd_same (same_notices _ (s.controls f))) (λ k ne. rw upd_other refl));
       }

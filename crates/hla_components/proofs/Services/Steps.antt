@@ -21,7 +21,7 @@ use Rattle.hla_machine.specs.declared.step.Outcome.TheVariants as outcome
 use Rattle.hla_machine.specs.declared.step.Choice.TheVariants as choice
 use Rattle.hla_machine.specs.Machine.{is_removal, after_arrival, IsCarriedCopy}
 use Rattle.hla_machine.specs.Directory.{Directory, Outgoing, AnInteraction, content_for, interaction_sent, by_handle}
-use Rattle.hla_machine.specs.Sends.{is_ordered, kept_stamp, is_some_ordered, copy_for}
+use Rattle.hla_machine.specs.Sends.{is_ordered, kept_stamp, is_some_ordered}
 use Rattle.hla_machine.specs.Sends as machine
 use Rattle.hla_machine.specs.Refusals.{refusal, is_bad_stamp}
 use Rattle.hla_machine.proofs.Basics.Tests.{caller_joined, clear_call}
@@ -194,7 +194,7 @@ module _ (s : Components) (f : ℕ) (stamp : Option ℕ) (out : Outgoing) where
   }
 
   pub central_sent : Kept s → central (with_message_sent s f stamp out) ≡ machine.after_message (central s) f stamp out
-  central_sent kept = central_ext _ _ refl refl refl refl (bag_sent s f stamp out kept.copies) (λ g k. ap (λ ds. discoveries_from g (s.controls k) ++ ds) (sym (sent_discoveries g k))) sent_retractions (λ _ _ _. refl)
+  central_sent kept = central_ext _ _ refl refl refl refl (bag_sent s f stamp out kept.copies) (λ g k. ap (λ ds. discoveries_from g (s.controls k) ++ ds) (sym (sent_discoveries g k))) sent_retractions (λ _ _ _. refl) (λ _. refl)
 
 pub kept_sent_all : (s : Components) (f : ℕ) (stamp : Option ℕ) (outs : List Outgoing) → Kept s → s.directory.joined f ≡ true → EachOf (IsSendable s f stamp) outs → Kept (with_messages_sent s f stamp outs)
 kept_sent_all s f stamp [] kept member may = kept
@@ -262,7 +262,7 @@ event_step s g f e ms kept front none b is =
     let at : CarriesIn s g f (message.Event e ∷ ms) = rw front at (kept.time.wires g f) in
     let same : central (with_event_accepted s g f e ms) ≡ after_arrival (central s) g f e.serial = central_ext _ _ refl refl refl refl (bag_event s g f e ms kept.copies front at.1)
     (λ h k. ap (λ ds. discoveries_from h (s.controls k) ++ ds) (taken_discoveries s g f (message.Event e) ms front (discoveries-event e ms) h k))
-    (taken_retractions s g f (message.Event e) ms front (λ n. retractions-event e n ms)) (λ _ _ _. refl) in
+    (taken_retractions s g f (message.Event e) ms front (λ n. retractions-event e n ms)) (λ _ _ _. refl) (λ _. refl) in
     let copy : IsCarriedCopy (central s) g f (handle_of e) b = (at.1, (wire_copy e, subst (λ h. bag_of s h e.serial f ≡ Some (wire_copy e)) (sym at.1) (copy_came s g f e ms kept.copies front at.1), is)) in
     let all : Kept (with_event_accepted s g f e ms) = record {
       directory = kept.directory;
@@ -293,7 +293,7 @@ step_null s g f k v ms kept front none = record {
   allowed = (none, tt);
   follows = central_ext _ _ refl refl refl refl (bag_same_wires s (upd2 s.wire g f ms) (upd2_each s.wire g f ms (λ g f ns. events ns ≡ events (s.wire g f)) (rw (front, events-null) refl) (λ _ _. refl)))
       (λ h l. ap (λ ds. discoveries_from h (s.controls l) ++ ds) (taken_discoveries s g f (message.Null k v) ms front (discoveries-null k v ms) h l))
-      (taken_retractions s g f (message.Null k v) ms front (λ n. retractions-null k v n ms)) (λ _ _ _. refl);
+      (taken_retractions s g f (message.Null k v) ms front (λ n. retractions-null k v n ms)) (λ _ _ _. refl) (λ _. refl);
 }
 
 pub step_nothing : (s : Components) (g f : ℕ) → Kept s → refusal (components_seen s) (Carry g f) ≡ None → IsKeptStep s (Carry g f) (carry_outcome s g f [])

@@ -155,7 +155,7 @@ module _ (s : Components) (f : ℕ) (e : Event) (rest : List Event) (kept : Kept
   ro_step laws free may none true is = record {
     kept = kept_ro;
     allowed = (none, may_give (central s) f (delivery.Demoted e.stamp) (handle_of e) e.content choice.None (may, discovered s f kept free e told, copy_front ∙ ap Some (rw is refl)));
-    follows = central_ext _ (after_delivery (central s) f (handle_of e) (delivery.Demoted e.stamp)) refl refl refl refl bag_ro (λ _ _. refl) (λ _ _ _. refl) (λ _ _ _. refl)
+    follows = central_ext _ (after_delivery (central s) f (handle_of e) (delivery.Demoted e.stamp)) refl refl refl refl bag_ro (λ _ _. refl) (λ _ _ _. refl) (λ _ _ _. refl) (λ _. refl)
         ∙ after_give (central s) f (delivery.Demoted e.stamp) (handle_of e) e.content choice.None;
   }
     where
@@ -164,7 +164,7 @@ module _ (s : Components) (f : ℕ) (e : Event) (rest : List Event) (kept : Kept
   ro_step laws free may none false is = record {
     kept = kept_ro;
     allowed = (none, may_give (central s) f delivery.Receive (handle_of e) e.content choice.None (may, discovered s f kept free e told, copy_front ∙ ap Some plain, first_of_sender is));
-    follows = central_ext _ (after_delivery (central s) f (handle_of e) delivery.Receive) refl refl refl refl bag_ro (λ _ _. refl) (λ _ _ _. refl) (λ _ _ _. refl)
+    follows = central_ext _ (after_delivery (central s) f (handle_of e) delivery.Receive) refl refl refl refl bag_ro (λ _ _. refl) (λ _ _ _. refl) (λ _ _ _. refl) (λ _. refl)
         ∙ after_give (central s) f delivery.Receive (handle_of e) e.content choice.None;
   }
     where

@@ -195,7 +195,7 @@ module _ (s : Components) (f j v : ℕ) where
   -- the central state doesn't see null messages
   pub null_central : (row : ℕ → TimeRow) → central (record s { row = row; wire = upd_row s.wire s.directory.joined f (λ _. put_behind (message.Null j v)) }) ≡ central (record s { row = row })
   null_central row = central_ext _ _ refl refl refl refl (bag_same_wires s (upd_row s.wire s.directory.joined f (λ _. put_behind (message.Null j v))) null_events)
-      (λ g k. ap (λ ds. discoveries_from g (s.controls k) ++ ds) (sym (null_discoveries g k))) null_retractions (λ _ _ _. refl)
+      (λ g k. ap (λ ds. discoveries_from g (s.controls k) ++ ds) (sym (null_discoveries g k))) null_retractions (λ _ _ _. refl) (λ _. refl)
 
 pub step_announce : (s : Components) (f : ℕ) → Kept s → refusal (components_seen s) (Announce f) ≡ None → IsKeptStep s (Announce f) (step_outcome s (Announce f))
 step_announce s f kept none = cond_both (is_regulator (s.row f) && ltb (s.last_announced f) (promise s f))

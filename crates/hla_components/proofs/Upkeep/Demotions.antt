@@ -175,7 +175,7 @@ step_cease s f kept none =
             (EachOf-weaker (λ (e : Event). find_event e.sender e.serial (s.tso f) ≡ Some e) (λ (e : Event). (find_event e.sender e.serial (s.tso f) ≡ Some e) × Unit {0}) (s.tso f) (λ (e : Event) h. (h, tt)) (each_found (s.tso f) (once_tso s f kept))),
       );
       follows = central_ext _ _ refl refl refl refl (bag_moved s f kept (λ _. true) [] (s.tso f) (λ g m. nothing_found g m ∙ keep_none (find_event g m (s.tso f))) (λ g m. keep_all (find_event g m (s.tso f))))
-          (λ _ _. refl) (λ _ _ _. refl) (λ _ _ _. refl);
+          (λ _ _. refl) (λ _ _ _. refl) (λ _ _ _. refl) (λ _. refl);
     }
 
 -- ---- constraint is enabled
@@ -232,7 +232,7 @@ step_constrains s f kept member none facts =
           ),
         ),
       );
-      follows = central_ext _ _ refl refl refl refl (bag_moved s f kept (is_below t) stay go stays goes) (λ _ _. refl) (λ _ _ _. refl) (λ _ _ _. refl);
+      follows = central_ext _ _ refl refl refl refl (bag_moved s f kept (is_below t) stay go stays goes) (λ _ _. refl) (λ _ _ _. refl) (λ _ _ _. refl) (λ _. refl);
     }
   where
     both : (es : List Event) → EachOf (λ (e : Event). find_event e.sender e.serial (s.tso f) ≡ Some e) es → EachOf (λ (e : Event). is_below (s.row f).time e ≡ true) es

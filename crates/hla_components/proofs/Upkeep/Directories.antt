@@ -6,7 +6,8 @@ use Rattle.hla_base.specs.Tables.{upd, upd2}
 use Rattle.hla_catalogue.specs.CatalogueValue.{CatalogueValue}
 use Rattle.hla_catalogue.specs.declared.declared.Order.{Order}
 use Rattle.hla_catalogue.specs.Lookup.{object_lineage}
-use Rattle.hla_machine.specs.Directory.{Directory, Object, new_directory, served_object, discovery_at, discovery_of, with_discoveries_made, with_object_discovered, with_member, without_member, with_published, with_subscribed, with_published_interaction, with_subscribed_interaction, with_object, without_object, with_attribute_orders, with_interaction_order}
+use Rattle.hla_synchronization.specs.Points.{Point}
+use Rattle.hla_machine.specs.Directory.{Directory, Object, new_directory, served_object, discovery_at, discovery_of, with_discoveries_made, with_object_discovered, with_member, without_member, with_published, with_subscribed, with_published_interaction, with_subscribed_interaction, with_object, without_object, with_attribute_orders, with_interaction_order, with_points}
 use Rattle.hla_components.specs.Invariant.{DirectoryInv}
 use Rattle.hla_base.proofs.Tables.{upd_each, by_number, upd_same, upd_other, upd2_other, upd2_each}
 use Rattle.hla_components.proofs.Upkeep.Objects.{KeepsOwners}
@@ -149,6 +150,13 @@ grows_registered d f class name = record {
       (λ _. upd2_each d.known d.next_object f true (λ h g x. d.known h g ≡ true → x ≡ true) (λ _. refl) (λ _ _ k. k) h g k);
   more = omega arith;
 }
+
+-- ---- synchronization points
+pub directory_pointed : (d : Directory) (points : List Point) → DirectoryInv d → DirectoryInv (with_points d points)
+directory_pointed d points inv = record { members = inv.members; owners = inv.owners; served = inv.served; declared = inv.declared }
+
+pub grows_pointed : (d : Directory) (points : List Point) → KeepsOwners d (with_points d points)
+grows_pointed d points = record { same_owner = λ _ _. refl; same_known = λ _ _ k. k; more = omega arith }
 
 -- ---- members
 pub directory_joined : (d : Directory) (name : List ℕ) → DirectoryInv d → DirectoryInv (with_member d name)

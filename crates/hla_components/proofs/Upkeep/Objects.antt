@@ -10,7 +10,7 @@ use Rattle.hla_null_message.specs.declared.message.Message.TheVariants as messag
 use Rattle.hla_base.specs.Tables.{upd, upd2}
 use Rattle.hla_machine.specs.Directory.{Directory}
 use Rattle.hla_order_queues.specs.declared.control.Control.{Control}
-use Rattle.hla_order_queues.specs.declared.control.Control.TheVariants.{ToDiscover, ToRetract}
+use Rattle.hla_order_queues.specs.declared.control.Control.TheVariants.{ToDiscover, ToRetract, ToTell}
 use Rattle.hla_null_message.specs.Wires.{discoveries, put_behind, without_last_null}
 use Rattle.hla_order_queues.specs.Queues.{insert_event, remove_event}
 use Rattle.hla_components.specs.Components.{Components}
@@ -52,6 +52,7 @@ tells_grows d e g f (message.Discovery x ∷ ms) up t = (known_grows d e g f x.o
 control_grows : (d e : Directory) (f : ℕ) (k : Control) → KeepsOwners d e → IsControl d f k → IsControl e f k
 control_grows d e f (ToDiscover from x) up k = known_grows d e from f x.object up k
 control_grows d e f (ToRetract x) up k = tt
+control_grows d e f (ToTell n) up k = tt
 
 -- ---- what stands behind
 pub behind_nil : (x : Content) → IsBehind x []

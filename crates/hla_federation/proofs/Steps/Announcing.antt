@@ -28,6 +28,7 @@ use Rattle.hla_components.proofs.Refinement.Runs.{each_step}
 use Rattle.hla_members.specs.Changes.{MayRegulate, AreLowered, peers_lowered, entry_by}
 use Rattle.hla_members.specs.MemberValue.{MemberValue}
 use Rattle.hla_members.specs.Members.{MemberTables, members_of, with_component, with_null_sent}
+use Rattle.hla_synchronization.specs.Points.{Point}
 use Rattle.hla_federation.specs.Steps.Memory.{takes_memory}
 use Rattle.hla_federation.specs.Steps.Sending.{announcement}
 use Rattle.hla_federation.specs.FederationValue.{FederationValue}
@@ -70,13 +71,13 @@ announcement_takes s f p = either (is_regulator (s.row f) && ltb (s.last_announc
     either false is = absurd (cc)
 
 -- the parts behind a null message and another row
-module _ (c : CatalogueValue) (d : DeclarationsValue) (r : RegistryValue) (m : MemberTables) (f : ℕ) where
-  pub null_state : (row : TimeRow) (v : ℕ) → with_null_announced (record (state_from c d r m) { row = upd (state_from c d r m).row f row }) f v
-      ≡ state_from c d r (with_component (with_null_sent m f (m.local f).epoch v) f (record (m.local f) { row = row; last_announced = v }))
-  null_state row v = sym (announced_changed c d r (with_null_sent m f (m.local f).epoch v) f row v)
+module _ (c : CatalogueValue) (points : List Point) (d : DeclarationsValue) (r : RegistryValue) (m : MemberTables) (f : ℕ) where
+  pub null_state : (row : TimeRow) (v : ℕ) → with_null_announced (record (state_from c points d r m) { row = upd (state_from c points d r m).row f row }) f v
+      ≡ state_from c points d r (with_component (with_null_sent m f (m.local f).epoch v) f (record (m.local f) { row = row; last_announced = v }))
+  null_state row v = sym (announced_changed c points d r (with_null_sent m f (m.local f).epoch v) f row v)
 
-  pub announced_state : (v : ℕ) → with_null_announced (state_from c d r m) f v ≡ state_from c d r (with_component (with_null_sent m f (m.local f).epoch v) f (record (m.local f) { last_announced = v }))
-  announced_state v = (λ i. record (with_null_announced (state_from c d r m) f v) { row = sym (upd-self (state_from c d r m).row f (m.local f).row refl) i }) ∙ null_state (m.local f).row v
+  pub announced_state : (v : ℕ) → with_null_announced (state_from c points d r m) f v ≡ state_from c points d r (with_component (with_null_sent m f (m.local f).epoch v) f (record (m.local f) { last_announced = v }))
+  announced_state v = (λ i. record (with_null_announced (state_from c points d r m) f v) { row = sym (upd-self (state_from c points d r m).row f (m.local f).row refl) i }) ∙ null_state (m.local f).row v
 
 -- ---- the parts behind a null message and another component
 pub null_whole : (v : FederationValue) (f k b : ℕ) (l : LocalValue) (ms : List MemberValue) → IsWhole v → members_of ms ≡ with_component (with_null_sent (members_of v.members) f k b) f l → l.peers ≡ ((members_of v.members).local f).peers
@@ -150,9 +151,9 @@ lowered_unmet f epoch entry joined old new g lowered ne unmet j = subst (λ (p :
     either true = record { bound = upd_other (peers_of (old j).peers).bound f _ g ne ∙ (unmet j).bound; epoch = upd_other (peers_of (old j).peers).known_epoch f _ g ne ∙ (unmet j).epoch }
     either false = unmet j
 
-module _ (c : CatalogueValue) (d : DeclarationsValue) (r : RegistryValue) (m : MemberTables) (f lookahead entry : ℕ) where
+module _ (c : CatalogueValue) (points : List Point) (d : DeclarationsValue) (r : RegistryValue) (m : MemberTables) (f lookahead entry : ℕ) where
   abbrev s : Components
-  s = state_from c d r m
+  s = state_from c points d r m
 
   abbrev l : LocalValue
   l = record (m.local f) { row = row_with_entry (m.local f).row lookahead entry; last_announced = entry; epoch = (m.local f).epoch + 1 }
@@ -161,12 +162,12 @@ module _ (c : CatalogueValue) (d : DeclarationsValue) (r : RegistryValue) (m : M
   entered = with_component (with_null_sent m f ((m.local f).epoch + 1) entry) f l
 
   pub enabled_state : (local : ℕ → LocalValue) → AreLowered f ((m.local f).epoch + 1) entry m.joined entered.local local
-      → with_regulation_enabled s f lookahead entry ≡ state_from c d r (record entered { local = local })
-  enabled_state local lowered = λ i. record (state_from c d r (record entered { local = local })) {
+      → with_regulation_enabled s f lookahead entry ≡ state_from c points d r (record entered { local = local })
+  enabled_state local lowered = λ i. record (state_from c points d r (record entered { local = local })) {
     row = sym (own (λ (x : LocalValue). x.row) (λ x rows. refl) ∙ upd-field (λ (x : LocalValue). x.row) m.local f l) i;
-    ro = sym (own (λ (x : LocalValue). x.ro) (λ x rows. refl) ∙ kept c d r m f (λ (x : LocalValue). x.ro) l refl) i;
-    tso = sym (own (λ (x : LocalValue). x.tso) (λ x rows. refl) ∙ kept c d r m f (λ (x : LocalValue). x.tso) l refl) i;
-    controls = sym (own (λ (x : LocalValue). x.controls) (λ x rows. refl) ∙ kept c d r m f (λ (x : LocalValue). x.controls) l refl) i;
+    ro = sym (own (λ (x : LocalValue). x.ro) (λ x rows. refl) ∙ kept c points d r m f (λ (x : LocalValue). x.ro) l refl) i;
+    tso = sym (own (λ (x : LocalValue). x.tso) (λ x rows. refl) ∙ kept c points d r m f (λ (x : LocalValue). x.tso) l refl) i;
+    controls = sym (own (λ (x : LocalValue). x.controls) (λ x rows. refl) ∙ kept c points d r m f (λ (x : LocalValue). x.controls) l refl) i;
     last_announced = sym (own (λ (x : LocalValue). x.last_announced) (λ x rows. refl) ∙ upd-field (λ (x : LocalValue). x.last_announced) m.local f l) i;
     epoch = sym (own (λ (x : LocalValue). x.epoch) (λ x rows. refl) ∙ upd-field (λ (x : LocalValue). x.epoch) m.local f l) i;
     bound = sym (column s.bound m.joined f (λ b. min b entry) (λ g. (peers_of (local g).peers).bound) (λ g. ap (λ (p : PeersValue). p.bound) (learned g) ∙ fields_bound g (is_other m.joined f g))) i;
@@ -177,7 +178,7 @@ module _ (c : CatalogueValue) (d : DeclarationsValue) (r : RegistryValue) (m : M
       own p same = fun_ext (λ g. ap p (lowered g).0 ∙ same (entered.local g) (local g).peers)
 
       learned : (g : ℕ) → peers_of (local g).peers ≡ cond (is_other m.joined f g) (peers_lowered f ((m.local f).epoch + 1) entry (peers_of (m.local g).peers)) (peers_of (m.local g).peers)
-      learned g = (lowered g).1 ∙ ap (λ (t : ℕ → PeersValue). cond (is_other m.joined f g) (peers_lowered f ((m.local f).epoch + 1) entry (t g)) (t g)) (kept c d r m f (λ (x : LocalValue). peers_of x.peers) l refl)
+      learned g = (lowered g).1 ∙ ap (λ (t : ℕ → PeersValue). cond (is_other m.joined f g) (peers_lowered f ((m.local f).epoch + 1) entry (t g)) (t g)) (kept c points d r m f (λ (x : LocalValue). peers_of x.peers) l refl)
 
       fields_bound : (g : ℕ) (b : Bool) → (cond b (peers_lowered f ((m.local f).epoch + 1) entry (peers_of (m.local g).peers)) (peers_of (m.local g).peers)).bound ≡ cond b (upd (s.bound g) f (min (s.bound g f) entry)) (s.bound g)
       fields_bound g true = refl

@@ -23,6 +23,8 @@ use Rattle.hla_machine.specs.Refusals.{Seen, refusal}
 use Rattle.hla_components.specs.Components.{Components}
 use Rattle.hla_components.specs.Locals.{choice_given}
 use Rattle.hla_components.specs.Next.{next, with_row, done_outcome, components_seen}
+use Rattle.hla_synchronization.specs.OpenPoints.{points_of}
+use Rattle.hla_synchronization.specs.Points.{Point}
 use Rattle.hla_federation.specs.FederationValue.{FederationValue}
 use Rattle.hla_members.specs.MemberValue.{MemberValue}
 use Rattle.hla_members.specs.Members.{MemberTables, members_of, with_component}
@@ -33,14 +35,14 @@ use Rattle.hla_federation.proofs.Steps.Wholes.{whole_same, unmet_with}
 use Rattle.hla_federation.proofs.Steps.Doing.{does_next}
 
 -- ---- what only the row, the last announcement and the epoch of a component say
-module _ (c : CatalogueValue) (d : DeclarationsValue) (r : RegistryValue) (m : MemberTables) (f : ℕ) where
+module _ (c : CatalogueValue) (points : List Point) (d : DeclarationsValue) (r : RegistryValue) (m : MemberTables) (f : ℕ) where
   abbrev s : Components
-  s = state_from c d r m
+  s = state_from c points d r m
 
   pub kept : {X : Type 0} (p : LocalValue → X) (l : LocalValue) → p l ≡ p (m.local f) → ◌≡◌ {A = ℕ → X} (λ g. p (upd m.local f l g)) (λ g. p (m.local g))
   kept p l is = upd-field p m.local f l ∙ upd-self (λ g. p (m.local g)) f (p l) is
 
-  pub roles_changed : (row : TimeRow) (announced epoch : ℕ) → state_from c d r (with_component m f (record (m.local f) { row = row; last_announced = announced; epoch = epoch }))
+  pub roles_changed : (row : TimeRow) (announced epoch : ℕ) → state_from c points d r (with_component m f (record (m.local f) { row = row; last_announced = announced; epoch = epoch }))
       ≡ record s { row = upd s.row f row; last_announced = upd s.last_announced f announced; epoch = upd s.epoch f epoch }
   roles_changed row announced epoch = let l = record (m.local f) { row = row; last_announced = announced; epoch = epoch } in λ i. record s {
     row = upd-field (λ (x : LocalValue). x.row) m.local f l i;
@@ -53,17 +55,17 @@ module _ (c : CatalogueValue) (d : DeclarationsValue) (r : RegistryValue) (m : M
     epoch = upd-field (λ (x : LocalValue). x.epoch) m.local f l i;
   }
 
-  pub announced_changed : (row : TimeRow) (announced : ℕ) → state_from c d r (with_component m f (record (m.local f) { row = row; last_announced = announced }))
+  pub announced_changed : (row : TimeRow) (announced : ℕ) → state_from c points d r (with_component m f (record (m.local f) { row = row; last_announced = announced }))
       ≡ record s { row = upd s.row f row; last_announced = upd s.last_announced f announced }
   announced_changed row announced = roles_changed row announced (m.local f).epoch
       ∙ (λ i. record s { row = upd s.row f row; last_announced = upd s.last_announced f announced; epoch = upd-self s.epoch f (s.epoch f) refl i })
 
-  pub row_changed : (row : TimeRow) → state_from c d r (with_component m f (record (m.local f) { row = row })) ≡ with_row s f row
+  pub row_changed : (row : TimeRow) → state_from c points d r (with_component m f (record (m.local f) { row = row })) ≡ with_row s f row
   row_changed row = announced_changed row (m.local f).last_announced
       ∙ (λ i. record s { row = upd s.row f row; last_announced = upd-self s.last_announced f (s.last_announced f) refl i })
 
   -- what waits goes from one queue to the other
-  pub queues_changed : (row : TimeRow) (ro tso : List Event) → state_from c d r (with_component m f (record (m.local f) { row = row; ro = ro; tso = tso }))
+  pub queues_changed : (row : TimeRow) (ro tso : List Event) → state_from c points d r (with_component m f (record (m.local f) { row = row; ro = ro; tso = tso }))
       ≡ record s { row = upd s.row f row; ro = upd s.ro f ro; tso = upd s.tso f tso }
   queues_changed row ro tso = let l = record (m.local f) { row = row; ro = ro; tso = tso } in λ i. record s {
     row = upd-field (λ (x : LocalValue). x.row) m.local f l i;
@@ -86,13 +88,13 @@ module _ (v : FederationValue) (f : ℕ) (l : LocalValue) (ms : List MemberValue
     named = λ g y. whole.named g (ap (λ (t : MemberTables). t.joined g) (sym is) ∙ y);
   }
 
-  pub component_state : state_of (record v { members = ms }) ≡ state_from v.catalogue (declared.declarations_of v.declarations) (registry_of v.objects) (with_component (members_of v.members) f l)
-  component_state = ap (λ (t : MemberTables). state_from v.catalogue (declared.declarations_of v.declarations) (registry_of v.objects) t) is
+  pub component_state : state_of (record v { members = ms }) ≡ state_from v.catalogue (points_of v.points) (declared.declarations_of v.declarations) (registry_of v.objects) (with_component (members_of v.members) f l)
+  component_state = ap (λ (t : MemberTables). state_from v.catalogue (points_of v.points) (declared.declarations_of v.declarations) (registry_of v.objects) t) is
 
 -- of a row alone
 pub row_state : (v : FederationValue) (f : ℕ) (row : TimeRow) (ms : List MemberValue) → members_of ms ≡ with_component (members_of v.members) f (record ((members_of v.members).local f) { row = row })
     → with_row (state_of v) f row ≡ state_of (record v { members = ms })
-row_state v f row ms is = sym (component_state v f (record ((members_of v.members).local f) { row = row }) ms is ∙ row_changed v.catalogue (declared.declarations_of v.declarations) (registry_of v.objects) (members_of v.members) f row)
+row_state v f row ms is = sym (component_state v f (record ((members_of v.members).local f) { row = row }) ms is ∙ row_changed v.catalogue (points_of v.points) (declared.declarations_of v.declarations) (registry_of v.objects) (members_of v.members) f row)
 
 -- ---- the requests
 pub request_refusal : (s : Seen) (f : ℕ) (k : AdvanceKind) (a : ℕ) → s.directory.joined f ≡ true → refusal s (Call f (request_service k a)) ≡ first_fault (request_tests (s.row f) a)

@@ -1,5 +1,5 @@
 -- What the parts are after a step is what the next-state function says
-use Rattle.std.proofs.Common.{◌≡◌, ◌≢◌, ◌≤◌, ◌<◌, ◌⊎◌, ⊎_elim, ℕ, ◌+◌, cond, eqb, ltb, not, ◌&&◌, ◌||◌, Bool, true, false, None, Some, List, [], ◌∷◌, drop, refl, sym, ap, ◌∙◌, arith}
+use Rattle.std.proofs.Common.{◌≡◌, ◌≢◌, ◌≤◌, ◌<◌, ◌⊎◌, ⊎_elim, ℕ, ◌+◌, cond, eqb, ltb, not, ◌&&◌, ◌||◌, Bool, true, false, None, Some, List, [], ◌∷◌, drop, map, refl, sym, ap, ◌∙◌, arith}
 use Rattle.std.proofs.lemmas.Bool.{cases_Bool}
 use Rattle.std.proofs.lemmas.Bool.Decides.{nat_tests}
 use Rattle.std.proofs.Math.Path.{fun_ext}
@@ -21,10 +21,15 @@ use Rattle.hla_machine.specs.declared.step.Carried.TheVariants as carried
 use Rattle.hla_components.specs.Components.{Components}
 use Rattle.hla_components.specs.Invariant.{Inv}
 use Rattle.hla_components.specs.Component.{local_bound}
-use Rattle.hla_components.specs.Locals.{with_local, KnowsPeers, callback_given, choice_given, carried_by}
+use Rattle.hla_components.specs.Locals.{with_local, KnowsPeers, callback_given, choice_given, points_given, carried_by}
 use Rattle.hla_components.specs.Next.{Outcomes, next, answer_outcome, chosen_outcome, tick_outcome, carry_outcome, with_federate_joined}
 use Rattle.hla_components.proofs.Services.Locals.{ticked, may_come, bound_is}
 use Rattle.hla_machine.specs.declared.step.Step.TheVariants.{Tick}
+use Rattle.hla_synchronization.specs.Points.{Point, announcement_of}
+use Rattle.hla_local.specs.Telling.{local_told}
+use Rattle.hla_order_queues.specs.declared.control.Control.{Control}
+use Rattle.hla_machine.specs.Directory.{with_points}
+use Rattle.hla_federation.proofs.Steps.Notifying.{told_newcomer}
 use Rattle.hla_federation.specs.Steps.Memory.{takes_memory, pick_takes_memory}
 use Rattle.hla_components.proofs.Services.Locals.{came as each_came}
 use Rattle.hla_members.specs.Members.{MemberTables, with_member_admitted, with_component, carried_of, MayArrive, HasAccepted}
@@ -43,12 +48,12 @@ upd2-self t i j x same = fun_ext (λ k. fun_ext (λ l. ⊎_elim
     (λ (n : eqb i k && eqb j l ≡ false). rw n refl)
     (cases_Bool (eqb i k && eqb j l))))
 
-module _ (c : CatalogueValue) (d : DeclarationsValue) (r : RegistryValue) (m : MemberTables) where
+module _ (c : CatalogueValue) (points : List Point) (d : DeclarationsValue) (r : RegistryValue) (m : MemberTables) where
   abbrev s : Components
-  s = state_from c d r m
+  s = state_from c points d r m
 
   -- ---- one component changes
-  pub component_changed : (f : ℕ) (l : LocalValue) → state_from c d r (with_component m f l) ≡ with_local s f l
+  pub component_changed : (f : ℕ) (l : LocalValue) → state_from c points d r (with_component m f l) ≡ with_local s f l
   component_changed f l = λ i. record s {
     row = upd-field (λ (x : LocalValue). x.row) m.local f l i;
     ro = upd-field (λ (x : LocalValue). x.ro) m.local f l i;
@@ -65,10 +70,11 @@ module _ (c : CatalogueValue) (d : DeclarationsValue) (r : RegistryValue) (m : M
 
   -- ---- picking up
   pub picked : (f : ℕ) → AreWhole c d m → let p = local_pick (m.local f) in
-      tick_outcome s f ≡ chosen_outcome (answer.Ticked (callback_given (picked_by (m.local f).row p))) (choice_given (m.local f) p) (state_from c d r (with_component m f (local_picking (m.local f) p)))
+      tick_outcome s f ≡ chosen_outcome (answer.Ticked (callback_given (picked_by (m.local f).row p))) (choice_given (m.local f) p) (state_from c (points_given f (picked_by (m.local f).row p) points) d r (with_component m f (local_picking (m.local f) p)))
   picked f whole = let p = local_pick (m.local f) in
       ticked s f (m.local f).peers (knows whole f)
-      ∙ ap (λ (t : Components). chosen_outcome (answer.Ticked (callback_given (picked_by (m.local f).row p))) (choice_given (m.local f) p) t) (sym (component_changed f (local_picking (m.local f) p)))
+      ∙ ap (λ (t : Components). chosen_outcome (answer.Ticked (callback_given (picked_by (m.local f).row p))) (choice_given (m.local f) p)
+      (record t { directory = with_points t.directory (points_given f (picked_by (m.local f).row p) points) })) (sym (component_changed f (local_picking (m.local f) p)))
 
   -- its bound, and what a tick would choose
   pub bound_of : (f : ℕ) → AreWhole c d m → local_bound s f ≡ least_bound (m.local f)
@@ -82,8 +88,8 @@ module _ (c : CatalogueValue) (d : DeclarationsValue) (r : RegistryValue) (m : M
 
   -- ---- arriving
   pub came : (g f : ℕ) (after : LocalValue) (ms : List Message) → AreWhole c d m → m.wire g f ≡ ms → HasAccepted g ms (m.local f) after
-      → carry_outcome s g f ms ≡ answer_outcome (answer.Carried (carried_of g ms)) (state_from c d r (record m { local = upd m.local f after; wire = upd2 m.wire g f (drop 1 ms) }))
-  came g f after [] whole is same = λ i. answer_outcome (answer.Carried carried.Nothing) (state_from c d r (record m {
+      → carry_outcome s g f ms ≡ answer_outcome (answer.Carried (carried_of g ms)) (state_from c points d r (record m { local = upd m.local f after; wire = upd2 m.wire g f (drop 1 ms) }))
+  came g f after [] whole is same = λ i. answer_outcome (answer.Carried carried.Nothing) (state_from c points d r (record m {
     local = sym (upd-self m.local f after same) i;
     wire = sym (upd2-self m.wire g f [] (sym is)) i;
   }))
@@ -131,16 +137,16 @@ module _ (c : CatalogueValue) (d : DeclarationsValue) (r : RegistryValue) (m : M
   kept_field p local is = upd-self (λ f. p (m.local f)) m.next_federate (p local) (sym is)
 
   pub joined_state : (name : List ℕ) (local : LocalValue) → Inv s → ((f g : ℕ) → m.next_federate ≤ g → IsUnmet (peers_of (m.local f).peers) g)
-      → m.local m.next_federate ≡ new_local [] → local ≡ new_local local.peers → peers_of local.peers ≡ record { bound = s.last_announced; known_epoch = s.epoch }
-      → with_federate_joined s name ≡ state_from c (record d { federates = d.federates + 1 }) r (with_member_admitted m name local)
+      → m.local m.next_federate ≡ new_local [] → local ≡ local_told (map announcement_of points) (new_local local.peers) → peers_of local.peers ≡ record { bound = s.last_announced; known_epoch = s.epoch }
+      → with_federate_joined s name ≡ state_from c points (record d { federates = d.federates + 1 }) r (with_member_admitted m name local)
   joined_state name local inv unmet nobody new met_is =
       let n = m.next_federate in
       let epoch_none : s.epoch n ≡ 0 = ap (λ (l : LocalValue). l.epoch) nobody in
-      λ i. record (state_from c d r (with_member_admitted m name local)) {
+      λ i. record (state_from c points d r (with_member_admitted m name local)) {
         row = (ap (λ (x : TimeRow). upd s.row n x) (ap (λ (l : LocalValue). l.row) (sym new)) ∙ sym (upd-field (λ (l : LocalValue). l.row) m.local n local)) i;
         ro = (sym (kept_field (λ l. l.ro) local (ap (λ (l : LocalValue). l.ro) nobody ∙ ap (λ (l : LocalValue). l.ro) (sym new))) ∙ sym (upd-field (λ (l : LocalValue). l.ro) m.local n local)) i;
         tso = (sym (kept_field (λ l. l.tso) local (ap (λ (l : LocalValue). l.tso) nobody ∙ ap (λ (l : LocalValue). l.tso) (sym new))) ∙ sym (upd-field (λ (l : LocalValue). l.tso) m.local n local)) i;
-        controls = (sym (kept_field (λ l. l.controls) local (ap (λ (l : LocalValue). l.controls) nobody ∙ ap (λ (l : LocalValue). l.controls) (sym new))) ∙ sym (upd-field (λ (l : LocalValue). l.controls) m.local n local)) i;
+        controls = (told_newcomer (λ g. (m.local g).controls) n (map announcement_of points) (ap (λ (l : LocalValue). l.controls) nobody) ∙ ap (λ (cs : List Control). upd (λ g. (m.local g).controls) n cs) (ap (λ (l : LocalValue). l.controls) (sym new)) ∙ sym (upd-field (λ (l : LocalValue). l.controls) m.local n local)) i;
         last_announced = (sym (kept_field (λ l. l.last_announced) local (ap (λ (l : LocalValue). l.last_announced) nobody ∙ ap (λ (l : LocalValue). l.last_announced) (sym new))) ∙ sym (upd-field (λ (l : LocalValue). l.last_announced) m.local n local)) i;
         epoch = (sym (kept_field (λ l. l.epoch) local (ap (λ (l : LocalValue). l.epoch) nobody ∙ ap (λ (l : LocalValue). l.epoch) (sym new))) ∙ sym (upd-field (λ (l : LocalValue). l.epoch) m.local n local)) i;
         wire = quiet_wires inv i;
@@ -186,5 +192,5 @@ pub carries_below : (m : MemberTables) (g f : ℕ) → cond (not (m.joined f) ||
 carries_below m g f none = let b = not_below (not (m.joined f)) (eqb g f) (eqb g 0) (ltb g m.next_federate) fault.FederateNotExecutionMember none in grind (arith, nat_tests)
 
 -- a tick that was refused for want of memory takes memory
-pub tick_refused : (c : CatalogueValue) (d : DeclarationsValue) (r : RegistryValue) (m : MemberTables) (f : ℕ) → AreWhole c d m → local_pick (m.local f) ≡ PickConstrains → takes_memory (state_from c d r m) (Tick f) ≡ true
-tick_refused c d r m f whole enters = pick_memory c d r m f whole enters
+pub tick_refused : (c : CatalogueValue) (points : List Point) (d : DeclarationsValue) (r : RegistryValue) (m : MemberTables) (f : ℕ) → AreWhole c d m → local_pick (m.local f) ≡ PickConstrains → takes_memory (state_from c points d r m) (Tick f) ≡ true
+tick_refused c points d r m f whole enters = pick_memory c points d r m f whole enters

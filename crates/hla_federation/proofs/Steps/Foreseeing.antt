@@ -28,6 +28,7 @@ use Rattle.hla_members.specs.Noting.{handle_noted}
 use Rattle.hla_members.specs.Members.{MemberTables}
 use Rattle.hla_components.specs.Components.{Components}
 use Rattle.hla_components.specs.Next.{Outcomes, answer_outcome, call_outcome, step_outcome, components_seen, unless_refused}
+use Rattle.hla_synchronization.specs.Points.{Point}
 use Rattle.hla_federation.specs.FederationValue.{FederationValue}
 use Rattle.hla_federation.specs.Steps.Memory.{service_takes_memory, pick_takes_memory, foresight_takes_memory}
 use Rattle.hla_federation.specs.Steps.Sending.{heading_of, handle_under, note_under}
@@ -102,8 +103,8 @@ or-second : (a b : Bool) → b ≡ true → a || b ≡ true
 or-second true b is = refl
 or-second false b is = is
 
-pub copied_memory : (c : CatalogueValue) (d : DeclarationsValue) (r : RegistryValue) (m : MemberTables) (f : ℕ) → AreWhole c d m → copies_content (picked_by (m.local f).row (local_pick (m.local f))) ≡ true
-    → foresight_takes_memory (state_from c d r m) (Tick f) ≡ true
-copied_memory c d r m f whole copies =
-    ap (λ (p : Pick). pick_takes_memory p || copies_content (picked_by (m.local f).row p)) (ap (λ (b : ℕ). pick (m.local f).controls (m.local f).row (m.local f).ro (m.local f).tso b) (bound_of c d r m f whole))
+pub copied_memory : (c : CatalogueValue) (points : List Point) (d : DeclarationsValue) (r : RegistryValue) (m : MemberTables) (f : ℕ) → AreWhole c d m → copies_content (picked_by (m.local f).row (local_pick (m.local f))) ≡ true
+    → foresight_takes_memory (state_from c points d r m) (Tick f) ≡ true
+copied_memory c points d r m f whole copies =
+    ap (λ (p : Pick). pick_takes_memory p || copies_content (picked_by (m.local f).row p)) (ap (λ (b : ℕ). pick (m.local f).controls (m.local f).row (m.local f).ro (m.local f).tso b) (bound_of c points d r m f whole))
     ∙ or-second (pick_takes_memory (local_pick (m.local f))) (copies_content (picked_by (m.local f).row (local_pick (m.local f)))) copies

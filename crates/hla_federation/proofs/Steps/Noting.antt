@@ -11,7 +11,7 @@ use Rattle.hla_catalogue.specs.declared.declared.Order.TheVariants.{Receive, Tim
 use Rattle.hla_retraction.specs.declared.sent.SentRow.{SentRow}
 use Rattle.hla_retraction.specs.SentEvents.{SentEvent, no_event}
 use Rattle.hla_retraction.specs.SentRows.{sent_of}
-use Rattle.hla_retraction.specs.Receivers.{receiver_set}
+use Rattle.hla_base.specs.FederateSets.{federate_set}
 use Rattle.hla_machine.specs.Directory.{Directory, Outgoing, AnUpdate, part_sent, is_receiver, deletions_sent}
 use Rattle.hla_machine.specs.Sends.{is_ordered, is_deletion, sent_event, sent_handle}
 use Rattle.hla_components.specs.Invariant.{Inv}
@@ -54,7 +54,7 @@ part_unsent head (Some rs) sent first none above = note_unsent head rs sent firs
 -- ---- one message
 module _ (d : Directory) (f m : ℕ) (r : TimeRow) (stamp : Option ℕ) (out : Outgoing) (sent : ℕ → ℕ → SentEvent) (fresh : sent f m ≡ no_event) where
   -- an update or an interaction
-  module _ (rs : List Bool) (told : receiver_set rs ≡ is_receiver d f out.body) (kind : is_deletion out.body ≡ false) where
+  module _ (rs : List Bool) (told : federate_set rs ≡ is_receiver d f out.body) (kind : is_deletion out.body ≡ false) where
     pub one_noted : upd2 sent f m (sent_event d r f stamp out) ≡ with_noted sent f (note_under (heading_of f m r stamp out.order) rs)
     one_noted = rw (kind, stamp_is r stamp out, order_is r stamp out) (by_stamp (order_stamp r out.order stamp))
       where
@@ -117,7 +117,7 @@ module _ (d : Directory) (f m : ℕ) (r : TimeRow) (stamp : Option ℕ) (object 
 
   -- of the other one, what it says
   stamped_noted : (values : List HandleValuePair) (told : Option (List Bool)) (sent : ℕ → ℕ → SentEvent) → sent f m ≡ no_event
-      → one_if (is_some told) ≡ length (part_sent Receive object values) → IfSome told (λ rs. receiver_set rs ≡ is_receiver d f (AnUpdate object values))
+      → one_if (is_some told) ≡ length (part_sent Receive object values) → IfSome told (λ rs. federate_set rs ≡ is_receiver d f (AnUpdate object values))
       → sent_events d f m r stamp (part_sent Timestamp object values) sent ≡ with_noted sent f (stamped_note told)
   stamped_noted [] None sent fresh count receivers = refl
   stamped_noted [] (Some rs) sent fresh count receivers = absurd (omega (arith, count))
@@ -136,7 +136,7 @@ module _ (d : Directory) (f m next : ℕ) (r : TimeRow) (stamp : Option ℕ) (ob
   abbrev parts : List Outgoing
   parts = part_sent Receive object received ++ part_sent Timestamp object ordered
 
-  pub parts_noted : (sent : ℕ → ℕ → SentEvent) → IsUnsentFrom (sent f) m → IfSome told (λ rs. receiver_set rs ≡ is_receiver d f (AnUpdate object ordered))
+  pub parts_noted : (sent : ℕ → ℕ → SentEvent) → IsUnsentFrom (sent f) m → IfSome told (λ rs. federate_set rs ≡ is_receiver d f (AnUpdate object ordered))
       → sent_events d f m r stamp parts sent ≡ with_noted sent f (option_and_then (λ rs. note_under (heading_of f next r stamp Timestamp) rs) told)
   parts_noted sent none receivers =
       events_append d f m r stamp (part_sent Receive object received) (part_sent Timestamp object ordered) sent

@@ -14,6 +14,7 @@ use Rattle.hla_null_message.specs.declared.message.Message.{Message}
 use Rattle.hla_null_message.specs.declared.message.Message.TheVariants as message
 use Rattle.hla_null_message.specs.Wires.{put_all_behind}
 use Rattle.hla_null_message.proofs.Wires.{put_all-no_null}
+use Rattle.hla_synchronization.specs.Points.{Point}
 use Rattle.hla_federation.proofs.Steps.NoNulls.{discoveries_no_null}
 use Rattle.hla_declaration.specs.Declarations.{DeclarationsValue}
 use Rattle.hla_declaration.specs.Receivers.{receivers_of}
@@ -201,7 +202,7 @@ module _ (d : Directory) (f class : ℕ) (name : List ℕ) (federates : ℕ) (in
       nothing false ms = refl
 
 -- the state after it
-module _ (c : CatalogueValue) (dd : DeclarationsValue) (r : RegistryValue) (m : MemberTables) (f class : ℕ) (name : List ℕ) (o : ℕ → List Message) (inv : DirectoryInv (directory_from c dd r m))
+module _ (c : CatalogueValue) (points : List Point) (dd : DeclarationsValue) (r : RegistryValue) (m : MemberTables) (f class : ℕ) (name : List ℕ) (o : ℕ → List Message) (inv : DirectoryInv (directory_from c points dd r m))
     (next : dd.federates + 1 ≡ m.next_federate) (silent : (g k : ℕ) → m.joined g ≡ false → dd.subscribed g k ≡ None) (unknown : (g : ℕ) → r.known r.next_object g ≡ false)
     (is : (g : ℕ) → o g ≡ messages_among (discovery_to r.next_object name) (receivers_of (λ k. receivers.object_class_served c dd.subscribed k class) dd.federates f) g)
     (numbers : (g : ℕ) → m.joined g ≡ true → is_number m.next_federate g ≡ true) where
@@ -213,8 +214,8 @@ module _ (c : CatalogueValue) (dd : DeclarationsValue) (r : RegistryValue) (m : 
   abbrev pub members_after : MemberTables
   members_after = record m { wire = wires_posted_below (From f) o m.next_federate m.wire }
 
-  pub registered_state : with_object_registered (state_from c dd r m) f r.next_object (with_object (directory_from c dd r m) f class name) ≡ state_from c dd registry_after members_after
-  registered_state = λ i. record (state_from c dd registry_after members_after) {
-    directory = record (state_from c dd registry_after members_after).directory { known = known_after (directory_from c dd r m) f class name dd.federates inv next silent unknown i };
-    wire = wires_after (directory_from c dd r m) f class name dd.federates inv next silent unknown m.wire o m.next_federate is numbers i;
+  pub registered_state : with_object_registered (state_from c points dd r m) f r.next_object (with_object (directory_from c points dd r m) f class name) ≡ state_from c points dd registry_after members_after
+  registered_state = λ i. record (state_from c points dd registry_after members_after) {
+    directory = record (state_from c points dd registry_after members_after).directory { known = known_after (directory_from c points dd r m) f class name dd.federates inv next silent unknown i };
+    wire = wires_after (directory_from c points dd r m) f class name dd.federates inv next silent unknown m.wire o m.next_federate is numbers i;
   }

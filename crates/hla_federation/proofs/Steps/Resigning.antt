@@ -1,6 +1,6 @@
 -- Resigning is what the next-state function says
 use Rattle.hla_base.specs.Limits.{largest_number, max_serial}
-use Rattle.std.proofs.Common.{◌≡◌, ⊎_elim, ℕ, zero, suc, ◌+◌, ◌<◌, ◌≤◌, cond, eqb, ltb, not, Bool, true, false, None, Some, List, [], ◌∷◌, ◌++◌, length, take, get_or, refl, sym, ap, ◌∙◌, arith}
+use Rattle.std.proofs.Common.{◌≡◌, ⊎_elim, ℕ, zero, suc, ◌+◌, ◌<◌, ◌≤◌, cond, eqb, ltb, not, Bool, true, false, None, Some, List, [], ◌∷◌, ◌++◌, length, map, take, get_or, refl, sym, ap, ◌∙◌, arith}
 use Rattle.std.proofs.lemmas.Bool.{cases_Bool}
 use Rattle.std.proofs.lemmas.Bool.Decides.{nat_tests}
 use Rattle.std.proofs.lemmas.List.{append-nil, append_assoc, take_more, get_or_past}
@@ -8,7 +8,7 @@ use Rattle.std.proofs.Math.Path.{fun_ext}
 use Rattle.hla_base.specs.declared.fault.Fault.{Fault}
 use Rattle.hla_base.specs.declared.fault.Fault.TheVariants as fault
 use Rattle.hla_base.specs.Tables.{forever, upd, upd_row, upd_whole_column, is_other}
-use Rattle.hla_base.specs.Rows.{is_regulator}
+use Rattle.hla_base.specs.Rows.{is_regulator, new_row}
 use Rattle.hla_lbts.specs.Peers.{peers_of}
 use Rattle.hla_local.specs.LocalValue.{LocalValue, resigned_local}
 use Rattle.hla_null_message.specs.declared.message.Message.TheVariants as message
@@ -18,7 +18,7 @@ use Rattle.hla_declaration.specs.Declarations.{DeclarationsValue}
 use Rattle.hla_object_registry.specs.Registered.{RegistryValue}
 use Rattle.hla_object_registry.specs.Queries.{without_owned}
 use Rattle.hla_null_message.specs.declared.message.Message.{Message}
-use Rattle.hla_machine.specs.Directory.{Directory, Outgoing, ADeletion, deletions_sent, objects_of}
+use Rattle.hla_machine.specs.Directory.{Directory, Outgoing, ADeletion, deletions_sent, objects_of, without_member, joined_federates}
 use Rattle.hla_machine.specs.declared.service.Service.TheVariants as service
 use Rattle.hla_machine.specs.declared.service.ResignAction.{ResignAction}
 use Rattle.hla_machine.specs.declared.service.ResignAction.TheVariants.{ReleaseAttributes, DeleteObjects, DeleteObjectsAndReleaseAttributes, NoAction}
@@ -30,9 +30,12 @@ use Rattle.hla_members.specs.MemberValue.{item, MemberValue}
 use Rattle.hla_members.specs.Members.{no_member, MemberTables, members_of, is_number, wires_posted_below, with_member_withdrawn}
 use Rattle.hla_null_message.specs.Wires.{put_behind, put_all_behind}
 use Rattle.hla_null_message.proofs.Wires.{HasNoNull, put_all-append, put_all-no_null}
+use Rattle.hla_synchronization.specs.Points.{Point, closing, left_open, closing_of}
 use Rattle.hla_federation.proofs.Steps.NoNulls.{messages_no_null}
-use Rattle.hla_components.specs.Next.{with_last_null, with_federate_gone, with_messages_sent, with_federate_resigned, components_seen}
+use Rattle.hla_components.specs.Next.{with_last_null, with_complete_closed, with_federate_gone, with_messages_sent, with_federate_resigned, components_seen}
 use Rattle.hla_members.specs.Noting.{IsUnsentFrom}
+use Rattle.hla_members.specs.Telling.{with_all_told}
+use Rattle.hla_federation.proofs.Steps.Notifying.{closed_state, withdrawn_told}
 use Rattle.hla_federation.specs.Steps.Sending.{HasAdded, heading_of, message_to, messages_to, last_null_to}
 use Rattle.hla_federation.specs.Steps.State.{state_from, directory_from}
 use Rattle.hla_members.proofs.MemberTables.{upd-self, upd-field}
@@ -150,16 +153,28 @@ posted_last s f m outs next o is numbers = fun_ext (λ g. fun_ext (λ h. at g h)
         (cases_Bool (eqb f g))
 
 -- ---- leaving
-module _ (c : CatalogueValue) (d : DeclarationsValue) (r : RegistryValue) (m : MemberTables) (f : ℕ) where
+module _ (c : CatalogueValue) (points : List Point) (d : DeclarationsValue) (r : RegistryValue) (m : MemberTables) (f : ℕ) where
   abbrev pub withdrawn_declarations : DeclarationsValue
   withdrawn_declarations = record d { published = upd d.published f (λ _. None); subscribed = upd d.subscribed f (λ _. None); published_interaction = upd d.published_interaction f (λ _. false); subscribed_interaction = upd d.subscribed_interaction f (λ _. false); interaction_orders = upd d.interaction_orders f (λ _. None) }
 
   abbrev left_member : LocalValue
   left_member = resigned_local (m.local f)
 
-  pub left_state : (wire : ℕ → ℕ → List Message) → wire ≡ upd_row m.wire m.joined f (λ _. with_last_null (state_from c d r m) f)
-      → with_federate_gone (state_from c d r m) f ≡ state_from c withdrawn_declarations (without_owned r f) (with_member_withdrawn (record m { wire = wire }) f)
-  left_state wire is = λ i. record (state_from c withdrawn_declarations (without_owned r f) (with_member_withdrawn m f)) {
+  -- before points close
+  abbrev gone : Components → Components
+  gone s = record s {
+    directory = without_member s.directory f;
+    row = upd s.row f new_row;
+    last_announced = upd s.last_announced f forever;
+    tso = upd s.tso f [];
+    ro = upd s.ro f [];
+    controls = upd s.controls f [];
+    wire = upd_whole_column (upd_row s.wire s.directory.joined f (λ _. with_last_null s f)) f [];
+  }
+
+  pub left_state : (wire : ℕ → ℕ → List Message) → wire ≡ upd_row m.wire m.joined f (λ _. with_last_null (state_from c points d r m) f)
+      → gone (state_from c points d r m) ≡ state_from c points withdrawn_declarations (without_owned r f) (with_member_withdrawn (record m { wire = wire }) f)
+  left_state wire is = λ i. record (state_from c points withdrawn_declarations (without_owned r f) (with_member_withdrawn m f)) {
     row = sym (upd-field (λ (l : LocalValue). l.row) m.local f left_member) i;
     ro = sym (upd-field (λ (l : LocalValue). l.ro) m.local f left_member) i;
     tso = sym (upd-field (λ (l : LocalValue). l.tso) m.local f left_member) i;
@@ -172,25 +187,37 @@ module _ (c : CatalogueValue) (d : DeclarationsValue) (r : RegistryValue) (m : M
   }
 
 -- with the deletions before
-module _ (c : CatalogueValue) (d : DeclarationsValue) (r : RegistryValue) (m : MemberTables) (f : ℕ) (hs : List ℕ) (o : ℕ → List Message)
-    (is : (h : ℕ) → o h ≡ messages_to (directory_from c d r m) f (m.serial f) (m.local f).row None (deletions_sent hs) h ++ last_null_to (state_from c d r m) f h)
+module _ (c : CatalogueValue) (points : List Point) (d : DeclarationsValue) (r : RegistryValue) (m : MemberTables) (f : ℕ) (hs : List ℕ) (o : ℕ → List Message)
+    (is : (h : ℕ) → o h ≡ messages_to (directory_from c points d r m) f (m.serial f) (m.local f).row None (deletions_sent hs) h ++ last_null_to (state_from c points d r m) f h)
     (numbers : (h : ℕ) → m.joined h ≡ true → is_number m.next_federate h ≡ true) (unsent : IsUnsentFrom (m.sent f) (m.serial f)) where
   abbrev sent_members : MemberTables
-  sent_members = record m { serial = upd m.serial f (m.serial f + length (deletions_sent hs)); wire = sent_wire (directory_from c d r m) f (m.serial f) (m.local f).row None (deletions_sent hs) m.wire }
+  sent_members = record m { serial = upd m.serial f (m.serial f + length (deletions_sent hs)); wire = sent_wire (directory_from c points d r m) f (m.serial f) (m.local f).row None (deletions_sent hs) m.wire }
 
-  deletions_state : with_messages_sent (state_from c d r m) f None (deletions_sent hs) ≡ state_from c d r sent_members
-  deletions_state = sends_all (state_from c d r m) f None (deletions_sent hs)
-      ∙ (λ i. state_from c d r (record sent_members { sent = deletions_noted (directory_from c d r m) f (m.serial f) (m.local f).row hs m.sent unsent i }))
+  deletions_state : with_messages_sent (state_from c points d r m) f None (deletions_sent hs) ≡ state_from c points d r sent_members
+  deletions_state = sends_all (state_from c points d r m) f None (deletions_sent hs)
+      ∙ (λ i. state_from c points d r (record sent_members { sent = deletions_noted (directory_from c points d r m) f (m.serial f) (m.local f).row hs m.sent unsent i }))
 
-  pub resigned_state : with_federate_gone (with_messages_sent (state_from c d r m) f None (deletions_sent hs)) f
-      ≡ state_from c (withdrawn_declarations c d r m f) (without_owned r f) (with_member_withdrawn (record m { serial = upd m.serial f (m.serial f + length hs); wire = wires_posted_below (From f) o m.next_federate m.wire }) f)
-  resigned_state =
-      ap (λ (s : Components). with_federate_gone s f) deletions_state
-      ∙ left_state c d r sent_members f (wires_posted_below (From f) o m.next_federate m.wire) (posted_last (state_from c d r m) f (m.serial f) (deletions_sent hs) m.next_federate o is numbers)
-      ∙ (λ i. state_from c (withdrawn_declarations c d r m f) (without_owned r f) (with_member_withdrawn (record m {
+  gone_state : gone c points d r m f (with_messages_sent (state_from c points d r m) f None (deletions_sent hs))
+      ≡ state_from c points (withdrawn_declarations c points d r m f) (without_owned r f) (with_member_withdrawn (record m { serial = upd m.serial f (m.serial f + length hs); wire = wires_posted_below (From f) o m.next_federate m.wire }) f)
+  gone_state =
+      ap (gone c points d r m f) deletions_state
+      ∙ left_state c points d r sent_members f (wires_posted_below (From f) o m.next_federate m.wire) (posted_last (state_from c points d r m) f (m.serial f) (deletions_sent hs) m.next_federate o is numbers)
+      ∙ (λ i. state_from c points (withdrawn_declarations c points d r m f) (without_owned r f) (with_member_withdrawn (record m {
         serial = upd m.serial f (m.serial f + deletions-length hs i);
         wire = wires_posted_below (From f) o m.next_federate m.wire;
       }) f))
+
+  -- and points close
+  abbrev posted_members : MemberTables
+  posted_members = record m { serial = upd m.serial f (m.serial f + length hs); wire = wires_posted_below (From f) o m.next_federate m.wire }
+
+  pub resigned_state : (ms : List ℕ) → ms ≡ joined_federates (directory_from c points (withdrawn_declarations c points d r m f) (without_owned r f) (with_member_withdrawn posted_members f))
+      → with_federate_gone (with_messages_sent (state_from c points d r m) f None (deletions_sent hs)) f
+      ≡ state_from c (left_open ms points) (withdrawn_declarations c points d r m f) (without_owned r f) (with_member_withdrawn (with_all_told (map closing_of (closing ms points)) posted_members) f)
+  resigned_state ms listed =
+      ap with_complete_closed gone_state
+      ∙ sym (closed_state c points (withdrawn_declarations c points d r m f) (without_owned r f) (with_member_withdrawn posted_members f) ms listed)
+      ∙ ap (λ (t : MemberTables). state_from c (left_open ms points) (withdrawn_declarations c points d r m f) (without_owned r f) t) (withdrawn_told (map closing_of (closing ms points)) posted_members f)
 
 -- ---- in which way it may resign
 no_objects : (hs : List ℕ) → ltb 0 (length hs) ≡ false → hs ≡ []

@@ -19,6 +19,7 @@ use Rattle.hla_members.specs.Noting.{with_noted, handle_noted}
 use Rattle.hla_base.specs.RowRefusals.{Test, first_fault}
 use Rattle.hla_members.specs.declared.direction.Direction.TheVariants.{From}
 use Rattle.hla_components.specs.Components.{Components}
+use Rattle.hla_synchronization.specs.OpenPoints.{points_of}
 use Rattle.hla_federation.specs.FederationValue.{FederationValue}
 use Rattle.hla_members.specs.MemberValue.{item, MemberValue}
 use Rattle.hla_null_message.proofs.Wires.{put_all-no_null}
@@ -93,12 +94,12 @@ module _ (v : FederationValue) (f n : ℕ) (stamp : Option ℕ) (outs : List Out
       let r = registry_of v.objects in
       let d = declared.declarations_of v.declarations in
       sends_all (state_of v) f stamp outs
-      ∙ (λ i. state_from v.catalogue d r (record m {
+      ∙ (λ i. state_from v.catalogue (points_of v.points) d r (record m {
         serial = upd m.serial f (m.serial f + sym many i);
         wire = fun_ext (λ g. fun_ext (λ h. wire_at g h)) i;
         sent = noted i;
       }))
-      ∙ ap (λ (t : MemberTables). state_from v.catalogue d r t) (sym is)
+      ∙ ap (λ (t : MemberTables). state_from v.catalogue (points_of v.points) d r t) (sym is)
 
   pub sent_whole : IsWhole v → (objects : List Registered) → (registry_of objects).next_object ≡ (registry_of v.objects).next_object → IsWhole (record v { objects = objects; members = members })
   sent_whole whole objects same = record {
@@ -127,7 +128,7 @@ module _ (v : FederationValue) (f n : ℕ) (stamp : Option ℕ) (outs : List Out
       → with_directory (with_messages_sent (state_of v) f stamp outs) (without_object (with_messages_sent (state_of v) f stamp outs).directory object) ≡ state_of (record v { objects = objects; members = members })
   deletes_state object objects gone =
       ap (λ (s : Components). with_directory s (without_object s.directory object)) sent_state
-      ∙ ap (λ (r : RegistryValue). state_from v.catalogue (declared.declarations_of v.declarations) r (members_of members)) (sym gone)
+      ∙ ap (λ (r : RegistryValue). state_from v.catalogue (points_of v.points) (declared.declarations_of v.declarations) r (members_of members)) (sym gone)
 
 -- ---- where nothing is refused, no test applies
 abbrev pub NoneApplies : List Test → Type 0

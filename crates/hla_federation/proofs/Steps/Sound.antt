@@ -13,6 +13,7 @@ use Rattle.hla_machine.specs.declared.step.Outcome.TheVariants as outcome
 use Rattle.hla_machine.specs.Runs.{IsMachineStep}
 use Rattle.hla_components.specs.CentralOf.{central}
 use Rattle.hla_components.specs.Components.{Components, new_components}
+use Rattle.hla_synchronization.specs.OpenPoints.{points_of}
 use Rattle.hla_federation.specs.FederationValue.{FederationValue}
 use Rattle.hla_components.specs.Headline.{IsLedTo, happening}
 use Rattle.hla_components.specs.Invariant.{Inv}
@@ -73,9 +74,9 @@ unfolding sent_of
 nothing_sent = fun_ext (λ m. refl)
 
 module _ (c : CatalogueValue) (v : FederationValue) (catalogue : v.catalogue ≡ c) (members : v.members ≡ [])
-    (declarations : declared.declarations_of v.declarations ≡ nothing_declared (length c.object_classes) (length c.interaction_classes)) (objects : registry_of v.objects ≡ new_registry) where
+    (declarations : declared.declarations_of v.declarations ≡ nothing_declared (length c.object_classes) (length c.interaction_classes)) (objects : registry_of v.objects ≡ new_registry) (points : points_of v.points ≡ []) where
   pub state_new : state_of v ≡ new_components c
-  state_new = (λ i. state_from (catalogue i) (declarations i) (objects i) (members_of (members i))) ∙ (λ i. record (new_components c) {
+  state_new = (λ i. state_from (catalogue i) (points i) (declarations i) (objects i) (members_of (members i))) ∙ (λ i. record (new_components c) {
     directory = record (new_components c).directory {
       joined = fun_ext (λ g. ap (λ (m : MemberValue). m.joined) (nobody g)) i;
       name = fun_ext (λ g. ap (λ (m : MemberValue). m.name) (nobody g)) i;

@@ -10,6 +10,7 @@ use Rattle.hla_null_message.specs.declared.message.Message.{Message}
 use Rattle.hla_null_message.specs.declared.message.Message.TheVariants as message
 use Rattle.hla_null_message.specs.Wires.{put_all_behind}
 use Rattle.hla_null_message.proofs.Wires.{HasNoNull, put_all-no_null}
+use Rattle.hla_synchronization.specs.OpenPoints.{points_of}
 use Rattle.hla_federation.proofs.Steps.NoNulls.{discoveries_no_null}
 use Rattle.hla_declaration.specs.Declarations as declared
 use Rattle.hla_declaration.specs.Declarations.{DeclarationsValue}
@@ -74,7 +75,7 @@ module _ (old : FederationValue) (f class : ℕ) (a : List ℕ) (d : Declaration
       (wires_to (members_of old.members).next_federate f o (λ g. map message.Discovery (discoveries_of (directory_after_subscribe old f class a) g f)) (members_of old.members).wire out nothing
       (λ g above. ap (map message.Discovery) (no_owner (directory_after_subscribe old f class a) g f (λ h exists. (inv.owners h exists).0) above))
       (λ g. discoveries_no_null (discoveries_of (directory_after_subscribe old f class a) g f)))
-      ∙ sym (λ i. state_from old.catalogue (d_is i) (r_is i) (m_is i))
+      ∙ sym (λ i. state_from old.catalogue (points_of old.points) (d_is i) (r_is i) (m_is i))
 
   pub subscribed_whole : IsWhole old → (members_of old.members).joined f ≡ true → declared.declarations_of d ≡ declarations_after old f class a → registry_of r ≡ objects_after old f class a → members_of m ≡ members_after old f o → IsWhole (record old { declarations = d; objects = r; members = m })
   subscribed_whole whole joined d_is r_is m_is = record {

@@ -16,7 +16,7 @@ use Rattle.hla_machine.specs.Refusals.{is_out_of_serials}
 use Rattle.hla_machine.specs.Sends.{sent_handle}
 use Rattle.hla_base.specs.Tables.{one_if}
 use Rattle.hla_retraction.specs.SentEvents.{SentEvent}
-use Rattle.hla_retraction.specs.Receivers.{receiver_set}
+use Rattle.hla_base.specs.FederateSets.{federate_set}
 use Rattle.hla_machine.specs.Directory.{Directory, Outgoing, AnUpdate, put_pair, put_pairs, by_handle, is_of_order, is_receiver, part_sent, values_of_order, update_sent, order_of_attribute}
 use Rattle.hla_members.specs.declared.note.Note.{Note}
 use Rattle.hla_members.specs.Noting.{IsUnsentFrom, with_noted, handle_noted}
@@ -176,10 +176,10 @@ module _ (d : Directory) (f n m : ℕ) (r : TimeRow) (stamp : Option ℕ) (objec
     two_is : one_if (is_some told) ≡ length (part_sent Receive object (values_of_order d object Timestamp (by_handle values)))
     two_is = two ∙ ap (λ (vs : List HandleValuePair). length (part_sent Receive object vs)) is_ordered
 
-    pub update_noted : (sent : ℕ → ℕ → SentEvent) → IsUnsentFrom (sent f) m → IfSome told (λ rs. receiver_set rs ≡ is_receiver d f (AnUpdate object ordered))
+    pub update_noted : (sent : ℕ → ℕ → SentEvent) → IsUnsentFrom (sent f) m → IfSome told (λ rs. federate_set rs ≡ is_receiver d f (AnUpdate object ordered))
         → sent_events d f m r stamp (update_sent d object values) sent ≡ with_noted sent f update_note
     update_noted sent none receivers = parts_noted d f m (n + count) r stamp object (values_of_order d object Receive (by_handle values)) (values_of_order d object Timestamp (by_handle values)) told next_is two_is sent none
-        (subst (λ (vs : List HandleValuePair). IfSome told (λ rs. receiver_set rs ≡ is_receiver d f (AnUpdate object vs))) is_ordered receivers)
+        (subst (λ (vs : List HandleValuePair). IfSome told (λ rs. federate_set rs ≡ is_receiver d f (AnUpdate object vs))) is_ordered receivers)
 
     pub update_handle : sent_handle f r stamp m (update_sent d object values) ≡ handle_noted f update_note
     update_handle = parts_handle d f m (n + count) r stamp object (values_of_order d object Receive (by_handle values)) (values_of_order d object Timestamp (by_handle values)) told next_is two_is

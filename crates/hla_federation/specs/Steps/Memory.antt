@@ -55,7 +55,7 @@ takes_memory s (Carry from to) = arrival_takes_memory (s.wire from to)
 takes_memory s (Announce f) = is_regulator (s.row f) && ltb (s.last_announced f) (promise s f)
 takes_memory s (Tick f) = pick_takes_memory (pick (s.controls f) (s.row f) (s.ro f) (s.tso f) (local_bound s f))
 
--- to foresee a step takes memory where the step does, and where a tick would give a message or a discovery, for its copy
+-- to foresee a step takes memory where the step does, and where a tick would give a message, a discovery or a notice, for its copy
 abbrev pub foresight_takes_memory : Components → Step → Bool
 foresight_takes_memory s (Tick f) = let p = pick (s.controls f) (s.row f) (s.ro f) (s.tso f) (local_bound s f) in pick_takes_memory p || copies_content (picked_by (s.row f) p)
 foresight_takes_memory s step = takes_memory s step

@@ -1,5 +1,5 @@
 -- The components and wires that a federation's parts stand for
-use Rattle.std.specs.Prelude.{ℕ, ◌+◌, ◌≡◌, ◌≤◌, true, false, Some, None, length, Result, Ok, Err}
+use Rattle.std.specs.Prelude.{ℕ, ◌+◌, ◌≡◌, ◌≤◌, true, false, Some, None, List, length, Result, Ok, Err}
 use Rattle.hla_base.specs.declared.fault.Fault.{Fault}
 use Rattle.hla_base.specs.Limits.{forever, max_joins}
 use Rattle.hla_lbts.specs.Peers.{PeersValue, peers_of}
@@ -7,6 +7,8 @@ use Rattle.hla_catalogue.specs.CatalogueValue.{CatalogueValue}
 use Rattle.hla_declaration.specs.Declarations as declared
 use Rattle.hla_declaration.specs.Declarations.{DeclarationsValue}
 use Rattle.hla_object_registry.specs.Registered.{RegistryValue, registry_of}
+use Rattle.hla_synchronization.specs.Points.{Point}
+use Rattle.hla_synchronization.specs.OpenPoints.{points_of}
 use Rattle.hla_machine.specs.declared.service.Service.{Service}
 use Rattle.hla_machine.specs.declared.service.Service.TheVariants as service
 use Rattle.hla_machine.specs.declared.step.Step.{Step}
@@ -21,8 +23,8 @@ use Rattle.hla_federation.specs.Steps.Memory.{IsRefusedWith}
 use Rattle.hla_members.specs.Members.{MemberTables, members_of}
 use Rattle.hla_federation.specs.FederationValue.{FederationValue}
 
-abbrev pub directory_from : CatalogueValue → DeclarationsValue → RegistryValue → MemberTables → Directory
-directory_from c d r m = record {
+abbrev pub directory_from : CatalogueValue → List Point → DeclarationsValue → RegistryValue → MemberTables → Directory
+directory_from c points d r m = record {
   catalogue = c;
   next_federate = m.next_federate;
   joined = m.joined;
@@ -36,11 +38,12 @@ directory_from c d r m = record {
   object = r.object;
   known = r.known;
   attribute_orders = r.orders;
+  points = points;
 }
 
-abbrev pub state_from : CatalogueValue → DeclarationsValue → RegistryValue → MemberTables → Components
-state_from c d r m = record {
-  directory = directory_from c d r m;
+abbrev pub state_from : CatalogueValue → List Point → DeclarationsValue → RegistryValue → MemberTables → Components
+state_from c points d r m = record {
+  directory = directory_from c points d r m;
   row = λ f. (m.local f).row;
   serial = m.serial;
   ro = λ f. (m.local f).ro;
@@ -55,7 +58,7 @@ state_from c d r m = record {
 }
 
 abbrev pub state_of : FederationValue → Components
-state_of v = state_from v.catalogue (declared.declarations_of v.declarations) (registry_of v.objects) (members_of v.members)
+state_of v = state_from v.catalogue (points_of v.points) (declared.declarations_of v.declarations) (registry_of v.objects) (members_of v.members)
 
 -- nobody has declared anything
 abbrev pub nothing_declared : ℕ → ℕ → DeclarationsValue

@@ -5,7 +5,7 @@ use Rattle.hla_base.specs.declared.fault.Fault.{Fault}
 use Rattle.hla_base.specs.Rows.{is_regulator}
 use Rattle.hla_null_message.specs.declared.message.Message.{Message}
 use Rattle.hla_null_message.specs.declared.message.Message.TheVariants as message
-use Rattle.hla_order_queues.specs.declared.control.Control.TheVariants.{ToDiscover, ToRetract}
+use Rattle.hla_order_queues.specs.declared.control.Control.TheVariants.{ToDiscover, ToRetract, ToTell}
 use Rattle.hla_local.specs.Picking.{Pick, NoPick, PickControl, PickRo, PickRegulates, PickConstrains, PickTso, PickGrant, pick}
 use Rattle.hla_machine.specs.declared.service.Service.{Service}
 use Rattle.hla_machine.specs.declared.service.Service.TheVariants as service
@@ -42,6 +42,8 @@ call_form s f (service.DeleteObjectInstance object stamp) = tt
 call_form s f (service.ChangeAttributeOrderType object attributes order) = tt
 call_form s f (service.ChangeInteractionOrderType class order) = tt
 call_form s f (service.Retract event) = tt
+call_form s f (service.RegisterFederationSynchronizationPoint label) = tt
+call_form s f (service.SynchronizationPointAchieved label) = tt
 call_form s f (service.EnableTimeRegulation time lookahead) = tt
 call_form s f service.DisableTimeRegulation = tt
 call_form s f service.EnableTimeConstrained = tt
@@ -76,6 +78,7 @@ pick_form : (s : Components) (f : ℕ) (p : Pick) → EndsInForm ACallback (pick
 pick_form s f NoPick = tt
 pick_form s f (PickControl (ToDiscover g d) rest) = tt
 pick_form s f (PickControl (ToRetract e) rest) = tt
+pick_form s f (PickControl (ToTell n) rest) = tt
 pick_form s f (PickRo e rest) = tt
 pick_form s f PickRegulates = tt
 pick_form s f PickConstrains = tt

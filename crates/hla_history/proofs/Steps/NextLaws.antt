@@ -4,7 +4,7 @@ use Rattle.hla_base.specs.declared.fault.Fault.{Fault}
 use Rattle.hla_base.specs.Tables.{upd}
 use Rattle.hla_null_message.specs.declared.message.Message.{Message}
 use Rattle.hla_null_message.specs.declared.message.Message.TheVariants as message
-use Rattle.hla_order_queues.specs.declared.control.Control.TheVariants.{ToDiscover, ToRetract}
+use Rattle.hla_order_queues.specs.declared.control.Control.TheVariants.{ToDiscover, ToRetract, ToTell}
 use Rattle.hla_callbacks.specs.declared.callback.Callback.{Callback}
 use Rattle.hla_local.specs.Picking.{Pick, NoPick, PickControl, PickRo, PickRegulates, PickConstrains, PickTso, PickGrant, pick}
 use Rattle.hla_machine.specs.declared.service.Service.{Service}
@@ -62,6 +62,8 @@ call_stays s f (service.DeleteObjectInstance object stamp) other = let same = se
 call_stays s f (service.ChangeAttributeOrderType object attributes order) other = record { joined = refl; next = refl }
 call_stays s f (service.ChangeInteractionOrderType class order) other = record { joined = refl; next = refl }
 call_stays s f (service.Retract event) other = record { joined = refl; next = refl }
+call_stays s f (service.RegisterFederationSynchronizationPoint label) other = record { joined = refl; next = refl }
+call_stays s f (service.SynchronizationPointAchieved label) other = record { joined = refl; next = refl }
 call_stays s f (service.EnableTimeRegulation time lookahead) other = record { joined = refl; next = refl }
 call_stays s f service.DisableTimeRegulation other = record { joined = refl; next = refl }
 call_stays s f service.EnableTimeConstrained other = record { joined = refl; next = refl }
@@ -103,6 +105,8 @@ call_silent s f (service.DeleteObjectInstance object stamp) = (refl, refl)
 call_silent s f (service.ChangeAttributeOrderType object attributes order) = (refl, refl)
 call_silent s f (service.ChangeInteractionOrderType class order) = (refl, refl)
 call_silent s f (service.Retract event) = (refl, refl)
+call_silent s f (service.RegisterFederationSynchronizationPoint label) = (refl, refl)
+call_silent s f (service.SynchronizationPointAchieved label) = (refl, refl)
 call_silent s f (service.EnableTimeRegulation time lookahead) = (refl, refl)
 call_silent s f service.DisableTimeRegulation = (refl, refl)
 call_silent s f service.EnableTimeConstrained = (refl, refl)
@@ -144,6 +148,7 @@ pick_stays : (s : Components) (f : ℕ) (p : Pick) → Stays s.directory (pick_o
 pick_stays s f NoPick = record { joined = refl; next = refl }
 pick_stays s f (PickControl (ToDiscover g d) rest) = record { joined = refl; next = refl }
 pick_stays s f (PickControl (ToRetract e) rest) = record { joined = refl; next = refl }
+pick_stays s f (PickControl (ToTell n) rest) = record { joined = refl; next = refl }
 pick_stays s f (PickRo e rest) = record { joined = refl; next = refl }
 pick_stays s f PickRegulates = record { joined = refl; next = refl }
 pick_stays s f PickConstrains = record { joined = refl; next = refl }
@@ -154,6 +159,7 @@ pick_real : (s : Components) (f : ℕ) (p : Pick) → given_outcome (pick_outcom
 pick_real s f NoPick = refl
 pick_real s f (PickControl (ToDiscover g d) rest) = refl
 pick_real s f (PickControl (ToRetract e) rest) = refl
+pick_real s f (PickControl (ToTell n) rest) = refl
 pick_real s f (PickRo e rest) = refl
 pick_real s f PickRegulates = refl
 pick_real s f PickConstrains = refl

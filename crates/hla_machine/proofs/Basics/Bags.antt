@@ -21,8 +21,8 @@ bag_ext a b h = fun_ext (λ g. fun_ext (λ m. fun_ext (λ f. h g m f)))
 
 -- central states that agree are equal
 pub central_ext : (a b : Central) → a.directory ≡ b.directory → a.row ≡ b.row → a.serial ≡ b.serial → a.sent ≡ b.sent → a.bag ≡ b.bag
-    → ((g f : ℕ) → a.discoveries g f ≡ b.discoveries g f) → ((g m f : ℕ) → a.owed g m f ≡ b.owed g m f) → ((g m f : ℕ) → a.due g m f ≡ b.due g m f) → a ≡ b
-central_ext a b directory row serial sent bag discoveries owed due = λ i. record {
+    → ((g f : ℕ) → a.discoveries g f ≡ b.discoveries g f) → ((g m f : ℕ) → a.owed g m f ≡ b.owed g m f) → ((g m f : ℕ) → a.due g m f ≡ b.due g m f) → ((f : ℕ) → a.notices f ≡ b.notices f) → a ≡ b
+central_ext a b directory row serial sent bag discoveries owed due notices = λ i. record {
   directory = directory i;
   row = row i;
   serial = serial i;
@@ -31,6 +31,7 @@ central_ext a b directory row serial sent bag discoveries owed due = λ i. recor
   sent = sent i;
   owed = fun_ext (λ g. fun_ext (λ m. fun_ext (owed g m))) i;
   due = fun_ext (λ g. fun_ext (λ m. fun_ext (due g m))) i;
+  notices = fun_ext notices i;
 }
 
 pub or_else-none : {X : Type 0} (o : Option X) → or_else o None ≡ o

@@ -1,5 +1,5 @@
 -- The happenings of each run keep all laws
-use Rattle.std.proofs.Common.{◌≡◌, ℕ, true, Some, List, [], ◌∷◌, ◌++◌, refl, sym, subst}
+use Rattle.std.proofs.Common.{◌≡◌, ℕ, true, Some, List, [], ◌∷◌, ◌++◌, sym, subst}
 use Rattle.hla_base.specs.declared.number.EventHandle.{EventHandle}
 use Rattle.hla_machine.specs.declared.service.Service.{Service}
 use Rattle.hla_machine.specs.declared.step.Step.{Step}
@@ -13,7 +13,7 @@ use Rattle.hla_machine.specs.Machine.{MayEnd, after}
 use Rattle.hla_machine.specs.Runs.{Happening, IsRun}
 use Rattle.hla_machine.specs.History.{Happens, HappenAfter, HappensLater, next_state, WaitsInOrder, HasHistory, central_after, Occurs, OccurAfter, OccursLater}
 use Rattle.hla_machine.specs.Lawful.{IsLawful}
-use Rattle.hla_machine.proofs.Upkeep.Runs.{run_safe}
+use Rattle.hla_machine.proofs.Upkeep.Runs.{first_run, rest_run, run_safe}
 use Rattle.hla_machine.proofs.Upkeep.Ahead.{run_ahead}
 use Rattle.hla_machine.proofs.Histories.Orders.{stamps_never_fall, keys_rise}
 use Rattle.hla_machine.proofs.Copies.Sending.{sent_waits}
@@ -23,16 +23,11 @@ use Rattle.hla_machine.proofs.Copies.Addressing.{sent_by_call}
 use Rattle.hla_machine.proofs.Copies.Ordering.{goes_in_its_order}
 use Rattle.hla_machine.proofs.Copies.Reaching.{settled_or_on_its_way, reliable_at}
 use Rattle.hla_machine.proofs.Histories.Registrations.{registered_apart}
+use Rattle.hla_machine.proofs.Points.Dues.{run_due}
+use Rattle.hla_machine.proofs.Points.Reached.{reached, achieved_by_all, told_after_all}
+use Rattle.hla_machine.proofs.Points.Awaited.{waits_for_some}
 
 -- ---- parts of a run
-pub first_run : (c : Central) (xs ys : List Happening) (d : Central) → IsRun c (xs ++ ys) d → IsRun c xs (central_after c xs)
-first_run c [] ys d run = refl
-first_run c (h ∷ xs) ys d run = (run.0, first_run (next_state c h) xs ys d run.1)
-
-pub rest_run : (c : Central) (xs ys : List Happening) (d : Central) → IsRun c (xs ++ ys) d → IsRun (central_after c xs) ys d
-rest_run c [] ys d run = run
-rest_run c (h ∷ xs) ys d run = rest_run (next_state c h) xs ys d run.1
-
 pub joined_run : (c : Central) (xs : List Happening) (d : Central) (ys : List Happening) (e : Central) → IsRun c xs d → IsRun d ys e → IsRun c (xs ++ ys) e
 joined_run c [] d ys e first rest = subst (λ (x : Central). IsRun x ys e) (sym first) rest
 joined_run c (h ∷ xs) d ys e first rest = (first.0, joined_run (next_state c h) xs d ys e first.1 rest)
@@ -96,6 +91,17 @@ module _ (c : Central) (happenings : List Happening) (end : Central) (is : HasHi
     tells = λ now between then h f e k x o way gives names. told_as_sent now between then h f e k x (occurs_later now between then h o) way gives names;
     differ = λ now h between then i a b n p o first second. registered_apart now h between then i a b n p (occur_after now h between then i o) first second;
     discovered = λ now h f k object o gives speaks g. discovered_before now h f k object (occurs_happens now h o) gives speaks g;
+    closed = λ now h label g catalogue earlier o first closes member. achieved_by_all catalogue earlier now h label g first (occurs_happens now h o).allowed.0 closes member;
+    synchronized = λ now h f label catalogue earlier o first gives. told_after_all catalogue earlier now h f label first (occurs_happens now h o).allowed.0 gives;
+    awaited = λ before rest label catalogue earlier whole first opened. waits_for_some catalogue earlier (central_after c before) label first opened;
+    strangers = λ before rest f whole stranger.
+        let start = later_history c before (central_after c before) is (first_run c before rest end (subst (λ (hs : List Happening). IsRun c hs end) whole run)) in
+        (reached start.catalogue start.before (central_after c before) start.run).kept.absent f stranger;
+    told = λ before between rest f whole member.
+        let all = subst (λ (hs : List Happening). IsRun c hs end) whole run in
+        let start = later_history c before (central_after c before) is (first_run c before (between ++ rest) end all) in
+        let later = first_run (central_after c before) between rest end (rest_run c before (between ++ rest) end all) in
+        run_due (central_after c before) between (central_after (central_after c before) between) f later (reached start.catalogue start.before (central_after c before) start.run).kept member;
     safe = λ before rest whole.
         let start = later_history c before (central_after c before) is (first_run c before rest end (subst (λ (hs : List Happening). IsRun c hs end) whole run)) in
         run_safe start.catalogue start.before (central_after c before) start.run;

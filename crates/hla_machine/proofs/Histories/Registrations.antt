@@ -117,7 +117,7 @@ delivery_registers c f (callback.TimeConstrainedEnabled time) o = chosen o
     chosen choice.None = registers_none c.directory
     chosen (choice.Entry e) = registers_none c.directory
     chosen (choice.Moved events) = registers_none c.directory
-delivery_registers c f k o = registers_none c.directory
+delivery_registers c f k o = record { next = omega arith; names = λ h low. refl }
 
 done_registers : (c : Central) (step : Step) (a : Answer) (o : Choice) → Registers c.directory (after_done c step a o).directory
 done_registers c (Join name) a o = record { next = omega arith; names = λ h low. refl }

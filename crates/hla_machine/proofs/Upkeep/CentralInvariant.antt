@@ -3,6 +3,7 @@ use Rattle.std.proofs.Common.{◌≡◌, ◌≢◌, ◌⊎◌, ℕ, ◌+◌, ◌
 use Rattle.std.proofs.lemmas.Bool.{cases_eq, cond_both, and_parts, and_from, cases_Bool}
 use Rattle.std.proofs.lemmas.Bool.Decides.{nat_tests}
 use Rattle.hla_base.specs.declared.content.Discovery.{Discovery}
+use Rattle.hla_base.specs.declared.notice.Notice.{Notice}
 use Rattle.hla_base.specs.declared.number.EventHandle.{EventHandle}
 use Rattle.hla_base.specs.declared.row.TimeRow.{TimeRow}
 use Rattle.hla_base.specs.Tables.{upd, upd2, is_other, or_else}
@@ -111,6 +112,18 @@ row_laws c row laws = thinner_laws c row c.bag laws (thin_same c.bag)
 -- the directory, with the same members, and the discoveries
 directory_laws : (c : Central) (d : Directory) (discoveries : ℕ → ℕ → List Discovery) → d.joined ≡ c.directory.joined → CentralInv c → CentralInv (record c { directory = d; discoveries = discoveries })
 directory_laws c d discoveries same laws = record {
+  stamped = laws.stamped;
+  plain = laws.plain;
+  followed = laws.followed;
+  told = λ g m f k is fine. subst (λ (joined : ℕ → Bool). (is_other joined g f && (c.sent g m).receivers f) ≡ true) (sym same) (laws.told g m f k is fine);
+  marked = laws.marked;
+  unsent = laws.unsent;
+  unused = laws.unused;
+}
+
+-- the directory, with the same members, and what there is to be told
+told_laws : (c : Central) (d : Directory) (notices : ℕ → List Notice) → d.joined ≡ c.directory.joined → CentralInv c → CentralInv (record c { directory = d; notices = notices })
+told_laws c d notices same laws = record {
   stamped = laws.stamped;
   plain = laws.plain;
   followed = laws.followed;
@@ -248,8 +261,8 @@ came_laws c g f m laws =
     }
 
 -- ---- members
-join_laws : (c : Central) (name : List ℕ) (row : ℕ → TimeRow) → CentralInv c → CentralInv (record c { directory = with_member c.directory name; row = row })
-join_laws c name row laws = record {
+join_laws : (c : Central) (name : List ℕ) (row : ℕ → TimeRow) (notices : ℕ → List Notice) → CentralInv c → CentralInv (record c { directory = with_member c.directory name; row = row; notices = notices })
+join_laws c name row notices laws = record {
   stamped = laws.stamped;
   plain = laws.plain;
   followed = laws.followed;
@@ -309,6 +322,8 @@ call_laws c f (service.DeleteObjectInstance object stamp) o none laws = let outs
 call_laws c f (service.ChangeAttributeOrderType object attributes order) o none laws = directory_laws c _ c.discoveries refl laws
 call_laws c f (service.ChangeInteractionOrderType class order) o none laws = directory_laws c _ c.discoveries refl laws
 call_laws c f (service.Retract event) o none laws = retract_laws c f event.serial (and_parts _ _ (and_parts _ _ (and_parts _ _ (and_parts _ _ (not-is-false _ (clear_call (central_seen c) f (service.Retract event) none).0)).1).0).0).1 laws
+call_laws c f (service.RegisterFederationSynchronizationPoint label) o none laws = told_laws c _ _ refl laws
+call_laws c f (service.SynchronizationPointAchieved label) o none laws = told_laws c _ _ refl laws
 call_laws c f (service.EnableTimeRegulation time lookahead) o none laws = enter_laws c f lookahead o laws
 call_laws c f service.DisableTimeRegulation o none laws = row_laws c _ laws
 call_laws c f service.EnableTimeConstrained o none laws = row_laws c _ laws
@@ -355,9 +370,13 @@ pick_laws c f (callback.TimeRegulationEnabled time) o laws = row_laws c _ laws
 pick_laws c f (callback.TimeConstrainedEnabled time) o laws = constraint_laws c f o laws
 pick_laws c f (callback.TimeAdvanceGrant time) o laws = row_laws c _ laws
 pick_laws c f (callback.RequestRetraction event) o laws = due_laws c _ laws
+pick_laws c f (callback.SynchronizationPointRegistrationSucceeded label) o laws = told_laws c _ _ refl laws
+pick_laws c f (callback.SynchronizationPointRegistrationFailed label) o laws = told_laws c _ _ refl laws
+pick_laws c f (callback.AnnounceSynchronizationPoint label) o laws = told_laws c _ _ refl laws
+pick_laws c f (callback.FederationSynchronized label) o laws = told_laws c _ _ refl laws
 
 done_laws : (c : Central) (step : Step) (a : Answer) (o : Choice) → refusal (central_seen c) step ≡ None → CentralInv c → CentralInv (after_done c step a o)
-done_laws c (Join name) a o none laws = join_laws c name _ laws
+done_laws c (Join name) a o none laws = join_laws c name _ _ laws
 done_laws c (Call f s) a o none laws = call_laws c f s o none laws
 done_laws c (Carry from to) (answer.Carried x) o none laws = carry_laws c from to x laws
 done_laws c (Tick f) (answer.Ticked (Some k)) o none laws = pick_laws c f k o laws

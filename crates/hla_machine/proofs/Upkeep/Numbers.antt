@@ -342,6 +342,10 @@ module _ (c : Central) (all : AllNumbers c.row) (f : ℕ) where
       subst (λ (r : TimeRow). AllNumbers (upd c.row f r)) (sym is)
       (set_numbers c f _ all (granted_low (c.row f) may.0 time (le_trans (grant_low c f may.0 time (all f) may.1 may.2) ((all f).asked may.0 may.1)) (all f)))
   pick_numbers (callback.RequestRetraction event) o may = all
+  pick_numbers (callback.SynchronizationPointRegistrationSucceeded label) o may = all
+  pick_numbers (callback.SynchronizationPointRegistrationFailed label) o may = all
+  pick_numbers (callback.AnnounceSynchronizationPoint label) o may = all
+  pick_numbers (callback.FederationSynchronized label) o may = all
 
 done_numbers : (c : Central) (step : Step) (a : Answer) (o : Choice) → refusal (central_seen c) step ≡ None → MayDo c step a o → AllNumbers c.row → AllNumbers (after_done c step a o).row
 done_numbers c (Join name) a o none may all = set_numbers c c.directory.next_federate new_row all numbers_new

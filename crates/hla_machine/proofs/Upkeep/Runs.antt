@@ -1,5 +1,5 @@
 -- Each step of the machine keeps its law, and so does each run
-use Rattle.std.proofs.Common.{◌≡◌, ℕ, ◌+◌, ◌≤◌, ◌<◌, cond, not, ◌&&◌, true, false, refl, sym, subst, ⊎_elim, arith, List, [], ◌∷◌, Option, Some, None, option_map, IfSome}
+use Rattle.std.proofs.Common.{◌≡◌, ℕ, ◌+◌, ◌≤◌, ◌<◌, cond, not, ◌&&◌, true, false, refl, sym, subst, ⊎_elim, arith, List, [], ◌∷◌, ◌++◌, Option, Some, None, option_map, IfSome}
 use Rattle.std.proofs.lemmas.Bool.{cases_lt, cond_both, cases_Bool}
 use Rattle.hla_base.specs.Limits.{max_time}
 use Rattle.hla_base.specs.declared.number.EventHandle.{EventHandle}
@@ -35,6 +35,7 @@ use Rattle.hla_machine.specs.Callbacks.{IsCopy, MayPickIn, is_among, MayDeliver,
 use Rattle.hla_machine.specs.Refusals.{refusal}
 use Rattle.hla_machine.specs.Machine.{central_seen, MayAnswer, MayDo, MayEnd, after_call, after_arrival, after_carry, after_done, after}
 use Rattle.hla_machine.specs.Runs.{Happening, IsRun}
+use Rattle.hla_machine.specs.History.{next_state, central_after}
 use Rattle.hla_machine.specs.Laws.{IsSafe}
 use Rattle.hla_machine.proofs.Basics.Tests.{clear_call, caller_joined, ticker_joined}
 use Rattle.hla_machine.proofs.Basics.GrantCases.{grant_flush, grant_plain}
@@ -44,6 +45,15 @@ use Rattle.hla_machine.proofs.Upkeep.Services.{none_from, same_bag, join_keeps, 
 
 pub row_after_is : (r : TimeRow) (o : Option AdvanceRequest) (q : AdvanceRequest) (step : AdvanceRequest → TimeRow) → o ≡ Some q → row_after r o step ≡ step q
 row_after_is r o q step e = rw e refl
+
+-- ---- parts of a run
+pub first_run : (c : Central) (xs ys : List Happening) (d : Central) → IsRun c (xs ++ ys) d → IsRun c xs (central_after c xs)
+first_run c [] ys d run = refl
+first_run c (h ∷ xs) ys d run = (run.0, first_run (next_state c h) xs ys d run.1)
+
+pub rest_run : (c : Central) (xs ys : List Happening) (d : Central) → IsRun c (xs ++ ys) d → IsRun (central_after c xs) ys d
+rest_run c [] ys d run = run
+rest_run c (h ∷ xs) ys d run = rest_run (next_state c h) xs ys d run.1
 
 -- ---- services
 call_keeps : (c : Central) (f : ℕ) (s : Service) (a : Answer) (o : Choice) → refusal (central_seen c) (Call f s) ≡ None → MayAnswer c f s a o → IsCentralKept c → IsCentralKept (after_call c f s o)
@@ -194,6 +204,10 @@ module _ (c : Central) (k : IsCentralKept c) where
     pick_keeps (callback.TimeConstrainedEnabled time) o may = constrain_keeps time o may
     pick_keeps (callback.TimeAdvanceGrant time) o may = subst (λ (r : TimeRow). IsCentralKept (with_central_row c f r)) (sym (row_after_is (c.row f) (c.row f).advance may.0 (λ q. row_after_grant (c.row f) q time) may.1)) (grant_keeps may.0 time may.1 may.2)
     pick_keeps (callback.RequestRetraction event) o may = k
+    pick_keeps (callback.SynchronizationPointRegistrationSucceeded label) o may = k
+    pick_keeps (callback.SynchronizationPointRegistrationFailed label) o may = k
+    pick_keeps (callback.AnnounceSynchronizationPoint label) o may = k
+    pick_keeps (callback.FederationSynchronized label) o may = k
 
 -- ---- any step
 done_keeps : (c : Central) (step : Step) (a : Answer) (o : Choice) → refusal (central_seen c) step ≡ None → MayDo c step a o → IsCentralKept c → IsCentralKept (after_done c step a o)

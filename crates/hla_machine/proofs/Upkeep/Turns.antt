@@ -155,6 +155,10 @@ module _ (c : Central) (k : IsCentralKept c) (f : ℕ) where
   pick_turn (callback.TimeConstrainedEnabled time) o may = constrain_turn time o may
   pick_turn (callback.TimeAdvanceGrant time) o may = row_turn c f _ (Granted may.0 time may.1 may.2 (row_after_is (c.row f) (c.row f).advance may.0 (λ q. row_after_grant (c.row f) q time) may.1))
   pick_turn (callback.RequestRetraction event) o may = λ i. Calm (same (c.row i))
+  pick_turn (callback.SynchronizationPointRegistrationSucceeded label) o may = λ i. Calm (same (c.row i))
+  pick_turn (callback.SynchronizationPointRegistrationFailed label) o may = λ i. Calm (same (c.row i))
+  pick_turn (callback.AnnounceSynchronizationPoint label) o may = λ i. Calm (same (c.row i))
+  pick_turn (callback.FederationSynchronized label) o may = λ i. Calm (same (c.row i))
 
 done_turn : (c : Central) (step : Step) (a : Answer) (o : Choice) → refusal (central_seen c) step ≡ None → MayDo c step a o → IsCentralKept c → (i : ℕ) → Turn c i ((after_done c step a o).row i) ((after_done c step a o).directory.joined i)
 done_turn c (Join name) a o none may k = join_turn c name k

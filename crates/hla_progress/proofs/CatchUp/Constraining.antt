@@ -7,16 +7,17 @@ use Rattle.hla_base.specs.Rows.{is_pending, row_after_regulation_enabled}
 use Rattle.hla_base.proofs.Tables.{upd_same}
 use Rattle.hla_callbacks.specs.declared.callback.Callback.{Callback}
 use Rattle.hla_callbacks.specs.declared.callback.Callback.TheVariants as callback
-use Rattle.hla_order_queues.specs.declared.control.Control.TheVariants.{ToDiscover, ToRetract}
+use Rattle.hla_order_queues.specs.declared.control.Control.TheVariants.{ToDiscover, ToRetract, ToTell}
 use Rattle.hla_local.specs.Picking.{Pick, NoPick, PickControl, PickRo, PickRegulates, PickConstrains, PickTso, PickGrant}
 use Rattle.hla_machine.specs.declared.step.Step.{Step}
 use Rattle.hla_machine.specs.declared.step.Step.TheVariants.{Join, Call, Carry, Announce, Tick}
 use Rattle.hla_machine.specs.Central.{BelowBound}
+use Rattle.hla_synchronization.specs.Points.{points_after_notice}
 use Rattle.hla_components.specs.Components.{Components}
 use Rattle.hla_components.specs.Component.{local_bound}
 use Rattle.hla_components.specs.CentralOf.{central}
 use Rattle.hla_components.specs.Invariant.{EachOf}
-use Rattle.hla_components.specs.Next.{Outcomes, next, pick_outcome, with_row}
+use Rattle.hla_components.specs.Next.{Outcomes, next, pick_outcome, with_row, notice_callback}
 use Rattle.hla_components.specs.Headline.{IsLedTo, happening, happenings, state_after}
 use Rattle.hla_components.proofs.Refinement.Picks.{PickFacts, pick_tells}
 use Rattle.hla_components.proofs.Refinement.LedTo.{led_inv, led_next}
@@ -24,7 +25,7 @@ use Rattle.hla_progress.specs.Rounds.{ticks, rounds, IsOfRounds, is_tick_of, tic
 use Rattle.hla_progress.specs.AtOnce.{asked_time, due_up_to, due_before}
 use Rattle.hla_progress.specs.CatchingUp.{NobodyIsSlow, coming_time, EachIsConstrainedInARound}
 use Rattle.hla_progress.proofs.Waiting.Picks.{some_pick}
-use Rattle.hla_progress.proofs.Waiting.Steps.{WaitsOn, bound_rises, other_waits, control_less, ro_less, picked_at}
+use Rattle.hla_progress.proofs.Waiting.Steps.{WaitsOn, bound_rises, other_waits, told_less, control_less, ro_less, picked_at}
 use Rattle.hla_progress.proofs.CatchUp.FirstRound.{waits_carried, after_first, rest_of, rest_ticks, goal_known}
 use Rattle.hla_progress.proofs.CatchUp.Heard.{carried, led_carried}
 
@@ -76,6 +77,7 @@ module _ (s : Components) (f limit u : ℕ) (c : ToConstrain f u s) where
     pick_ticks NoPick is_so facts = inr (inr (is_so, refl))
     pick_ticks (PickControl (ToDiscover from d) rest) is_so facts = inr (inl ((callback.DiscoverObjectInstance d.object d.class d.name, (refl, refl), tt), goes_on _ 1 (control_less s f limit (IsConstrainedAt u) (ToDiscover from d) rest facts)))
     pick_ticks (PickControl (ToRetract e) rest) is_so facts = inr (inl ((callback.RequestRetraction e, (refl, refl), tt), goes_on _ 1 (control_less s f limit (IsConstrainedAt u) (ToRetract e) rest facts)))
+    pick_ticks (PickControl (ToTell n) rest) is_so facts = inr (inl ((notice_callback n.kind n.label, (refl, refl), tt), goes_on _ 1 (told_less s f limit (IsConstrainedAt u) (points_after_notice f n s.directory.points) (ToTell n) rest facts)))
     pick_ticks (PickRo e rest) is_so facts = inr (inl ((_, (refl, refl), tt), goes_on _ 1 (ro_less s f limit (IsConstrainedAt u) e rest facts.1 (ap not facts.2))))
     pick_ticks PickRegulates is_so facts = inr (inl ((callback.TimeRegulationEnabled (s.row f).regulation_time, (refl, refl), tt), regulated facts))
     pick_ticks PickConstrains is_so facts = inl (callback.TimeConstrainedEnabled (s.row f).time, (refl, refl), ap callback.TimeConstrainedEnabled (let at : cond (is_pending (s.row f).regulating) (s.row f).regulation_time (s.row f).time ≡ u = c.coming in rw facts.1 at at))

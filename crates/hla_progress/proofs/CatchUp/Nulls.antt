@@ -8,7 +8,7 @@ use Rattle.hla_base.proofs.Tables.{upd_row_each, upd2_each}
 use Rattle.hla_null_message.specs.declared.message.Message.{Message}
 use Rattle.hla_null_message.specs.declared.message.Message.TheVariants as message
 use Rattle.hla_null_message.specs.Wires.{events, put_behind, without_last_null}
-use Rattle.hla_order_queues.specs.declared.control.Control.TheVariants.{ToDiscover, ToRetract}
+use Rattle.hla_order_queues.specs.declared.control.Control.TheVariants.{ToDiscover, ToRetract, ToTell}
 use Rattle.hla_order_queues.specs.Queues.{find_event}
 use Rattle.hla_local.specs.Picking.{Pick, NoPick, PickControl, PickRo, PickRegulates, PickConstrains, PickTso, PickGrant}
 use Rattle.hla_machine.specs.declared.step.Step.{Step}
@@ -84,6 +84,7 @@ module _ (s : Components) (f : ℕ) (n : NullsAlone s f) where
   pick_nulls h NoPick = n
   pick_nulls h (PickControl (ToDiscover from d) rest) = n
   pick_nulls h (PickControl (ToRetract e) rest) = n
+  pick_nulls h (PickControl (ToTell x) rest) = n
   pick_nulls h (PickRo e rest) = n
   pick_nulls h PickRegulates = n
   pick_nulls h PickConstrains = n

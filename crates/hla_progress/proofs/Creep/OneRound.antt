@@ -6,7 +6,7 @@ use Rattle.hla_base.specs.declared.fault.Fault.{Fault}
 use Rattle.hla_base.specs.Tables.{forever}
 use Rattle.hla_base.specs.Rows.{is_regulator}
 use Rattle.hla_null_message.specs.declared.message.Message.{Message}
-use Rattle.hla_order_queues.specs.declared.control.Control.TheVariants.{ToDiscover, ToRetract}
+use Rattle.hla_order_queues.specs.declared.control.Control.TheVariants.{ToDiscover, ToRetract, ToTell}
 use Rattle.hla_local.specs.Picking.{Pick, NoPick, PickControl, PickRo, PickRegulates, PickConstrains, PickTso, PickGrant}
 use Rattle.hla_machine.specs.declared.step.Step.TheVariants.{Tick}
 use Rattle.hla_machine.specs.Central.{BelowAllTso, BelowOut}
@@ -28,32 +28,34 @@ use Rattle.hla_progress.proofs.CatchUp.Heard.{carried, same_directory, promise_s
 
 -- ---- ticks
 pub record IsTickedOn (t u : Components) : Type 0 where
-  pub directory : u.directory ≡ t.directory
+  pub joined : u.directory.joined ≡ t.directory.joined
+  pub numbers : u.directory.next_federate ≡ t.directory.next_federate
   pub bound : u.bound ≡ t.bound
   pub wire : u.wire ≡ t.wire
   pub last : u.last_announced ≡ t.last_announced
 
 pick_on : (t : Components) (h : ℕ) (p : Pick) → IsTickedOn t (pick_outcome t h p).state
-pick_on t h NoPick = record { directory = refl; bound = refl; wire = refl; last = refl }
-pick_on t h (PickControl (ToDiscover from d) rest) = record { directory = refl; bound = refl; wire = refl; last = refl }
-pick_on t h (PickControl (ToRetract e) rest) = record { directory = refl; bound = refl; wire = refl; last = refl }
-pick_on t h (PickRo e rest) = record { directory = refl; bound = refl; wire = refl; last = refl }
-pick_on t h PickRegulates = record { directory = refl; bound = refl; wire = refl; last = refl }
-pick_on t h PickConstrains = record { directory = refl; bound = refl; wire = refl; last = refl }
-pick_on t h (PickTso q e rest) = record { directory = refl; bound = refl; wire = refl; last = refl }
-pick_on t h (PickGrant q x) = record { directory = refl; bound = refl; wire = refl; last = refl }
+pick_on t h NoPick = record { joined = refl; numbers = refl; bound = refl; wire = refl; last = refl }
+pick_on t h (PickControl (ToDiscover from d) rest) = record { joined = refl; numbers = refl; bound = refl; wire = refl; last = refl }
+pick_on t h (PickControl (ToRetract e) rest) = record { joined = refl; numbers = refl; bound = refl; wire = refl; last = refl }
+pick_on t h (PickControl (ToTell n) rest) = record { joined = refl; numbers = refl; bound = refl; wire = refl; last = refl }
+pick_on t h (PickRo e rest) = record { joined = refl; numbers = refl; bound = refl; wire = refl; last = refl }
+pick_on t h PickRegulates = record { joined = refl; numbers = refl; bound = refl; wire = refl; last = refl }
+pick_on t h PickConstrains = record { joined = refl; numbers = refl; bound = refl; wire = refl; last = refl }
+pick_on t h (PickTso q e rest) = record { joined = refl; numbers = refl; bound = refl; wire = refl; last = refl }
+pick_on t h (PickGrant q x) = record { joined = refl; numbers = refl; bound = refl; wire = refl; last = refl }
 
 unless_on : (t : Components) (o : Option Fault) (x : Outcomes) → IsTickedOn t x.state → IsTickedOn t (unless_refused o t x).state
 unless_on t None x on = on
-unless_on t (Some e) x on = record { directory = refl; bound = refl; wire = refl; last = refl }
+unless_on t (Some e) x on = record { joined = refl; numbers = refl; bound = refl; wire = refl; last = refl }
 
 all_ticked : (t : Components) (n : ℕ) → IsTickedOn t (state_after t (ticks n))
 unfolding ticks
-all_ticked t zero = record { directory = refl; bound = refl; wire = refl; last = refl }
+all_ticked t zero = record { joined = refl; numbers = refl; bound = refl; wire = refl; last = refl }
 all_ticked t (suc n) = let u = state_after t (ticks n) in let a = all_ticked t n in
     let b : IsTickedOn u (next u (Tick (suc n))).state = unless_on u (refusal (components_seen u) (Tick (suc n))) (tick_outcome u (suc n)) (pick_on u (suc n) _) in
     subst (λ (x : Components). IsTickedOn t x) (sym (state_appended t (ticks n) (Tick (suc n) ∷ [])))
-    (record { directory = b.directory ∙ a.directory; bound = b.bound ∙ a.bound; wire = b.wire ∙ a.wire; last = b.last ∙ a.last })
+    (record { joined = b.joined ∙ a.joined; numbers = b.numbers ∙ a.numbers; bound = b.bound ∙ a.bound; wire = b.wire ∙ a.wire; last = b.last ∙ a.last })
 
 -- ---- the round
 -- nobody who regulates may send anything below x, and no wire is longer than m
@@ -82,8 +84,11 @@ module _ (x n m : ℕ) (s : Components) (st : StandsAbove x n m s) where
   led_round_after : IsLedTo t
   led_round_after = led_after s (round n m) st.led
 
-  pub round_directory : t.directory ≡ s.directory
-  round_directory = ticked.directory ∙ same_directory s n m
+  members_same : t.directory.joined ≡ s.directory.joined
+  members_same = ticked.joined ∙ ap (λ (d : Directory). d.joined) (same_directory s n m)
+
+  numbers_same : t.directory.next_federate ≡ s.directory.next_federate
+  numbers_same = ticked.numbers ∙ ap (λ (d : Directory). d.next_federate) (same_directory s n m)
 
   pub round_role : (g : ℕ) → is_regulator (t.row g) ≡ is_regulator (s.row g)
   round_role g = list_role s (round n m) st.led (round_of n m) g
@@ -92,7 +97,7 @@ module _ (x n m : ℕ) (s : Components) (st : StandsAbove x n m s) where
   round_request g = list_request s (round n m) st.led (round_of n m) g
 
   round_joined : (g : ℕ) → t.directory.joined g ≡ true → s.directory.joined g ≡ true
-  round_joined g j = subst (λ (d : Directory). d.joined g ≡ true) round_directory j
+  round_joined g j = subst (λ (members : ℕ → Bool). members g ≡ true) members_same j
 
   -- promises do not fall
   pub promise_grows : (g : ℕ) → is_regulator (s.row g) ≡ true → promise s g ≤ promise t g
@@ -104,14 +109,14 @@ module _ (x n m : ℕ) (s : Components) (st : StandsAbove x n m s) where
   round_short : (g h : ℕ) → g ≢ 0 → length (t.wire g h) ≤ m
   round_short g h z = ⊎_elim
       (λ (j : s.directory.joined h ≡ true). let e : t.wire g h ≡ [] = ap (λ (w : ℕ → ℕ → List Message). w g h) ticked.wire ∙ all_empty s n m st.led st.few h j (λ g z. st.short g h z) g z in rw e (omega arith))
-      (λ (o : s.directory.joined h ≡ false). let off : t.directory.joined h ≡ false = rw round_directory o in
+      (λ (o : s.directory.joined h ≡ false). let off : t.directory.joined h ≡ false = rw members_same o in
       let e : t.wire g h ≡ [] = (led_inv t led_round_after).kept.wired g h (not_a_wire (t.directory.joined h) g h t.directory.next_federate off) in rw e (omega arith))
       (cases_Bool (s.directory.joined h))
 
   pub stands_on : StandsAbove x n m t
   stands_on = record {
     led = led_round_after;
-    few = subst (λ (d : Directory). d.next_federate ≤ n + 1) (sym round_directory) st.few;
+    few = subst (λ (next : ℕ). next ≤ n + 1) (sym numbers_same) st.few;
     short = round_short;
     cap = st.cap;
     outs = λ g j reg. list_out s (round n m) st.led (round_of n m) g x (st.outs g (round_joined g j) (sym (round_role g) ∙ reg));
@@ -119,7 +124,7 @@ module _ (x n m : ℕ) (s : Components) (st : StandsAbove x n m s) where
 
   -- everyone knows what the others promised
   pub round_heard : (h v : ℕ) → s.directory.joined h ≡ true → v ≤ forever → ((g : ℕ) → g ≢ h → s.directory.joined g ≡ true → is_regulator (s.row g) ≡ true → v ≤ promise s g) → v ≤ local_bound t h
-  round_heard h v member cap promised = rw (ticked.directory, ticked.bound) (all_heard s n m st.led st.few h member (λ g z. st.short g h z) v cap promised)
+  round_heard h v member cap promised = rw (ticked.numbers, ticked.bound) (all_heard s n m st.led st.few h member (λ g z. st.short g h z) v cap promised)
 
   -- who is slow after the round was slow before it, with the same width
   abbrev pub slow_since : (g : ℕ) → IsSlow t x g → IsSlow s x g

@@ -6,10 +6,12 @@ use Rattle.hla_base.specs.declared.number.EventHandle.{EventHandle}
 use Rattle.hla_base.specs.declared.fault.Fault.{Fault}
 use Rattle.hla_base.specs.declared.row.AdvanceRequest.{AdvanceRequest}
 use Rattle.hla_base.specs.Rows.{reach}
+use Rattle.hla_base.specs.declared.notice.NoticeKind.{NoticeKind}
+use Rattle.hla_base.specs.declared.notice.NoticeKind.TheVariants as notices
 use Rattle.hla_callbacks.specs.declared.callback.Callback.{Callback}
 use Rattle.hla_callbacks.specs.declared.callback.Callback.TheVariants as callback
 use Rattle.hla_callbacks.specs.declared.callback.Delivery.{Delivery}
-use Rattle.hla_order_queues.specs.declared.control.Control.TheVariants.{ToDiscover, ToRetract}
+use Rattle.hla_order_queues.specs.declared.control.Control.TheVariants.{ToDiscover, ToRetract, ToTell}
 use Rattle.hla_local.specs.Picking.{Pick, NoPick, PickControl, PickRo, PickRegulates, PickConstrains, PickTso, PickGrant}
 use Rattle.hla_machine.specs.declared.step.Step.{Step}
 use Rattle.hla_machine.specs.declared.step.Step.TheVariants.{Join, Call, Carry, Announce, Tick}
@@ -21,7 +23,7 @@ use Rattle.hla_machine.specs.Refusals.{refusal}
 use Rattle.hla_components.specs.Components.{Components}
 use Rattle.hla_components.specs.Component.{local_bound}
 use Rattle.hla_components.specs.Invariant.{EachOf}
-use Rattle.hla_components.specs.Next.{next, pick_outcome, tick_outcome, unless_refused, components_seen, content_callback}
+use Rattle.hla_components.specs.Next.{next, pick_outcome, tick_outcome, unless_refused, components_seen, content_callback, notice_callback}
 use Rattle.hla_components.specs.Headline.{IsLedTo, happening, happenings}
 use Rattle.hla_components.proofs.Refinement.Picks.{PickFacts, GrantFacts, pick_tells}
 use Rattle.hla_components.proofs.Refinement.LedTo.{led_inv, led_next}
@@ -39,6 +41,12 @@ no_message d e (content.Interaction class values) u is = cc
 no_message d e (content.Reflection object values) u is = cc
 no_message d e (content.Removal object) u is = cc
 
+no_notice : (n : NoticeKind) (label : List ℕ) (u : ℕ) → notice_callback n label ≡ callback.TimeAdvanceGrant u → ⊥
+no_notice notices.RegistrationSucceeded label u is = cc
+no_notice notices.RegistrationFailed label u is = cc
+no_notice notices.Announced label u is = cc
+no_notice notices.Synchronized label u is = cc
+
 gives_own : (k f : ℕ) (out : Outcome) (x : Callback) → GivesCallback (Tick k) out f x → k ≡ f
 gives_own k f (outcome.Done (answer.Ticked (Some y))) x g = g.0
 gives_own k f (outcome.Failed y) x g = g.0
@@ -49,6 +57,7 @@ module _ (s : Components) (f : ℕ) (q : AdvanceRequest) (t : ℕ) (is : IsLedTo
   no_grant_pick NoPick facts v = v.1
   no_grant_pick (PickControl (ToDiscover from d) rest) facts v = let e = v.1.1 ∙ v.2.1 in cc
   no_grant_pick (PickControl (ToRetract y) rest) facts v = let e = v.1.1 ∙ v.2.1 in cc
+  no_grant_pick (PickControl (ToTell n) rest) facts v = no_notice n.kind n.label v.2.0 (v.1.1 ∙ v.2.1)
   no_grant_pick (PickRo y rest) facts v = no_message _ _ y.content v.2.0 (v.1.1 ∙ v.2.1)
   no_grant_pick PickRegulates facts v = let e = v.1.1 ∙ v.2.1 in cc
   no_grant_pick PickConstrains facts v = let e = v.1.1 ∙ v.2.1 in cc

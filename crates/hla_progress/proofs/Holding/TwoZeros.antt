@@ -8,7 +8,7 @@ use Rattle.hla_base.specs.Rows.{is_next, is_regulator, is_constrained, keep_if, 
 use Rattle.hla_base.specs.Tables.{upd}
 use Rattle.hla_base.proofs.Tables.{least_le, upd_same, upd_other}
 use Rattle.hla_null_message.specs.Promise.{promise_in}
-use Rattle.hla_order_queues.specs.declared.control.Control.TheVariants.{ToDiscover, ToRetract}
+use Rattle.hla_order_queues.specs.declared.control.Control.TheVariants.{ToDiscover, ToRetract, ToTell}
 use Rattle.hla_order_queues.specs.Queues.{first_stamp}
 use Rattle.hla_local.specs.Picking.{Pick, NoPick, PickControl, PickRo, PickRegulates, PickConstrains, PickTso, PickGrant}
 use Rattle.hla_machine.specs.declared.step.Step.{Step}
@@ -85,6 +85,7 @@ module _ (s : Components) (x g h : ℕ) (inv : Inv s) (ne : g ≢ h) (a : HoldsA
       last_same NoPick = a.last
       last_same (PickControl (ToDiscover from d) rest) = a.last
       last_same (PickControl (ToRetract e) rest) = a.last
+      last_same (PickControl (ToTell n) rest) = a.last
       last_same (PickRo e rest) = a.last
       last_same PickRegulates = a.last
       last_same PickConstrains = a.last
@@ -102,6 +103,7 @@ module _ (s : Components) (x g h : ℕ) (inv : Inv s) (ne : g ≢ h) (a : HoldsA
   pick_holds NoPick facts = a
   pick_holds (PickControl (ToDiscover from d) rest) facts = record { row = a.row; last = a.last }
   pick_holds (PickControl (ToRetract e) rest) facts = record { row = a.row; last = a.last }
+  pick_holds (PickControl (ToTell n) rest) facts = record { row = a.row; last = a.last }
   pick_holds (PickRo e rest) facts = record { row = a.row; last = a.last }
   pick_holds PickRegulates facts = own_row PickRegulates facts (row_after_regulation_enabled (s.row g)) refl (record { regulates = refl; constrained = a.row.constrained; floor = a.row.floor; request = a.row.request })
   pick_holds PickConstrains facts = own_row PickConstrains facts (row_after_constraint_enabled (s.row g)) refl (record { regulates = a.row.regulates; constrained = refl; floor = a.row.floor; request = a.row.request })
@@ -112,6 +114,7 @@ module _ (s : Components) (x g h : ℕ) (inv : Inv s) (ne : g ≢ h) (a : HoldsA
   other_pick k NoPick o = a
   other_pick k (PickControl (ToDiscover from d) rest) o = record { row = a.row; last = a.last }
   other_pick k (PickControl (ToRetract e) rest) o = record { row = a.row; last = a.last }
+  other_pick k (PickControl (ToTell n) rest) o = record { row = a.row; last = a.last }
   other_pick k (PickRo e rest) o = record { row = a.row; last = a.last }
   other_pick k PickRegulates o = record { row = rw upd_other a.row; last = a.last }
   other_pick k PickConstrains o = record { row = rw upd_other a.row; last = a.last }

@@ -12,7 +12,7 @@ use Rattle.hla_base.specs.declared.row.AdvanceKind.TheVariants as kind
 use Rattle.hla_base.proofs.Tables.{upd_each, upd_same, upd_other, by_number, least_le}
 use Rattle.hla_null_message.specs.declared.message.Message.{Message}
 use Rattle.hla_null_message.specs.declared.message.Message.TheVariants as message
-use Rattle.hla_order_queues.specs.declared.control.Control.TheVariants.{ToDiscover, ToRetract}
+use Rattle.hla_order_queues.specs.declared.control.Control.TheVariants.{ToDiscover, ToRetract, ToTell}
 use Rattle.hla_order_queues.specs.Queues.{insert_event, remove_event}
 use Rattle.hla_local.specs.Arriving.{is_kept_in_order}
 use Rattle.hla_local.specs.Picking.{Pick, NoPick, PickControl, PickRo, PickRegulates, PickConstrains, PickTso, PickGrant, is_below}
@@ -120,6 +120,7 @@ module _ (s : Components) (f : ℕ) (k : KeepsFirsts s) (inv : Inv s) where
   pick_firsts NoPick facts = k
   pick_firsts (PickControl (ToDiscover from d) rest) facts = k
   pick_firsts (PickControl (ToRetract e) rest) facts = k
+  pick_firsts (PickControl (ToTell n) rest) facts = k
   pick_firsts (PickRo e rest) facts = k
   pick_firsts PickRegulates facts = firsts_row s k f (row_after_regulation_enabled (s.row f)) (k f)
   pick_firsts PickConstrains facts = let early = filter (λ e. not (is_below (s.row f).time e)) (s.tso f) in firsts_both s k f (row_after_constraint_enabled (s.row f)) early (past_idle (row_after_constraint_enabled (s.row f)) early ((inv.kept.time.rows f).resting facts.0))

@@ -14,7 +14,7 @@ use Rattle.hla_machine.specs.Directory.{Directory, Outgoing, objects_of, update_
 use Rattle.hla_machine.specs.declared.step.Answer.TheVariants as answer
 use Rattle.hla_machine.specs.Refusals.{refusal}
 use Rattle.hla_local.specs.Picking.{Pick, PickControl}
-use Rattle.hla_order_queues.specs.declared.control.Control.TheVariants.{ToDiscover, ToRetract}
+use Rattle.hla_order_queues.specs.declared.control.Control.TheVariants.{ToDiscover, ToRetract, ToTell}
 use Rattle.hla_null_message.specs.declared.message.Message.{Message}
 use Rattle.hla_null_message.specs.declared.message.Message.TheVariants as message
 use Rattle.hla_components.specs.Components.{Components, new_components}
@@ -54,6 +54,7 @@ numbered_carry s g f (message.Discovery d ∷ ms) n = n
 numbered_pick : (s : Components) (f : ℕ) (p : Pick) → IsNumbered s.directory → IsNumbered (pick_outcome s f p).state.directory
 numbered_pick s f (PickControl (ToDiscover from d) rest) n = n
 numbered_pick s f (PickControl (ToRetract e) rest) n = n
+numbered_pick s f (PickControl (ToTell x) rest) n = record { next = n.next; nobody = n.nobody }
 numbered_pick s f p n = n
 
 numbered_done : (s : Components) (step : Step) → IsNumbered s.directory → IsNumbered (step_outcome s step).state.directory

@@ -9,7 +9,7 @@ use Rattle.hla_base.proofs.Tables.{by_number, upd2_other, upd_column_self, upd_c
 use Rattle.hla_lbts.specs.Peers.{null_bound}
 use Rattle.hla_null_message.specs.declared.message.Message.{Message}
 use Rattle.hla_null_message.specs.declared.message.Message.TheVariants as message
-use Rattle.hla_order_queues.specs.declared.control.Control.TheVariants.{ToDiscover, ToRetract}
+use Rattle.hla_order_queues.specs.declared.control.Control.TheVariants.{ToDiscover, ToRetract, ToTell}
 use Rattle.hla_local.specs.Picking.{Pick, PickControl}
 use Rattle.hla_machine.specs.declared.service.Service.{Service}
 use Rattle.hla_machine.specs.declared.service.Service.TheVariants as service
@@ -75,6 +75,7 @@ own_carry s g f (message.Discovery d ∷ ms) a b o = o
 own_pick : (s : Components) (f : ℕ) (p : Pick) → IsOwn s.bound → IsOwn (pick_outcome s f p).state.bound
 own_pick s f (PickControl (ToDiscover from d) rest) o = o
 own_pick s f (PickControl (ToRetract e) rest) o = o
+own_pick s f (PickControl (ToTell n) rest) o = o
 own_pick s f p o = o
 
 own_join : (s : Components) → KeepsPromises s → Inv s → IsNumbered s.directory → IsOwn s.bound → IsOwn (upd_new s.bound s.directory.next_federate s.last_announced (λ _. forever))

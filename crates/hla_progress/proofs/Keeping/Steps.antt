@@ -8,7 +8,7 @@ use Rattle.hla_base.specs.declared.row.Role.TheVariants.{Disabled, Pending}
 use Rattle.hla_base.specs.Rows.{is_regulator, new_row, row_after_regulation_enabled, row_after_constraint_enabled, row_after_pick, row_after_grant}
 use Rattle.hla_catalogue.specs.CatalogueValue.{CatalogueValue}
 use Rattle.hla_local.specs.Picking.{Pick, NoPick, PickControl, PickRo, PickRegulates, PickConstrains, PickTso, PickGrant}
-use Rattle.hla_order_queues.specs.declared.control.Control.TheVariants.{ToDiscover, ToRetract}
+use Rattle.hla_order_queues.specs.declared.control.Control.TheVariants.{ToDiscover, ToRetract, ToTell}
 use Rattle.hla_null_message.specs.declared.message.Message.{Message}
 use Rattle.hla_null_message.specs.declared.message.Message.TheVariants as message
 use Rattle.hla_machine.specs.declared.service.Service.{Service}
@@ -65,6 +65,8 @@ module _ (s : Components) (f : ℕ) (k : KeepsPromises s) (inv : Inv s) where
   call_keeps (service.ChangeAttributeOrderType object attributes order) none = k
   call_keeps (service.ChangeInteractionOrderType class order) none = k
   call_keeps (service.Retract event) none = retracts event.serial
+  call_keeps (service.RegisterFederationSynchronizationPoint label) none = k
+  call_keeps (service.SynchronizationPointAchieved label) none = k
   call_keeps (service.EnableTimeRegulation time lookahead) none =
       keeps_enabled s k inv f lookahead (regulation_entry s f (time + lookahead)) (at_rest (s.row f) (clear_call (components_seen s) f (service.EnableTimeRegulation time lookahead) none).0)
   call_keeps service.DisableTimeRegulation none = keeps_disabled s k inv f
@@ -105,6 +107,7 @@ module _ (s : Components) (f : ℕ) (k : KeepsPromises s) (inv : Inv s) where
   pick_keeps NoPick facts = k
   pick_keeps (PickControl (ToDiscover from d) rest) facts = k
   pick_keeps (PickControl (ToRetract e) rest) facts = k
+  pick_keeps (PickControl (ToTell n) rest) facts = k
   pick_keeps (PickRo e rest) facts = k
   pick_keeps PickRegulates facts = keeps_row s k f (row_after_regulation_enabled (s.row f)) (λ n. absurd (cc)) (k.raised f)
   pick_keeps PickConstrains facts = keeps_row s k f (row_after_constraint_enabled (s.row f)) (λ e. e) (raised_idle (row_after_constraint_enabled (s.row f)) ((inv.kept.time.rows f).resting facts.0))

@@ -51,7 +51,6 @@ pub data MovesOne (c d : Central) : Type 0 where
 
 pub record RoundStep (c d : Central) : Type 0 where
   pub sent : d.sent ≡ c.sent
-  pub directory : d.directory ≡ c.directory
   pub fewer : NoMore d.bag c.bag
   pub moves : MovesOne c d
 
@@ -82,7 +81,7 @@ module _ (c : Central) where
   stays f g m k is live tso = is
 
   quiet : RoundStep c c
-  quiet = record { sent = refl; directory = refl; fewer = same_copies c.bag; moves = NoRow refl (λ f con. stays f) }
+  quiet = record { sent = refl; fewer = same_copies c.bag; moves = NoRow refl (λ f con. stays f) }
 
   arrived : (a b n f : ℕ) → is_constrained (c.row f) ≡ true → is_disabled (c.row b).constrained ≡ true → NoneGoes c (at_key c.bag a n b (option_map demoted_copy (c.bag a n b))) f
   arrived a b n f con off g m k is live tso = ⊎_elim
@@ -120,7 +119,6 @@ module _ (c : Central) where
   arrival : (g f m : ℕ) → RoundStep c (record c { bag = cond (is_disabled (c.row f).constrained) (at_key c.bag g m f (option_map demoted_copy (c.bag g m f))) c.bag })
   arrival g f m = record {
     sent = refl;
-    directory = refl;
     fewer = cond_both (is_disabled (c.row f).constrained) (at_key c.bag g m f (option_map demoted_copy (c.bag g m f))) c.bag (λ b. NoMore b c.bag) (λ _. fewer_demoted c.bag g m f) (λ _. same_copies c.bag);
     moves = NoRow refl (arrival_goes g f m);
   }
@@ -128,7 +126,7 @@ module _ (c : Central) where
   carry_moves : (g f : ℕ) (x : Carried) → Owing c.sent c.owed → MayCarry c g f x → RoundStep c (after_carry c g f x)
   carry_moves g f (carried.Event e) owing may = arrival g f e.serial
   carry_moves g f (carried.Removal e) owing may = arrival g f e.serial
-  carry_moves g f (carried.Retraction e) owing may = record { sent = refl; directory = refl; fewer = fewer_removed c.bag g e.serial f; moves = NoRow refl (λ l con. taken_back g f e.serial l owing may.1) }
+  carry_moves g f (carried.Retraction e) owing may = record { sent = refl; fewer = fewer_removed c.bag g e.serial f; moves = NoRow refl (λ l con. taken_back g f e.serial l owing may.1) }
   carry_moves g f carried.Nothing owing may = quiet
   carry_moves g f (carried.Null bound) owing may = quiet
   carry_moves g f (carried.Discovery object) owing may = quiet
@@ -142,24 +140,23 @@ module _ (c : Central) where
   carry_goes g f (carried.Discovery object) owing may l con = stays l
 
   row_moves : (h : ℕ) (r : TimeRow) → Move c h r → RoundStep c (record c { row = upd c.row h r })
-  row_moves h r move = record { sent = refl; directory = refl; fewer = same_copies c.bag; moves = OneRow h r refl move (λ f ne con. stays f) }
+  row_moves h r move = record { sent = refl; fewer = same_copies c.bag; moves = OneRow h r refl move (λ f ne con. stays f) }
 
   deliver_moves : (h : ℕ) (x : Content) (e : EventHandle) (d : Delivery) → MayDeliver c h x e d → RoundStep c (after_delivery c h e d)
-  deliver_moves h x e delivery.Receive may = record { sent = refl; directory = refl; fewer = fewer_removed c.bag e.sender e.serial h; moves = NoRow refl (λ f con. given h e f (λ _. (record { order = Ro; stamp = 0; content = x }, may.2, λ t. cc))) }
-  deliver_moves h x e (delivery.Demoted s) may = record { sent = refl; directory = refl; fewer = fewer_removed c.bag e.sender e.serial h; moves = NoRow refl (λ f con. given h e f (λ _. (record { order = Demoted; stamp = s; content = x }, may.2, λ t. cc))) }
+  deliver_moves h x e delivery.Receive may = record { sent = refl; fewer = fewer_removed c.bag e.sender e.serial h; moves = NoRow refl (λ f con. given h e f (λ _. (record { order = Ro; stamp = 0; content = x }, may.2, λ t. cc))) }
+  deliver_moves h x e (delivery.Demoted s) may = record { sent = refl; fewer = fewer_removed c.bag e.sender e.serial h; moves = NoRow refl (λ f con. given h e f (λ _. (record { order = Demoted; stamp = s; content = x }, may.2, λ t. cc))) }
   deliver_moves h x e (delivery.TimeStamp s) may = let w = may.3 in record {
     sent = refl;
-    directory = refl;
     fewer = fewer_removed c.bag e.sender e.serial h;
     moves = OneRow h (row_after (c.row h) (c.row h).advance (λ q. row_after_pick (c.row h) q s)) refl (TakesEvent w.0 e s x w.1 may.0 may.2 w.2 (row_after_is (c.row h) (c.row h).advance w.0 (λ q. row_after_pick (c.row h) q s) w.1)) (λ f ne con. given h e f (λ same. absurd (ne same)));
   }
 
   constraint_moves : (h t : ℕ) (o : Choice) → MayConstrain c h t o → RoundStep c (after_constraint c h o)
-  constraint_moves h t (choice.Moved events) may = record { sent = refl; directory = refl; fewer = fewer_moved c.bag h events; moves = OneRow h (row_after_constraint_enabled (c.row h)) refl (Constrains may.1 refl) (λ f ne con. demoted h events f ne) }
+  constraint_moves h t (choice.Moved events) may = record { sent = refl; fewer = fewer_moved c.bag h events; moves = OneRow h (row_after_constraint_enabled (c.row h)) refl (Constrains may.1 refl) (λ f ne con. demoted h events f ne) }
   constraint_moves h t o may = absurd may
 
   pick_moves : (h : ℕ) (x : Callback) (o : Choice) → MayPickUp c h x o → RoundStep c (after_pick c h x o)
-  pick_moves h (callback.DiscoverObjectInstance object class name) o may = record { sent = refl; directory = refl; fewer = same_copies c.bag; moves = NoRow refl (λ f con. stays f) }
+  pick_moves h (callback.DiscoverObjectInstance object class name) o may = record { sent = refl; fewer = same_copies c.bag; moves = NoRow refl (λ f con. stays f) }
   pick_moves h (callback.ReflectAttributeValues object values event d) o may = deliver_moves h (content.Reflection object values) event d may
   pick_moves h (callback.ReceiveInteraction class values event d) o may = deliver_moves h (content.Interaction class values) event d may
   pick_moves h (callback.RemoveObjectInstance object event d) o may = deliver_moves h (content.Removal object) event d may
@@ -167,7 +164,11 @@ module _ (c : Central) where
   pick_moves h (callback.TimeConstrainedEnabled time) o may = constraint_moves h time o may
   pick_moves h (callback.TimeAdvanceGrant time) o may = row_moves h (row_after (c.row h) (c.row h).advance (λ q. row_after_grant (c.row h) q time))
       (TakesGrant may.0 time may.1 may.2 (row_after_is (c.row h) (c.row h).advance may.0 (λ q. row_after_grant (c.row h) q time) may.1))
-  pick_moves h (callback.RequestRetraction event) o may = record { sent = refl; directory = refl; fewer = same_copies c.bag; moves = NoRow refl (λ f con. stays f) }
+  pick_moves h (callback.RequestRetraction event) o may = record { sent = refl; fewer = same_copies c.bag; moves = NoRow refl (λ f con. stays f) }
+  pick_moves h (callback.SynchronizationPointRegistrationSucceeded label) o may = record { sent = refl; fewer = same_copies c.bag; moves = NoRow refl (λ f con. stays f) }
+  pick_moves h (callback.SynchronizationPointRegistrationFailed label) o may = record { sent = refl; fewer = same_copies c.bag; moves = NoRow refl (λ f con. stays f) }
+  pick_moves h (callback.AnnounceSynchronizationPoint label) o may = record { sent = refl; fewer = same_copies c.bag; moves = NoRow refl (λ f con. stays f) }
+  pick_moves h (callback.FederationSynchronized label) o may = record { sent = refl; fewer = same_copies c.bag; moves = NoRow refl (λ f con. stays f) }
 
   done_moves : (step : Step) (a : Answer) (o : Choice) → Owing c.sent c.owed → IsOfRounds step → MayDo c step a o → RoundStep c (after_done c step a o)
   done_moves (Join name) a o owing of may = absurd of

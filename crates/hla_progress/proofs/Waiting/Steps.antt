@@ -13,12 +13,14 @@ use Rattle.hla_callbacks.specs.declared.callback.Callback.TheVariants as callbac
 use Rattle.hla_null_message.specs.declared.message.Message.{Message}
 use Rattle.hla_null_message.specs.declared.message.Message.TheVariants as message
 use Rattle.hla_order_queues.specs.declared.control.Control.{Control}
-use Rattle.hla_order_queues.specs.declared.control.Control.TheVariants.{ToDiscover, ToRetract}
+use Rattle.hla_order_queues.specs.declared.control.Control.TheVariants.{ToDiscover, ToRetract, ToTell}
 use Rattle.hla_local.specs.Picking.{Pick, NoPick, PickControl, PickRo, PickRegulates, PickConstrains, PickTso, PickGrant, pick}
 use Rattle.hla_machine.specs.declared.step.Step.{Step}
 use Rattle.hla_machine.specs.declared.step.Step.TheVariants.{Join, Call, Carry, Announce, Tick}
 use Rattle.hla_machine.specs.declared.step.Answer.TheVariants as answer
 use Rattle.hla_machine.specs.Refusals.{refusal}
+use Rattle.hla_synchronization.specs.Points.{Point, points_after_notice}
+use Rattle.hla_machine.specs.Directory.{with_points}
 use Rattle.hla_components.specs.Components.{Components}
 use Rattle.hla_components.specs.Component.{local_bound, promise}
 use Rattle.hla_components.specs.Invariant.{Inv}
@@ -45,7 +47,7 @@ pub record WaitsOn (s t : Components) (f limit x : ℕ) : Type 0 where
   pub time : (t.row f).time ≡ (s.row f).time
   pub regulation : (t.row f).regulation_time ≡ (s.row f).regulation_time
   pub bounds : (g : ℕ) → s.bound f g ≤ t.bound f g
-  pub numbers : t.directory ≡ s.directory
+  pub numbers : t.directory.next_federate ≡ s.directory.next_federate
 
 -- f is given its callback, or waits on; if it ticked, it was given something, and less is due
 abbrev pub BringsOrWaits : Components → Step → ℕ → ℕ → (Callback → Type 0) → Outcomes → Type 0
@@ -57,7 +59,8 @@ bound_rises s t f limit x w = rw w.numbers (least-mono s.directory.next_federate
 
 -- ---- steps that do not touch f
 pub record IsUntouched (s t : Components) (f : ℕ) : Type 0 where
-  pub directory : t.directory ≡ s.directory
+  pub joined : t.directory.joined f ≡ s.directory.joined f
+  pub numbers : t.directory.next_federate ≡ s.directory.next_federate
   pub row : t.row f ≡ s.row f
   pub controls : t.controls f ≡ s.controls f
   pub ro : t.ro f ≡ s.ro f
@@ -66,13 +69,13 @@ pub record IsUntouched (s t : Components) (f : ℕ) : Type 0 where
   pub wires : (r : TimeRow) (limit g : ℕ) → due_on_wire r limit (t.wire g f) ≡ due_on_wire r limit (s.wire g f)
 
 due_untouched : (s t : Components) (f limit : ℕ) → IsUntouched s t f → due_up_to t f limit ≡ due_up_to s f limit
-due_untouched s t f limit u = rw (u.row, u.controls, u.ro, u.tso, u.directory)
+due_untouched s t f limit u = rw (u.row, u.controls, u.ro, u.tso, u.numbers)
     (ap (λ (n : ℕ). due_in_queues (s.row f) limit (s.controls f) (s.ro f) (s.tso f) + n)
     (total-same s.directory.next_federate (λ g. due_on_wire (s.row f) limit (t.wire g f)) (λ g. due_on_wire (s.row f) limit (s.wire g f)) (λ g _. u.wires (s.row f) limit g)))
 
 waits_untouched : (s t : Components) (f limit : ℕ) → IsUntouched s t f → WaitsOn s t f limit 0
 waits_untouched s t f limit u = record {
-  joined = rw u.directory refl;
+  joined = u.joined;
   waits = λ w. rw u.row w;
   same = λ k a. subst (λ (r : TimeRow). IsAwaited r k) u.row a;
   less = omega (arith, due_untouched s t f limit u);
@@ -82,7 +85,7 @@ waits_untouched s t f limit u = record {
   time = ap (λ (r : TimeRow). r.time) u.row;
   regulation = ap (λ (r : TimeRow). r.regulation_time) u.row;
   bounds = u.bounds;
-  numbers = u.directory;
+  numbers = u.numbers;
 }
 
 pub unchanged : (s : Components) (f limit : ℕ) → WaitsOn s s f limit 0
@@ -93,7 +96,8 @@ announce_untouched s g f = cond_both (is_regulator (s.row g) && ltb (s.last_anno
     (answer_outcome (answer.Announced (Some (promise s g))) (with_null_announced s g (promise s g)))
     (answer_outcome (answer.Announced None) s) (λ (o : Outcomes). IsUntouched s o.state f)
     (λ _. record {
-      directory = refl;
+      joined = refl;
+      numbers = refl;
       bounds = λ g. omega arith;
       row = refl;
       controls = refl;
@@ -101,26 +105,27 @@ announce_untouched s g f = cond_both (is_regulator (s.row g) && ltb (s.last_anno
       tso = refl;
       wires = λ r limit h. upd_row_each s.wire s.directory.joined g _ (λ h l ms. due_on_wire r limit ms ≡ due_on_wire r limit (s.wire h l)) (λ l _. due_on_wire-null r limit (s.epoch g) (promise s g) (s.wire g l)) (λ _ _. refl) h f;
     })
-    (λ _. record { directory = refl; bounds = λ g. omega arith; row = refl; controls = refl; ro = refl; tso = refl; wires = λ r limit h. refl })
+    (λ _. record { joined = refl; numbers = refl; bounds = λ g. omega arith; row = refl; controls = refl; ro = refl; tso = refl; wires = λ r limit h. refl })
 
 -- what comes to another
 carry_untouched : (s : Components) (g l f : ℕ) (ms : List Message) → l ≢ f → IsUntouched s (carry_outcome s g l ms).state f
-carry_untouched s g l f [] ne = record { directory = refl; bounds = λ g. omega arith; row = refl; controls = refl; ro = refl; tso = refl; wires = λ r limit h. refl }
-carry_untouched s g l f (message.Event e ∷ ms) ne = record { directory = refl; bounds = λ g. omega arith; row = refl; controls = refl; ro = upd_other s.ro l _ f ne; tso = upd_other s.tso l _ f ne; wires = λ r limit h. ap (due_on_wire r limit) (upd2_other s.wire g l ms h f (inr ne)) }
-carry_untouched s g l f (message.Null k v ∷ ms) ne = record { directory = refl; bounds = λ h. omega (arith, upd2_other s.bound l g (null_bound (s.known_epoch l g) (s.bound l g) k v) f h (inl ne)); row = refl; controls = refl; ro = refl; tso = refl; wires = λ r limit h. ap (due_on_wire r limit) (upd2_other s.wire g l ms h f (inr ne)) }
-carry_untouched s g l f (message.Retraction m ∷ ms) ne = record { directory = refl; bounds = λ g. omega arith; row = refl; controls = upd_other s.controls l _ f ne; ro = upd_other s.ro l _ f ne; tso = upd_other s.tso l _ f ne; wires = λ r limit h. ap (due_on_wire r limit) (upd2_other s.wire g l ms h f (inr ne)) }
-carry_untouched s g l f (message.Discovery d ∷ ms) ne = record { directory = refl; bounds = λ g. omega arith; row = refl; controls = upd_other s.controls l _ f ne; ro = refl; tso = refl; wires = λ r limit h. ap (due_on_wire r limit) (upd2_other s.wire g l ms h f (inr ne)) }
+carry_untouched s g l f [] ne = record { joined = refl; numbers = refl; bounds = λ g. omega arith; row = refl; controls = refl; ro = refl; tso = refl; wires = λ r limit h. refl }
+carry_untouched s g l f (message.Event e ∷ ms) ne = record { joined = refl; numbers = refl; bounds = λ g. omega arith; row = refl; controls = refl; ro = upd_other s.ro l _ f ne; tso = upd_other s.tso l _ f ne; wires = λ r limit h. ap (due_on_wire r limit) (upd2_other s.wire g l ms h f (inr ne)) }
+carry_untouched s g l f (message.Null k v ∷ ms) ne = record { joined = refl; numbers = refl; bounds = λ h. omega (arith, upd2_other s.bound l g (null_bound (s.known_epoch l g) (s.bound l g) k v) f h (inl ne)); row = refl; controls = refl; ro = refl; tso = refl; wires = λ r limit h. ap (due_on_wire r limit) (upd2_other s.wire g l ms h f (inr ne)) }
+carry_untouched s g l f (message.Retraction m ∷ ms) ne = record { joined = refl; numbers = refl; bounds = λ g. omega arith; row = refl; controls = upd_other s.controls l _ f ne; ro = upd_other s.ro l _ f ne; tso = upd_other s.tso l _ f ne; wires = λ r limit h. ap (due_on_wire r limit) (upd2_other s.wire g l ms h f (inr ne)) }
+carry_untouched s g l f (message.Discovery d ∷ ms) ne = record { joined = refl; numbers = refl; bounds = λ g. omega arith; row = refl; controls = upd_other s.controls l _ f ne; ro = refl; tso = refl; wires = λ r limit h. ap (due_on_wire r limit) (upd2_other s.wire g l ms h f (inr ne)) }
 
 -- what another picks up
 pick_untouched : (s : Components) (g f : ℕ) (p : Pick) → g ≢ f → IsUntouched s (pick_outcome s g p).state f
-pick_untouched s g f NoPick ne = record { directory = refl; bounds = λ g. omega arith; row = refl; controls = refl; ro = refl; tso = refl; wires = λ r limit h. refl }
-pick_untouched s g f (PickControl (ToDiscover from d) rest) ne = record { directory = refl; bounds = λ g. omega arith; row = refl; controls = upd_other s.controls g _ f ne; ro = refl; tso = refl; wires = λ r limit h. refl }
-pick_untouched s g f (PickControl (ToRetract e) rest) ne = record { directory = refl; bounds = λ g. omega arith; row = refl; controls = upd_other s.controls g _ f ne; ro = refl; tso = refl; wires = λ r limit h. refl }
-pick_untouched s g f (PickRo e rest) ne = record { directory = refl; bounds = λ g. omega arith; row = refl; controls = refl; ro = upd_other s.ro g _ f ne; tso = refl; wires = λ r limit h. refl }
-pick_untouched s g f PickRegulates ne = record { directory = refl; bounds = λ g. omega arith; row = upd_other s.row g _ f ne; controls = refl; ro = refl; tso = refl; wires = λ r limit h. refl }
-pick_untouched s g f PickConstrains ne = record { directory = refl; bounds = λ g. omega arith; row = upd_other s.row g _ f ne; controls = refl; ro = upd_other s.ro g _ f ne; tso = upd_other s.tso g _ f ne; wires = λ r limit h. refl }
-pick_untouched s g f (PickTso q e rest) ne = record { directory = refl; bounds = λ g. omega arith; row = upd_other s.row g _ f ne; controls = refl; ro = refl; tso = upd_other s.tso g _ f ne; wires = λ r limit h. refl }
-pick_untouched s g f (PickGrant q t) ne = record { directory = refl; bounds = λ g. omega arith; row = upd_other s.row g _ f ne; controls = refl; ro = refl; tso = refl; wires = λ r limit h. refl }
+pick_untouched s g f NoPick ne = record { joined = refl; numbers = refl; bounds = λ g. omega arith; row = refl; controls = refl; ro = refl; tso = refl; wires = λ r limit h. refl }
+pick_untouched s g f (PickControl (ToDiscover from d) rest) ne = record { joined = refl; numbers = refl; bounds = λ g. omega arith; row = refl; controls = upd_other s.controls g _ f ne; ro = refl; tso = refl; wires = λ r limit h. refl }
+pick_untouched s g f (PickControl (ToRetract e) rest) ne = record { joined = refl; numbers = refl; bounds = λ g. omega arith; row = refl; controls = upd_other s.controls g _ f ne; ro = refl; tso = refl; wires = λ r limit h. refl }
+pick_untouched s g f (PickControl (ToTell n) rest) ne = record { joined = refl; numbers = refl; bounds = λ g. omega arith; row = refl; controls = upd_other s.controls g _ f ne; ro = refl; tso = refl; wires = λ r limit h. refl }
+pick_untouched s g f (PickRo e rest) ne = record { joined = refl; numbers = refl; bounds = λ g. omega arith; row = refl; controls = refl; ro = upd_other s.ro g _ f ne; tso = refl; wires = λ r limit h. refl }
+pick_untouched s g f PickRegulates ne = record { joined = refl; numbers = refl; bounds = λ g. omega arith; row = upd_other s.row g _ f ne; controls = refl; ro = refl; tso = refl; wires = λ r limit h. refl }
+pick_untouched s g f PickConstrains ne = record { joined = refl; numbers = refl; bounds = λ g. omega arith; row = upd_other s.row g _ f ne; controls = refl; ro = upd_other s.ro g _ f ne; tso = upd_other s.tso g _ f ne; wires = λ r limit h. refl }
+pick_untouched s g f (PickTso q e rest) ne = record { joined = refl; numbers = refl; bounds = λ g. omega arith; row = upd_other s.row g _ f ne; controls = refl; ro = refl; tso = upd_other s.tso g _ f ne; wires = λ r limit h. refl }
+pick_untouched s g f (PickGrant q t) ne = record { joined = refl; numbers = refl; bounds = λ g. omega arith; row = upd_other s.row g _ f ne; controls = refl; ro = refl; tso = refl; wires = λ r limit h. refl }
 
 -- ---- what comes to f
 module _ (s : Components) (g f limit : ℕ) (m : Message) (ms : List Message) (inv : Inv s) (front : s.wire g f ≡ m ∷ ms) where
@@ -199,8 +204,9 @@ module _ (s : Components) (f limit : ℕ) (P : Callback → Type 0) where
       → due_in_queues (s.row f) limit controls ro tso + total s.directory.next_federate (λ g. due_on_wire (s.row f) limit (s.wire g f)) + 1 ≤ due_up_to s f limit
   queue_less controls ro tso l = omega (arith, l)
 
-  pub control_less : (k : Control) (rest : List Control) → s.controls f ≡ k ∷ rest → WaitsOn s (record s { controls = upd s.controls f rest }) f limit 1
-  control_less k rest front = record {
+  -- a control is given, and the points may change with it
+  pub told_less : (points : List Point) (k : Control) (rest : List Control) → s.controls f ≡ k ∷ rest → WaitsOn s (record s { directory = with_points s.directory points; controls = upd s.controls f rest }) f limit 1
+  told_less points k rest front = record {
     joined = refl;
     advance = refl;
     constrained = refl;
@@ -213,6 +219,9 @@ module _ (s : Components) (f limit : ℕ) (P : Callback → Type 0) where
     same = λ k a. a;
     less = rw upd_same (queue_less rest (s.ro f) (s.tso f) (let l : length (s.controls f) ≡ suc (length rest) = ap length front in omega (arith, l)));
   }
+
+  pub control_less : (k : Control) (rest : List Control) → s.controls f ≡ k ∷ rest → WaitsOn s (record s { controls = upd s.controls f rest }) f limit 1
+  control_less k rest front = told_less s.directory.points k rest front
 
   pub ro_less : (e : Event) (rest : List Event) → s.ro f ≡ e ∷ rest → is_ro_due (s.row f) ≡ true → WaitsOn s (record s { ro = upd s.ro f rest }) f limit 1
   ro_less e rest front y = record {
@@ -252,6 +261,7 @@ module _ (s : Components) (f limit : ℕ) (P : Callback → Type 0) where
   pick_brings NoPick facts due = absurd due
   pick_brings (PickControl (ToDiscover from d) rest) facts due = gives_one _ _ (control_less (ToDiscover from d) rest facts)
   pick_brings (PickControl (ToRetract e) rest) facts due = gives_one _ _ (control_less (ToRetract e) rest facts)
+  pick_brings (PickControl (ToTell n) rest) facts due = gives_one _ _ (told_less (points_after_notice f n s.directory.points) (ToTell n) rest facts)
   pick_brings (PickRo e rest) facts due = gives_one _ _ (ro_less e rest facts.1 (ap not facts.2))
   pick_brings PickRegulates facts due = inl (callback.TimeRegulationEnabled (s.row f).regulation_time, (refl, refl), due)
   pick_brings PickConstrains facts due = inl (callback.TimeConstrainedEnabled (s.row f).time, (refl, refl), due)

@@ -1,5 +1,5 @@
 -- What tests of a tick tell
-use Rattle.std.proofs.Common.{◌≡◌, ℕ, ◌≤◌, cond, not, ◌&&◌, arith, Bool, true, false, Option, Some, None, refl, sym, ◌∙◌, ap, subst}
+use Rattle.std.proofs.Common.{◌≡◌, ℕ, ◌≤◌, cond, not, ◌&&◌, arith, Bool, true, false, Option, Some, None, List, refl, sym, ◌∙◌, ap, subst}
 use Rattle.std.specs.Bool.{Decides}
 use Rattle.std.proofs.lemmas.Bool.{cond_both}
 use mathlib.Core.Bool.{false≢true}
@@ -15,10 +15,14 @@ use Rattle.hla_machine.specs.declared.step.Outcome.{Outcome}
 use Rattle.hla_machine.specs.declared.step.Outcome.TheVariants as outcome
 use Rattle.hla_machine.specs.declared.step.Choice.{Choice}
 use Rattle.hla_machine.specs.declared.step.Choice.TheVariants as choice
+use Rattle.hla_synchronization.specs.Points.{Point}
+use Rattle.hla_machine.specs.Directory.{Directory, with_points}
 use Rattle.hla_machine.specs.Central.{Central}
 use Rattle.hla_machine.specs.Refusals.{refusal}
 use Rattle.hla_machine.specs.Callbacks.{MayGrant, MayGrantAs, WhileAdvancing}
 use Rattle.hla_machine.specs.Machine.{IsChoice, MayDo, after_done, central_seen}
+use Rattle.hla_accounts.specs.declared.account.Account.{Account}
+use Rattle.hla_accounts.specs.Accounts.{central_with}
 use Rattle.hla_verdicts.specs.declared.verdict.Verdict.{Verdict}
 use Rattle.hla_verdicts.specs.declared.verdict.Verdict.TheVariants as verdict
 use Rattle.hla_verdicts.specs.Verdicts.{Judged}
@@ -81,6 +85,12 @@ given_nothing c f a told o b v is none tests value =
     by : (t : Bool) → Decides t (o ≡ choice.None) → Judged (MayDo c (Tick f) (answer.Ticked None) o × IsChoice (Tick f) (outcome.Done (answer.Ticked None)) o) (c ≡ after_done c (Tick f) (answer.Ticked None) o) (cond t verdict.Allowed verdict.Wrong)
     by true p = ((tt, p.0 refl), refl)
     by false p = λ may. false≢true (p.1 may.1)
+
+pub nothing_among : (d : Directory) (accounts : List Account) (points : List Point) (f : ℕ) (a : Answer) (told : Option Callback) (o : Choice) (b : Bool) (v : Verdict) → d.points ≡ points → a ≡ answer.Ticked told → told ≡ None → Decides b (o ≡ choice.None) → v ≡ cond b verdict.Allowed verdict.Wrong
+    → Judged (MayDo (central_with d accounts) (Tick f) a o × IsChoice (Tick f) (outcome.Done a) o) (central_with (with_points d points) accounts ≡ after_done (central_with d accounts) (Tick f) a o) v
+nothing_among d accounts points f a told o b v at is none tests value =
+    subst (λ (ps : List Point). Judged (MayDo (central_with d accounts) (Tick f) a o × IsChoice (Tick f) (outcome.Done a) o) (central_with (with_points d ps) accounts ≡ after_done (central_with d accounts) (Tick f) a o) v) at
+    (given_nothing (central_with d accounts) f a told o b v is none tests value)
 
 pub given_one : (c d : Central) (f : ℕ) (a : Answer) (told : Option Callback) (k : Callback) (o : Choice) (v : Verdict) → a ≡ answer.Ticked told → told ≡ Some k → JudgedPick c f k o d v
     → Judged (MayDo c (Tick f) a o × IsChoice (Tick f) (outcome.Done a) o) (d ≡ after_done c (Tick f) a o) v

@@ -13,6 +13,9 @@ use Rattle.hla_machine.specs.declared.step.Outcome.TheVariants as outcome
 use Rattle.hla_machine.specs.declared.step.Choice.{Choice}
 use Rattle.hla_machine.specs.declared.step.Choice.TheVariants as choice
 use Rattle.hla_machine.specs.Central.{Central}
+use Rattle.hla_synchronization.specs.declared.open_points.OpenPoint.{OpenPoint}
+use Rattle.hla_synchronization.specs.Points.{Point}
+use Rattle.hla_synchronization.specs.OpenPoints.{points_of}
 use Rattle.hla_machine.specs.Directory.{Directory}
 use Rattle.hla_machine.specs.Refusals.{refusal}
 use Rattle.hla_machine.specs.Machine.{Allowed, IsChoice, MayDo, MayAnnounce, after, central_seen}
@@ -21,12 +24,16 @@ use Rattle.hla_verdicts.specs.declared.verdict.Verdict.TheVariants as verdict
 use Rattle.hla_verdicts.specs.Verdicts.{Judged}
 use Rattle.hla_verdicts.specs.Answers.{announced_in}
 use Rattle.hla_accounts.specs.declared.account.Account.{Account}
-use Rattle.hla_verdicts.specs.Accounted.{JudgedWith}
+use Rattle.hla_verdicts.specs.Accounted.{JudgedAmong, JudgedWith}
 use Rattle.hla_verdicts.specs.Kept.{KeptValue, IsConsistent, JudgedStep, directory_of}
 
 -- what a test tells of a step, where the second state is kept after it
 abbrev pub JudgedCentral : Central → Step → Outcome → Choice → Central → Verdict → Type 0
 JudgedCentral c step out o d v = Judged (Allowed c step out o) (d ≡ after c step out o) v
+
+-- where the open points are as they were
+pub among : (d : Directory) (accounts : List Account) (points : List Point) (step : Step) (out : Outcome) (o : Choice) (v : Verdict) → d.points ≡ points → JudgedWith d accounts step out o accounts v → JudgedAmong d accounts step out o points accounts v
+among d accounts points step out o v at judged = subst (λ (ps : List Point). JudgedAmong d accounts step out o ps accounts v) at judged
 
 -- ---- refused
 refused_plain : (step : Step) (e : Fault) (o : Choice) → Decides true (IsChoice step (outcome.Refused e) o) → IsChoice step (outcome.Refused e) o
@@ -107,6 +114,17 @@ kept_changed v w accounts step given out o told same is kept judged size =
     by : (u : Verdict) → JudgedWith (directory_of v) v.accounts step out o accounts u → (u ≡ verdict.Allowed → length accounts ≡ length v.accounts) → IsConsistent v → JudgedStep v step out o (record v { accounts = accounts }) u
     by verdict.Allowed j long k = (j.0, (j.1, record { federates = k.federates ∙ sym (long refl); object_classes = k.object_classes; interaction_classes = k.interaction_classes }))
     by verdict.Wrong j long k = j
+
+-- ---- a step that changes accounts and points
+pub kept_among : (v w : KeptValue) (accounts : List Account) (points : List OpenPoint) (step given : Step) (out : Outcome) (o : Choice) (told : Verdict) → v ≡ w → given ≡ step → IsConsistent w
+    → JudgedAmong (directory_of v) v.accounts step out o (points_of points) accounts told → length accounts ≡ length v.accounts → JudgedStep w given out o (record v { accounts = accounts; points = points }) told
+kept_among v w accounts points step given out o told same is kept judged size =
+    subst (λ (s : Step). JudgedStep w s out o (record v { accounts = accounts; points = points }) told) (sym is)
+    (subst (λ (x : KeptValue). IsConsistent x → JudgedStep x step out o (record v { accounts = accounts; points = points }) told) same (λ k. by told judged k) kept)
+  where
+    by : (u : Verdict) → JudgedAmong (directory_of v) v.accounts step out o (points_of points) accounts u → IsConsistent v → JudgedStep v step out o (record v { accounts = accounts; points = points }) u
+    by verdict.Allowed j k = (j.0, (j.1, record { federates = k.federates ∙ sym size; object_classes = k.object_classes; interaction_classes = k.interaction_classes }))
+    by verdict.Wrong j k = j
 
 pub step_as : (v w : KeptValue) (step given : Step) (out : Outcome) (o : Choice) (told : Verdict) → given ≡ step → JudgedStep v step out o w told → JudgedStep v given out o w told
 step_as v w step given out o told is judged = subst (λ (s : Step). JudgedStep v s out o w told) (sym is) judged

@@ -4,7 +4,7 @@ use Rattle.hla_base.specs.Limits.{max_serial}
 use Rattle.hla_base.specs.Tables.{upd, upd2}
 use Rattle.hla_retraction.specs.SentEvents.{SentEvent, no_event}
 use Rattle.hla_retraction.specs.SentRows.{sent_of}
-use Rattle.hla_retraction.specs.Receivers.{receiver_set}
+use Rattle.hla_base.specs.FederateSets.{federate_set}
 use Rattle.hla_accounts.specs.declared.account.Account.{Account}
 use Rattle.hla_accounts.specs.Accounts.{account_at, central_with, AreKept}
 use Rattle.hla_accounts.proofs.AfterSteps.OneAccount.{account_read, account_shown}
@@ -29,11 +29,11 @@ note-requires-clause-room c = let is = account_shown c.self.inside.accounts.item
 
 pub invariant_of-self : goal.invariant_of-self
 invariant_of-self c =
-    let e : SentEvent = record { stamp = c.args.stamp; retractable = true; retracted = false; receivers = receiver_set c.args.receivers } in
+    let e : SentEvent = record { stamp = c.args.stamp; retractable = true; retracted = false; receivers = federate_set c.args.receivers } in
     notes_kept c.self.inside.accounts.items c.args.federate c.requires.some (inside c) c.self.invariant c.index_mut.result.now c.note.new.self e c.note.result (read c) (on_both c.note.result (λ p q. (p, q)) c.note.ensures.account c.note.ensures.sent) c.note.ensures.unchanged
 
 pub returns-clause-ok : goal.returns-clause-ok
 returns-clause-ok c =
-    let e : SentEvent = record { stamp = c.args.stamp; retractable = true; retracted = false; receivers = receiver_set c.args.receivers } in
+    let e : SentEvent = record { stamp = c.args.stamp; retractable = true; retracted = false; receivers = federate_set c.args.receivers } in
     on_ok c.note.result (λ noted d. subst (λ v. central_with d (set c.self.inside.accounts.items (c.args.federate - 1) c.note.new.self) ≡ record (central_with d v) { serial = upd (central_with d v).serial c.args.federate ((central_with d v).serial c.args.federate + 1); sent = upd2 (central_with d v).sent c.args.federate ((central_with d v).serial c.args.federate) e }) c.self.view_is
     (note_set d c.self.inside.accounts.items c.args.federate c.requires.some (inside c) c.index_mut.result.now c.note.new.self e (read c) noted)) (on_both c.note.result (λ p q. (p, q)) c.note.ensures.account c.note.ensures.sent)

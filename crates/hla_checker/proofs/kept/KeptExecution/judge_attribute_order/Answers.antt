@@ -10,7 +10,7 @@ use Rattle.hla_checker.proofs.kept.KeptExecution.judge_attribute_order.Goals as 
 
 pub change_orders-requires-clause-numbered : goal.change_orders-requires-clause-numbered
 change_orders-requires-clause-numbered c =
-    let v : KeptValue = record { catalogue = c.self.inside.catalogue; declarations = c.self.inside.declarations; objects = c.self.inside.registry; accounts = c.self.inside.accounts } in
+    let v : KeptValue = record { catalogue = c.self.inside.catalogue; declarations = c.self.inside.declarations; objects = c.self.inside.registry; accounts = c.self.inside.accounts; points = c.self.inside.points } in
     let numbers = ordered_attributes v c.args.self.now c.args.federate c.args.object c.as_slice.result.now c.attribute_order_fault-fault.result c.self.view_is c.attribute_order_fault-fault.ensures c.in-None.ensures.0 in
     subst (λ (xs : List Attribute). AreWithin (length xs) c.as_slice-in-None.result.now) (sym c.attributes-count.ensures.items)
     (subst (λ (ns : List ℕ). AreWithin (length v.catalogue.attributes) ns) (c.as_slice.ensures ∙ sym c.as_slice-in-None.ensures) numbers)

@@ -6,17 +6,17 @@ use Rattle.hla_checker.proofs.kept.KeptExecution.judge_declaration.Goals as goal
 
 pub declare-requires-clause-some : goal.declare-requires-clause-some
 declare-requires-clause-some c =
-    let v : KeptValue = record { catalogue = c.self.inside.catalogue; declarations = c.self.inside.declarations; objects = c.self.inside.registry; accounts = c.self.inside.accounts } in
+    let v : KeptValue = record { catalogue = c.self.inside.catalogue; declarations = c.self.inside.declarations; objects = c.self.inside.registry; accounts = c.self.inside.accounts; points = c.self.inside.points } in
     (caller_within v c.args.self.now c.args.federate c.self.view_is c.requires.consistent c.requires.joined).0
 
 pub declare-requires-clause-joined : goal.declare-requires-clause-joined
 declare-requires-clause-joined c =
-    let v : KeptValue = record { catalogue = c.self.inside.catalogue; declarations = c.self.inside.declarations; objects = c.self.inside.registry; accounts = c.self.inside.accounts } in
+    let v : KeptValue = record { catalogue = c.self.inside.catalogue; declarations = c.self.inside.declarations; objects = c.self.inside.registry; accounts = c.self.inside.accounts; points = c.self.inside.points } in
     (caller_within v c.args.self.now c.args.federate c.self.view_is c.requires.consistent c.requires.joined).1
 
 pub declare-requires-clause-defined : goal.declare-requires-clause-defined
 declare-requires-clause-defined c =
-    let v : KeptValue = record { catalogue = c.self.inside.catalogue; declarations = c.self.inside.declarations; objects = c.self.inside.registry; accounts = c.self.inside.accounts } in
+    let v : KeptValue = record { catalogue = c.self.inside.catalogue; declarations = c.self.inside.declarations; objects = c.self.inside.registry; accounts = c.self.inside.accounts; points = c.self.inside.points } in
     declared_class v c.args.self.now c.args.federate c.args.declaration c.declaration_fault-fault.result c.self.view_is c.requires.consistent c.declaration_fault-fault.ensures c.in-None.ensures.0
 
 pub returns-in-Some : goal.returns-in-Some
@@ -30,7 +30,7 @@ returns-in-Some c =
 
 pub returns-in-None : goal.returns-in-None
 returns-in-None c =
-    let v : KeptValue = record { catalogue = c.self.inside.catalogue; declarations = c.self.inside.declarations; objects = c.self.inside.registry; accounts = c.self.inside.accounts } in
+    let v : KeptValue = record { catalogue = c.self.inside.catalogue; declarations = c.self.inside.declarations; objects = c.self.inside.registry; accounts = c.self.inside.accounts; points = c.self.inside.points } in
     let x = c.args.service.now in
     declaration_done v c.args.self.now c.args.federate x c.args.declaration c.declaration_fault-fault.result c.args.outcome.now c.args.choice.now c.self.view_is c.requires.consistent c.requires.joined
     (declaration_is x c.args.declaration c.requires.declaration) c.declaration_fault-fault.ensures c.declare.new.declarations c.in-None.ensures c.declare.ensures

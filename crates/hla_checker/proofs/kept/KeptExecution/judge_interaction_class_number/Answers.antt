@@ -9,7 +9,7 @@ use Rattle.hla_checker.proofs.kept.KeptExecution.judge_interaction_class_number.
 
 pub returns : goal.returns
 returns c =
-    let v : KeptValue = record { catalogue = c.self.inside.catalogue; declarations = c.self.inside.declarations; objects = c.self.inside.registry; accounts = c.self.inside.accounts } in
+    let v : KeptValue = record { catalogue = c.self.inside.catalogue; declarations = c.self.inside.declarations; objects = c.self.inside.registry; accounts = c.self.inside.accounts; points = c.self.inside.points } in
     let name = c.args.name.now in
     let found = c.interaction_class-found.ensures ∙ ap (λ (n : List ℕ). interaction_class_named v.catalogue n) c.as_slice.ensures in
     let refused = c.unfound_fault.ensures ∙ ap (λ (n : Option ℕ). first_fault (not_found n ∷ [])) found in

@@ -18,7 +18,7 @@ admit-requires-clause-room c =
 pub returns-in-Refused-clause-ok : goal.returns-in-Refused-clause-ok
 returns-in-Refused-clause-ok c =
     let now = c.args.self.now in
-    let v : KeptValue = record { catalogue = c.self.inside.catalogue; declarations = c.self.inside.declarations; objects = c.self.inside.registry; accounts = c.self.inside.accounts } in
+    let v : KeptValue = record { catalogue = c.self.inside.catalogue; declarations = c.self.inside.declarations; objects = c.self.inside.registry; accounts = c.self.inside.accounts; points = c.self.inside.points } in
     let found = c.join_fault-fault.ensures (directory_of v) ∙ ap (λ (n : List ℕ). refusal (central_seen (central_of v)) (steps.Join n)) c.as_slice.ensures ∙ ap (λ (x : KeptValue). refusal (central_seen (central_of x)) (steps.Join c.args.name.now)) c.self.view_is in
     kept_unchanged now now (steps.Join c.args.name.now) (steps.Join c.args.name.now) c.args.outcome.now c.args.choice.now c.of.result refl refl c.requires
     (refused_told (central_of now) (steps.Join c.args.name.now) c.join_fault-fault.result c.in-Refused.given c.args.outcome.now c.args.choice.now c.eq.result c.of.result
@@ -27,14 +27,14 @@ returns-in-Refused-clause-ok c =
 pub returns-in-Some-clause-ok : goal.returns-in-Some-clause-ok
 returns-in-Some-clause-ok c =
     let now = c.args.self.now in
-    let v : KeptValue = record { catalogue = c.self.inside.catalogue; declarations = c.self.inside.declarations; objects = c.self.inside.registry; accounts = c.self.inside.accounts } in
+    let v : KeptValue = record { catalogue = c.self.inside.catalogue; declarations = c.self.inside.declarations; objects = c.self.inside.registry; accounts = c.self.inside.accounts; points = c.self.inside.points } in
     let found = c.join_fault-fault.ensures (directory_of v) ∙ ap (λ (n : List ℕ). refusal (central_seen (central_of v)) (steps.Join n)) c.as_slice.ensures ∙ ap (λ (x : KeptValue). refusal (central_seen (central_of x)) (steps.Join c.args.name.now)) c.self.view_is in
     done_wrong (central_of now) (central_of now) (steps.Join c.args.name.now) c.join_fault-fault.result c.in-Some.field-0 c.args.outcome.now c.in-Done.answer c.args.choice.now found c.in-Some.is c.in-Done.is
 
 pub returns-in_ok-admit-in-None-clause-ok : goal.returns-in_ok-admit-in-None-clause-ok
 returns-in_ok-admit-in-None-clause-ok c =
     let now = c.args.self.now in
-    let v : KeptValue = record { catalogue = c.self.inside.catalogue; declarations = c.self.inside.declarations; objects = c.self.inside.registry; accounts = c.self.inside.accounts } in
+    let v : KeptValue = record { catalogue = c.self.inside.catalogue; declarations = c.self.inside.declarations; objects = c.self.inside.registry; accounts = c.self.inside.accounts; points = c.self.inside.points } in
     let found = c.join_fault-fault.ensures (directory_of v) ∙ ap (λ (n : List ℕ). refusal (central_seen (central_of v)) (steps.Join n)) c.as_slice.ensures ∙ ap (λ (x : KeptValue). refusal (central_seen (central_of x)) (steps.Join c.args.name.now)) c.self.view_is in
     let next = c.next_federate-next.ensures.number ∙ ap (λ (x : KeptValue). length x.accounts + 1) c.self.view_is in
     let done = join_done (central_of now) c.args.name.now c.join_fault-fault.result c.args.outcome.now c.in-Done.answer c.args.choice.now found c.in-None.is c.in-Done.is (central_of c.admit.new.self) c.next_federate-next.result next

@@ -9,7 +9,7 @@ use Rattle.hla_checker.proofs.kept.KeptExecution.judge_parameter_number.Goals as
 
 pub returns : goal.returns
 returns c =
-    let v : KeptValue = record { catalogue = c.self.inside.catalogue; declarations = c.self.inside.declarations; objects = c.self.inside.registry; accounts = c.self.inside.accounts } in
+    let v : KeptValue = record { catalogue = c.self.inside.catalogue; declarations = c.self.inside.declarations; objects = c.self.inside.registry; accounts = c.self.inside.accounts; points = c.self.inside.points } in
     let name = c.args.name.now in
     let found = c.parameter-found.ensures ∙ ap (λ (n : List ℕ). parameter_named v.catalogue c.args.class n) c.as_slice.ensures in
     let refused = c.parameter_name_fault.ensures ∙ ap (λ (n : Option ℕ). first_fault (no_interaction_class (directory_of c.args.self.now) c.args.class ∷ not_found n ∷ [])) found

@@ -10,7 +10,7 @@ use Rattle.hla_checker.proofs.kept.KeptExecution.register.Goals as goal
 
 pub returns-clause-registered : goal.returns-clause-registered
 returns-clause-registered c =
-    let v : KeptValue = record { catalogue = c.self.inside.catalogue; declarations = c.self.inside.declarations; objects = c.self.inside.registry; accounts = c.self.inside.accounts } in
+    let v : KeptValue = record { catalogue = c.self.inside.catalogue; declarations = c.self.inside.declarations; objects = c.self.inside.registry; accounts = c.self.inside.accounts; points = c.self.inside.points } in
     let q = c.register.new.self in
     let known = c.make_new_known.ensures
     ∙ ap (λ (h : ℕ). record (registry_of c.register.new.self) { known = known_to_joined (directory_kept c.self.inside.catalogue (declarations_of c.self.inside.declarations) (registry_of c.register.new.self)) (λ g. (account_at c.offer_new.new.accounts g).is_joined) h }) c.in_ok-object.ensures.answer in
@@ -20,6 +20,6 @@ returns-clause-registered c =
 
 pub returns-clause-consistent : goal.returns-clause-consistent
 returns-clause-consistent c =
-    let v : KeptValue = record { catalogue = c.self.inside.catalogue; declarations = c.self.inside.declarations; objects = c.self.inside.registry; accounts = c.self.inside.accounts } in
+    let v : KeptValue = record { catalogue = c.self.inside.catalogue; declarations = c.self.inside.declarations; objects = c.self.inside.registry; accounts = c.self.inside.accounts; points = c.self.inside.points } in
     registered_consistent v c.register.new.self c.make_new_known.new.registry c.offer_new.new.accounts c.args.federate c.in_ok-offer_new.ensures.ok
     (subst (λ (y : KeptValue). IsConsistent y) (sym c.self.view_is) c.requires.consistent)

@@ -23,6 +23,6 @@ remove_member-requires-clause-joined c =
 pub returns-clause-resigned : goal.returns-clause-resigned
 returns-clause-resigned c =
     let all = c.as_slice.ensures ∙ c.in_ok-objects.ensures.ok ∙ ap (λ (v : KeptValue). objects_of (directory_of v) c.args.federate) c.self.view_is in
-    c.remove_member.ensures.left
+    c.in_ok-remove_member.ensures.left
     ∙ ap (λ (s : Central). after_leaving s c.args.federate) (c.in_ok-send_deletions.ensures.sent
     ∙ ap (λ (hs : List ℕ). after_messages (central_of c.args.self.now) c.args.federate None (deletions_sent hs)) all)

@@ -6,14 +6,14 @@ use Rattle.hla_checker.proofs.kept.KeptExecution.resign_fault.Goals as goal
 
 pub returns-then-is_out_of_serials : goal.returns-then-is_out_of_serials
 returns-then-is_out_of_serials c =
-    let v : KeptValue = record { catalogue = c.self.inside.catalogue; declarations = c.self.inside.declarations; objects = c.self.inside.registry; accounts = c.self.inside.accounts } in
+    let v : KeptValue = record { catalogue = c.self.inside.catalogue; declarations = c.self.inside.declarations; objects = c.self.inside.registry; accounts = c.self.inside.accounts; points = c.self.inside.points } in
     let hs = objects_of (directory_of v) c.args.federate in
     resign_told v c.args.self.now c.args.federate c.args.action true c.self.view_is c.in-DeleteObjects.is
     (sym (c.is_out_of_serials.ensures (deletions_sent hs) (count_deletions hs ∙ sym c.count_owned_by-owned.ensures)) ∙ c.if-is_out_of_serials.true)
 
 pub returns-else-is_out_of_serials : goal.returns-else-is_out_of_serials
 returns-else-is_out_of_serials c =
-    let v : KeptValue = record { catalogue = c.self.inside.catalogue; declarations = c.self.inside.declarations; objects = c.self.inside.registry; accounts = c.self.inside.accounts } in
+    let v : KeptValue = record { catalogue = c.self.inside.catalogue; declarations = c.self.inside.declarations; objects = c.self.inside.registry; accounts = c.self.inside.accounts; points = c.self.inside.points } in
     let hs = objects_of (directory_of v) c.args.federate in
     resign_told v c.args.self.now c.args.federate c.args.action false c.self.view_is c.in-DeleteObjects.is
     (sym (c.is_out_of_serials.ensures (deletions_sent hs) (count_deletions hs ∙ sym c.count_owned_by-owned.ensures)) ∙ c.if-is_out_of_serials.false)

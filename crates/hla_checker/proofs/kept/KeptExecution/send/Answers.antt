@@ -7,7 +7,7 @@ use Rattle.hla_checker.proofs.kept.KeptExecution.send.Goals as goal
 
 pub returns-clause-sent : goal.returns-clause-sent
 returns-clause-sent c =
-    let v : KeptValue = record { catalogue = c.self.inside.catalogue; declarations = c.self.inside.declarations; objects = c.self.inside.registry; accounts = c.self.inside.accounts } in
+    let v : KeptValue = record { catalogue = c.self.inside.catalogue; declarations = c.self.inside.declarations; objects = c.self.inside.registry; accounts = c.self.inside.accounts; points = c.self.inside.points } in
     let m = c.args.message.now in
     let are = subst (λ (w : KeptValue). AreContents (directory_of w) (body_said m.body) (length w.accounts) c.in_ok-contents.contents.items) (sym c.self.view_is) c.in_ok-contents.ensures.ok in
     let cut = cut_to v c.args.federate m c.is_deletion-is_deletion.result c.in_ok-contents.contents.items are (sym c.is_deletion-is_deletion.ensures) in
@@ -15,7 +15,7 @@ returns-clause-sent c =
 
 pub returns-clause-consistent : goal.returns-clause-consistent
 returns-clause-consistent c =
-    let v : KeptValue = record { catalogue = c.self.inside.catalogue; declarations = c.self.inside.declarations; objects = c.self.inside.registry; accounts = c.self.inside.accounts } in
+    let v : KeptValue = record { catalogue = c.self.inside.catalogue; declarations = c.self.inside.declarations; objects = c.self.inside.registry; accounts = c.self.inside.accounts; points = c.self.inside.points } in
     let m = c.args.message.now in
     let are = subst (λ (w : KeptValue). AreContents (directory_of w) (body_said m.body) (length w.accounts) c.in_ok-contents.contents.items) (sym c.self.view_is) c.in_ok-contents.ensures.ok in
     let cut = cut_to v c.args.federate m c.is_deletion-is_deletion.result c.in_ok-contents.contents.items are (sym c.is_deletion-is_deletion.ensures) in

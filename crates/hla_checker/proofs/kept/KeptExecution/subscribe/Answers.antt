@@ -24,14 +24,14 @@ make_found_known-requires-clause-within c =
 
 pub returns-clause-subscribed : goal.returns-clause-subscribed
 returns-clause-subscribed c =
-    let v : KeptValue = record { catalogue = c.self.inside.catalogue; declarations = c.self.inside.declarations; objects = c.self.inside.registry; accounts = c.self.inside.accounts } in
+    let v : KeptValue = record { catalogue = c.self.inside.catalogue; declarations = c.self.inside.declarations; objects = c.self.inside.registry; accounts = c.self.inside.accounts; points = c.self.inside.points } in
     subscribed_central v c.subscribe_object_class_attributes.new.self c.make_found_known.new.registry c.add_offers.new.self c.in_ok-offers.offers.items c.args.federate c.args.class c.args.attributes
     c.subscribe_object_class_attributes.ensures c.in_ok-offers.ensures.ok c.in_ok-add_offers.ensures.ok c.make_found_known.ensures
     ∙ ap (λ (y : KeptValue). after_subscribe (central_of y) c.args.federate c.args.class (Some c.args.attributes)) c.self.view_is
 
 pub returns-clause-consistent : goal.returns-clause-consistent
 returns-clause-consistent c =
-    let v : KeptValue = record { catalogue = c.self.inside.catalogue; declarations = c.self.inside.declarations; objects = c.self.inside.registry; accounts = c.self.inside.accounts } in
+    let v : KeptValue = record { catalogue = c.self.inside.catalogue; declarations = c.self.inside.declarations; objects = c.self.inside.registry; accounts = c.self.inside.accounts; points = c.self.inside.points } in
     subscribed_consistent v c.subscribe_object_class_attributes.new.self c.make_found_known.new.registry c.add_offers.new.self c.in_ok-offers.offers.items c.args.federate c.args.class c.args.attributes
     c.subscribe_object_class_attributes.ensures c.in_ok-offers.ensures.ok c.in_ok-add_offers.ensures.ok c.make_found_known.ensures
     (subst (λ (y : KeptValue). IsConsistent y) (sym c.self.view_is) c.requires.consistent)

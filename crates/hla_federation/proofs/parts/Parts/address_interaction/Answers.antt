@@ -10,7 +10,7 @@ use Rattle.hla_declaration.specs.declared.receiver.Receiver.{Receiver}
 use Rattle.hla_declaration.proofs.ReceiverLemmas.{interaction_receivers}
 use Rattle.hla_null_message.specs.declared.message.Message.{Message}
 use Rattle.hla_null_message.specs.declared.message.Message.TheVariants as message
-use Rattle.hla_retraction.specs.Receivers as told
+use Rattle.hla_base.specs.FederateSets as told
 use Rattle.hla_machine.specs.Directory.{AnInteraction}
 use Rattle.hla_federation.specs.FederationValue.{FederationValue}
 use Rattle.hla_members.specs.MemberValue.{item}
@@ -73,7 +73,7 @@ loop-receiver-preserved c =
           ∙ ap (λ (ms : List Message). item [] c.args.outbox.now h ++ (messages_among made (take i items) h ++ cond (eqb to h) ms [])) said
           ∙ ap (λ (ms : List Message). item [] c.args.outbox.now h ++ ms) (sym (among-more made h items i none (omega arith)));
       told = λ g. ap (λ (t : ℕ → Bool). t g) c.add.ensures
-          ∙ told_more (told.receiver_set c.loop-receiver.told) (messages_among made (take i items)) to x c.loop-receiver.invariant.told g
+          ∙ told_more (told.federate_set c.loop-receiver.told) (messages_among made (take i items)) to x c.loop-receiver.invariant.told g
           ∙ ap (λ (ms : List Message). has_message (messages_among made (take i items) g ++ cond (eqb to g) ms [])) said
           ∙ ap has_message (sym (among-more made g items i none (omega arith)));
     }

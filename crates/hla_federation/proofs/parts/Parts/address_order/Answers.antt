@@ -3,7 +3,7 @@ use Rattle.std.specs.List.{list_any}
 use Rattle.std.proofs.lemmas.List.{append-nil}
 use Rattle.hla_base.specs.declared.content.HandleValuePair.{HandleValuePair}
 use Rattle.hla_catalogue.specs.declared.declared.Order.TheVariants.{Receive}
-use Rattle.hla_retraction.specs.Receivers.{receiver_set}
+use Rattle.hla_base.specs.FederateSets.{federate_set}
 use Rattle.hla_machine.specs.Directory.{AnUpdate, is_of_order, is_receiver, part_sent, order_of_attribute}
 use Rattle.hla_members.specs.MemberValue.{item}
 use Rattle.hla_federation.specs.Steps.Sending.{part_to}
@@ -26,5 +26,5 @@ returns-then-not-has_order-clause-ok c =
 
 pub returns-clause-receivers : goal.returns-clause-receivers
 returns-clause-receivers c =
-    subst (λ (vs : List HandleValuePair). IfOk c.address_part.result (λ told. IfSome told (λ rs. receiver_set rs ≡ is_receiver (state_of c.args.self.now).directory c.args.heading.sender (AnUpdate c.args.object vs))))
+    subst (λ (vs : List HandleValuePair). IfOk c.address_part.result (λ told. IfSome told (λ rs. federate_set rs ≡ is_receiver (state_of c.args.self.now).directory c.args.heading.sender (AnUpdate c.args.object vs))))
     c.in_ok-part.ensures.ok c.address_part.ensures.receivers

@@ -10,7 +10,7 @@ use Rattle.hla_declaration.proofs.ReceiverLemmas.{object_receivers}
 use Rattle.hla_object_registry.specs.Registered.{registry_of}
 use Rattle.hla_null_message.specs.declared.message.Message.{Message}
 use Rattle.hla_null_message.specs.declared.message.Message.TheVariants as message
-use Rattle.hla_retraction.specs.Receivers as told
+use Rattle.hla_base.specs.FederateSets as told
 use Rattle.hla_machine.specs.Directory.{AnUpdate}
 use Rattle.hla_federation.specs.FederationValue.{FederationValue}
 use Rattle.hla_members.specs.MemberValue.{item}
@@ -77,9 +77,9 @@ loop-receiver-preserved c =
                 ∙ added_more (messages_among made (take i items)) c.args.outbox.now c.loop-receiver.outbox w.put.new.self to (message.Event w.in-Some.event) c.loop-receiver.invariant.added w.in_ok-put.ensures.ok h
                 ∙ ap (λ (ms : List Message). item [] c.args.outbox.now h ++ (messages_among made (take i items) h ++ cond (eqb to h) ms [])) said
                 ∙ ap (λ (ms : List Message). item [] c.args.outbox.now h ++ ms) (sym (among-more made h items i none (omega arith)));
-            told = λ g. ap (λ (rs : List Bool). told.receiver_set rs g) w.told-is
+            told = λ g. ap (λ (rs : List Bool). told.federate_set rs g) w.told-is
                 ∙ ap (λ (t : ℕ → Bool). t g) w.add.ensures
-                ∙ told_more (told.receiver_set c.loop-receiver.told) (messages_among made (take i items)) to (message.Event w.in-Some.event) c.loop-receiver.invariant.told g
+                ∙ told_more (told.federate_set c.loop-receiver.told) (messages_among made (take i items)) to (message.Event w.in-Some.event) c.loop-receiver.invariant.told g
                 ∙ ap (λ (ms : List Message). has_message (messages_among made (take i items) g ++ cond (eqb to g) ms [])) said
                 ∙ ap has_message (sym (among-more made g items i none (omega arith)));
             made = c.in_ok-reflection.ensures.made;
@@ -90,7 +90,7 @@ loop-receiver-preserved c =
             added = λ h. ap (λ (o : List (List Message)). item [] o h) w.outbox-is
                 ∙ c.loop-receiver.invariant.added h
                 ∙ ap (λ (ms : List Message). item [] c.args.outbox.now h ++ ms) (sym (among-none made h items i none (omega arith) nothing));
-            told = λ g. ap (λ (rs : List Bool). told.receiver_set rs g) w.told-is
+            told = λ g. ap (λ (rs : List Bool). told.federate_set rs g) w.told-is
                 ∙ c.loop-receiver.invariant.told g
                 ∙ ap has_message (sym (among-none made g items i none (omega arith) nothing));
             made = c.in_ok-reflection.ensures.made;

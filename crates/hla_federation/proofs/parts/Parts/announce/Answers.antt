@@ -11,6 +11,7 @@ use Rattle.hla_components.specs.Components.{Components}
 use Rattle.hla_components.specs.Next.{next, answer_outcome, components_seen}
 use Rattle.hla_members.specs.declared.change.Change.TheVariants as change
 use Rattle.hla_members.specs.Changes.{changed_local}
+use Rattle.hla_synchronization.specs.OpenPoints.{points_of}
 use Rattle.hla_federation.specs.FederationValue.{FederationValue}
 use Rattle.hla_members.specs.Members.{MemberTables, members_of, with_component, with_null_sent}
 use Rattle.hla_federation.specs.Steps.State.{state_of, state_from, IsWhole}
@@ -57,8 +58,8 @@ returns-clause-done c =
     let epoch = c.epoch-epoch.ensures ∙ ap (λ (l : LocalValue). l.epoch) c.local.ensures ∙ ap (λ (v : FederationValue). ((members_of v.members).local f).epoch) c.self.view_is in
     let after = moved ∙ ap (λ (k : ℕ). with_component (with_null_sent m f k p) f (changed_local ch (m.local f))) epoch in
     let none : refusal (components_seen (state_of now)) (Announce f) ≡ None = sym c.caller_fault.ensures ∙ c.in_default.is in
-    let state = announced_state now.catalogue (declared.declarations_of now.declarations) (registry_of now.objects) m f p
-    ∙ ap (λ (t : MemberTables). state_from now.catalogue (declared.declarations_of now.declarations) (registry_of now.objects) t) (sym after) in
+    let state = announced_state now.catalogue (points_of now.points) (declared.declarations_of now.declarations) (registry_of now.objects) m f p
+    ∙ ap (λ (t : MemberTables). state_from now.catalogue (points_of now.points) (declared.declarations_of now.declarations) (registry_of now.objects) t) (sym after) in
     subst (λ (v : FederationValue). next (state_of now) (Announce f) ≡ answer_outcome (answer.Announced (Some p)) (state_of (record v { members = c.change.new.self.shown }))) (sym back)
     (does_next (state_of now) (Announce f) none
     ∙ announces (state_of now) f p (sym c.announcement.ensures ∙ c.in-Some-announcement.is)

@@ -5,6 +5,7 @@ use Rattle.hla_machine.specs.declared.step.Carried.{Carried}
 use Rattle.hla_machine.specs.declared.step.Answer.TheVariants as answer
 use Rattle.hla_declaration.specs.Declarations as declared
 use Rattle.hla_object_registry.specs.Registered.{registry_of}
+use Rattle.hla_synchronization.specs.OpenPoints.{points_of}
 use Rattle.hla_federation.specs.FederationValue.{FederationValue}
 use Rattle.hla_members.specs.Members.{MemberTables, members_of, with_arrival}
 use Rattle.hla_components.specs.Next.{next, answer_outcome}
@@ -18,7 +19,7 @@ pub arrive-requires-clause-may_arrive : goal.arrive-requires-clause-may_arrive
 arrive-requires-clause-may_arrive c =
     let sound = rw (← c.self.view_is) at c.requires in
     let old = members_of c.self.inside.members.shown in
-    may_arrive c.self.inside.catalogue (declared.declarations_of c.self.inside.declarations) (registry_of c.self.inside.registry) (members_of c.self.inside.members.shown) c.args.from c.args.to (old.wire c.args.from c.args.to) sound.kept refl
+    may_arrive c.self.inside.catalogue (points_of c.self.inside.points) (declared.declarations_of c.self.inside.declarations) (registry_of c.self.inside.registry) (members_of c.self.inside.members.shown) c.args.from c.args.to (old.wire c.args.from c.args.to) sound.kept refl
 
 pub returns-clause-whole : goal.returns-clause-whole
 returns-clause-whole c =
@@ -41,8 +42,8 @@ returns-clause-done c =
     let old = members_of c.self.inside.members.shown in
     let fault_is = rw (← c.self.view_is) at c.carry_fault.ensures in
     let after = (members_of c.arrive.new.self.shown).local c.args.to in
-    subst (λ (v : FederationValue). next (state_of v) (Carry c.args.from c.args.to) ≡ answer_outcome (answer.Carried c.in_ok-carried.carried) (state_from c.self.inside.catalogue (declared.declarations_of c.self.inside.declarations) (registry_of c.self.inside.registry) (members_of c.arrive.new.self.shown)))
-    c.self.view_is (does_next (state_from c.self.inside.catalogue (declared.declarations_of c.self.inside.declarations) (registry_of c.self.inside.registry) (members_of c.self.inside.members.shown)) (Carry c.args.from c.args.to) (sym fault_is ∙ c.in_default.is)
-    ∙ came c.self.inside.catalogue (declared.declarations_of c.self.inside.declarations) (registry_of c.self.inside.registry) (members_of c.self.inside.members.shown) c.args.from c.args.to after (old.wire c.args.from c.args.to) sound.whole.parts refl c.in_ok-carried.ensures.local
-    ∙ ap (λ (x : Carried). answer_outcome (answer.Carried x) (state_from c.self.inside.catalogue (declared.declarations_of c.self.inside.declarations) (registry_of c.self.inside.registry) (with_arrival c.args.from c.args.to after old))) (sym c.in_ok-carried.ensures.answer)
-    ∙ ap (λ (t : MemberTables). answer_outcome (answer.Carried c.in_ok-carried.carried) (state_from c.self.inside.catalogue (declared.declarations_of c.self.inside.declarations) (registry_of c.self.inside.registry) t)) (sym c.in_ok-carried.ensures.state))
+    subst (λ (v : FederationValue). next (state_of v) (Carry c.args.from c.args.to) ≡ answer_outcome (answer.Carried c.in_ok-carried.carried) (state_from c.self.inside.catalogue (points_of c.self.inside.points) (declared.declarations_of c.self.inside.declarations) (registry_of c.self.inside.registry) (members_of c.arrive.new.self.shown)))
+    c.self.view_is (does_next (state_from c.self.inside.catalogue (points_of c.self.inside.points) (declared.declarations_of c.self.inside.declarations) (registry_of c.self.inside.registry) (members_of c.self.inside.members.shown)) (Carry c.args.from c.args.to) (sym fault_is ∙ c.in_default.is)
+    ∙ came c.self.inside.catalogue (points_of c.self.inside.points) (declared.declarations_of c.self.inside.declarations) (registry_of c.self.inside.registry) (members_of c.self.inside.members.shown) c.args.from c.args.to after (old.wire c.args.from c.args.to) sound.whole.parts refl c.in_ok-carried.ensures.local
+    ∙ ap (λ (x : Carried). answer_outcome (answer.Carried x) (state_from c.self.inside.catalogue (points_of c.self.inside.points) (declared.declarations_of c.self.inside.declarations) (registry_of c.self.inside.registry) (with_arrival c.args.from c.args.to after old))) (sym c.in_ok-carried.ensures.answer)
+    ∙ ap (λ (t : MemberTables). answer_outcome (answer.Carried c.in_ok-carried.carried) (state_from c.self.inside.catalogue (points_of c.self.inside.points) (declared.declarations_of c.self.inside.declarations) (registry_of c.self.inside.registry) t)) (sym c.in_ok-carried.ensures.state))

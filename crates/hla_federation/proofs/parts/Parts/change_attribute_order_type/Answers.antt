@@ -10,6 +10,7 @@ use Rattle.hla_machine.specs.declared.step.Answer.TheVariants as answer
 use Rattle.hla_machine.specs.declared.step.Step.TheVariants.{Call}
 use Rattle.hla_members.specs.Members.{members_of}
 use Rattle.hla_components.specs.Next.{answer_outcome, components_seen}
+use Rattle.hla_synchronization.specs.OpenPoints.{points_of}
 use Rattle.hla_federation.specs.FederationValue.{FederationValue}
 use Rattle.hla_federation.specs.Steps.State.{Ends, state_of, state_from}
 use Rattle.hla_federation.proofs.Steps.Changing.{handed_on}
@@ -58,7 +59,7 @@ returns-in_err-change_orders-clause-done c =
     let now = c.args.self.now in
     let x = Call c.args.federate (service.ChangeAttributeOrderType c.args.object c.args.attributes.now c.args.order) in
     let none : refusal (components_seen (state_of now)) x ≡ None = sym (c.attribute_order_fault.ensures c.args.order) ∙ c.in_default.is in
-    let with : List Registered → FederationValue = λ objects. record { catalogue = c.self.inside.catalogue; declarations = c.self.inside.declarations; objects = objects; members = c.self.inside.members.shown; next_name = c.self.inside.next_name } in
+    let with : List Registered → FederationValue = λ objects. record { catalogue = c.self.inside.catalogue; points = c.self.inside.points; declarations = c.self.inside.declarations; objects = objects; members = c.self.inside.members.shown; next_name = c.self.inside.next_name } in
     handed_on c.in_err-change_orders.field-0.0 c.from_residual.result (λ (r : Result Answer Fault). Ends now x r (with c.change_orders.new.self)) c.from_residual.ensures
     (inr (none, c.in_err-change_orders.ensures.err, refl), ap with c.in_err-change_orders.ensures.unchanged ∙ c.self.view_is)
 
@@ -70,5 +71,5 @@ returns-clause-done c =
     let declarations = declared.declarations_of c.self.inside.declarations in
     let old = registry_of c.self.inside.registry in
     let members = members_of c.self.inside.members.shown in
-    rw (← c.self.view_is) (does_next (state_from cat declarations old members) x (sym (fault_is c.args.order) ∙ c.in_default.is)
-    ∙ ap (λ (r : RegistryValue). answer_outcome answer.Done (state_from cat declarations r members)) (sym c.in_ok-change_orders.ensures.ok))
+    rw (← c.self.view_is) (does_next (state_from cat (points_of c.self.inside.points) declarations old members) x (sym (fault_is c.args.order) ∙ c.in_default.is)
+    ∙ ap (λ (r : RegistryValue). answer_outcome answer.Done (state_from cat (points_of c.self.inside.points) declarations r members)) (sym c.in_ok-change_orders.ensures.ok))

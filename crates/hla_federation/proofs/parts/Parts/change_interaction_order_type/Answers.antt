@@ -12,6 +12,7 @@ use Rattle.hla_machine.specs.declared.step.Answer.TheVariants as answer
 use Rattle.hla_machine.specs.declared.step.Step.TheVariants.{Call}
 use Rattle.hla_members.specs.Members.{members_of}
 use Rattle.hla_components.specs.Next.{answer_outcome, components_seen}
+use Rattle.hla_synchronization.specs.OpenPoints.{points_of}
 use Rattle.hla_federation.specs.FederationValue.{FederationValue}
 use Rattle.hla_federation.specs.Steps.State.{Ends, state_of, state_from}
 use Rattle.hla_federation.proofs.Steps.Changing.{handed_on}
@@ -47,7 +48,7 @@ returns-in_err-change_interaction_order-clause-done c =
     let now = c.args.self.now in
     let x = Call c.args.federate (service.ChangeInteractionOrderType c.args.class c.args.order) in
     let none : refusal (components_seen (state_of now)) x ≡ None = sym (c.interaction_order_fault.ensures c.args.order) ∙ c.in_default.is in
-    let with : DeclarationLists → FederationValue = λ d. record { catalogue = c.self.inside.catalogue; declarations = d; objects = c.self.inside.registry; members = c.self.inside.members.shown; next_name = c.self.inside.next_name } in
+    let with : DeclarationLists → FederationValue = λ d. record { catalogue = c.self.inside.catalogue; points = c.self.inside.points; declarations = d; objects = c.self.inside.registry; members = c.self.inside.members.shown; next_name = c.self.inside.next_name } in
     handed_on c.in_err-change_interaction_order.field-0.0 c.from_residual.result (λ (r : Result Answer Fault). Ends now x r (with c.change_interaction_order.new.self)) c.from_residual.ensures
     (inr (none, c.in_err-change_interaction_order.ensures.err, refl), ap with c.in_err-change_interaction_order.ensures.unchanged ∙ c.self.view_is)
 
@@ -64,5 +65,5 @@ returns-clause-done c =
     let old = declared.declarations_of c.self.inside.declarations in
     let objects = registry_of c.self.inside.registry in
     let members = members_of c.self.inside.members.shown in
-    rw (← c.self.view_is) (does_next (state_from cat old objects members) x (sym (fault_is c.args.order) ∙ c.in_default.is)
-    ∙ ap (λ (d : DeclarationsValue). answer_outcome answer.Done (state_from cat d objects members)) (sym c.in_ok-change_interaction_order.ensures.ok))
+    rw (← c.self.view_is) (does_next (state_from cat (points_of c.self.inside.points) old objects members) x (sym (fault_is c.args.order) ∙ c.in_default.is)
+    ∙ ap (λ (d : DeclarationsValue). answer_outcome answer.Done (state_from cat (points_of c.self.inside.points) d objects members)) (sym c.in_ok-change_interaction_order.ensures.ok))

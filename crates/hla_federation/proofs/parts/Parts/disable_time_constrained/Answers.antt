@@ -10,6 +10,7 @@ use Rattle.hla_machine.specs.declared.step.Answer.TheVariants as answer
 use Rattle.hla_machine.specs.declared.step.Outcome.TheVariants as outcome
 use Rattle.hla_machine.specs.declared.step.Step.TheVariants.{Call}
 use Rattle.hla_components.specs.Next.{Outcomes, next, components_seen}
+use Rattle.hla_synchronization.specs.OpenPoints.{points_of}
 use Rattle.hla_federation.specs.FederationValue.{FederationValue}
 use Rattle.hla_members.specs.Changes.{local_unconstrained}
 use Rattle.hla_members.specs.Members.{members_of}
@@ -28,11 +29,11 @@ returns-clause-done c =
     let f = c.args.federate in
     let joined = rw (← c.self.view_is) at c.requires.joined in
     let old = members_of c.self.inside.members.shown in
-    let v : FederationValue = record { catalogue = c.self.inside.catalogue; declarations = c.self.inside.declarations; objects = c.self.inside.registry; members = c.self.inside.members.shown; next_name = c.self.inside.next_name } in
+    let v : FederationValue = record { catalogue = c.self.inside.catalogue; points = c.self.inside.points; declarations = c.self.inside.declarations; objects = c.self.inside.registry; members = c.self.inside.members.shown; next_name = c.self.inside.next_name } in
     let tests = c.unconstrain_fault.ensures ∙ ap (λ (r : TimeRow). first_fault (unconstrain_tests r)) (c.state.ensures ∙ ap (λ (l : LocalValue). l.row) c.local.ensures) in
     let none : refusal (components_seen (state_of v)) (Call f service.DisableTimeConstrained) ≡ None = rw joined (sym tests ∙ c.in_default.is) in
     let does = does_next (state_of v) (Call f service.DisableTimeConstrained) none in
     let state = component_state v f (local_unconstrained (old.local f)) c.cease_constraint.new.self.shown c.in_ok-cease_constraint.ensures.ok
-    ∙ queues_changed c.self.inside.catalogue (declared.declarations_of c.self.inside.declarations) (registry_of c.self.inside.registry) old f _ _ _ in
+    ∙ queues_changed c.self.inside.catalogue (points_of c.self.inside.points) (declared.declarations_of c.self.inside.declarations) (registry_of c.self.inside.registry) old f _ _ _ in
     subst (λ (w : FederationValue). ((next (state_of w) (Call f service.DisableTimeConstrained)).outcome ≡ outcome.Done answer.Done) × ((next (state_of w) (Call f service.DisableTimeConstrained)).state ≡ state_of (record v { members = c.cease_constraint.new.self.shown }))) c.self.view_is
     (ap (λ (o : Outcomes). o.outcome) does, ap (λ (o : Outcomes). o.state) does ∙ sym state)

@@ -14,6 +14,7 @@ use Rattle.hla_components.specs.Components.{Components}
 use Rattle.hla_components.specs.Next.{next, answer_outcome, components_seen}
 use Rattle.hla_members.specs.declared.change.Change.TheVariants as change
 use Rattle.hla_members.specs.Changes.{changed_local}
+use Rattle.hla_synchronization.specs.OpenPoints.{points_of}
 use Rattle.hla_federation.specs.FederationValue.{FederationValue}
 use Rattle.hla_members.specs.Members.{MemberTables, members_of, with_component, with_null_sent}
 use Rattle.hla_federation.specs.Steps.State.{state_of, state_from, IsWhole}
@@ -51,7 +52,7 @@ returns-clause-done c =
     let after = moved ∙ ap (λ (k : ℕ). with_component (with_null_sent m f k forever) f (changed_local ch (m.local f))) epoch in
     let tests = c.unregulate_fault.ensures ∙ ap (λ (r : TimeRow). first_fault (unregulate_tests r)) (c.state.ensures ∙ ap (λ (l : LocalValue). l.row) local) in
     let none : refusal (components_seen (state_of now)) step ≡ None = rw c.requires.joined (sym tests ∙ c.in_default.is) in
-    let state = null_state now.catalogue (declared.declarations_of now.declarations) (registry_of now.objects) m f (record (m.local f).row { regulating = Disabled }) forever
-    ∙ ap (λ (t : MemberTables). state_from now.catalogue (declared.declarations_of now.declarations) (registry_of now.objects) t) (sym after) in
+    let state = null_state now.catalogue (points_of now.points) (declared.declarations_of now.declarations) (registry_of now.objects) m f (record (m.local f).row { regulating = Disabled }) forever
+    ∙ ap (λ (t : MemberTables). state_from now.catalogue (points_of now.points) (declared.declarations_of now.declarations) (registry_of now.objects) t) (sym after) in
     subst (λ (v : FederationValue). next (state_of now) step ≡ answer_outcome answer.Done (state_of (record v { members = c.change.new.self.shown }))) (sym back)
     (does_next (state_of now) step none ∙ ap (λ (s : Components). answer_outcome answer.Done s) state)

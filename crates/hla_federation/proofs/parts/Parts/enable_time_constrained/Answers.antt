@@ -23,7 +23,7 @@ pub returns-clause-done : goal.returns-clause-done
 returns-clause-done c =
     let step = Call c.args.federate (service.EnableTimeConstrained) in
     let joined = rw (← c.self.view_is) at c.requires.joined in
-    let v : FederationValue = record { catalogue = c.self.inside.catalogue; declarations = c.self.inside.declarations; objects = c.self.inside.registry; members = c.self.inside.members.shown; next_name = c.self.inside.next_name } in
+    let v : FederationValue = record { catalogue = c.self.inside.catalogue; points = c.self.inside.points; declarations = c.self.inside.declarations; objects = c.self.inside.registry; members = c.self.inside.members.shown; next_name = c.self.inside.next_name } in
     let tests = c.constrain_fault.ensures ∙ ap (λ (r : TimeRow). first_fault (constrain_tests r)) (c.state.ensures ∙ ap (λ (l : LocalValue). l.row) c.local.ensures) in
     let none : refusal (components_seen (state_of v)) step ≡ None = rw joined (sym tests ∙ c.in_default.is) in
     subst (λ (w : FederationValue). next (state_of w) step ≡ answer_outcome answer.Done (state_of (record v { members = c.change.new.self.shown }))) c.self.view_is

@@ -18,6 +18,7 @@ use Rattle.hla_machine.specs.declared.step.Answer.TheVariants as answer
 use Rattle.hla_components.specs.Next.{next, components_seen}
 use Rattle.hla_members.specs.declared.change.Change.TheVariants as change
 use Rattle.hla_members.specs.Changes.{changed_local}
+use Rattle.hla_synchronization.specs.OpenPoints.{points_of}
 use Rattle.hla_federation.specs.FederationValue.{FederationValue}
 use Rattle.hla_members.specs.Members.{MemberTables, members_of, with_component, with_null_sent}
 use Rattle.hla_federation.specs.Steps.State.{state_of, state_from, IsWhole}
@@ -86,16 +87,16 @@ returns-clause-done c =
     let e = c.entry-entry.result in
     let new = members_of c.lower.new.self.shown in
     let epoch = c.epoch-epoch.ensures ∙ ap (λ (l : LocalValue). l.epoch) c.local.ensures ∙ ap (λ (v : FederationValue). ((members_of v.members).local f).epoch) c.self.view_is in
-    let after : members_of c.change.new.self.shown ≡ entered now.catalogue (declared.declarations_of now.declarations) (registry_of now.objects) m f c.args.lookahead e = moved ∙ ap (λ (k : ℕ). with_component (with_null_sent m f (k + 1) e) f (changed_local ch (m.local f))) epoch in
+    let after : members_of c.change.new.self.shown ≡ entered now.catalogue (points_of now.points) (declared.declarations_of now.declarations) (registry_of now.objects) m f c.args.lookahead e = moved ∙ ap (λ (k : ℕ). with_component (with_null_sent m f (k + 1) e) f (changed_local ch (m.local f))) epoch in
     let lowered = subst (λ (t : MemberTables). AreLowered f (c.epoch-epoch.result + 1) e t.joined t.local new.local) after c.lower.ensures.lowered in
-    let learned = subst (λ (k : ℕ). AreLowered f (k + 1) e m.joined (entered now.catalogue (declared.declarations_of now.declarations) (registry_of now.objects) m f c.args.lookahead e).local new.local) epoch lowered in
+    let learned = subst (λ (k : ℕ). AreLowered f (k + 1) e m.joined (entered now.catalogue (points_of now.points) (declared.declarations_of now.declarations) (registry_of now.objects) m f c.args.lookahead e).local new.local) epoch lowered in
     let same = c.lower.ensures.same ∙ ap (λ (t : MemberTables). record t { local = new.local }) after in
     let none : refusal (components_seen s) step ≡ None = sym c.regulation_fault.ensures ∙ c.in_default.is in
     let entry : regulation_entry s f (c.args.time + c.args.lookahead) ≡ e = sym (c.entry-entry.ensures ∙ ap (λ (v : FederationValue). greatest (members_of v.members).next_federate (c.args.time + c.args.lookahead) (entry_by (members_of v.members).local f)) c.self.view_is
     ∙ sym (entry_is s f (c.args.time + c.args.lookahead) m.local refl refl)) in
     let state = ap (λ (x : ℕ). with_regulation_enabled s f c.args.lookahead x) entry
-    ∙ enabled_state now.catalogue (declared.declarations_of now.declarations) (registry_of now.objects) m f c.args.lookahead e new.local learned
-    ∙ ap (λ (t : MemberTables). state_from now.catalogue (declared.declarations_of now.declarations) (registry_of now.objects) t) (sym same) in
+    ∙ enabled_state now.catalogue (points_of now.points) (declared.declarations_of now.declarations) (registry_of now.objects) m f c.args.lookahead e new.local learned
+    ∙ ap (λ (t : MemberTables). state_from now.catalogue (points_of now.points) (declared.declarations_of now.declarations) (registry_of now.objects) t) (sym same) in
     let does = does_next s step none in
     subst (λ (v : FederationValue). ((next s step).outcome ≡ outcome.Done answer.Done) × ((next s step).state ≡ state_of (record v { members = c.lower.new.self.shown }))) (sym back)
     (ap (λ (o : Outcomes). o.outcome) does, ap (λ (o : Outcomes). o.state) does ∙ state)

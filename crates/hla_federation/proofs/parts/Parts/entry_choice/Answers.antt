@@ -15,7 +15,7 @@ pub returns-in-None : goal.returns-in-None
 returns-in-None c =
     let f = c.args.federate in
     let step = Call f (service.EnableTimeRegulation c.args.time c.args.lookahead) in
-    let v : FederationValue = record { catalogue = c.self.inside.catalogue; declarations = c.self.inside.declarations; objects = c.self.inside.registry; members = c.self.inside.members.shown; next_name = c.self.inside.next_name } in
+    let v : FederationValue = record { catalogue = c.self.inside.catalogue; points = c.self.inside.points; declarations = c.self.inside.declarations; objects = c.self.inside.registry; members = c.self.inside.members.shown; next_name = c.self.inside.next_name } in
     let none : refusal (components_seen (state_of v)) step ≡ None = subst (λ (w : FederationValue). refusal (components_seen (state_of w)) step ≡ None) (sym c.self.view_is) (sym c.regulation_fault.ensures ∙ c.in-None.is) in
     let entry = c.entry.ensures ∙ sym (entry_is (state_of v) f (c.args.time + c.args.lookahead) (members_of c.self.inside.members.shown).local refl refl) in
     subst (λ (w : FederationValue). choice.Entry c.entry.result ≡ (next (state_of w) step).choice) c.self.view_is

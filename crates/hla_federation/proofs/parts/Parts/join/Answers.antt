@@ -7,6 +7,7 @@ use Rattle.hla_object_registry.specs.Registered.{registry_of}
 use Rattle.hla_members.specs.MemberValue.{MemberValue}
 use Rattle.hla_members.specs.Members.{MemberTables, members_of, with_member_admitted}
 use Rattle.hla_components.specs.Next.{answer_outcome}
+use Rattle.hla_synchronization.specs.OpenPoints.{points_of}
 use Rattle.hla_federation.specs.Steps.State.{state_from}
 use Rattle.hla_federation.proofs.Steps.Doing.{does_next}
 use Rattle.hla_machine.specs.Directory.{default_name}
@@ -53,8 +54,8 @@ returns-clause-done c =
     let members = rw (c.in_ok-reserve_one.ensures.same, name) at c.admit-2.ensures in
     let old = members_of c.self.inside.members.shown in
     let after = with_member_admitted old c.args.name.now local in
-    rw (← c.self.view_is) (does_next (state_from c.self.inside.catalogue (declared.declarations_of c.self.inside.declarations) (registry_of c.self.inside.registry) (members_of c.self.inside.members.shown)) (Join c.args.name.now) (sym fault_is ∙ c.in_default.is)
-    ∙ ap (λ (s : Components). answer_outcome (answer.Federate old.next_federate) s) (joined_state c.self.inside.catalogue (declared.declarations_of c.self.inside.declarations) (registry_of c.self.inside.registry) (members_of c.self.inside.members.shown) c.args.name.now local sound.kept sound.whole.parts.unmet (nobody_at c.self.inside.members.shown) c.in_ok-member.ensures.local peers)
-    ∙ ap (λ (n : ℕ). answer_outcome (answer.Federate n) (state_from c.self.inside.catalogue (record (declared.declarations_of c.self.inside.declarations) { federates = (declared.declarations_of c.self.inside.declarations).federates + 1 }) (registry_of c.self.inside.registry) after)) (sym c.next_federate-federate.ensures.number)
-    ∙ ap (λ (d : DeclarationsValue). answer_outcome (answer.Federate c.next_federate-federate.result) (state_from c.self.inside.catalogue d (registry_of c.self.inside.registry) after)) (sym c.in-Ok.ensures.ok)
-    ∙ ap (λ (t : MemberTables). answer_outcome (answer.Federate c.next_federate-federate.result) (state_from c.self.inside.catalogue (declared.declarations_of c.admit.new.self) (registry_of c.self.inside.registry) t)) (sym members))
+    rw (← c.self.view_is) (does_next (state_from c.self.inside.catalogue (points_of c.self.inside.points) (declared.declarations_of c.self.inside.declarations) (registry_of c.self.inside.registry) (members_of c.self.inside.members.shown)) (Join c.args.name.now) (sym fault_is ∙ c.in_default.is)
+    ∙ ap (λ (s : Components). answer_outcome (answer.Federate old.next_federate) s) (joined_state c.self.inside.catalogue (points_of c.self.inside.points) (declared.declarations_of c.self.inside.declarations) (registry_of c.self.inside.registry) (members_of c.self.inside.members.shown) c.args.name.now local sound.kept sound.whole.parts.unmet (nobody_at c.self.inside.members.shown) c.in_ok-member.ensures.local peers)
+    ∙ ap (λ (n : ℕ). answer_outcome (answer.Federate n) (state_from c.self.inside.catalogue (points_of c.self.inside.points) (record (declared.declarations_of c.self.inside.declarations) { federates = (declared.declarations_of c.self.inside.declarations).federates + 1 }) (registry_of c.self.inside.registry) after)) (sym c.next_federate-federate.ensures.number)
+    ∙ ap (λ (d : DeclarationsValue). answer_outcome (answer.Federate c.next_federate-federate.result) (state_from c.self.inside.catalogue (points_of c.self.inside.points) d (registry_of c.self.inside.registry) after)) (sym c.in-Ok.ensures.ok)
+    ∙ ap (λ (t : MemberTables). answer_outcome (answer.Federate c.next_federate-federate.result) (state_from c.self.inside.catalogue (points_of c.self.inside.points) (declared.declarations_of c.admit.new.self) (registry_of c.self.inside.registry) t)) (sym members))

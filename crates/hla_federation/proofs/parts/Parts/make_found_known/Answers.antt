@@ -4,6 +4,7 @@ use Rattle.hla_declaration.specs.Declarations as declared
 use Rattle.hla_machine.specs.Directory.{Directory, discovery_of, with_subscribed}
 use Rattle.hla_object_registry.specs.Registered.{Registered, RegistryValue, registry_of}
 use Rattle.hla_object_registry.proofs.Unregistered.{no_object_above}
+use Rattle.hla_synchronization.specs.OpenPoints.{points_of}
 use Rattle.hla_federation.specs.FederationValue.{FederationValue}
 use Rattle.hla_members.specs.Members.{members_of}
 use Rattle.hla_federation.specs.Steps.State.{state_of, directory_from}
@@ -33,7 +34,7 @@ loop-object-preserved c =
     let n = c.loop-object.object in
     let old = c.args.self.now in
     let r0 = registry_of c.args.self.now.objects in
-    let d : FederationValue → RegistryValue → List ℕ → Directory = λ v r a. with_subscribed (directory_from v.catalogue (declared.declarations_of v.declarations) r (members_of v.members)) f c.args.class (Some a) in
+    let d : FederationValue → RegistryValue → List ℕ → Directory = λ v r a. with_subscribed (directory_from v.catalogue (points_of v.points) (declared.declarations_of v.declarations) r (members_of v.members)) f c.args.class (Some a) in
     let found : List ℕ → ℕ → Bool = λ a h. is_some (discovery_of (d old r0 a) f h) in
     let now : (a : List ℕ) → found a n ≡ is_some c.discovery_class.result = λ a.
     ap is_some (sym (ap (λ (v : FederationValue). discovery_of (d v (registry_of c.loop-object.self.objects) a) f n) c.loop-object.invariant.same

@@ -1,5 +1,6 @@
 use Rattle.std.proofs.Common.{sym, ap, ◌∙◌}
 use Rattle.hla_members.specs.Members.{members_of}
+use Rattle.hla_synchronization.specs.OpenPoints.{points_of}
 use Rattle.hla_federation.proofs.Steps.Doing.{does_next}
 use Rattle.hla_federation.proofs.Steps.Wholes.{whole_published}
 use Rattle.hla_declaration.specs.Declarations as declared
@@ -22,5 +23,5 @@ returns-clause-done c =
     let fault_is = rw (c.as_slice.ensures, ← c.self.view_is) at c.attributes_fault.ensures in
     let joined = rw (← c.self.view_is) at c.requires.joined in
     let new = rw c.in_ok-attributes.ensures.ok at c.publish_object_class.ensures in
-    rw (← c.self.view_is) (does_next (state_from c.self.inside.catalogue (declared.declarations_of c.self.inside.declarations) (registry_of c.self.inside.registry) (members_of c.self.inside.members.shown)) (Call c.args.federate (service.PublishObjectClass c.args.class c.args.attributes.now)) (rw joined (sym fault_is ∙ c.in_default.is))
-    ∙ ap (λ (d : DeclarationsValue). answer_outcome answer.Done (state_from c.self.inside.catalogue d (registry_of c.self.inside.registry) (members_of c.self.inside.members.shown))) (sym new))
+    rw (← c.self.view_is) (does_next (state_from c.self.inside.catalogue (points_of c.self.inside.points) (declared.declarations_of c.self.inside.declarations) (registry_of c.self.inside.registry) (members_of c.self.inside.members.shown)) (Call c.args.federate (service.PublishObjectClass c.args.class c.args.attributes.now)) (rw joined (sym fault_is ∙ c.in_default.is))
+    ∙ ap (λ (d : DeclarationsValue). answer_outcome answer.Done (state_from c.self.inside.catalogue (points_of c.self.inside.points) d (registry_of c.self.inside.registry) (members_of c.self.inside.members.shown))) (sym new))

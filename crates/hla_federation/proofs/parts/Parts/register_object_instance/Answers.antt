@@ -7,6 +7,7 @@ use Rattle.hla_machine.specs.declared.step.Step.TheVariants as step
 use Rattle.hla_machine.specs.Directory.{default_name, name_or_default, with_object}
 use Rattle.hla_machine.specs.Refusals.{refusal, is_name_used}
 use Rattle.hla_object_registry.specs.Registered.{Registered, RegistryValue, registry_of}
+use Rattle.hla_synchronization.specs.OpenPoints.{points_of}
 use Rattle.hla_federation.specs.contracts.parts.Parts.{the_view}
 use Rattle.hla_members.specs.declared.direction.Direction.TheVariants.{From}
 use Rattle.hla_federation.specs.Steps.Discovering.{AreFederates, discovery_to, with_known_among}
@@ -129,15 +130,15 @@ returns-clause-done c =
     let made : registry_of c.make_known_to.new.self.objects ≡ record (registry_of c.register.new.self) { known = with_known_among to_all r.next_object (registry_of c.register.new.self).known } = known in
     let objects_is : registry_of c.self-2.inside.registry ≡ record (registry.with_registered r c.args.class c.match-name.given f attributes) { known = with_known_among to_all r.next_object (upd2 r.known r.next_object f true) }
     = ap registry_of objects_in ∙ made ∙ ap (λ (x : RegistryValue). record x { known = with_known_among to_all r.next_object x.known }) registered in
-    let new = registered_state c.self.inside.catalogue d r m f c.args.class c.match-name.given o sound.kept.kept.directory sound.whole.parts.federates (λ g k away. (sound.whole.parts.silent g k away).objects)
+    let new = registered_state c.self.inside.catalogue (points_of c.self.inside.points) d r m f c.args.class c.match-name.given o sound.kept.kept.directory sound.whole.parts.federates (λ g k away. (sound.whole.parts.silent g k away).objects)
     (λ g. nothing_known_above c.self.inside.registry r.next_object g (omega arith)) out (joined_below c.self.inside.members.shown) in
     let after : the_view c.self-2.inside ≡ record (the_view c.self.inside) { objects = c.self-2.inside.registry; members = c.post_all.new.self.shown }
     = c.self-2.view_is ∙ c.make_known_to.ensures.same ∙ (λ i. record (the_view c.self.inside) { objects = sym objects_in i; members = c.post_all.new.self.shown }) in
-    let ended = state_from c.self.inside.catalogue d (registry_of c.self-2.inside.registry) (members_of c.post_all.new.self.shown) in
+    let ended = state_from c.self.inside.catalogue (points_of c.self.inside.points) d (registry_of c.self-2.inside.registry) (members_of c.post_all.new.self.shown) in
     let answered : c.in_ok-answered.answered ≡ c.match-name.given = c.in_ok-answered.ensures.ok in
     does_next (state_of c.args.self.now) (step.Call f (service.RegisterObjectInstance c.args.class c.args.name.now)) none
     ∙ ap (λ (g : List ℕ). answer_outcome (answer.Registered (registry_of c.args.self.now.objects).next_object g) (with_object_registered (state_of c.args.self.now) f (registry_of c.args.self.now.objects).next_object (with_object (state_of c.args.self.now).directory f c.args.class g))) (sym given)
     ∙ ap (λ (v : FederationValue). answer_outcome (answer.Registered (registry_of v.objects).next_object c.match-name.given) (with_object_registered (state_of v) f (registry_of v.objects).next_object (with_object (state_of v).directory f c.args.class c.match-name.given))) (sym c.self.view_is)
-    ∙ ap (λ (s : Components). answer_outcome (answer.Registered r.next_object c.match-name.given) s) (new ∙ (λ i. state_from c.self.inside.catalogue d (sym objects_is i) (sym members_is i)))
+    ∙ ap (λ (s : Components). answer_outcome (answer.Registered r.next_object c.match-name.given) s) (new ∙ (λ i. state_from c.self.inside.catalogue (points_of c.self.inside.points) d (sym objects_is i) (sym members_is i)))
     ∙ (λ i. answer_outcome (answer.Registered (sym c.next_object-object.ensures.next i) (sym answered i)) ended)
     ∙ ap (λ (v : FederationValue). answer_outcome (answer.Registered c.next_object-object.result c.in_ok-answered.answered) (state_of (record v { next_name = c.in_ok-next_name.next_name }))) (sym after)

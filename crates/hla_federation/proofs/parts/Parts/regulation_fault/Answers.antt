@@ -19,7 +19,7 @@ pub returns : goal.returns
 unfolding low_entry
 returns c =
     let joined = rw (← c.self.view_is) at c.requires.joined in
-    let v : FederationValue = record { catalogue = c.self.inside.catalogue; declarations = c.self.inside.declarations; objects = c.self.inside.registry; members = c.self.inside.members.shown; next_name = c.self.inside.next_name } in
+    let v : FederationValue = record { catalogue = c.self.inside.catalogue; points = c.self.inside.points; declarations = c.self.inside.declarations; objects = c.self.inside.registry; members = c.self.inside.members.shown; next_name = c.self.inside.next_name } in
     let s = state_of v in
     let t = c.args.time in
     let x = c.args.lookahead in

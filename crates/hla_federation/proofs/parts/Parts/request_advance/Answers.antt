@@ -22,7 +22,7 @@ pub returns-clause-done : goal.returns-clause-done
 returns-clause-done c =
     let step = Call c.args.federate (request_service c.args.kind c.args.time) in
     let joined = rw (← c.self.view_is) at c.requires.joined in
-    let v : FederationValue = record { catalogue = c.self.inside.catalogue; declarations = c.self.inside.declarations; objects = c.self.inside.registry; members = c.self.inside.members.shown; next_name = c.self.inside.next_name } in
+    let v : FederationValue = record { catalogue = c.self.inside.catalogue; points = c.self.inside.points; declarations = c.self.inside.declarations; objects = c.self.inside.registry; members = c.self.inside.members.shown; next_name = c.self.inside.next_name } in
     let tests = c.request_fault.ensures ∙ ap (λ (r : TimeRow). first_fault (request_tests r c.args.time)) (c.state.ensures ∙ ap (λ (l : LocalValue). l.row) c.local.ensures) in
     let none : refusal (components_seen (state_of v)) step ≡ None = request_refusal (components_seen (state_of v)) c.args.federate c.args.kind c.args.time joined ∙ sym tests ∙ c.in_default.is in
     subst (λ (w : FederationValue). next (state_of w) step ≡ answer_outcome answer.Done (state_of (record v { members = c.change.new.self.shown }))) c.self.view_is

@@ -18,7 +18,7 @@ returns-then-saturating_add c =
     let test : ltb 1000000000000000001 (c.next_serial.result + c.count_owned_by-owned.result) ≡ true = grind (arith, nat_tests, c.saturating_add.ensures, c.if-saturating_add.true) in
     let over = rw (c.next_serial.ensures, c.count_owned_by-owned.ensures) at test in
     subst (λ (way : ResignAction). Some fault.LimitReached ≡ refusal (components_seen (state_of c.args.self.now)) (Call c.args.federate (service.Resign way))) (sym c.in-DeleteObjects.is)
-    (subst (λ (v : FederationValue). Some fault.LimitReached ≡ refusal (components_seen (state_of v)) (Call c.args.federate (service.Resign DeleteObjects))) c.self.view_is (sym (delete_refusal (components_seen (state_of (record { catalogue = c.self.inside.catalogue; declarations = c.self.inside.declarations; objects = c.self.inside.registry; members = c.self.inside.members.shown; next_name = c.self.inside.next_name }))) c.args.federate true joined over)))
+    (subst (λ (v : FederationValue). Some fault.LimitReached ≡ refusal (components_seen (state_of v)) (Call c.args.federate (service.Resign DeleteObjects))) c.self.view_is (sym (delete_refusal (components_seen (state_of (record { catalogue = c.self.inside.catalogue; points = c.self.inside.points; declarations = c.self.inside.declarations; objects = c.self.inside.registry; members = c.self.inside.members.shown; next_name = c.self.inside.next_name }))) c.args.federate true joined over)))
 
 pub returns-else-saturating_add : goal.returns-else-saturating_add
 returns-else-saturating_add c =
@@ -26,4 +26,4 @@ returns-else-saturating_add c =
     let test : ltb 1000000000000000001 (c.next_serial.result + c.count_owned_by-owned.result) ≡ false = grind (arith, nat_tests, c.saturating_add.ensures, c.if-saturating_add.false) in
     let over = rw (c.next_serial.ensures, c.count_owned_by-owned.ensures) at test in
     subst (λ (way : ResignAction). None ≡ refusal (components_seen (state_of c.args.self.now)) (Call c.args.federate (service.Resign way))) (sym c.in-DeleteObjects.is)
-    (subst (λ (v : FederationValue). None ≡ refusal (components_seen (state_of v)) (Call c.args.federate (service.Resign DeleteObjects))) c.self.view_is (sym (delete_refusal (components_seen (state_of (record { catalogue = c.self.inside.catalogue; declarations = c.self.inside.declarations; objects = c.self.inside.registry; members = c.self.inside.members.shown; next_name = c.self.inside.next_name }))) c.args.federate false joined over)))
+    (subst (λ (v : FederationValue). None ≡ refusal (components_seen (state_of v)) (Call c.args.federate (service.Resign DeleteObjects))) c.self.view_is (sym (delete_refusal (components_seen (state_of (record { catalogue = c.self.inside.catalogue; points = c.self.inside.points; declarations = c.self.inside.declarations; objects = c.self.inside.registry; members = c.self.inside.members.shown; next_name = c.self.inside.next_name }))) c.args.federate false joined over)))

@@ -7,6 +7,7 @@ use Rattle.hla_machine.specs.declared.step.Answer.TheVariants as answer
 use Rattle.hla_machine.specs.declared.step.Step.TheVariants.{Call}
 use Rattle.hla_components.specs.Components.{Components}
 use Rattle.hla_components.specs.Next.{next, answer_outcome, components_seen}
+use Rattle.hla_synchronization.specs.OpenPoints.{points_of}
 use Rattle.hla_federation.specs.FederationValue.{FederationValue}
 use Rattle.hla_members.specs.Members.{MemberTables, members_of}
 use Rattle.hla_members.specs.Noting.{with_retracted}
@@ -49,6 +50,6 @@ returns-clause-done c =
     ∙ ap (λ (v : FederationValue). record (members_of v.members) { sent = with_retracted (members_of v.members).sent f k }) c.self.view_is
     ∙ ap (λ (t : MemberTables). record t { sent = with_retracted t.sent f k }) c.in_ok-send_retraction.ensures.wires in
     let none : refusal (components_seen (state_of now)) step ≡ None = sym c.retract_fault.ensures ∙ c.in_default.is in
-    let state = ap (λ (t : MemberTables). state_from now.catalogue (declared.declarations_of now.declarations) (registry_of now.objects) t) (sym moved) in
+    let state = ap (λ (t : MemberTables). state_from now.catalogue (points_of now.points) (declared.declarations_of now.declarations) (registry_of now.objects) t) (sym moved) in
     subst (λ (v : FederationValue). next (state_of now) step ≡ answer_outcome answer.Done (state_of (record v { members = c.retract.new.self.shown }))) (sym back)
     (does_next (state_of now) step none ∙ ap (λ (s : Components). answer_outcome answer.Done s) state)

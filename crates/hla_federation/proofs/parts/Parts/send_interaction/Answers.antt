@@ -5,7 +5,7 @@ use Rattle.hla_base.specs.declared.content.HandleValuePair.{HandleValuePair}
 use Rattle.hla_base.specs.declared.number.EventHandle.{EventHandle}
 use Rattle.hla_base.specs.Tables.{upd, max_time}
 use Rattle.hla_catalogue.specs.declared.declared.Order.{Order}
-use Rattle.hla_retraction.specs.Receivers.{receiver_set}
+use Rattle.hla_base.specs.FederateSets.{federate_set}
 use Rattle.hla_machine.specs.Directory.{Outgoing, AnInteraction, by_handle, interaction_sent, is_receiver, order_of_interaction}
 use Rattle.hla_machine.specs.Refusals.{refusal, tests}
 use Rattle.hla_machine.specs.declared.service.Service.TheVariants as service
@@ -73,7 +73,7 @@ returns-clause-whole c =
     let added = one_added d f c.next_serial-serial.result m r c.args.stamp out c.in_ok-outbox.outbox c.address_interaction.new.outbox c.in_ok-outbox.ensures.ok
     (λ h. c.in_ok-told.ensures.ok h ∙ ap (λ (x : Heading). item [] c.in_ok-outbox.outbox h ++ message_to d x (AnInteraction c.args.class c.in_ok-values.values) h) head
     ∙ ap (λ (vs : List HandleValuePair). item [] c.in_ok-outbox.outbox h ++ message_to d (heading_of f c.next_serial-serial.result r c.args.stamp out.order) (AnInteraction c.args.class vs) h) values) same in
-    let told : receiver_set c.in_ok-told.told ≡ is_receiver d f out.body = c.in_ok-told.ensures.receivers ∙ ap (λ (x : Heading). is_receiver d x.sender (AnInteraction c.args.class c.in_ok-values.values)) head ∙ ap (λ (vs : List HandleValuePair). is_receiver d f (AnInteraction c.args.class vs)) values in
+    let told : federate_set c.in_ok-told.told ≡ is_receiver d f out.body = c.in_ok-told.ensures.receivers ∙ ap (λ (x : Heading). is_receiver d x.sender (AnInteraction c.args.class c.in_ok-values.values)) head ∙ ap (λ (vs : List HandleValuePair). is_receiver d f (AnInteraction c.args.class vs)) values in
     let note = c.note-note.ensures ∙ ap (λ (x : Heading). note_under x c.in_ok-told.told) head ∙ ap (λ (k : ℕ). note_under (heading_of f k r c.args.stamp out.order) c.in_ok-told.told) same in
     let noted = one_noted d f m r c.args.stamp out (members_of now.members).sent (unsent_from now f c.requires.sound.kept m (omega arith)) c.in_ok-told.told told refl ∙ ap (λ (x : Option Note). with_noted (members_of now.members).sent f x) (sym note) in
     subst (λ (v : FederationValue). IsWhole (record v { members = c.send_all.new.self.shown })) (sym c.self.view_is)
@@ -98,7 +98,7 @@ returns-clause-done c =
     let added = one_added d f c.next_serial-serial.result m r c.args.stamp out c.in_ok-outbox.outbox c.address_interaction.new.outbox c.in_ok-outbox.ensures.ok
     (λ h. c.in_ok-told.ensures.ok h ∙ ap (λ (x : Heading). item [] c.in_ok-outbox.outbox h ++ message_to d x (AnInteraction c.args.class c.in_ok-values.values) h) head
     ∙ ap (λ (vs : List HandleValuePair). item [] c.in_ok-outbox.outbox h ++ message_to d (heading_of f c.next_serial-serial.result r c.args.stamp out.order) (AnInteraction c.args.class vs) h) values) same in
-    let told : receiver_set c.in_ok-told.told ≡ is_receiver d f out.body = c.in_ok-told.ensures.receivers ∙ ap (λ (x : Heading). is_receiver d x.sender (AnInteraction c.args.class c.in_ok-values.values)) head ∙ ap (λ (vs : List HandleValuePair). is_receiver d f (AnInteraction c.args.class vs)) values in
+    let told : federate_set c.in_ok-told.told ≡ is_receiver d f out.body = c.in_ok-told.ensures.receivers ∙ ap (λ (x : Heading). is_receiver d x.sender (AnInteraction c.args.class c.in_ok-values.values)) head ∙ ap (λ (vs : List HandleValuePair). is_receiver d f (AnInteraction c.args.class vs)) values in
     let note = c.note-note.ensures ∙ ap (λ (x : Heading). note_under x c.in_ok-told.told) head ∙ ap (λ (k : ℕ). note_under (heading_of f k r c.args.stamp out.order) c.in_ok-told.told) same in
     let noted = one_noted d f m r c.args.stamp out (members_of now.members).sent (unsent_from now f c.requires.sound.kept m (omega arith)) c.in_ok-told.told told refl ∙ ap (λ (x : Option Note). with_noted (members_of now.members).sent f x) (sym note) in
     let none : refusal (components_seen (state_of now)) (Call f (service.SendInteraction c.args.class c.args.values.now c.args.stamp)) ≡ None = sym c.send_fault.ensures ∙ c.in_default.is in

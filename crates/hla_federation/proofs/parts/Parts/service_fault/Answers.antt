@@ -49,3 +49,15 @@ returns-in-ChangeAttributeOrderType c =
 pub returns-in-ChangeInteractionOrderType : goal.returns-in-ChangeInteractionOrderType
 returns-in-ChangeInteractionOrderType c =
     c.interaction_order_fault.ensures c.in-ChangeInteractionOrderType.order ∙ ap (λ (y : Service). refusal (components_seen (state_of c.args.self.now)) (Call c.args.federate y)) (sym c.in-ChangeInteractionOrderType.is)
+
+pub returns-in-RegisterFederationSynchronizationPoint : goal.returns-in-RegisterFederationSynchronizationPoint
+returns-in-RegisterFederationSynchronizationPoint c =
+    let s = components_seen (state_of c.args.self.now) in
+    c.register_point_fault.ensures ∙ ap (λ (xs : List ℕ). refusal s (Call c.args.federate (service.RegisterFederationSynchronizationPoint xs))) c.as_slice-in-RegisterFederationSynchronizationPoint.ensures
+    ∙ ap (λ (y : Service). refusal s (Call c.args.federate y)) (sym c.in-RegisterFederationSynchronizationPoint.is)
+
+pub returns-in-SynchronizationPointAchieved : goal.returns-in-SynchronizationPointAchieved
+returns-in-SynchronizationPointAchieved c =
+    let s = components_seen (state_of c.args.self.now) in
+    c.achieve_fault.ensures ∙ ap (λ (xs : List ℕ). refusal s (Call c.args.federate (service.SynchronizationPointAchieved xs))) c.as_slice-in-SynchronizationPointAchieved.ensures
+    ∙ ap (λ (y : Service). refusal s (Call c.args.federate y)) (sym c.in-SynchronizationPointAchieved.is)

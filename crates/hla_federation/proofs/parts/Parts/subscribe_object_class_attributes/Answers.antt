@@ -9,6 +9,7 @@ use Rattle.hla_machine.specs.declared.step.Answer.TheVariants as answer
 use Rattle.hla_machine.specs.Directory.{with_discoveries_made, discoveries_of, with_subscribed}
 use Rattle.hla_machine.specs.Refusals.{refusal}
 use Rattle.hla_object_registry.specs.Registered.{registry_of}
+use Rattle.hla_synchronization.specs.OpenPoints.{points_of}
 use Rattle.hla_federation.specs.contracts.parts.Parts.{the_view}
 use Rattle.hla_members.specs.declared.direction.Direction.TheVariants.{To}
 use Rattle.hla_federation.specs.FederationValue.{FederationValue}
@@ -37,7 +38,7 @@ returns-clause-whole c =
     let objects_is : registry_of c.self-2.inside.registry ≡ objects_after c.args.self.now c.args.federate c.args.class c.args.attributes.now =
     ap registry_of objects_in ∙ c.make_found_known.ensures.known a
     ∙ ap (λ (v : FederationValue). record (registry_of v.objects) { known = (with_discoveries_made (with_subscribed (state_of v).directory f c.args.class (Some a)) f).known }) v1
-    ∙ ap (λ (t : MemberTables). record (registry_of old.objects) { known = (with_discoveries_made (with_subscribed (directory_from old.catalogue (declared.declarations_of old.declarations) (registry_of old.objects) t) f c.args.class (Some a)) f).known }) members_is in
+    ∙ ap (λ (t : MemberTables). record (registry_of old.objects) { known = (with_discoveries_made (with_subscribed (directory_from old.catalogue (points_of old.points) (declared.declarations_of old.declarations) (registry_of old.objects) t) f c.args.class (Some a)) f).known }) members_is in
     let declarations_is : declared.declarations_of c.subscribe_object_class_attributes.new.self ≡ declarations_after c.args.self.now c.args.federate c.args.class c.args.attributes.now =
     c.subscribe_object_class_attributes.ensures
     ∙ (λ i. record (declared.declarations_of ((after i).declarations)) { subscribed = upd2 (declared.declarations_of ((after i).declarations)).subscribed f c.args.class (Some (c.in_ok-attributes.ensures.ok i)) }) in
@@ -63,7 +64,7 @@ returns-clause-done c =
     let objects_is : registry_of c.self-2.inside.registry ≡ objects_after c.args.self.now c.args.federate c.args.class c.args.attributes.now =
     ap registry_of objects_in ∙ c.make_found_known.ensures.known a
     ∙ ap (λ (v : FederationValue). record (registry_of v.objects) { known = (with_discoveries_made (with_subscribed (state_of v).directory f c.args.class (Some a)) f).known }) v1
-    ∙ ap (λ (t : MemberTables). record (registry_of old.objects) { known = (with_discoveries_made (with_subscribed (directory_from old.catalogue (declared.declarations_of old.declarations) (registry_of old.objects) t) f c.args.class (Some a)) f).known }) members_is in
+    ∙ ap (λ (t : MemberTables). record (registry_of old.objects) { known = (with_discoveries_made (with_subscribed (directory_from old.catalogue (points_of old.points) (declared.declarations_of old.declarations) (registry_of old.objects) t) f c.args.class (Some a)) f).known }) members_is in
     let declarations_is : declared.declarations_of c.subscribe_object_class_attributes.new.self ≡ declarations_after c.args.self.now c.args.federate c.args.class c.args.attributes.now =
     c.subscribe_object_class_attributes.ensures
     ∙ (λ i. record (declared.declarations_of ((after i).declarations)) { subscribed = upd2 (declared.declarations_of ((after i).declarations)).subscribed f c.args.class (Some (c.in_ok-attributes.ensures.ok i)) }) in

@@ -7,7 +7,7 @@ use Rattle.hla_base.specs.declared.content.HandleValuePair.{HandleValuePair}
 use Rattle.hla_base.specs.declared.number.EventHandle.{EventHandle}
 use Rattle.hla_base.specs.Tables.{upd, one_if, max_time}
 use Rattle.hla_catalogue.specs.declared.declared.Order.TheVariants.{Receive, Timestamp}
-use Rattle.hla_retraction.specs.Receivers.{receiver_set}
+use Rattle.hla_base.specs.FederateSets.{federate_set}
 use Rattle.hla_machine.specs.Directory.{AnUpdate, is_receiver, part_sent, values_of_order, update_sent}
 use Rattle.hla_machine.specs.Refusals.{refusal, tests}
 use Rattle.hla_machine.specs.declared.service.Service.TheVariants as service
@@ -112,7 +112,7 @@ returns-clause-whole c =
     let second = subst (λ (x : Heading). HasAdded (part_to d x c.args.object second_values) c.address_order.new.outbox c.address_order-2.new.outbox) c.heading-second.ensures c.in_ok-stamped_by.ensures.ok in
     let added = parts_added d f n m r c.args.stamp c.args.object c.args.values.now first_values second_values c.from-first_count.result received stamped same one
     c.in_ok-outbox.outbox c.address_order.new.outbox c.address_order-2.new.outbox c.in_ok-outbox.ensures.ok first second in
-    let told = subst (λ (x : Heading). IfSome c.in_ok-stamped_by.stamped_by (λ rs. receiver_set rs ≡ is_receiver d x.sender (AnUpdate c.args.object second_values))) c.heading-second.ensures c.in_ok-stamped_by.ensures.receivers in
+    let told = subst (λ (x : Heading). IfSome c.in_ok-stamped_by.stamped_by (λ rs. federate_set rs ≡ is_receiver d x.sender (AnUpdate c.args.object second_values))) c.heading-second.ensures c.in_ok-stamped_by.ensures.receivers in
     let note = c.note_part-note.ensures ∙ ap (λ (x : Heading). option_and_then (λ rs. note_under x rs) c.in_ok-stamped_by.stamped_by) c.heading-second.ensures in
     let noted = update_noted d f n m r c.args.stamp c.args.object c.args.values.now first_values second_values c.from-first_count.result received stamped same one c.in_ok-stamped_by.stamped_by c.in_ok-stamped_by.ensures.count
     (members_of now.members).sent (unsent_from now f c.requires.sound.kept) told ∙ ap (λ (x : Option Note). with_noted (members_of now.members).sent f x) (sym note) in
@@ -143,7 +143,7 @@ returns-clause-done c =
     let second = subst (λ (x : Heading). HasAdded (part_to d x c.args.object second_values) c.address_order.new.outbox c.address_order-2.new.outbox) c.heading-second.ensures c.in_ok-stamped_by.ensures.ok in
     let added = parts_added d f n m r c.args.stamp c.args.object c.args.values.now first_values second_values c.from-first_count.result received stamped same one
     c.in_ok-outbox.outbox c.address_order.new.outbox c.address_order-2.new.outbox c.in_ok-outbox.ensures.ok first second in
-    let told = subst (λ (x : Heading). IfSome c.in_ok-stamped_by.stamped_by (λ rs. receiver_set rs ≡ is_receiver d x.sender (AnUpdate c.args.object second_values))) c.heading-second.ensures c.in_ok-stamped_by.ensures.receivers in
+    let told = subst (λ (x : Heading). IfSome c.in_ok-stamped_by.stamped_by (λ rs. federate_set rs ≡ is_receiver d x.sender (AnUpdate c.args.object second_values))) c.heading-second.ensures c.in_ok-stamped_by.ensures.receivers in
     let note = c.note_part-note.ensures ∙ ap (λ (x : Heading). option_and_then (λ rs. note_under x rs) c.in_ok-stamped_by.stamped_by) c.heading-second.ensures in
     let noted = update_noted d f n m r c.args.stamp c.args.object c.args.values.now first_values second_values c.from-first_count.result received stamped same one c.in_ok-stamped_by.stamped_by c.in_ok-stamped_by.ensures.count
     (members_of now.members).sent (unsent_from now f c.requires.sound.kept) told ∙ ap (λ (x : Option Note). with_noted (members_of now.members).sent f x) (sym note) in
