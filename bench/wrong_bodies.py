@@ -24,7 +24,7 @@ BENCH = pathlib.Path(__file__).resolve().parent
 CRATES = BENCH.parent / "crates"
 RECORD = BENCH / "wrong_bodies.txt"
 FOLDERS = ("must-fail", "wrong-bodies")
-FUNCTION = re.compile(r"^\s*(?:pub(?:\([a-z]+\))?\s+)?(?:const\s+)?fn\s+(\w+)")
+FUNCTION = re.compile(r'^\s*(?:pub(?:\([a-z]+\))?\s+)?(?:const\s+)?(?:extern\s+"C"\s+)?fn\s+(\w+)')
 BLOCK = re.compile(r"^(?:pub\s+)?(?:impl|trait)\b.*")
 ERROR = re.compile(r"(?:note: )?(?:\./)?((?:src|specs)/\S+?):(\d+):\d+:")
 # An answer to a goal of a function stands in a folder of the function's name.

@@ -1,0 +1,2 @@
+-- Values one after another
+mod Pieces

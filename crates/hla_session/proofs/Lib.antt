@@ -1,0 +1,2 @@
+-- Each answer is of the form of its step
+pub mod Forms

@@ -1,0 +1,43 @@
+-- What a call of a session does
+use Rattle.std.specs.Prelude.{◌≡◌, ◌⊎◌, ℕ, Result, Ok, Err}
+use Rattle.hla_base.specs.declared.fault.Fault.{Fault}
+use Rattle.hla_base.specs.declared.fault.Fault.TheVariants as fault
+use Rattle.hla_machine.specs.declared.service.Service.{Service}
+use Rattle.hla_machine.specs.declared.step.Step.{Step}
+use Rattle.hla_machine.specs.declared.step.Step.TheVariants.{Call}
+use Rattle.hla_machine.specs.declared.step.Answer.{Answer}
+use Rattle.hla_machine.specs.declared.step.Answer.TheVariants as answer
+use Rattle.hla_machine.specs.declared.step.Outcome.TheVariants as outcome
+use Rattle.hla_components.specs.Next.{next}
+use Rattle.hla_federation.specs.Steps.State.{state_of}
+use Rattle.hla_federation.specs.Steps.Memory.{IsRefusedWith}
+use Rattle.hla_session.specs.declared.session.Session.{Session}
+
+-- the execution takes the step with this answer
+abbrev pub HasStepped : Session → Step → Answer → Session → Type 0
+HasStepped old step a new =
+    ((next (state_of old.federation) step).outcome ≡ outcome.Done a)
+    × (state_of new.federation ≡ (next (state_of old.federation) step).state)
+    × (new.catalogue ≡ old.catalogue)
+
+-- the step is refused as the definitions say, or what it names could not be copied
+abbrev pub IsRefused : Session → Step → Fault → Type 0
+IsRefused old step e = IsRefusedWith (state_of old.federation) step e ⊎ (e ≡ fault.OutOfMemory)
+
+-- a call is a step, and the last callback stays; or it is refused, and nothing has changed
+abbrev pub IsCalled : Session → Step → Result Answer Fault → Session → Type 0
+IsCalled old step (Ok a) new = HasStepped old step a new × (new.callback ≡ old.callback)
+IsCalled old step (Err e) new = IsRefused old step e × (new ≡ old)
+
+-- a joined federate's call of a service
+abbrev pub IsServiceCalled : Session → ℕ → Service → Result Answer Fault → Session → Type 0
+IsServiceCalled old federate service = IsCalled old (Call federate service)
+
+-- a call's own answer, as the step's
+abbrev pub as_answer : {T : Type 0} → (T → Answer) → Result T Fault → Result Answer Fault
+as_answer answer_of (Ok x) = Ok (answer_of x)
+as_answer answer_of (Err e) = Err e
+
+-- a call that answers nothing
+abbrev pub no_answer : Unit {0} → Answer
+no_answer _ = answer.Done

@@ -1,0 +1,2 @@
+-- What a call of a session does
+pub mod Calls
