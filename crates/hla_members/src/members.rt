@@ -315,7 +315,10 @@ impl Members {
     {
         let end = self.next_federate();
         for peer in 1..end {
-            self.reserve(along.source(peer), along.target(peer), outbox.count(peer))?;
+            let count = outbox.count(peer);
+            if count > 0 {
+                self.reserve(along.source(peer), along.target(peer), count)?;
+            }
         }
         Ok(())
     }

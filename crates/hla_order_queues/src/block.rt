@@ -1,11 +1,11 @@
 //! A stretch of a queue in time-stamp order.
 
-ghost use Rattle.std.specs.Prelude.{◌/◌, option_map, ◌≡◌, ◌++◌, ◌<◌, ◌≤◌, [], length, take, drop, slice_get, position, None, IfErr, IfOk, OnOk, OnErr, List, option_copied, vec_len, vec_capacity, ◌+◌};
-ghost use Rattle.std.specs.List.{prefix_len};
+ghost use Rattle.std.specs.Prelude.{◌/◌, option_map, ◌≡◌, ◌++◌, false, true, ◌<◌, ◌≤◌, [], length, take, drop, slice_get, position, None, IfErr, IfOk, OnOk, OnErr, List, option_copied, vec_len, vec_capacity, ◌+◌};
+ghost use Rattle.std.specs.List.{prefix_len, AllByRecursion};
 ghost use Rattle.hla_base.specs.declared.content.Event.{Event};
 ghost use Rattle.hla_order_queues.specs.Queues.{insert_event, find_event, remove_event, is_event, handles_of};
 ghost use Rattle.hla_order_queues.specs.Moving.{is_moved};
-ghost use Rattle.hla_order_queues.specs.Kept.{key_of, IsInOrder};
+ghost use Rattle.hla_order_queues.specs.Kept.{key_of, is_key_before, IsInOrder};
 
 use crate::key::EventKey;
 use hla_base::{Event, EventHandle, FOREVER, FederateNo, Serial, Ticks};
@@ -63,7 +63,33 @@ impl Block {
         self.events.get(i)
     }
 
-    /// Puts an event at its place; the event comes back, and the block is as it was, where a growth was refused.
+    /// Whether no event comes after this key, so that the event with it goes behind all.
+    fn is_behind_all(&self, key: EventKey) -> bool
+        requires { IsInOrder self.now }
+        ensures { result ≡ true → AllByRecursion (λ x. is_key_before key x ≡ false) self.now }
+    {
+        match self.events.back() {
+            Some(last) => !key.is_before(last),
+            None => true,
+        }
+    }
+
+    /// Puts an event behind all, of which none comes after it; the event comes back, and the block is as it was, where a growth
+    /// was refused.
+    fn append(&mut self, event: Event) -> Result<(), Event>
+        requires { AllByRecursion (λ x. is_key_before (key_of event) x ≡ false) self.old }
+        ensures ok { OnOk result (self.new ≡ insert_event event self.old) }
+        ensures err { IfErr result (λ e. e ≡ event) }
+        ensures unchanged { OnErr result (self.new ≡ self.old) }
+    {
+        match self.events.push_back(event) {
+            Ok(()) => Ok(()),
+            Err(failed) => Err(failed.value),
+        }
+    }
+
+    /// Puts an event at its place; the event comes back, and the block is as it was, where a growth was refused. Where none
+    /// comes after it, as where stamps rise, nothing is searched and none moves.
     pub fn insert(&mut self, event: Event) -> Result<(), Event>
         requires { IsInOrder self.old }
         ensures ok { OnOk result (self.new ≡ insert_event event self.old) }
@@ -71,6 +97,9 @@ impl Block {
         ensures unchanged { OnErr result (self.new ≡ self.old) }
     {
         let key = EventKey::of(&event);
+        if self.is_behind_all(key) {
+            return self.append(event);
+        }
         let place = self.events.partition_point(|other| !key.is_before(other));
         match self.events.insert(place, event) {
             Ok(()) => Ok(()),

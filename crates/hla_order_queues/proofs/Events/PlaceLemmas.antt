@@ -1,11 +1,11 @@
 -- The place at which a search by a test ends, and an insertion there into events that are in order
-use Rattle.std.proofs.Common.{◌≡◌, ℕ, zero, suc, ◌+◌, ◌≤◌, ◌<◌, Bool, true, false, cond, not, get_or, List, [], ◌∷◌, length, refl, ap, arith}
+use Rattle.std.proofs.Common.{◌≡◌, ℕ, zero, suc, ◌+◌, ◌-◌, ◌≤◌, ◌<◌, Bool, true, false, cond, not, get_or, List, [], ◌∷◌, ◌++◌, length, refl, sym, ap, subst, ◌∙◌, arith}
 use Rattle.std.specs.List.{AllByRecursion, prefix_len, insert}
 use Rattle.hla_base.specs.declared.content.Event.{Event}
 use Rattle.hla_order_queues.specs.declared.key.EventKey.{EventKey}
 use Rattle.hla_order_queues.specs.Queues.{is_before, insert_event}
 use Rattle.hla_order_queues.specs.Kept.{key_of, is_key_before, IsInOrder}
-use Rattle.hla_order_queues.proofs.Events.OrderLemmas.{All-implies, before_then}
+use Rattle.hla_order_queues.proofs.Events.OrderLemmas.{All-implies, NoneAfter, before_then}
 
 -- where one element does not pass, none behind it does
 unfoldable pub Falls : {X : Type 0} → (X → Bool) → List X → Type 0
@@ -57,3 +57,35 @@ pub inserted_there : (e : Event) (xs : List Event) → insert xs (prefix_len (λ
 unfolding insert_event
 inserted_there e [] = refl
 inserted_there e (x ∷ xs) = inserted_if (is_before e x) e x xs (insert_event e xs) (prefix_len (λ y. not (is_key_before (key_of e) y)) xs) (inserted_there e xs)
+
+-- ---- an event behind all
+pub insert_event-behind : (e : Event) (xs : List Event) → NoneAfter (key_of e) xs → insert_event e xs ≡ xs ++ e ∷ []
+unfolding insert_event
+insert_event-behind e [] h = refl
+insert_event-behind e (x ∷ xs) h = rw h.0 (ap (λ zs. x ∷ zs) (insert_event-behind e xs h.1))
+
+not_first : (k : EventKey) (x y : Event) (b : Bool) → is_key_before k x ≡ b → is_before y x ≡ false → is_key_before k y ≡ false → is_key_before k x ≡ false
+not_first k x y true is h late = let e : is_key_before k y ≡ true = before_then k x y is h in cc
+not_first k x y false is h late = is
+
+-- where the last event does not come after a key, none does
+none_after_last : (k : EventKey) (xs : List Event) (l : Event) → IsInOrder xs → 0 < length xs → l ≡ get_or xs (length xs - 1) l → is_key_before k l ≡ false → NoneAfter k xs
+unfolding IsInOrder
+none_after_last k [] l h some is late = absurd (omega arith)
+none_after_last k (x ∷ []) l h some is late = (ap (is_key_before k) (sym is) ∙ late, tt)
+none_after_last k (x ∷ y ∷ ys) l h some is late =
+    let j : length (x ∷ y ∷ ys) - 1 ≡ suc (length (y ∷ ys) - 1) = omega arith in
+    let there : l ≡ get_or (x ∷ y ∷ ys) (suc (length (y ∷ ys) - 1)) l = is ∙ ap (λ i. get_or (x ∷ y ∷ ys) i l) j in
+    let rest = none_after_last k (y ∷ ys) l h.1 (omega arith) there late in
+    (not_first k x y (is_key_before k x) refl h.0.0 rest.0, rest)
+
+false_if : (b : Bool) → not b ≡ true → b ≡ false
+false_if true h = absurd (cc)
+false_if false h = refl
+
+pub behind_says : (k : EventKey) (len : ℕ) (items now : List Event) (l : Event) (b : Bool) → IsInOrder now → items ≡ now → 0 < length items → len ≡ length items → l ≡ get_or items (len - 1) l → b ≡ is_key_before k l → not b ≡ true → NoneAfter k now
+behind_says k len items now l b order view some counted lookup told late =
+    let ordered = subst IsInOrder (sym view) order in
+    let there : l ≡ get_or items (length items - 1) l = lookup ∙ ap (λ (n : ℕ). get_or items (n - 1) l) counted in
+    let later : is_key_before k l ≡ false = sym told ∙ false_if b late in
+    subst (NoneAfter k) view (none_after_last k items l ordered some there later)
