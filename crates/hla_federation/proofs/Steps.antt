@@ -46,6 +46,8 @@ pub mod Notifying
 pub mod Resigning
 -- Each step of the code is a step of the machine
 pub mod Sound
+-- A call that ends as its step does that step
+pub mod Answering
 -- Lists of steps are runs of the machine
 pub mod Running
 -- How a step would end

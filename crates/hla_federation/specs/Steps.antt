@@ -14,3 +14,5 @@ pub mod Memory
 pub mod Synchronizing
 -- What a federation keeps, and lists of steps
 pub mod Soundness
+-- One step, answered in its own form
+pub mod Answering

@@ -3,15 +3,16 @@
 ghost use Rattle.std.specs.Prelude.{◌≡◌, ◌<◌, [], OnOk, OnErr, IfErr};
 ghost use Rattle.hla_base.specs.declared.fault.Fault.TheVariants.{OutOfMemory};
 ghost use Rattle.hla_base.specs.Tables.{is_other};
+ghost use Rattle.hla_machine.specs.declared.step.Answer.TheVariants as answer;
 ghost use Rattle.hla_machine.specs.declared.step.Step.TheVariants as step;
 ghost use Rattle.hla_members.specs.Members.{members_of, with_null_sent};
 ghost use Rattle.hla_federation.specs.Steps.Sending.{HasAdded, null_to, last_null_to, announcement};
 ghost use Rattle.hla_federation.specs.Steps.Soundness.{IsSound};
+ghost use Rattle.hla_federation.specs.Steps.Answering.{answered_as};
 ghost use Rattle.hla_federation.specs.Steps.State.{state_of, IsWhole, Ends};
 
 use crate::parts::Parts;
 use hla_base::{FOREVER, Fault, FederateNo, Ticks};
-use hla_machine::Answer;
 use hla_members::{Change, Outbox};
 use hla_null_message::Message;
 
@@ -84,21 +85,22 @@ impl Parts {
     /// A federate announces what it may promise, if that is more than it announced last. Refused, it changes nothing:
     /// `FederateNotExecutionMember` where the federate is not joined; else `OutOfMemory` where there is something to
     /// announce and a growth was refused.
-    pub fn announce(&mut self, federate: FederateNo) -> Result<Answer, Fault>
+    #[inline(always)]
+    pub fn announce(&mut self, federate: FederateNo) -> Result<Option<Ticks>, Fault>
         requires { IsSound self.old }
         ensures whole { IsWhole self.new }
-        ensures done { Ends self.old (step.Announce federate) result self.new }
+        ensures done { Ends self.old (step.Announce federate) (answered_as answer.Announced result) self.new }
     {
         if let Some(fault) = self.caller_fault(federate) {
             return Err(fault);
         }
         let Some(bound) = self.announcement(federate) else {
-            return Ok(Answer::Announced(None));
+            return Ok(None);
         };
         let epoch = self.members.local(federate).epoch();
         self.send_null(federate, epoch, bound)?;
         self.members.change(federate, Change::Announce { bound });
-        Ok(Answer::Announced(Some(bound)))
+        Ok(Some(bound))
     }
 
     /// Adds what a federate that resigns announces last, if it regulates or has asked to: `FOREVER`. `OutOfMemory` where a

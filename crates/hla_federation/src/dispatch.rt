@@ -9,8 +9,9 @@ use hla_base::{AdvanceKind, Fault, FederateNo};
 use hla_machine::{Answer, Service, Step};
 
 impl Parts {
-    /// A service that a federate calls, if it is joined.
-    fn call(&mut self, federate: FederateNo, service: &Service) -> Result<Answer, Fault>
+    /// A service that a federate calls. Refused, it changes nothing: `FederateNotExecutionMember` where the federate is not
+    /// joined; else as the service is.
+    pub fn call(&mut self, federate: FederateNo, service: &Service) -> Result<Answer, Fault>
         requires sound { IsSound self.old }
         ensures whole { IsWhole self.new }
         ensures done { EndsChosen self.old (step.Call federate service.now) result self.new }
@@ -190,11 +191,11 @@ impl Parts {
         ensures done { EndsChosen self.old step.now result self.new }
     {
         match step {
-            Step::Join { name } => self.join(name.as_slice()),
+            Step::Join { name } => Ok(Answer::Federate(self.join(name.as_slice())?)),
             Step::Call { federate, service } => self.call(*federate, service),
-            Step::Carry { from, to } => self.carry(*from, *to),
-            Step::Tick { federate } => self.tick(*federate),
-            Step::Announce { federate } => self.announce(*federate),
+            Step::Carry { from, to } => Ok(Answer::Carried(self.carry(*from, *to)?)),
+            Step::Tick { federate } => Ok(Answer::Ticked(self.tick(*federate)?)),
+            Step::Announce { federate } => Ok(Answer::Announced(self.announce(*federate)?)),
         }
     }
 }

@@ -2,9 +2,10 @@
 
 use crate::foreseeing::Foreseen;
 use crate::parts::Parts;
-use hla_base::Fault;
+use hla_base::{Fault, FederateNo, Ticks};
+use hla_callbacks::Callback;
 use hla_catalogue::Catalogue;
-use hla_machine::{Answer, Choice, Step};
+use hla_machine::{Answer, Carried, Choice, Service, Step};
 use std::alloc::Global;
 use std::marker::Model;
 
@@ -37,6 +38,9 @@ impl Federation {
     ghost use Rattle.hla_components.specs.Components.{new_components};
     ghost use Rattle.hla_components.specs.Next.{next};
     ghost use Rattle.hla_components.specs.CentralOf.{central};
+    ghost use Rattle.hla_machine.specs.declared.step.Answer.TheVariants as answer;
+    ghost use Rattle.hla_machine.specs.declared.step.Step.TheVariants as step;
+    ghost use Rattle.hla_federation.specs.Steps.Answering.{answered_as, DoesStep};
     ghost use Rattle.hla_federation.specs.Steps.State.{state_of};
     ghost use Rattle.hla_federation.specs.Steps.Memory.{IsRefusedWith, foresight_takes_memory, takes_memory};
     ghost use Rattle.hla_components.specs.Headline.{happening, happenings};
@@ -78,6 +82,44 @@ impl Federation {
         ensures unchanged { OnErr result (self.new ≡ self.old) }
     {
         self.parts.step(step)
+    }
+
+    /// Join Federation Execution (HLA 1.3, federation management): the number of the federate that joins under this name. It is
+    /// `step` of `Step::Join`, answered in its own form, as are the four below.
+    pub fn join(&mut self, name: &[u8]) -> Result<FederateNo, Fault>
+        ensures { DoesStep self.old (step.Join name.now) (answered_as answer.Federate result) self.new }
+    {
+        self.parts.join(name)
+    }
+
+    /// A service of a federate: `step` of `Step::Call`.
+    pub fn call(&mut self, federate: FederateNo, service: &Service) -> Result<Answer, Fault>
+        ensures { DoesStep self.old (step.Call federate service.now) result self.new }
+    {
+        self.parts.call(federate, service)
+    }
+
+    /// The first message on the wire from one federate to another comes to its receiver: what that was, and `Nothing` where the
+    /// wire is empty. `step` of `Step::Carry`.
+    pub fn carry(&mut self, from: FederateNo, to: FederateNo) -> Result<Carried, Fault>
+        ensures { DoesStep self.old (step.Carry from to) (answered_as answer.Carried result) self.new }
+    {
+        self.parts.carry(from, to)
+    }
+
+    /// A federate ticks: its callback, if there is one. `step` of `Step::Tick`.
+    pub fn tick(&mut self, federate: FederateNo) -> Result<Option<Callback>, Fault>
+        ensures { DoesStep self.old (step.Tick federate) (answered_as answer.Ticked result) self.new }
+    {
+        self.parts.tick(federate)
+    }
+
+    /// A federate announces its promise, in ticks, if that is more than it announced last: what it announces. `step` of
+    /// `Step::Announce`.
+    pub fn announce(&mut self, federate: FederateNo) -> Result<Option<Ticks>, Fault>
+        ensures { DoesStep self.old (step.Announce federate) (answered_as answer.Announced result) self.new }
+    {
+        self.parts.announce(federate)
     }
 
     /// What the next step would choose, if it were this one: from which stamp on a federate may send that enables regulation,

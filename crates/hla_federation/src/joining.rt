@@ -14,9 +14,11 @@ ghost use Rattle.hla_retraction.specs.SentEvents.{no_event};
 ghost use Rattle.hla_retraction.specs.SentRows.{sent_of};
 ghost use Rattle.hla_machine.specs.Directory.{deletions_sent};
 ghost use Rattle.hla_machine.specs.declared.service.Service.TheVariants as service;
+ghost use Rattle.hla_machine.specs.declared.step.Answer.TheVariants as answer;
 ghost use Rattle.hla_machine.specs.declared.step.Step.TheVariants as step;
 ghost use Rattle.hla_federation.specs.Steps.Sending.{HasAdded, messages_to, last_null_to};
 ghost use Rattle.hla_federation.specs.Steps.Soundness.{IsSound, MayCall};
+ghost use Rattle.hla_federation.specs.Steps.Answering.{answered_as};
 ghost use Rattle.hla_federation.specs.Steps.State.{state_of, IsWhole, Ends};
 
 use crate::heading::Heading;
@@ -56,10 +58,10 @@ impl Parts {
     /// Join Federation Execution. Refused, it changes nothing: `FederateAlreadyExecutionMember` where a joined federate has
     /// the name; `LimitReached` where 16 have ever joined, or the name has not 1 to 64 bytes; else `OutOfMemory` where a
     /// growth was refused.
-    pub fn join(&mut self, name: &[u8]) -> Result<Answer, Fault>
+    pub fn join(&mut self, name: &[u8]) -> Result<FederateNo, Fault>
         requires { IsSound self.old }
         ensures whole { IsWhole self.new }
-        ensures done { Ends self.old (step.Join name.now) result self.new }
+        ensures done { Ends self.old (step.Join name.now) (answered_as answer.Federate result) self.new }
     {
         if let Some(fault) = self.join_fault(name) {
             return Err(fault);
@@ -74,7 +76,7 @@ impl Parts {
         };
         self.members.admit(member);
         self.next_name = next_name;
-        Ok(Answer::Federate(federate))
+        Ok(federate)
     }
 
     /// Adds the removals of these objects, in their order.

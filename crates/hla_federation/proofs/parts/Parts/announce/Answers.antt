@@ -1,6 +1,5 @@
-use Rattle.std.proofs.Common.{◌≡◌, ℕ, None, Some, Result, inr, refl, sym, ap, subst, ◌∙◌}
+use Rattle.std.proofs.Common.{◌≡◌, ℕ, Option, None, Some, Result, inr, refl, sym, ap, subst, ◌∙◌}
 use Rattle.hla_base.specs.declared.fault.Fault.{Fault}
-use Rattle.hla_machine.specs.declared.step.Answer.{Answer}
 use Rattle.hla_machine.specs.declared.step.Step.TheVariants.{Announce}
 use Rattle.hla_declaration.specs.Declarations as declared
 use Rattle.hla_object_registry.specs.Registered.{registry_of}
@@ -17,6 +16,7 @@ use Rattle.hla_members.specs.Members.{MemberTables, members_of, with_component, 
 use Rattle.hla_federation.specs.Steps.State.{state_of, state_from, IsWhole}
 use Rattle.hla_federation.proofs.Steps.Doing.{does_next}
 use Rattle.hla_federation.proofs.parts.Parts.announce.Goals as goal
+use Rattle.hla_federation.specs.Steps.Answering.{answered_as}
 use Rattle.hla_federation.specs.Steps.State.{Ends}
 use Rattle.hla_federation.proofs.Steps.Announcing.{announces, announcement_takes, announced_state, null_whole}
 use Rattle.hla_federation.proofs.Steps.Changing.{handed_on}
@@ -27,7 +27,7 @@ returns-in_err-send_null-clause-done c =
     let now = c.args.self.now in
     let none : refusal (components_seen (state_of now)) (Announce f) ≡ None = sym c.caller_fault.ensures ∙ c.in_default.is in
     let takes = announcement_takes (state_of now) f c.in-Some-announcement.bound (sym c.announcement.ensures ∙ c.in-Some-announcement.is) in
-    handed_on c.in_err-send_null.field-0.0 c.from_residual.result (λ (r : Result Answer Fault). Ends now (Announce f) r c.send_null.new.self) c.from_residual.ensures
+    handed_on c.in_err-send_null.field-0.0 c.from_residual.result (λ (r : Result (Option ℕ) Fault). Ends now (Announce f) (answered_as answer.Announced r) c.send_null.new.self) c.from_residual.ensures
     (inr (none, c.in_err-send_null.ensures.err, takes), c.in_err-send_null.ensures.unchanged)
 
 pub returns-clause-whole : goal.returns-clause-whole

@@ -2,7 +2,6 @@ use Rattle.std.proofs.Common.{◌≡◌, List, true, Option, None, Result, inr, 
 use Rattle.hla_callbacks.specs.declared.callback.Callback.{Callback}
 use Rattle.hla_machine.specs.declared.step.Step.TheVariants.{Tick}
 use Rattle.hla_base.specs.declared.fault.Fault.{Fault}
-use Rattle.hla_machine.specs.declared.step.Answer.{Answer}
 use Rattle.hla_machine.specs.declared.step.Answer.TheVariants as answer
 use Rattle.hla_declaration.specs.Declarations as declared
 use Rattle.hla_object_registry.specs.Registered.{registry_of}
@@ -13,6 +12,7 @@ use Rattle.hla_machine.specs.declared.step.Outcome.TheVariants as outcome
 use Rattle.hla_synchronization.specs.OpenPoints.{points_of}
 use Rattle.hla_federation.specs.FederationValue.{FederationValue}
 use Rattle.hla_members.specs.Members.{MemberTables, members_of}
+use Rattle.hla_federation.specs.Steps.Answering.{answered_as}
 use Rattle.hla_federation.specs.Steps.State.{state_of, state_from, IsUnmet, EndsChosen}
 use Rattle.hla_federation.specs.Steps.Synchronizing.{points_told}
 use Rattle.hla_local.specs.Picking.{picked_by, local_pick}
@@ -57,7 +57,7 @@ returns-in_err-callback-clause-done c =
     let whole = rw (← c.self.view_is) at c.requires.whole in
     let none : refusal (components_seen (state_of c.args.self.now)) (Tick c.args.federate) ≡ None = sym c.caller_fault.ensures ∙ c.in_default.is in
     let takes = pick_memory c.self.inside.catalogue (points_of c.self.inside.points) (declared.declarations_of c.self.inside.declarations) (registry_of c.self.inside.registry) (members_of c.self.inside.members.shown) c.args.federate whole.parts c.in_err-callback.ensures.memory in
-    handed_on c.in_err-callback.field-0.0 c.from_residual.result (λ (r : Result Answer Fault). EndsChosen c.args.self.now (Tick c.args.federate) r (record { catalogue = c.self.inside.catalogue; points = c.self.inside.points; declarations = c.self.inside.declarations; objects = c.self.inside.registry; members = c.pick_up.new.self.shown; next_name = c.self.inside.next_name })) c.from_residual.ensures (
+    handed_on c.in_err-callback.field-0.0 c.from_residual.result (λ (r : Result (Option Callback) Fault). EndsChosen c.args.self.now (Tick c.args.federate) (answered_as answer.Ticked r) (record { catalogue = c.self.inside.catalogue; points = c.self.inside.points; declarations = c.self.inside.declarations; objects = c.self.inside.registry; members = c.pick_up.new.self.shown; next_name = c.self.inside.next_name })) c.from_residual.ensures (
       inr (none, c.in_err-callback.ensures.err, subst (λ (v : FederationValue). takes_memory (state_of v) (Tick c.args.federate) ≡ true) c.self.view_is takes),
       ap (λ (ms : List MemberValue). record { catalogue = c.self.inside.catalogue; points = c.self.inside.points; declarations = c.self.inside.declarations; objects = c.self.inside.registry; members = ms; next_name = c.self.inside.next_name }) c.in_err-callback.ensures.unchanged ∙ c.self.view_is,
     )

@@ -1,0 +1,13 @@
+use Rattle.hla_machine.specs.declared.step.Step.TheVariants as step
+use Rattle.hla_machine.specs.declared.step.Answer.TheVariants as answer
+use Rattle.hla_federation.specs.Steps.Answering.{answered_as}
+use Rattle.hla_federation.proofs.Steps.Doing.{ends_chosen}
+use Rattle.hla_federation.proofs.Steps.Answering.{does_step}
+use Rattle.hla_federation.proofs.Steps.Sound.{ends_sound}
+use Rattle.hla_federation.proofs.federation.Federation.announce.Goals as goal
+
+pub invariant_of-self : goal.invariant_of-self
+invariant_of-self c = ends_sound c.self.inside.parts (step.Announce c.args.federate) c.self.invariant (answered_as answer.Announced c.announce.result) c.announce.new.self c.announce.ensures.whole (ends_chosen c.self.inside.parts (step.Announce c.args.federate) (answered_as answer.Announced c.announce.result) c.announce.new.self c.announce.ensures.done)
+
+pub returns : goal.returns
+returns c = rw (← c.self.view_is) (does_step c.self.inside.parts (step.Announce c.args.federate) c.self.invariant (answered_as answer.Announced c.announce.result) c.announce.new.self (ends_chosen c.self.inside.parts (step.Announce c.args.federate) (answered_as answer.Announced c.announce.result) c.announce.new.self c.announce.ensures.done))
