@@ -1,13 +1,13 @@
 //! The stamps of a queue's events, by their names.
 
-ghost use Rattle.std.specs.Prelude.{◌≡◌, ℕ, ◌<◌, ◌≤◌, None, Some, List, length, is_some, MatchBool};
+ghost use Rattle.std.specs.Prelude.{◌≡◌, ℕ, false, ◌<◌, ◌≤◌, None, Some, List, length, is_some, MatchBool};
 ghost use Rattle.std.specs.Bool.{OnTrue, OnFalse};
 ghost use Rattle.hla_order_queues.specs.declared.key.EventName.{EventName};
-ghost use Rattle.hla_order_queues.specs.Kept.{stamp_at};
-ghost use Rattle.hla_order_queues.specs.Names.{noted_at, Rises, SetsAt};
+ghost use Rattle.hla_order_queues.specs.Kept.{is_less, name_of_key, stamp_at};
+ghost use Rattle.hla_order_queues.specs.Names.{key_with, noted_at, IsLeastAt, IsPushedAt, SetsAt};
 
 use crate::key::{EventKey, EventName};
-use crate::rising::Rising;
+use crate::rising::{Pushed, Rising};
 use hla_base::{FederateNo, MAX_JOINS, Ticks};
 use std::alloc::Global;
 use std::collections::BTreeMap;
@@ -66,10 +66,10 @@ impl Names {
         if !reach(&mut self.rising, key.sender, self.alloc) {
             return false;
         }
-        if rises(&self.rising, key) {
-            push(&mut self.rising, key)
-        } else {
-            insert(&mut self.others, key)
+        match push(&mut self.rising, key) {
+            Pushed::Noted => true,
+            Pushed::Elsewhere => insert(&mut self.others, key),
+            Pushed::Refused => false,
         }
     }
 
@@ -83,6 +83,19 @@ impl Names {
         let stamp = take_noted(&mut self.rising, name);
         let other = take_other(&mut self.others, name);
         stamp.or(other)
+    }
+
+    /// Takes the stamp of the event with this key, before which none comes, and which is there. It costs the same however many
+    /// there are, where all events are in lists; else it looks at a logarithm of the others. What `take` says of sweeping
+    /// and of room holds here, too.
+    pub fn pass(&mut self, key: EventKey)
+        requires least { (n : EventName) (t : ℕ) → stamp_at self.old n ≡ Some t
+            → is_less (key_with n t) key ≡ false }
+        requires there { stamp_at self.old (name_of_key key) ≡ Some key.stamp }
+        ensures { SetsAt (stamp_at self.old) (stamp_at self.new) (name_of_key key) None }
+    {
+        pass_noted(&mut self.rising, key);
+        let _ = take_other(&mut self.others, key.name());
     }
 
     /// Takes all stamps out, and gives the memory of the lists back; the cost grows with the events.
@@ -122,26 +135,14 @@ fn reach(rising: &mut Vec<Rising>, sender: FederateNo, alloc: Global) -> bool
     true
 }
 
-/// Whether the sender of an event has a list, all of whose serials are less than the event's.
-fn rises(rising: &[Rising], key: EventKey) -> bool
-    ensures { MatchBool result (Rises rising.now key.sender key.serial)
-        (Rises rising.now key.sender key.serial → ⊥) }
+/// Notes an event behind its sender's others, if that is its place.
+fn push(rising: &mut Vec<Rising>, key: EventKey) -> Pushed
+    ensures { IsPushedAt result key rising.old.items rising.new.items }
 {
-    match rising.get(key.sender as usize) {
-        Some(events) => events.is_below(key.serial),
-        None => false,
+    match rising.get_mut(key.sender as usize) {
+        Some(events) => events.push(key.serial, key.stamp),
+        None => Pushed::Elsewhere,
     }
-}
-
-/// Notes an event behind its sender's others, whose serials are all less; false where memory for it was refused.
-fn push(rising: &mut Vec<Rising>, key: EventKey) -> bool
-    requires { Rises rising.old.items key.sender key.serial }
-    ensures put { OnTrue result (SetsAt (noted_at rising.old.items) (noted_at rising.new.items)
-        (record { sender = key.sender; serial = key.serial }) (Some key.stamp)) }
-    ensures refused { OnFalse result
-        ((n : EventName) → noted_at rising.new.items n ≡ noted_at rising.old.items n) }
-{
-    rising[key.sender as usize].push(key.serial, key.stamp)
 }
 
 /// Puts an event's stamp among the others; false where memory for it was refused.
@@ -161,6 +162,16 @@ fn take_noted(rising: &mut Vec<Rising>, name: EventName) -> Option<Ticks>
     match rising.get_mut(name.sender as usize) {
         Some(events) => events.take(name.serial),
         None => None,
+    }
+}
+
+/// The event with this key goes, before which none comes.
+fn pass_noted(rising: &mut Vec<Rising>, key: EventKey)
+    requires { IsLeastAt key rising.old.items }
+    ensures { SetsAt (noted_at rising.old.items) (noted_at rising.new.items) (name_of_key key) None }
+{
+    if let Some(events) = rising.get_mut(key.sender as usize) {
+        events.pass(key.serial, key.stamp);
     }
 }
 

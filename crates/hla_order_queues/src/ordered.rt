@@ -94,6 +94,7 @@ impl Ordered {
 
     /// Takes the first event, if there is one. It takes no memory.
     pub fn take_first(&mut self) -> Option<Event>
+        ensures ordered { IsInOrder self.old }
         ensures first { result ≡ slice_get self.old 0 }
         ensures rest { self.new ≡ drop 1 self.old }
     {

@@ -1,10 +1,9 @@
 //! The stamps of one sender's events, by serials that rise.
 
 ghost use Rattle.std.specs.Prelude.{◌≡◌, ℕ, true, cond, eqb, None, Some, [], MatchBool};
-ghost use Rattle.std.specs.Bool.{OnTrue, OnFalse};
 ghost use Rattle.std.specs.List.{prefix_len};
 ghost use Rattle.std.specs.VecDeque.{deque_capacity, deque_len};
-ghost use Rattle.hla_order_queues.specs.Names.{noted, AreRisingNotes, AreLess, Keeps, TakesNote, is_first_none, is_first_note, is_note_before, is_try_due, tried_after};
+ghost use Rattle.hla_order_queues.specs.Names.{noted, is_passed, unpassed, passed_to, without_passed, AreRisingNotes, AreLess, Keeps, TakesNote, IsPushed, IsLeastNoted, is_first_none, is_first_note, is_note_before, is_try_due, tried_after};
 
 use hla_base::{Serial, Ticks};
 use std::alloc::Global;
@@ -24,10 +23,31 @@ pub(crate) struct StampNote {
     pub stamp: Option<Ticks>,
 }
 
-/// The stamps of one sender's events, by serials that rise from note to note. Contracts see the notes.
+/// An event of a sender that was taken as the least of all: no event of that sender that comes before it, by stamp and then
+/// by serial, was there then.
+#[derive(Clone, Copy, Debug)]
+pub(crate) struct Passed {
+    pub stamp: Ticks,
+    pub serial: Serial,
+}
+
+/// What became of a stamp that was to be noted.
+#[derive(Clone, Copy, Debug)]
+pub(crate) enum Pushed {
+    Noted,
+    /// Its place is not behind the others: its serial is not greater than theirs, or its event comes before one that was passed.
+    Elsewhere,
+    /// Memory for it was refused.
+    Refused,
+}
+
+/// The stamps of one sender's events, by serials that rise from note to note. Contracts see the notes, which say nothing of events
+/// that were passed.
 #[derive(Debug, Drop)]
 pub(crate) struct Rising {
     notes: VecDeque<StampNote>,
+    /// The last event that was passed and whose note was not the first: notes of events up to it may still be there.
+    passed: Option<Passed>,
     /// About how many notes are of events that are gone: it tells when to sweep them out, and nothing else.
     gone: usize,
     /// How many notes there were when room was last given back, or refused to be; more than any where much of the room has
@@ -38,11 +58,11 @@ pub(crate) struct Rising {
 impl Model for Rising {
     ghost use Rattle.std.specs.Prelude.{List};
     ghost use Rattle.hla_order_queues.specs.declared.rising.StampNote.{StampNote};
-    ghost use Rattle.hla_order_queues.specs.Names.{AreRisingNotes};
+    ghost use Rattle.hla_order_queues.specs.Names.{AreRisingNotes, without_passed};
 
     ghost Value = { List StampNote };
 
-    ghost view = { λ r. r.notes.items };
+    ghost view = { λ r. without_passed r.passed r.notes.items };
 
     ghost invariant = { λ r. AreRisingNotes r.notes.items };
 }
@@ -54,35 +74,28 @@ impl Rising {
     {
         Rising {
             notes: VecDeque::new(alloc),
+            passed: None,
             gone: 0,
             tried: usize::MAX,
         }
     }
 
-    /// Whether all serials that are noted are less than this one.
-    pub fn is_below(&self, serial: Serial) -> bool
-        ensures { MatchBool result (AreLess serial self.now) (AreLess serial self.now → ⊥) }
+    /// Notes a stamp at a serial, where it is greater than all others, and the event behind all that were passed. It costs the
+    /// same however many there are, but for the growth of the room. Where it is not noted, nothing changes.
+    pub fn push(&mut self, serial: Serial, stamp: Ticks) -> Pushed
+        ensures { IsPushed result serial stamp self.old self.new }
     {
-        match self.notes.back() {
-            Some(last) => last.serial < serial,
-            None => true,
+        if !is_below(&self.notes, serial) || is_passed(self.passed, serial, stamp) {
+            return Pushed::Elsewhere;
         }
-    }
-
-    /// Notes a stamp at a serial that is greater than all others; false where memory for it was refused. It costs the same
-    /// however many there are, but for the growth of the room.
-    pub fn push(&mut self, serial: Serial, stamp: Ticks) -> bool
-        requires { AreLess serial self.old }
-        ensures put { (m : ℕ)
-            → OnTrue result
-            (noted m self.new ≡ cond (eqb serial m) (Some stamp) (noted m self.old)) }
-        ensures refused { OnFalse result (self.new ≡ self.old) }
-    {
         let note = StampNote {
             serial,
             stamp: Some(stamp),
         };
-        self.notes.push_back(note).is_ok()
+        match self.notes.push_back(note) {
+            Ok(()) => Pushed::Noted,
+            Err(_) => Pushed::Refused,
+        }
     }
 
     /// The stamp at a serial, if the event is there. A serial that is greater than all needs no look; else it looks at a
@@ -90,11 +103,7 @@ impl Rising {
     pub fn get(&self, serial: Serial) -> Option<Ticks>
         ensures { result ≡ noted serial self.now }
     {
-        if self.is_below(serial) {
-            None
-        } else {
-            stamp_at(&self.notes, place_of(&self.notes, serial), serial)
-        }
+        unpassed(self.passed, serial, stamp_noted(&self.notes, serial))
     }
 
     /// Takes the stamp at a serial, if the event is there. Where it is the first event it costs the same however many there
@@ -105,8 +114,94 @@ impl Rising {
         ensures rest { (m : ℕ) → noted m self.new ≡ cond (eqb serial m) None (noted m self.old) }
     {
         let stamp = take_from(&mut self.notes, &mut self.gone, serial);
-        tidy(&mut self.notes, &mut self.gone, &mut self.tried);
-        stamp
+        tidy(
+            &mut self.notes,
+            &mut self.gone,
+            &mut self.tried,
+            self.passed,
+        );
+        unpassed(self.passed, serial, stamp)
+    }
+
+    /// The event with this serial and stamp goes, before which none comes. Its note is looked for nowhere but in front: where it
+    /// lies elsewhere it stays, and says nothing any more. It costs the same however many there are, but for what `take` says
+    /// of sweeping and of room.
+    pub fn pass(&mut self, serial: Serial, stamp: Ticks)
+        requires { IsLeastNoted serial stamp self.old }
+        ensures { (m : ℕ) → noted m self.new ≡ cond (eqb serial m) None (noted m self.old) }
+    {
+        if is_first(&self.notes, serial) {
+            let _ = take_first(&mut self.notes, serial);
+        } else {
+            self.passed = passed_to(self.passed, serial, stamp);
+            self.gone = self.gone.saturating_add(1);
+        }
+        tidy(
+            &mut self.notes,
+            &mut self.gone,
+            &mut self.tried,
+            self.passed,
+        );
+    }
+}
+
+/// Whether an event of the sender was passed.
+fn is_passed(passed: Option<Passed>, serial: Serial, stamp: Ticks) -> bool
+    ensures { result ≡ is_passed passed serial stamp }
+{
+    match passed {
+        Some(last) => stamp < last.stamp || (stamp == last.stamp && serial <= last.serial),
+        None => false,
+    }
+}
+
+/// The stamp of an event, if it was not passed.
+fn unpassed(passed: Option<Passed>, serial: Serial, stamp: Option<Ticks>) -> Option<Ticks>
+    ensures { result ≡ unpassed passed serial stamp }
+{
+    match stamp {
+        Some(stamp) => {
+            if is_passed(passed, serial, stamp) {
+                None
+            } else {
+                Some(stamp)
+            }
+        }
+        None => None,
+    }
+}
+
+/// The last event that was passed, once this one is.
+fn passed_to(passed: Option<Passed>, serial: Serial, stamp: Ticks) -> Option<Passed>
+    ensures { result ≡ passed_to passed serial stamp }
+{
+    if is_passed(passed, serial, stamp) {
+        passed
+    } else {
+        Some(Passed { stamp, serial })
+    }
+}
+
+/// Whether all serials that are noted are less than this one.
+fn is_below(notes: &VecDeque<StampNote>, serial: Serial) -> bool
+    requires { AreRisingNotes notes.now.items }
+    ensures { MatchBool result (AreLess serial notes.now.items) (AreLess serial notes.now.items → ⊥) }
+{
+    match notes.back() {
+        Some(last) => last.serial < serial,
+        None => true,
+    }
+}
+
+/// The stamp in the note with this serial, if there is one.
+fn stamp_noted(notes: &VecDeque<StampNote>, serial: Serial) -> Option<Ticks>
+    requires { AreRisingNotes notes.now.items }
+    ensures { result ≡ noted serial notes.now.items }
+{
+    if is_below(notes, serial) {
+        None
+    } else {
+        stamp_at(notes, place_of(notes, serial), serial)
     }
 }
 
@@ -189,23 +284,28 @@ fn mark(notes: &mut VecDeque<StampNote>, serial: Serial) -> Option<Ticks>
 }
 
 /// Takes notes of events that are gone out, if there are any, and gives room back.
-fn tidy(notes: &mut VecDeque<StampNote>, gone: &mut usize, tried: &mut usize)
+fn tidy(
+    notes: &mut VecDeque<StampNote>,
+    gone: &mut usize,
+    tried: &mut usize,
+    passed: Option<Passed>,
+)
     requires { AreRisingNotes notes.old.items }
-    ensures { Keeps notes.old.items notes.new.items }
+    ensures { Keeps (without_passed passed notes.old.items) (without_passed passed notes.new.items) }
 {
     if *gone > 0 {
-        drop_first(notes, gone);
-        drop_many(notes, gone);
+        drop_first(notes, gone, passed);
+        drop_many(notes, gone, passed);
     }
     give_back(notes, tried);
 }
 
 /// Takes the notes before the first event out.
-fn drop_first(notes: &mut VecDeque<StampNote>, gone: &mut usize)
+fn drop_first(notes: &mut VecDeque<StampNote>, gone: &mut usize, passed: Option<Passed>)
     requires { AreRisingNotes notes.old.items }
-    ensures { Keeps notes.old.items notes.new.items }
+    ensures { Keeps (without_passed passed notes.old.items) (without_passed passed notes.new.items) }
 {
-    while is_first_gone(notes) {
+    while is_first_gone(notes, passed) {
         let _ = notes.pop_front();
         *gone = gone.saturating_sub(1);
     }
@@ -213,22 +313,22 @@ fn drop_first(notes: &mut VecDeque<StampNote>, gone: &mut usize)
 
 /// Takes all notes of events that are gone out, where they are many. It goes through all notes, which the marking of each
 /// that is gone has paid for.
-fn drop_many(notes: &mut VecDeque<StampNote>, gone: &mut usize)
-    requires { AreRisingNotes notes.old.items }
-    ensures { Keeps notes.old.items notes.new.items }
+fn drop_many(notes: &mut VecDeque<StampNote>, gone: &mut usize, passed: Option<Passed>)
+    requires { AreRisingNotes (without_passed passed notes.old.items) }
+    ensures { Keeps (without_passed passed notes.old.items) (without_passed passed notes.new.items) }
 {
     if gone.saturating_sub(SPARE_NOTES) > notes.len().saturating_sub(*gone) {
-        notes.retain(|note| note.stamp.is_some());
+        notes.retain(|note| unpassed(passed, note.serial, note.stamp).is_some());
         *gone = 0;
     }
 }
 
 /// Whether the first note is of an event that is gone.
-fn is_first_gone(notes: &VecDeque<StampNote>) -> bool
-    ensures { result ≡ is_first_none notes.now.items }
+fn is_first_gone(notes: &VecDeque<StampNote>, passed: Option<Passed>) -> bool
+    ensures { result ≡ is_first_none (without_passed passed notes.now.items) }
 {
     match notes.front() {
-        Some(note) => note.stamp.is_none(),
+        Some(note) => unpassed(passed, note.serial, note.stamp).is_none(),
         None => false,
     }
 }

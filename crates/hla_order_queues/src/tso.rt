@@ -106,15 +106,15 @@ impl TsoQueue {
         }
     }
 
-    /// Takes the first event, if there is one. It takes no memory, and no other event moves; its name goes in time that
-    /// grows with the logarithm of the events.
+    /// Takes the first event, if there is one. It takes no memory, and no other event moves; its name goes at once, unless its
+    /// sender sent an earlier one that still waits and another that did not come behind it: then it is looked for by halves.
     pub fn take_least(&mut self) -> Option<Event>
         ensures least { result ≡ slice_get self.old 0 }
         ensures rest { self.new ≡ drop 1 self.old }
     {
         match self.events.take_first() {
             Some(event) => {
-                let _ = self.names.take(EventKey::of(&event).name());
+                self.names.pass(EventKey::of(&event));
                 Some(event)
             }
             None => None,

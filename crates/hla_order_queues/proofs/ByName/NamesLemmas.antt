@@ -1,5 +1,5 @@
 -- The stamps by name: of all senders' notes, of the others, and of both
-use Rattle.std.proofs.Common.{◌≡◌, ℕ, zero, suc, ◌+◌, ◌<◌, ◌≤◌, Bool, true, false, cond, eqb, ◌&&◌, get_or, List, [], ◌∷◌, ◌++◌, length, Option, Some, None, is_some, Result, Ok, Err, is_ok, refl, sym, ap, ◌∙◌, arith}
+use Rattle.std.proofs.Common.{◌≡◌, ℕ, zero, suc, ◌+◌, ◌<◌, ◌≤◌, Bool, true, false, cond, eqb, ltb, ◌&&◌, ◌||◌, get_or, List, [], ◌∷◌, ◌++◌, length, Option, Some, None, is_some, Result, Ok, Err, is_ok, refl, sym, ap, ◌∙◌, arith}
 use Rattle.std.proofs.lemmas.Bool.Decides.{nat_tests}
 use Rattle.std.proofs.lemmas.List.{get_or_past}
 use Rattle.std.specs.Map.{lookup}
@@ -10,10 +10,11 @@ use Rattle.std.specs.BTreeMap.{is_at}
 use Rattle.std.specs.declared.cmp.Ordering.{Ordering}
 use Rattle.std.specs.declared.cmp.Ordering.TheVariants.{Less, Equal, Greater}
 use Rattle.std.specs.Ordering.{nat_cmp, ordering_then, is_eq}
+use Rattle.hla_order_queues.specs.declared.key.EventKey.{EventKey}
 use Rattle.hla_order_queues.specs.declared.key.EventName.{EventName}
 use Rattle.hla_order_queues.specs.declared.rising.StampNote.{StampNote}
-use Rattle.hla_order_queues.specs.Kept.{name_eq, stamp_at}
-use Rattle.hla_order_queues.specs.Names.{noted, noted_at, with_entry, entries_from, rising_entries, entries_of, name_cmp, SetsAt}
+use Rattle.hla_order_queues.specs.Kept.{name_eq, name_of_key, is_less, stamp_at}
+use Rattle.hla_order_queues.specs.Names.{noted, noted_at, with_entry, entries_from, rising_entries, entries_of, name_cmp, key_with, IsLeastAt, IsLeastNoted, SetsAt}
 use Rattle.hla_order_queues.proofs.ByName.RisingLemmas.{or_none}
 
 -- ---- the entries have what is noted
@@ -239,6 +240,35 @@ found_either rising others now k o p view is there =
     ap (λ (q : Option ℕ). option_or q p) is
     ∙ ap (λ (q : Option ℕ). option_or (noted_at rising k) q) there
     ∙ sym (viewed rising others now k view)
+
+-- the event before which none comes, among what is noted
+noted_first : (rising : List (List StampNote)) (others now : List (EventName × ℕ)) (n : EventName) (t : ℕ) → entries_of rising others ≡ now → noted_at rising n ≡ Some t → stamp_at now n ≡ Some t
+noted_first rising others now n t view is = viewed rising others now n view ∙ ap (λ (o : Option ℕ). option_or o (stamp_at others n)) is
+
+same_stamp : (s t : ℕ) → Some s ≡ Some t → s ≡ t
+same_stamp s t e = cc
+
+pub least_at : (rising : List (List StampNote)) (others now : List (EventName × ℕ)) (k : EventKey) → entries_of rising others ≡ now → ((n : EventName) (t : ℕ) → stamp_at now n ≡ Some t → is_less (key_with n t) k ≡ false) → stamp_at now (name_of_key k) ≡ Some k.stamp → IsLeastAt k rising
+least_at rising others now k view least there = record {
+  least = λ n t is. least n t (noted_first rising others now n t view is);
+  only = λ t is. same_stamp t k.stamp (sym (noted_first rising others now (name_of_key k) t view is) ∙ there);
+}
+
+same_sender : (t s g m k : ℕ) → (ltb t s || (eqb t s && (ltb g g || (eqb g g && ltb m k)))) ≡ false → (ltb t s || (eqb t s && ltb m k)) ≡ false
+same_sender t s g m k h = grind (arith, nat_tests)
+
+get_there : (rising : List (List StampNote)) (i : ℕ) (qs : List StampNote) → i < length rising → qs ≡ get_or rising i qs → qs ≡ get_or rising i []
+get_there [] i qs lt is = absurd (omega arith)
+get_there (r ∷ rising) zero qs lt is = is
+get_there (r ∷ rising) (suc i) qs lt is = get_there rising i qs (omega arith) is
+
+pub least_noted : (rising : List (List StampNote)) (k : EventKey) (qs : List StampNote) → IsLeastAt k rising → k.sender < length rising → qs ≡ get_or rising k.sender qs → IsLeastNoted k.serial k.stamp qs
+least_noted rising k qs h lt is =
+    let there = get_there rising k.sender qs lt is in
+    record {
+      least = λ m t noted_there. same_sender t k.stamp k.sender m k.serial (h.least (record { sender = k.sender; serial = m }) t (ap (noted m) (sym there) ∙ noted_there));
+      only = λ t noted_there. h.only t (ap (noted k.serial) (sym there) ∙ noted_there);
+    }
 
 -- ---- what a test of the answer tells
 pub put_told : (b : Bool) (P : Type 0) → OnTrue b P → b ≡ true → P

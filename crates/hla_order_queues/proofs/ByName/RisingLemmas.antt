@@ -15,7 +15,7 @@ other a b h = grind (arith, nat_tests)
 turned : (a b : ℕ) → a < b → eqb b a ≡ false
 turned a b h = grind (arith, nat_tests)
 
-same : (a b : ℕ) → eqb a b ≡ true → a ≡ b
+pub same : (a b : ℕ) → eqb a b ≡ true → a ≡ b
 same a b h = grind (arith, nat_tests)
 
 not_less : (a b : ℕ) → ltb a b ≡ false → b ≤ a
@@ -44,7 +44,7 @@ exchanged true false s t o apart = refl
 exchanged false true s t o apart = refl
 exchanged false false s t o apart = refl
 
-noted_push : (m s t : ℕ) (qs : List StampNote) → AreLess s qs → noted m (qs ++ (record { serial = s; stamp = Some t }) ∷ []) ≡ cond (eqb s m) (Some t) (noted m qs)
+pub noted_push : (m s t : ℕ) (qs : List StampNote) → AreLess s qs → noted m (qs ++ (record { serial = s; stamp = Some t }) ∷ []) ≡ cond (eqb s m) (Some t) (noted m qs)
 unfolding noted
 noted_push m s t [] h = refl
 noted_push m s t (q ∷ qs) h =
@@ -55,7 +55,7 @@ All-push : (P : StampNote → Type 0) (qs : List StampNote) (q : StampNote) → 
 All-push P [] q h p = (p, tt)
 All-push P (r ∷ qs) q h p = (h.0, All-push P qs q h.1 p)
 
-rising_push : (q : StampNote) (qs : List StampNote) → AreRisingNotes qs → AreLess q.serial qs → AreRisingNotes (qs ++ q ∷ [])
+pub rising_push : (q : StampNote) (qs : List StampNote) → AreRisingNotes qs → AreLess q.serial qs → AreRisingNotes (qs ++ q ∷ [])
 unfolding AreRisingNotes
 rising_push q [] h less = (tt, tt)
 rising_push q (r ∷ qs) h less = (All-push (λ t. r.serial < t.serial) qs q h.0 less.0, rising_push q qs h.1 less.1)
@@ -75,7 +75,7 @@ unfolding AreRisingNotes Falls
 falls_rising m [] h = tt
 falls_rising m (q ∷ qs) h = (λ behind. All-implies (λ r lt. let le = not_less q.serial m behind in fails r.serial m (omega arith)) qs h.0, falls_rising m qs h.1)
 
-none_greater : (m n : ℕ) (qs : List StampNote) → m ≤ n → AllByRecursion (λ q. n < q.serial) qs → noted m qs ≡ None
+pub none_greater : (m n : ℕ) (qs : List StampNote) → m ≤ n → AllByRecursion (λ q. n < q.serial) qs → noted m qs ≡ None
 unfolding noted
 none_greater m n [] le h = refl
 none_greater m n (q ∷ qs) le h = let lt = h.0 in rw (turned m q.serial (omega arith)) (none_greater m n qs le h.1)
@@ -215,7 +215,7 @@ unfolding AreRisingNotes
 swept [] h = record { same = λ m. refl; rising = tt }
 swept (q ∷ qs) h = swept_if q.stamp q qs (filter is_there qs) refl h (All-filter (λ r. q.serial < r.serial) qs h.0) (swept qs h.1)
 
-first_swept : (qs : List StampNote) → AreRisingNotes qs → is_first_none qs ≡ true → Keeps qs (drop 1 qs)
+pub first_swept : (qs : List StampNote) → AreRisingNotes qs → is_first_none qs ≡ true → Keeps qs (drop 1 qs)
 unfolding AreRisingNotes
 first_swept [] h none = absurd (cc)
 first_swept (q ∷ qs) h none = first_if q.stamp q qs refl none h
@@ -224,7 +224,7 @@ first_swept (q ∷ qs) h none = first_if q.stamp q qs refl none h
     first_if None q qs is none h = swept_if None q qs qs is h h.0 (record { same = λ m. refl; rising = h.1 })
     first_if (Some t) q qs is none h = absurd (cc)
 
-keeps_then : (ps qs rs : List StampNote) → Keeps ps qs → Keeps qs rs → Keeps ps rs
+pub keeps_then : (ps qs rs : List StampNote) → Keeps ps qs → Keeps qs rs → Keeps ps rs
 keeps_then ps qs rs h g = record { same = λ m. g.same m ∙ h.same m; rising = g.rising }
 
 -- ---- what the functions have at hand

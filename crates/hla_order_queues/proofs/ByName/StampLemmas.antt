@@ -2,13 +2,14 @@
 use Rattle.std.proofs.Common.{◌≡◌, ℕ, Bool, true, false, cond, eqb, ◌&&◌, List, [], ◌∷◌, drop, Option, Some, None, refl, sym, ap, subst, ◌∙◌, arith}
 use Rattle.std.proofs.lemmas.Bool.Decides.{nat_tests}
 use Rattle.std.specs.Bool.{MatchBool}
-use Rattle.std.specs.List.{slice_get}
+use Rattle.std.specs.List.{AllByRecursion, slice_get}
 use Rattle.std.specs.Option.{IsSome, is_some, option_map}
 use Rattle.hla_base.specs.declared.content.Event.{Event}
 use Rattle.hla_order_queues.specs.declared.key.EventKey.{EventKey}
 use Rattle.hla_order_queues.specs.declared.key.EventName.{EventName}
-use Rattle.hla_order_queues.specs.Queues.{insert_event, is_event, find_event, remove_event}
-use Rattle.hla_order_queues.specs.Kept.{key_of, name_of_key, IsUnique, name_eq, stamp_at, stamp_of, AreNamed}
+use Rattle.hla_order_queues.specs.Queues.{is_before, insert_event, is_event, find_event, remove_event}
+use Rattle.hla_order_queues.specs.Kept.{key_of, is_less, name_of_key, IsInOrder, IsUnique, name_eq, stamp_at, stamp_of, AreNamed}
+use Rattle.hla_order_queues.specs.Names.{key_with}
 use Rattle.hla_order_queues.proofs.Events.EventLemmas.{names_equal, find_event_name, IsUnique-insert_event, IsUnique-remove_event, find_event-insert_event, find_event-remove_event_same, find_event-remove_event_other, remove_event_missed}
 
 -- the tests
@@ -132,3 +133,41 @@ key_is_there k xs e = has_key_if k xs (find_event k.sender k.serial xs) refl e
 pub first_gone : (x : Event) (k : EventKey) (n : EventName) (xs ys : List Event) → Some x ≡ slice_get xs 0 → k ≡ key_of x → n ≡ name_of_key k → ys ≡ drop 1 xs → ys ≡ remove_event n.sender n.serial xs
 first_gone x k n xs ys first key name rest =
     rest ∙ first_removed x xs first ∙ ap (λ (q : EventName). remove_event q.sender q.serial xs) (sym (name ∙ ap name_of_key key))
+
+-- ---- no event comes before the first, which is named
+found_if : (b : Bool) (P : Event → Type 0) (x e : Event) (o : Option Event) → P x → (o ≡ Some e → P e) → cond b (Some x) o ≡ Some e → P e
+found_if true P x e o here there is = let same : x ≡ e = cc in subst P same here
+found_if false P x e o here there is = there is
+
+found_all : (P : Event → Type 0) (g m : ℕ) (xs : List Event) (e : Event) → AllByRecursion P xs → find_event g m xs ≡ Some e → P e
+unfolding find_event
+found_all P g m [] e h is = absurd (cc)
+found_all P g m (x ∷ xs) e h is = found_if (is_event g m x) P x e (find_event g m xs) h.0 (λ there. found_all P g m xs e h.1 there) is
+
+not_before_itself : (x : Event) → is_before x x ≡ false
+not_before_itself x = grind (arith, nat_tests)
+
+none_before_first : (x : Event) (g m : ℕ) (xs : List Event) (e : Event) → IsInOrder xs → Some x ≡ slice_get xs 0 → find_event g m xs ≡ Some e → is_before e x ≡ false
+unfolding IsInOrder
+none_before_first x g m [] e h first is = absurd (cc)
+none_before_first x g m (y ∷ ys) e h first is =
+    let same : y ≡ x = cc in
+    let P : Event → Type 0 = λ z. is_before e z ≡ false in
+    subst P same (found_all (λ z. is_before z y ≡ false) g m (y ∷ ys) e (not_before_itself y, h.0) is)
+
+pub least_named : (entries : List (EventName × ℕ)) (xs : List Event) (x : Event) (k : EventKey) → AreNamed entries xs → IsInOrder xs → Some x ≡ slice_get xs 0 → k ≡ key_of x → (n : EventName) (t : ℕ) → stamp_at entries n ≡ Some t → is_less (key_with n t) k ≡ false
+least_named entries xs x k h order first key n t is =
+    let there = key_is_there (key_with n t) xs (sym (h.named n) ∙ is) in
+    let P : EventKey → Type 0 = λ j. is_less j (key_of x) ≡ false in
+    let Q : EventKey → Type 0 = λ j. is_less (key_with n t) j ≡ false in
+    subst Q (sym key) (subst P there.key (none_before_first x n.sender n.serial xs there.event order first there.found))
+
+first_stamp_of : (x : Event) (xs : List Event) → Some x ≡ slice_get xs 0 → stamp_of (name_of_key (key_of x)) xs ≡ Some x.stamp
+unfolding find_event
+first_stamp_of x [] first = absurd (cc)
+first_stamp_of x (y ∷ ys) first = let same : y ≡ x = cc in rw same (rw (same_name x) refl)
+
+pub first_named : (entries : List (EventName × ℕ)) (xs : List Event) (x : Event) (k : EventKey) → AreNamed entries xs → Some x ≡ slice_get xs 0 → k ≡ key_of x → stamp_at entries (name_of_key k) ≡ Some k.stamp
+first_named entries xs x k h first key =
+    let P : EventKey → Type 0 = λ j. stamp_at entries (name_of_key j) ≡ Some j.stamp in
+    subst P (sym key) (h.named (name_of_key (key_of x)) ∙ first_stamp_of x xs first)

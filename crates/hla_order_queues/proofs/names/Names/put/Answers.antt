@@ -7,18 +7,18 @@ pub returns-then-not-reach-clause-refused : goal.returns-then-not-reach-clause-r
 returns-then-not-reach-clause-refused c =
     put_none c.self.inside.rising.items c.reach.new.rising.items c.self.inside.others.entries c.self.inside.others.entries c.args.self.now c.self.view_is c.reach.ensures.same refl
 
-pub returns-then-rises-clause-put : goal.returns-then-rises-clause-put
-returns-then-rises-clause-put c =
-    when_true c.push.result _ _ (λ sets. put_noted c.self.inside.rising.items c.reach.new.rising.items c.push.new.rising.items c.self.inside.others.entries c.args.self.now (record { sender = c.args.key.sender; serial = c.args.key.serial }) c.args.key.stamp c.self.view_is c.reach.ensures.same sets) c.push.ensures.put
+pub returns-in-Noted-clause-put : goal.returns-in-Noted-clause-put
+returns-in-Noted-clause-put c =
+    put_noted c.self.inside.rising.items c.reach.new.rising.items c.push.new.rising.items c.self.inside.others.entries c.args.self.now (record { sender = c.args.key.sender; serial = c.args.key.serial }) c.args.key.stamp c.self.view_is c.reach.ensures.same c.in-Noted.ensures
 
-pub returns-then-rises-clause-refused : goal.returns-then-rises-clause-refused
-returns-then-rises-clause-refused c =
-    when_false c.push.result _ _ (λ same. put_none c.self.inside.rising.items c.push.new.rising.items c.self.inside.others.entries c.self.inside.others.entries c.args.self.now c.self.view_is (λ n. same n ∙ c.reach.ensures.same n) refl) c.push.ensures.refused
+pub returns-in-Elsewhere-clause-put : goal.returns-in-Elsewhere-clause-put
+returns-in-Elsewhere-clause-put c =
+    when_true c.insert.result _ _ (λ sets. put_other c.self.inside.rising.items c.push.new.rising.items c.self.inside.others.entries c.insert.new.others.entries c.args.self.now (record { sender = c.args.key.sender; serial = c.args.key.serial }) c.args.key.stamp c.self.view_is c.requires (λ n. c.in-Elsewhere.ensures n ∙ c.reach.ensures.same n) sets) c.insert.ensures.put
 
-pub returns-else-rises-clause-put : goal.returns-else-rises-clause-put
-returns-else-rises-clause-put c =
-    when_true c.insert.result _ _ (λ sets. put_other c.self.inside.rising.items c.reach.new.rising.items c.self.inside.others.entries c.insert.new.others.entries c.args.self.now (record { sender = c.args.key.sender; serial = c.args.key.serial }) c.args.key.stamp c.self.view_is c.requires c.reach.ensures.same sets) c.insert.ensures.put
+pub returns-in-Elsewhere-clause-refused : goal.returns-in-Elsewhere-clause-refused
+returns-in-Elsewhere-clause-refused c =
+    when_false c.insert.result _ _ (λ kept. put_none c.self.inside.rising.items c.push.new.rising.items c.self.inside.others.entries c.insert.new.others.entries c.args.self.now c.self.view_is (λ n. c.in-Elsewhere.ensures n ∙ c.reach.ensures.same n) kept) c.insert.ensures.refused
 
-pub returns-else-rises-clause-refused : goal.returns-else-rises-clause-refused
-returns-else-rises-clause-refused c =
-    when_false c.insert.result _ _ (λ kept. put_none c.self.inside.rising.items c.reach.new.rising.items c.self.inside.others.entries c.insert.new.others.entries c.args.self.now c.self.view_is c.reach.ensures.same kept) c.insert.ensures.refused
+pub returns-in-Refused-clause-refused : goal.returns-in-Refused-clause-refused
+returns-in-Refused-clause-refused c =
+    put_none c.self.inside.rising.items c.push.new.rising.items c.self.inside.others.entries c.self.inside.others.entries c.args.self.now c.self.view_is (λ n. c.in-Refused.ensures n ∙ c.reach.ensures.same n) refl
