@@ -85,23 +85,21 @@ impl History {
     }
 }
 
-/// What a step brought, as far as it is counted.
+/// What a callback brought, as far as it is counted.
 #[derive(Clone, Copy)]
 enum Brought {
-    Nothing,
     Message,
     Grant(Ticks),
     Other,
 }
 
-/// What an answer says that a step brought.
-fn brought_by(answer: &Answer) -> Brought {
-    match answer {
-        Answer::Ticked(
-            Some(Callback::ReceiveInteraction { .. } | Callback::ReflectAttributeValues { .. }),
-        ) => Brought::Message,
-        Answer::Ticked(Some(Callback::TimeAdvanceGrant { time })) => Brought::Grant(*time),
-        Answer::Ticked(None) | Answer::Carried(Carried::Nothing) => Brought::Nothing,
+/// What a callback brought a federate.
+fn brought_by(callback: &Callback) -> Brought {
+    match callback {
+        Callback::ReceiveInteraction { .. } | Callback::ReflectAttributeValues { .. } => {
+            Brought::Message
+        }
+        Callback::TimeAdvanceGrant { time } => Brought::Grant(*time),
         _ => Brought::Other,
     }
 }
@@ -160,44 +158,62 @@ impl Meter {
         }
     }
 
-    /// Adds the record that the next step will have, if records are kept.
-    fn record(&mut self, step: &Step) -> Result<(), Fault> {
+    /// Adds the record that the next step will have.
+    fn record(&mut self, step: Step) -> Result<(), Fault> {
         let Some(history) = &mut self.history else {
+            drop(step);
             return Ok(());
         };
-        let foreseen = self.federation.foresee(step)?;
-        history.add_step(step, foreseen)
-    }
-
-    /// Does a step, and records it before.
-    fn done(&mut self, step: &Step) -> Result<Brought, Fault> {
-        self.record(step)?;
-        self.counts.steps = self.counts.steps.wrapping_add(1);
-        let answer = self.federation.step(step)?;
-        let brought = brought_by(&answer);
-        drop(answer);
-        Ok(brought)
-    }
-
-    /// Does a step that is let go then.
-    fn step(&mut self, step: Step) -> Result<Brought, Fault> {
-        let brought = self.done(&step);
+        let added = match self.federation.foresee(&step) {
+            Ok(foreseen) => history.add_step(&step, foreseen),
+            Err(fault) => Err(fault),
+        };
         drop(step);
-        brought
+        added
+    }
+
+    /// Counts the next step.
+    fn count(&mut self) {
+        self.counts.steps = self.counts.steps.wrapping_add(1);
+    }
+
+    /// Calls a service, and lets its answer go.
+    fn served(&mut self, federate: FederateNo, service: &Service) -> Result<(), Fault> {
+        self.count();
+        if self.history.is_some() {
+            let service = service.copy()?;
+            self.record(Step::Call { federate, service })?;
+        }
+        let answer = self.federation.call(federate, service)?;
+        drop(answer);
+        Ok(())
     }
 
     /// A joined federate calls a service. An error is the fault of the step where it is refused, or `OutOfMemory` where a
     /// growth was refused.
     pub fn call(&mut self, federate: FederateNo, service: Service) -> Result<(), Fault> {
-        let _brought = self.step(Step::Call { federate, service })?;
-        Ok(())
+        let served = self.served(federate, &service);
+        drop(service);
+        served
     }
 
     /// A federate joins, under the letter that has its number. An error is the fault of the step where it is refused, or
     /// `OutOfMemory` where a growth was refused.
     pub fn join(&mut self, federate: FederateNo) -> Result<(), Fault> {
         let name = name_of(self.alloc, federate)?;
-        let _brought = self.step(Step::Join { name })?;
+        let joined = self.joined(&name);
+        drop(name);
+        joined
+    }
+
+    /// A federate joins under a name.
+    fn joined(&mut self, name: &List<u8>) -> Result<(), Fault> {
+        self.count();
+        if self.history.is_some() {
+            let name = name.copy()?;
+            self.record(Step::Join { name })?;
+        }
+        let _federate = self.federation.join(name.as_slice())?;
         Ok(())
     }
 
@@ -269,24 +285,54 @@ impl Meter {
         Ok(())
     }
 
+    /// What a federate's next tick brings, if it brings anything.
+    fn ticked(&mut self, federate: FederateNo) -> Result<Option<Brought>, Fault> {
+        self.count();
+        if self.history.is_some() {
+            self.record(Step::Tick { federate })?;
+        }
+        match self.federation.tick(federate)? {
+            Some(callback) => {
+                let brought = brought_by(&callback);
+                drop(callback);
+                Ok(Some(brought))
+            }
+            None => Ok(None),
+        }
+    }
+
     /// A federate ticks once. An error is the fault of the step where it is refused, or `OutOfMemory` where a growth was
     /// refused.
     pub fn tick(&mut self, federate: FederateNo) -> Result<(), Fault> {
-        let _brought = self.step(Step::Tick { federate })?;
+        let _brought = self.ticked(federate)?;
         Ok(())
     }
 
     /// A federate announces its promise. An error is the fault of the step where it is refused, or `OutOfMemory` where a
     /// growth was refused.
     pub fn announce(&mut self, federate: FederateNo) -> Result<(), Fault> {
-        let _brought = self.step(Step::Announce { federate })?;
+        self.count();
+        if self.history.is_some() {
+            self.record(Step::Announce { federate })?;
+        }
+        let _announced = self.federation.announce(federate)?;
         Ok(())
+    }
+
+    /// Whether there was anything on a wire to carry.
+    fn carried(&mut self, from: FederateNo, to: FederateNo) -> Result<bool, Fault> {
+        self.count();
+        if self.history.is_some() {
+            self.record(Step::Carry { from, to })?;
+        }
+        let carried = self.federation.carry(from, to)?;
+        Ok(carried != Carried::Nothing)
     }
 
     /// Carries a wire until it is empty.
     fn carry(&mut self, from: FederateNo, to: FederateNo) -> Result<(), Fault> {
         for _ in 0..u64::MAX {
-            if matches!(self.step(Step::Carry { from, to })?, Brought::Nothing) {
+            if !self.carried(from, to)? {
                 return Ok(());
             }
         }
@@ -309,11 +355,11 @@ impl Meter {
     pub fn visit(&mut self, federate: FederateNo) -> Result<Visit, Fault> {
         let mut received = 0u64;
         for _ in 0..u64::MAX {
-            match self.step(Step::Tick { federate })? {
-                Brought::Message => received = received.wrapping_add(1),
-                Brought::Grant(time) => return Ok(self.visited(received, Some(time))),
-                Brought::Nothing => break,
-                Brought::Other => {}
+            match self.ticked(federate)? {
+                Some(Brought::Message) => received = received.wrapping_add(1),
+                Some(Brought::Grant(time)) => return Ok(self.visited(received, Some(time))),
+                Some(Brought::Other) => {}
+                None => break,
             }
         }
         Ok(self.visited(received, None))
