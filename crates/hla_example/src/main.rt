@@ -38,6 +38,28 @@ const FED: &[u8] = b"(FED
 /// How many records the history may hold.
 const HISTORY_LIMIT: usize = 262_144;
 
+/// Takes a federate out of the execution that lived to its end, and adds its place and that of its courier. Where it did not, or its
+/// resignation is refused, both are let go.
+fn leave<L: Ledger + Naming, W: Publisher<L>>(
+    rt: &impl Wait,
+    lived: Lived<L, W>,
+    lefts: &mut Vec<Left<L, Recorder>>,
+) -> Result<(), Trouble> {
+    let Lived { job, trouble } = lived;
+    if let Some(trouble) = trouble {
+        drop(job);
+        return Err(trouble);
+    }
+    keep(lefts, job.courier.leave())?;
+    match job.federate.resign(rt, ResignAction::NoAction) {
+        Ok(left) => keep(lefts, left),
+        Err((fault, federate)) => {
+            drop(federate);
+            Err(Trouble::Refused(fault))
+        }
+    }
+}
+
 /// Takes the federates out of the execution and destroys it: nobody is left joined, and all places are there for `close`.
 fn ended<L: Ledger + Naming, W: Publisher<L>>(
     rt: &impl Wait,
@@ -47,21 +69,14 @@ fn ended<L: Ledger + Naming, W: Publisher<L>>(
     lived: Vec<Lived<L, W>>,
 ) -> Result<Vec<Left<L, Recorder>>, Trouble> {
     let mut lefts = Vec::new(alloc);
-    for Lived { job, trouble } in lived {
-        if let Some(trouble) = trouble {
-            return Err(trouble);
-        }
-        match job.federate.resign(rt, ResignAction::NoAction) {
-            Ok(left) => keep(&mut lefts, left)?,
-            Err((fault, _)) => return Err(Trouble::Refused(fault)),
-        }
-        keep(&mut lefts, job.courier.leave())?;
+    for one in lived {
+        leave(rt, one, &mut lefts)?;
     }
     rti.destroy(rt, tank)?;
     Ok(lefts)
 }
 
-/// Runs the federation to its end: the places of all who took part, the display's the last but one.
+/// Runs the federation to its end: the places of all who took part.
 fn run<L: Ledger + Naming + Send + Sync, W: Publisher<L> + Send, R: Threads + Wait + Sync>(
     rt: &R,
     alloc: Global,

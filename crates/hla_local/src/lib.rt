@@ -7,8 +7,6 @@ mod local;
 mod picked;
 mod picking;
 mod telling;
-#[cfg(test)]
-mod tests;
 
 pub use local::Local;
 pub use picked::{NextPick, Picked};

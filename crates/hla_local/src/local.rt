@@ -38,7 +38,15 @@ impl Model for Local {
 
     ghost Value = { LocalValue };
 
-    ghost view = { λ l. record { row = l.state; peers = l.peers; ro = l.received.events; tso = l.ordered; controls = l.controls.items; last_announced = l.last_announced; epoch = l.epoch } };
+    ghost view = { λ l. record {
+      row = l.state;
+      peers = l.peers;
+      ro = l.received.events;
+      tso = l.ordered;
+      controls = l.controls.items;
+      last_announced = l.last_announced;
+      epoch = l.epoch;
+    } };
 }
 
 impl Local {

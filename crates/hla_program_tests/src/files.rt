@@ -121,13 +121,40 @@ fn status_of<R: Threads + Wait + Sync, O: Opener, W: Write, E: Write>(
     do_task::<Brand, R, O, W, E>(means, opener, task, out, errors)
 }
 
-/// The status of a task on these files, and what is on the standard output and on the standard error.
+/// How a task is to end: its status, and what is on the standard output and on the standard error.
+#[derive(Clone, Copy)]
+struct End<'a> {
+    status: u8,
+    out: &'a [u8],
+    errors: &'a str,
+}
+
+/// An end without a fault, with this on the standard output.
+fn well(out: &[u8]) -> End<'_> {
+    End {
+        status: 0,
+        out,
+        errors: "",
+    }
+}
+
+/// An end with a fault that is told in one line.
+fn refused(errors: &str) -> End<'_> {
+    End {
+        status: 1,
+        out: b"",
+        errors,
+    }
+}
+
+/// Whether a task on these files ends so.
 fn ends<R: Threads + Wait + Sync>(
     rt: &R,
     alloc: Global,
     files: &[(&str, &[u8])],
     task: Task<'_>,
-) -> (u8, Vec<u8>, Vec<u8>) {
+    end: End<'_>,
+) -> bool {
     let mut out = Vec::new(alloc);
     let mut errors = Vec::new(alloc);
     let shelf = Shelf { files };
@@ -139,7 +166,45 @@ fn ends<R: Threads + Wait + Sync>(
         &mut Watched::new(&mut out),
         &mut Watched::new(&mut errors),
     );
-    (status, out, errors)
+    status == end.status && out.as_slice() == end.out && errors.as_slice() == end.errors.as_bytes()
+}
+
+/// Whether a task on a FED file and a script ends so.
+fn ends_on<R: Threads + Wait + Sync>(
+    rt: &R,
+    alloc: Global,
+    fed: &[u8],
+    script: &[u8],
+    task: Task<'_>,
+    end: End<'_>,
+) -> bool {
+    let files: [(&str, &[u8]); 2] = [("a.fed", fed), ("b.script", script)];
+    ends(rt, alloc, files.as_slice(), task, end)
+}
+
+/// Whether a task on FED and SCRIPT that writes to a narrow output ends with this status and this on the standard error.
+fn ends_narrow<R: Threads + Wait + Sync>(
+    rt: &R,
+    alloc: Global,
+    task: Task<'_>,
+    out: Narrow,
+    status: u8,
+    line: &str,
+) -> bool {
+    let files: [(&str, &[u8]); 2] = [("a.fed", FED), ("b.script", SCRIPT)];
+    let shelf = Shelf {
+        files: files.as_slice(),
+    };
+    let mut errors = Vec::new(alloc);
+    let ended = status_of(
+        rt,
+        alloc,
+        &shelf,
+        task,
+        &mut Watched::new(out),
+        &mut Watched::new(&mut errors),
+    );
+    ended == status && errors.as_slice() == line.as_bytes()
 }
 
 const PLAY: Task<'static> = Task::Play {
@@ -196,31 +261,32 @@ const TWO_OUTCOMES: &[u8] = b"1 ok
 ok 11
 ";
 
+/// What a list of FED says.
+const LIST: &[u8] = b"object 1 ObjectRoot
+attribute 1 privilegeToDelete reliable timestamp
+interaction 1 InteractionRoot reliable receive
+parameter 1 Text
+";
+
+const BAD_SCRIPT: &[u8] = b"create\n\nA fly\n";
+
+const BAD_FED: &[u8] = b"(FED\n (Federation Demo)\n";
+
+const PLAY_BOTH: Task<'static> = Task::Play {
+    fed: "-",
+    script: "-",
+};
+
 #[test]
 fn plays_files_by_their_names(rt: HostRuntime) {
-    let files: [(&str, &[u8]); 2] = [("a.fed", FED), ("b.script", SCRIPT)];
-    let (status, out, errors) = ends(&rt, rt.alloc(), files.as_slice(), PLAY);
-    assert_eq!(rt; status, 0);
-    assert_eq!(rt; out.as_slice(), TRANSCRIPT);
-    assert_eq!(rt; errors.as_slice(), b"".as_slice());
+    assert!(rt; ends_on(&rt, rt.alloc(), FED, SCRIPT, PLAY, well(TRANSCRIPT)));
 }
 
 #[test]
 fn lists_a_file_by_its_name(rt: HostRuntime) {
     let files: [(&str, &[u8]); 2] = [("b.fed", SCRIPT), ("a.fed", FED)];
     let task = Task::List { fed: "a.fed" };
-    let (status, out, errors) = ends(&rt, rt.alloc(), files.as_slice(), task);
-    assert_eq!(rt; status, 0);
-    assert_eq!(rt;
-        out.as_slice(),
-        b"object 1 ObjectRoot
-attribute 1 privilegeToDelete reliable timestamp
-interaction 1 InteractionRoot reliable receive
-parameter 1 Text
-"
-            .as_slice()
-    );
-    assert_eq!(rt; errors.as_slice(), b"".as_slice());
+    assert!(rt; ends(&rt, rt.alloc(), files.as_slice(), task, well(LIST)));
 }
 
 #[test]
@@ -231,28 +297,20 @@ fn plays_one_input_that_holds_both(rt: HostRuntime) -> Result<(), Fail> {
     input.extend_from_slice(b"%%\n")?;
     input.extend_from_slice(SCRIPT)?;
     let files: [(&str, &[u8]); 1] = [("-", input.as_slice())];
-    let task = Task::Play {
-        fed: "-",
-        script: "-",
-    };
-    let (status, out, errors) = ends(&rt, alloc, files.as_slice(), task);
-    assert_eq!(rt; status, 0);
-    assert_eq!(rt; out.as_slice(), TRANSCRIPT);
-    assert_eq!(rt; errors.as_slice(), b"".as_slice());
+    assert!(rt; ends(&rt, alloc, files.as_slice(), PLAY_BOTH, well(TRANSCRIPT)));
     Ok(())
 }
 
 #[test]
 fn checks_files_by_their_names(rt: HostRuntime) {
     for (fed, script, line) in [
-        (FED, SCRIPT, "ok 2\n"),
-        (b"(FED)".as_slice(), b"".as_slice(), "ok 0\n"),
+        (FED, SCRIPT, b"ok 2\n".as_slice()),
+        (b"(FED)".as_slice(), b"".as_slice(), b"ok 0\n".as_slice()),
     ] {
-        let files: [(&str, &[u8]); 2] = [("a.fed", fed), ("b.script", script)];
-        let (status, out, errors) = ends(&rt, rt.alloc(), files.as_slice(), CHECK);
-        assert_eq!(rt; status, 0, "at {line}");
-        assert_eq!(rt; out.as_slice(), line.as_bytes(), "at {line}");
-        assert_eq!(rt; errors.as_slice(), b"".as_slice(), "at {line}");
+        assert!(rt;
+            ends_on(&rt, rt.alloc(), fed, script, CHECK, well(line)),
+            "at {line:?}"
+        );
     }
 }
 
@@ -263,114 +321,61 @@ fn checks_one_input_that_holds_both(rt: HostRuntime) {
         script: "-",
     };
     for (input, line) in [
-        ("(FED)\n%%\ncreate\ncreate\n", "ok 2\n"),
-        ("(FED)\n%%\n", "ok 0\n"),
-        ("(FED)\n%%", "ok 0\n"),
-        ("(FED)\n", "ok 0\n"),
+        ("(FED)\n%%\ncreate\ncreate\n", b"ok 2\n".as_slice()),
+        ("(FED)\n%%\n", b"ok 0\n".as_slice()),
+        ("(FED)\n%%", b"ok 0\n".as_slice()),
+        ("(FED)\n", b"ok 0\n".as_slice()),
     ] {
         let files: [(&str, &[u8]); 1] = [("-", input.as_bytes())];
-        let (status, out, errors) = ends(&rt, rt.alloc(), files.as_slice(), task);
-        assert_eq!(rt; status, 0, "in {input:?}");
-        assert_eq!(rt; out.as_slice(), line.as_bytes(), "in {input:?}");
-        assert_eq!(rt; errors.as_slice(), b"".as_slice(), "in {input:?}");
+        assert!(rt;
+            ends(&rt, rt.alloc(), files.as_slice(), task, well(line)),
+            "in {input:?}"
+        );
     }
 }
 
 #[test]
 fn runs_files_by_their_names(rt: HostRuntime) {
-    let files: [(&str, &[u8]); 2] = [("a.fed", FED), ("b.script", TWO_FEDERATES)];
-    let (status, out, errors) = ends(&rt, rt.alloc(), files.as_slice(), RUN);
-    assert_eq!(rt; status, 0);
-    assert_eq!(rt; out.as_slice(), TWO_OUTCOMES);
-    assert_eq!(rt; errors.as_slice(), b"".as_slice());
+    assert!(rt; ends_on(&rt, rt.alloc(), FED, TWO_FEDERATES, RUN, well(TWO_OUTCOMES)));
 }
 
 #[test]
 fn runs_files_beside_a_monitor(rt: HostRuntime) -> Result<(), Fail> {
-    let files: [(&str, &[u8]); 2] = [("a.fed", FED), ("b.script", TWO_FEDERATES)];
-    let (status, out, errors) = ends(&rt, rt.alloc(), files.as_slice(), WATCHED_RUN);
     let mut expected = TWO_OUTCOMES.to_vec(rt.alloc())?;
     expected.extend_from_slice(b"monitor 11 0\n")?;
-    assert_eq!(rt; status, 0);
-    assert_eq!(rt; out.as_slice(), expected.as_slice());
-    assert_eq!(rt; errors.as_slice(), b"".as_slice());
+    let end = well(expected.as_slice());
+    assert!(rt; ends_on(&rt, rt.alloc(), FED, TWO_FEDERATES, WATCHED_RUN, end));
     Ok(())
 }
 
 #[test]
-fn tells_why_a_script_is_not_run(rt: HostRuntime) {
-    let bad_script: &[u8] = b"create\n\nA fly\n";
-    for (fed, script, line) in [
-        (SCRIPT, bad_script, "fed line 1: ExpectedOpen\n"),
-        (FED, bad_script, "script line 3: UnknownWord\n"),
+fn tells_why_a_script_is_not_run_or_checked(rt: HostRuntime) {
+    for (fed, task, line) in [
+        (SCRIPT, RUN, "fed line 1: ExpectedOpen\n"),
+        (FED, RUN, "script line 3: UnknownWord\n"),
+        (SCRIPT, CHECK, "fed line 1: ExpectedOpen\n"),
+        (FED, CHECK, "script line 3: UnknownWord\n"),
     ] {
-        let files: [(&str, &[u8]); 2] = [("a.fed", fed), ("b.script", script)];
-        let (status, out, errors) = ends(&rt, rt.alloc(), files.as_slice(), RUN);
-        assert_eq!(rt; status, 1, "at {line}");
-        assert_eq!(rt; out.as_slice(), b"".as_slice(), "at {line}");
-        assert_eq!(rt; errors.as_slice(), line.as_bytes(), "at {line}");
-    }
-}
-
-#[test]
-fn tells_why_a_script_is_not_checked(rt: HostRuntime) {
-    let bad_script: &[u8] = b"create\n\nA fly\n";
-    for (fed, script, line) in [
-        (SCRIPT, bad_script, "fed line 1: ExpectedOpen\n"),
-        (FED, bad_script, "script line 3: UnknownWord\n"),
-    ] {
-        let files: [(&str, &[u8]); 2] = [("a.fed", fed), ("b.script", script)];
-        let (status, out, errors) = ends(&rt, rt.alloc(), files.as_slice(), CHECK);
-        assert_eq!(rt; status, 1, "at {line}");
-        assert_eq!(rt; out.as_slice(), b"".as_slice(), "at {line}");
-        assert_eq!(rt; errors.as_slice(), line.as_bytes(), "at {line}");
-    }
-}
-
-#[test]
-fn tells_that_it_cannot_write_what_it_found(rt: HostRuntime) {
-    let files: [(&str, &[u8]); 2] = [("a.fed", FED), ("b.script", SCRIPT)];
-    let shelf = Shelf {
-        files: files.as_slice(),
-    };
-    for (room, fails_to_flush) in [(100, true), (3, false), (0, false)] {
-        let mut errors = Vec::new(rt.alloc());
-        let mut out = Watched::new(Narrow {
-            room,
-            fails_to_flush,
-        });
-        let ended = status_of(
-            &rt,
-            rt.alloc(),
-            &shelf,
-            CHECK,
-            &mut out,
-            &mut Watched::new(&mut errors),
-        );
-        assert_eq!(rt; ended, 1, "with room for {room}");
-        assert_eq!(rt;
-            errors.as_slice(),
-            b"cannot write\n".as_slice(),
-            "with room for {room}"
+        let end = refused(line);
+        assert!(rt;
+            ends_on(&rt, rt.alloc(), fed, BAD_SCRIPT, task, end),
+            "at {line}"
         );
     }
 }
 
 #[test]
 fn tells_refused_input_in_one_line(rt: HostRuntime) {
-    let bad_fed: &[u8] = b"(FED\n (Federation Demo)\n";
-    let bad_script: &[u8] = b"create\n\nA fly\n";
     for (fed, script, line) in [
-        (bad_fed, SCRIPT, "fed line 3: UnexpectedEnd\n"),
-        (bad_fed, bad_script, "fed line 3: UnexpectedEnd\n"),
+        (BAD_FED, SCRIPT, "fed line 3: UnexpectedEnd\n"),
+        (BAD_FED, BAD_SCRIPT, "fed line 3: UnexpectedEnd\n"),
         (SCRIPT, FED, "fed line 1: ExpectedOpen\n"),
-        (FED, bad_script, "script line 3: UnknownWord\n"),
+        (FED, BAD_SCRIPT, "script line 3: UnknownWord\n"),
     ] {
-        let files: [(&str, &[u8]); 2] = [("a.fed", fed), ("b.script", script)];
-        let (status, out, errors) = ends(&rt, rt.alloc(), files.as_slice(), PLAY);
-        assert_eq!(rt; status, 1, "at {line}");
-        assert_eq!(rt; out.as_slice(), b"".as_slice(), "at {line}");
-        assert_eq!(rt; errors.as_slice(), line.as_bytes(), "at {line}");
+        assert!(rt;
+            ends_on(&rt, rt.alloc(), fed, script, PLAY, refused(line)),
+            "at {line}"
+        );
     }
 }
 
@@ -380,62 +385,53 @@ fn tells_a_file_that_is_too_large(rt: HostRuntime) -> Result<(), Fail> {
     let large = vec![in alloc; b' '; 1_048_577]?;
     let files: [(&str, &[u8]); 1] = [("a.fed", large.as_slice())];
     let task = Task::List { fed: "a.fed" };
-    let (status, out, errors) = ends(&rt, alloc, files.as_slice(), task);
-    assert_eq!(rt; status, 1);
-    assert_eq!(rt; out.as_slice(), b"".as_slice());
-    assert_eq!(rt; errors.as_slice(), b"fed line 1: TooLarge\n".as_slice());
+    assert!(rt;
+        ends(
+            &rt,
+            alloc,
+            files.as_slice(),
+            task,
+            refused("fed line 1: TooLarge\n")
+        )
+    );
     Ok(())
 }
 
 #[test]
 fn tells_which_file_cannot_be_read(rt: HostRuntime) {
     let both: [(&str, &[u8]); 2] = [("a.fed", FED), ("b.script", SCRIPT)];
-    for (files, line) in [
-        (&both[..1], "cannot read b.script\n"),
-        (&both[1..], "cannot read a.fed\n"),
-        (&both[..0], "cannot read a.fed\n"),
+    for (files, task, line) in [
+        (&both[..1], PLAY, "cannot read b.script\n"),
+        (&both[1..], PLAY, "cannot read a.fed\n"),
+        (&both[..0], PLAY, "cannot read a.fed\n"),
+        (both.as_slice(), PLAY_BOTH, "cannot read -\n"),
     ] {
-        let (status, out, errors) = ends(&rt, rt.alloc(), files, PLAY);
-        assert_eq!(rt; status, 1, "at {line}");
-        assert_eq!(rt; out.as_slice(), b"".as_slice(), "at {line}");
-        assert_eq!(rt; errors.as_slice(), line.as_bytes(), "at {line}");
+        assert!(rt;
+            ends(&rt, rt.alloc(), files, task, refused(line)),
+            "at {line}"
+        );
     }
-    let task = Task::Play {
-        fed: "-",
-        script: "-",
-    };
-    let (status, _, errors) = ends(&rt, rt.alloc(), both.as_slice(), task);
-    assert_eq!(rt; status, 1);
-    assert_eq!(rt; errors.as_slice(), b"cannot read -\n".as_slice());
 }
 
 #[test]
 fn tells_that_it_cannot_write(rt: HostRuntime) {
-    let files: [(&str, &[u8]); 2] = [("a.fed", FED), ("b.script", SCRIPT)];
-    let shelf = Shelf {
-        files: files.as_slice(),
-    };
-    for (room, fails_to_flush, status, line) in [
-        (100, false, 0, ""),
-        (100, true, 1, "cannot write\n"),
-        (7, false, 1, "cannot write\n"),
-        (0, false, 1, "cannot write\n"),
+    for (task, room, fails_to_flush, status, line) in [
+        (CHECK, 100, true, 1, "cannot write\n"),
+        (CHECK, 3, false, 1, "cannot write\n"),
+        (CHECK, 0, false, 1, "cannot write\n"),
+        (PLAY, 100, false, 0, ""),
+        (PLAY, 100, true, 1, "cannot write\n"),
+        (PLAY, 7, false, 1, "cannot write\n"),
+        (PLAY, 0, false, 1, "cannot write\n"),
     ] {
-        let mut errors = Vec::new(rt.alloc());
-        let mut out = Watched::new(Narrow {
+        let out = Narrow {
             room,
             fails_to_flush,
-        });
-        let ended = status_of(
-            &rt,
-            rt.alloc(),
-            &shelf,
-            PLAY,
-            &mut out,
-            &mut Watched::new(&mut errors),
+        };
+        assert!(rt;
+            ends_narrow(&rt, rt.alloc(), task, out, status, line),
+            "with room for {room}"
         );
-        assert_eq!(rt; ended, status, "with room for {room}");
-        assert_eq!(rt; errors.as_slice(), line.as_bytes(), "with room for {room}");
     }
 }
 
@@ -457,20 +453,17 @@ fn keeps_the_status_where_standard_error_fails(rt: HostRuntime) {
 fn tells_that_a_file_is_not_there(rt: HostRuntime) {
     let mut out = Vec::new(rt.alloc());
     let mut errors = Vec::new(rt.alloc());
+    let task = Task::List {
+        fed: "no-such-folder/a.fed",
+    };
     let status = status_of(
         &rt,
         rt.alloc(),
         &System::new(&rt),
-        Task::List {
-            fed: "no-such-folder/a.fed",
-        },
+        task,
         &mut Watched::new(&mut out),
         &mut Watched::new(&mut errors),
     );
-    assert_eq!(rt; status, 1);
-    assert_eq!(rt; out.as_slice(), b"".as_slice());
-    assert_eq!(rt;
-        errors.as_slice(),
-        b"cannot read no-such-folder/a.fed\n".as_slice()
-    );
+    let line = b"cannot read no-such-folder/a.fed\n".as_slice();
+    assert!(rt; status == 1 && out.is_empty() && errors.as_slice() == line);
 }

@@ -1,7 +1,11 @@
-//! Tests of the run-time infrastructure, by public functions alone. They stand apart so that no crate below is proved a second
-//! time for its tests.
+//! Tests of callers behind the lock and of monitors, by public functions alone. They stand apart so that no crate below is proved a
+//! second time for its tests.
 #![tactic(auto)]
 
+#[cfg(test)]
+mod board;
+#[cfg(test)]
+mod keeping;
 #[cfg(test)]
 mod monitor;
 #[cfg(test)]

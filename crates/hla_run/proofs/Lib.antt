@@ -1,14 +1,8 @@
 -- Texts of lines, one after another
 pub mod TextLemmas
--- Which requests take an ambassador
+-- Which lines take an ambassador
 pub mod JoinLemmas
 -- How a run ends behind the reading of its texts
 pub mod EndLemmas
--- What one more record makes of the callers of a script
-pub mod StandLemmas
--- What the act of a caller adds
-pub mod TurnLemmas
--- What the functions that do the lines one after another lead to
-pub mod LeadLemmas
--- How lines end in order that do not end well
-pub mod StopLemmas
+-- What a line has a federate of a script do
+pub mod DeedLemmas

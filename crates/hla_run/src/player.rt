@@ -1,13 +1,12 @@
 //! A federate of a script, and what its lines have it do.
 
-ghost use Rattle.std.specs.Prelude.{◌≡◌, IfSome, IsTrue};
+ghost use Rattle.std.specs.Prelude.{◌≡◌};
 ghost use Rattle.hla_machine.specs.declared.service.Service.TheVariants as service;
-ghost use Rattle.hla_run.specs.Players.{caller_of};
-ghost use Rattle.hla_run.specs.Turns.{DoesAt, DoesDeed, DoesIn, IsJoinedAs, IsJoinedAt};
+ghost use Rattle.hla_run.specs.Deeds.{DoesDeed, caller_of};
 ghost use Rattle.hla_run.specs.declared.player.Deed.TheVariants as deed;
 
 use crate::outcomes::{outcome_of, outcome_of_tick};
-use hla_base::{Fault, FederateNo};
+use hla_base::Fault;
 use hla_callbacks::FederateAmbassador;
 use hla_catalogue::Catalogue;
 use hla_commands::Call;
@@ -126,78 +125,6 @@ impl<L: Ledger + Naming, B: FederateAmbassador, P: Publisher<L>> Player<L, B, P>
         match self {
             Player::Joined(federate) => federate.leave(),
             Player::Gone(left) => left,
-        }
-    }
-}
-
-/// Whether the federate of a number is here, joined.
-fn is_joined_as<L: Ledger + Naming, B: FederateAmbassador, P: Publisher<L>>(
-    slot: &Option<Player<L, B, P>>,
-    number: FederateNo,
-) -> bool
-    ensures { IsTrue result → IsJoinedAs number slot.now }
-{
-    match slot {
-        Some(Player::Joined(federate)) => federate.number() == number,
-        _ => false,
-    }
-}
-
-/// The place of the joined federate of a number, if there is one.
-fn place_of<L: Ledger + Naming, B: FederateAmbassador, P: Publisher<L>>(
-    players: &[Option<Player<L, B, P>>],
-    number: FederateNo,
-) -> Option<usize>
-    ensures { IfSome result (λ k. IsJoinedAt players.now k number) }
-{
-    for (place, slot) in players.iter().enumerate() {
-        if is_joined_as(slot, number) {
-            return Some(place);
-        }
-    }
-    None
-}
-
-/// Has the federate that is here do something, if it is joined.
-fn act_in<L: Ledger + Naming, B: FederateAmbassador, P: Publisher<L>>(
-    rt: &impl Wait,
-    slot: &mut Option<Player<L, B, P>>,
-    deed: Deed,
-) -> Outcome
-    ensures { DoesIn slot.old deed result slot.new }
-{
-    match slot.take() {
-        Some(Player::Joined(federate)) => {
-            let Acted { player, outcome } = do_deed(rt, federate, deed);
-            *slot = Some(player);
-            outcome
-        }
-        other => {
-            drop(deed);
-            *slot = other;
-            Outcome::Refused(Fault::FederateNotExecutionMember)
-        }
-    }
-}
-
-/// Has the joined federate of a number do something.
-pub fn act<L: Ledger + Naming, B: FederateAmbassador, P: Publisher<L>>(
-    rt: &impl Wait,
-    players: &mut Vec<Option<Player<L, B, P>>>,
-    number: FederateNo,
-    deed: Deed,
-) -> Outcome
-    ensures { DoesAt players.old.items number deed result players.new.items }
-{
-    let Some(place) = place_of(players.as_slice(), number) else {
-        drop(deed);
-        return Outcome::Refused(Fault::FederateNotExecutionMember);
-    };
-    match players.get_mut(place) {
-        Some(slot) => act_in(rt, slot, deed),
-        None => {
-            drop(deed);
-            Outcome::Refused(Fault::FederateNotExecutionMember)
         }
     }
 }

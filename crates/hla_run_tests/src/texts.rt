@@ -4,9 +4,10 @@ ghost use Rattle.std.specs.Prelude.{◌≡◌};
 ghost use Rattle.hla_base.specs.Limits.{ledger_parts};
 
 use hla_callbacks::Recorder;
+use hla_in_order::run_in_order;
 use hla_monitor::{Naming, Opened, Status};
 use hla_rti::Closed;
-use hla_run::{Gate, recorders, run_in_order, run_scripts};
+use hla_run::{Gate, recorders, run_scripts};
 use hla_transcript::Watched;
 use std::alloc::Global;
 use std::process::Abort;

@@ -3,7 +3,7 @@ use hla_catalogue::Catalogue;
 use hla_fed_file::read;
 use hla_federation::Federation;
 use hla_machine::{Answer, Service, Step};
-use hla_text_tests::FED;
+use hla_part_tests::FED;
 use std::alloc::Global;
 use std::process::Abort;
 use std::test::Fail;

@@ -1,5 +1,5 @@
-//! Tests of federations and of scripts that are played, by public functions alone. They stand apart so that no crate below is
-//! proved a second time for its tests.
+//! Tests of federations, of scripts that are played, and of the checker of recorded runs, by public functions alone. They stand apart
+//! so that no crate below is proved a second time for its tests.
 #![tactic(auto)]
 
 #[cfg(test)]
@@ -11,11 +11,25 @@ mod forged_points;
 #[cfg(test)]
 mod forged_services;
 #[cfg(test)]
+mod forging;
+#[cfg(test)]
 mod newcomer_run;
+#[cfg(test)]
+mod objects;
+#[cfg(test)]
+mod orders;
+#[cfg(test)]
+mod picks;
 #[cfg(test)]
 mod playing;
 #[cfg(test)]
+mod points;
+#[cfg(test)]
 mod random_scripts;
+#[cfg(test)]
+mod rows;
+#[cfg(test)]
+mod runs;
 #[cfg(test)]
 mod scenarios;
 #[cfg(test)]

@@ -5,7 +5,7 @@ use hla_callbacks::Callback;
 use hla_fed_file::read;
 use hla_federation::Federation;
 use hla_machine::{Answer, Carried, Service, Step};
-use hla_text_tests::FED;
+use hla_part_tests::FED;
 use std::alloc::{AllocError, Global};
 use std::process::Abort;
 use std::test::Fail;

@@ -1,7 +1,7 @@
 use hla_base::{List, MAX_HISTORY, Plain};
 use hla_machine::Record;
+use hla_part_tests::FED;
 use hla_script::{PlayFault, Watched, play};
-use hla_text_tests::FED;
 use std::alloc::Global;
 use std::io;
 use std::io::Write;

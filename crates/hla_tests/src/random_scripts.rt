@@ -1,8 +1,8 @@
 //! Random scripts in receive order, read beside the books of all services.
 
+use hla_part_tests::FED;
 use hla_script::{Watched, play};
 use hla_service_books::read_services;
-use hla_text_tests::FED;
 use std::alloc::{AllocError, Global};
 use std::ops::Range;
 use std::process::Abort;

@@ -1,11 +1,11 @@
 use Rattle.std.proofs.Common.{refl, sym, subst}
 use Rattle.hla_machine.specs.declared.step.Answer.TheVariants as answer
 use Rattle.hla_rti.specs.Callers.{said}
-use Rattle.hla_run.specs.Turns.{DoesDeed}
+use Rattle.hla_run.specs.Deeds.{DoesDeed}
 use Rattle.hla_run.specs.declared.player.Player.{Player}
 use Rattle.hla_run.specs.declared.player.Player.TheVariants as player
 use Rattle.hla_run.specs.declared.player.Deed.{Deed}
-use Rattle.hla_run.proofs.TurnLemmas.{ticked_does}
+use Rattle.hla_run.proofs.DeedLemmas.{ticked_does}
 use Rattle.hla_run.proofs.player.do_deed.Goals as goal
 
 pub returns-in-Tick : goal.returns-in-Tick

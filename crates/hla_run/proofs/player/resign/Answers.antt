@@ -3,7 +3,7 @@ use Rattle.hla_machine.specs.declared.service.Service.TheVariants as service
 use Rattle.hla_machine.specs.declared.step.Outcome.TheVariants as outcome
 use Rattle.hla_run.specs.declared.player.Player.{Player}
 use Rattle.hla_run.specs.declared.player.Player.TheVariants as player
-use Rattle.hla_run.proofs.TurnLemmas.{served_does}
+use Rattle.hla_run.proofs.DeedLemmas.{served_does}
 use Rattle.hla_run.proofs.player.resign.Goals as goal
 
 pub returns-in-Err : goal.returns-in-Err

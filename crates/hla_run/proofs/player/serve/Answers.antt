@@ -1,10 +1,10 @@
 use Rattle.std.proofs.Common.{refl, sym, subst}
 use Rattle.hla_machine.specs.declared.service.Service.{Service}
-use Rattle.hla_run.specs.Turns.{DoesDeed}
+use Rattle.hla_run.specs.Deeds.{DoesDeed}
 use Rattle.hla_run.specs.declared.player.Player.{Player}
 use Rattle.hla_run.specs.declared.player.Player.TheVariants as player
 use Rattle.hla_run.specs.declared.player.Deed.TheVariants as deed
-use Rattle.hla_run.proofs.TurnLemmas.{served_does}
+use Rattle.hla_run.proofs.DeedLemmas.{served_does}
 use Rattle.hla_run.proofs.player.serve.Goals as goal
 
 pub returns-in-Resign : goal.returns-in-Resign

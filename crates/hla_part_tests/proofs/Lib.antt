@@ -1,0 +1,2 @@
+-- Nothing waits in time-stamp order
+pub mod Waiting

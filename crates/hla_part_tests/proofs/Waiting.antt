@@ -1,0 +1,16 @@
+-- Nothing waits in time-stamp order.
+use Rattle.std.proofs.Common.{◌≡◌, ℕ, List, [], ◌∷◌, None, refl, subst}
+use Rattle.std.specs.Option.{IsSome}
+use Rattle.std.specs.Prelude.{slice_get}
+use Rattle.hla_order_queues.specs.Queues.{find_event}
+use Rattle.hla_base.specs.declared.content.Event.{Event}
+
+-- so no event of this name does
+pub none_waits : (q : List Event) (g m : ℕ) → slice_get q 0 ≡ None → find_event g m q ≡ None
+unfolding find_event
+none_waits [] g m is = refl
+none_waits (e ∷ q) g m is = absurd (cc)
+
+-- and so it waits nowhere else where it waits there
+pub none_found : (q r : List Event) (g m : ℕ) → slice_get q 0 ≡ None → IsSome (find_event g m q) → find_event g m r ≡ None
+none_found q r g m is some = let clash = subst IsSome (none_waits q g m is) some in absurd (cc)

@@ -1,9 +1,0 @@
-use Rattle.std.proofs.Common.{◌≤◌, take, drop}
-use Rattle.hla_run.specs.Joining.{joins}
-use Rattle.hla_run.specs.Turns.{HaveLed}
-use Rattle.hla_run.proofs.in_order.Cast.lines.Given as goal
-
-abbrev pub invariant-loop-line : goal.invariant-loop-line
-invariant-loop-line g l =
-    (joins (drop l.line-index l.lines) ≤ l.self.ambassadors)
-    × HaveLed l.catalogue l.fed (take l.line-index l.lines) l.outcomes l.rti l.self

@@ -1,6 +1,0 @@
-use Rattle.std.proofs.Common.{refl}
-use Rattle.hla_run.proofs.LeadLemmas.{tick_leads}
-use Rattle.hla_run.proofs.in_order.Cast.tick.Goals as goal
-
-pub returns-clause-led : goal.returns-clause-led
-returns-clause-led g c fed office = tick_leads fed c.args.federate c.act.result office c.args.self.now _ c.act.ensures refl refl
