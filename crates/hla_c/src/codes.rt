@@ -2,7 +2,8 @@
 
 ghost use Rattle.std.specs.Prelude.{◌≡◌};
 ghost use Rattle.hla_base.specs.Fault.{number_of};
-ghost use Rattle.hla_session.specs.Calls.{as_answer, no_answer};
+ghost use Rattle.hla_federation.specs.Steps.Answering.{answered_as};
+ghost use Rattle.hla_session.specs.Calls.{no_answer};
 ghost use Rattle.hla_c.specs.Calls.{code_of};
 
 use hla_base::Fault;
@@ -28,7 +29,7 @@ pub(crate) fn code_of(fault: Fault) -> u32
 
 /// 0, or the number of the fault.
 pub(crate) fn code_of_done(answer: Result<(), Fault>) -> u32
-    ensures { result ≡ code_of (as_answer no_answer answer) }
+    ensures { result ≡ code_of (answered_as no_answer answer) }
 {
     match answer {
         Ok(()) => 0,

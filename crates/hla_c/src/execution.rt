@@ -36,7 +36,7 @@ pub extern "C" fn hla_join_federation_execution(
     let Some(mut content) = handle.take(alloc) else {
         return HANDLE_CLOSED;
     };
-    let answer = content.session.join(alloc, name);
+    let answer = content.session.join(name);
     handle.put(content);
     match answer {
         Ok(number) => {

@@ -1,2 +1,2 @@
--- Each answer is of the form of its step
+-- What the federation's step makes of a session's call
 pub mod Forms

@@ -33,11 +33,6 @@ IsCalled old step (Err e) new = IsRefused old step e × (new ≡ old)
 abbrev pub IsServiceCalled : Session → ℕ → Service → Result Answer Fault → Session → Type 0
 IsServiceCalled old federate service = IsCalled old (Call federate service)
 
--- a call's own answer, as the step's
-abbrev pub as_answer : {T : Type 0} → (T → Answer) → Result T Fault → Result Answer Fault
-as_answer answer_of (Ok x) = Ok (answer_of x)
-as_answer answer_of (Err e) = Err e
-
 -- a call that answers nothing
 abbrev pub no_answer : Unit {0} → Answer
 no_answer _ = answer.Done

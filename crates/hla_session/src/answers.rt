@@ -1,16 +1,16 @@
-//! What a call answers, out of the answer of its step.
+//! What a service answers, out of the answer of its call.
 //!
 //! An answer of which only a number is wanted is read by reference and goes to `drop` by name: such a call is proved
 //! once, and what goes out of scope is taken apart, variant by variant, in the proof of each function that lets it.
 
 ghost use Rattle.std.specs.Prelude.{◌≡◌, IfOk};
 ghost use Rattle.hla_machine.specs.declared.step.Answer.TheVariants as answer;
-ghost use Rattle.hla_history.specs.Forms.{NoAnswer, AFederate, ARegistration, AHandle, AName, AnEvent, ATime, ACallback, ACarriage, AnAnnouncement, IsOfForm};
-ghost use Rattle.hla_session.specs.Calls.{as_answer, no_answer};
+ghost use Rattle.hla_history.specs.Forms.{NoAnswer, ARegistration, AHandle, AName, AnEvent, ATime, IsOfForm};
+ghost use Rattle.hla_federation.specs.Steps.Answering.{answered_as};
+ghost use Rattle.hla_session.specs.Calls.{no_answer};
 
-use hla_base::{EventHandle, Fault, FederateNo, List, ObjectNo, Ticks};
-use hla_callbacks::Callback;
-use hla_machine::{Answer, Carried};
+use hla_base::{EventHandle, Fault, List, ObjectNo, Ticks};
+use hla_machine::Answer;
 
 /// An object that was registered, and its name.
 #[derive(Debug, PartialEq, Eq, Drop)]
@@ -22,7 +22,7 @@ pub struct Registration {
 /// An answer that says nothing.
 pub(crate) fn done_in(given: Result<Answer, Fault>) -> Result<(), Fault>
     requires { IfOk given (λ a. IsOfForm NoAnswer a) }
-    ensures { as_answer no_answer result ≡ given }
+    ensures { answered_as no_answer result ≡ given }
 {
     let told = match &given {
         Ok(Answer::Done) => Ok(()),
@@ -33,24 +33,10 @@ pub(crate) fn done_in(given: Result<Answer, Fault>) -> Result<(), Fault>
     told
 }
 
-/// The number of a federate that joined.
-pub(crate) fn federate_in(given: Result<Answer, Fault>) -> Result<FederateNo, Fault>
-    requires { IfOk given (λ a. IsOfForm AFederate a) }
-    ensures { as_answer answer.Federate result ≡ given }
-{
-    let told = match &given {
-        Ok(Answer::Federate(number)) => Ok(*number),
-        Err(fault) => Err(*fault),
-        _ => unreachable!(),
-    };
-    drop(given);
-    told
-}
-
 /// What was registered.
 pub(crate) fn registration_in(given: Result<Answer, Fault>) -> Result<Registration, Fault>
     requires { IfOk given (λ a. IsOfForm ARegistration a) }
-    ensures { as_answer (λ r. answer.Registered r.object r.name) result ≡ given }
+    ensures { answered_as (λ r. answer.Registered r.object r.name) result ≡ given }
 {
     match given {
         Ok(Answer::Registered { object, name }) => Ok(Registration { object, name }),
@@ -62,7 +48,7 @@ pub(crate) fn registration_in(given: Result<Answer, Fault>) -> Result<Registrati
 /// A number.
 pub(crate) fn handle_in(given: Result<Answer, Fault>) -> Result<u32, Fault>
     requires { IfOk given (λ a. IsOfForm AHandle a) }
-    ensures { as_answer answer.Handle result ≡ given }
+    ensures { answered_as answer.Handle result ≡ given }
 {
     let told = match &given {
         Ok(Answer::Handle(number)) => Ok(*number),
@@ -76,7 +62,7 @@ pub(crate) fn handle_in(given: Result<Answer, Fault>) -> Result<u32, Fault>
 /// A name.
 pub(crate) fn name_in(given: Result<Answer, Fault>) -> Result<List<u8>, Fault>
     requires { IfOk given (λ a. IsOfForm AName a) }
-    ensures { as_answer answer.Name result ≡ given }
+    ensures { answered_as answer.Name result ≡ given }
 {
     match given {
         Ok(Answer::Name(name)) => Ok(name),
@@ -88,7 +74,7 @@ pub(crate) fn name_in(given: Result<Answer, Fault>) -> Result<List<u8>, Fault>
 /// The message that was sent in time-stamp order, if one was.
 pub(crate) fn event_in(given: Result<Answer, Fault>) -> Result<Option<EventHandle>, Fault>
     requires { IfOk given (λ a. IsOfForm AnEvent a) }
-    ensures { as_answer answer.Sent result ≡ given }
+    ensures { answered_as answer.Sent result ≡ given }
 {
     let told = match &given {
         Ok(Answer::Sent(event)) => Ok(*event),
@@ -102,50 +88,10 @@ pub(crate) fn event_in(given: Result<Answer, Fault>) -> Result<Option<EventHandl
 /// A time, in ticks.
 pub(crate) fn time_in(given: Result<Answer, Fault>) -> Result<Ticks, Fault>
     requires { IfOk given (λ a. IsOfForm ATime a) }
-    ensures { as_answer answer.Time result ≡ given }
+    ensures { answered_as answer.Time result ≡ given }
 {
     let told = match &given {
         Ok(Answer::Time(time)) => Ok(*time),
-        Err(fault) => Err(*fault),
-        _ => unreachable!(),
-    };
-    drop(given);
-    told
-}
-
-/// The callback, if one was given.
-pub(crate) fn callback_in(given: Result<Answer, Fault>) -> Result<Option<Callback>, Fault>
-    requires { IfOk given (λ a. IsOfForm ACallback a) }
-    ensures { as_answer answer.Ticked result ≡ given }
-{
-    match given {
-        Ok(Answer::Ticked(callback)) => Ok(callback),
-        Err(fault) => Err(fault),
-        _ => unreachable!(),
-    }
-}
-
-/// What was taken from the wire.
-pub(crate) fn carried_in(given: Result<Answer, Fault>) -> Result<Carried, Fault>
-    requires { IfOk given (λ a. IsOfForm ACarriage a) }
-    ensures { as_answer answer.Carried result ≡ given }
-{
-    let told = match &given {
-        Ok(Answer::Carried(what)) => Ok(*what),
-        Err(fault) => Err(*fault),
-        _ => unreachable!(),
-    };
-    drop(given);
-    told
-}
-
-/// The promise, if it was announced.
-pub(crate) fn announced_in(given: Result<Answer, Fault>) -> Result<Option<Ticks>, Fault>
-    requires { IfOk given (λ a. IsOfForm AnAnnouncement a) }
-    ensures { as_answer answer.Announced result ≡ given }
-{
-    let told = match &given {
-        Ok(Answer::Announced(promise)) => Ok(*promise),
         Err(fault) => Err(*fault),
         _ => unreachable!(),
     };

@@ -1,7 +1,8 @@
 //! Declaration management of a session.
 
 ghost use Rattle.hla_machine.specs.declared.service.Service.TheVariants as service;
-ghost use Rattle.hla_session.specs.Calls.{IsServiceCalled, as_answer, no_answer};
+ghost use Rattle.hla_federation.specs.Steps.Answering.{answered_as};
+ghost use Rattle.hla_session.specs.Calls.{IsServiceCalled, no_answer};
 
 use crate::lists::list_of_numbers;
 use crate::session::Session;
@@ -24,7 +25,7 @@ impl Session {
     ) -> Result<(), Fault>
         ensures { IsServiceCalled self.old federate
             (service.PublishObjectClass class attributes.now)
-            (as_answer no_answer result) self.new }
+            (answered_as no_answer result) self.new }
     {
         let attributes = list_of_numbers(alloc, attributes)?;
         self.serve_done(federate, Service::PublishObjectClass { class, attributes })
@@ -37,7 +38,7 @@ impl Session {
         class: ClassNo,
     ) -> Result<(), Fault>
         ensures { IsServiceCalled self.old federate (service.UnpublishObjectClass class)
-            (as_answer no_answer result) self.new }
+            (answered_as no_answer result) self.new }
     {
         self.serve_done(federate, Service::UnpublishObjectClass { class })
     }
@@ -54,7 +55,7 @@ impl Session {
     ) -> Result<(), Fault>
         ensures { IsServiceCalled self.old federate
             (service.SubscribeObjectClassAttributes class attributes.now)
-            (as_answer no_answer result)
+            (answered_as no_answer result)
             self.new }
     {
         let attributes = list_of_numbers(alloc, attributes)?;
@@ -71,7 +72,7 @@ impl Session {
         class: ClassNo,
     ) -> Result<(), Fault>
         ensures { IsServiceCalled self.old federate (service.UnsubscribeObjectClass class)
-            (as_answer no_answer result) self.new }
+            (answered_as no_answer result) self.new }
     {
         self.serve_done(federate, Service::UnsubscribeObjectClass { class })
     }
@@ -84,7 +85,7 @@ impl Session {
         class: ClassNo,
     ) -> Result<(), Fault>
         ensures { IsServiceCalled self.old federate (service.PublishInteractionClass class)
-            (as_answer no_answer result) self.new }
+            (answered_as no_answer result) self.new }
     {
         self.serve_done(federate, Service::PublishInteractionClass { class })
     }
@@ -97,7 +98,7 @@ impl Session {
         class: ClassNo,
     ) -> Result<(), Fault>
         ensures { IsServiceCalled self.old federate (service.UnpublishInteractionClass class)
-            (as_answer no_answer result) self.new }
+            (answered_as no_answer result) self.new }
     {
         self.serve_done(federate, Service::UnpublishInteractionClass { class })
     }
@@ -110,7 +111,7 @@ impl Session {
         class: ClassNo,
     ) -> Result<(), Fault>
         ensures { IsServiceCalled self.old federate (service.SubscribeInteractionClass class)
-            (as_answer no_answer result) self.new }
+            (answered_as no_answer result) self.new }
     {
         self.serve_done(federate, Service::SubscribeInteractionClass { class })
     }
@@ -123,7 +124,7 @@ impl Session {
         class: ClassNo,
     ) -> Result<(), Fault>
         ensures { IsServiceCalled self.old federate (service.UnsubscribeInteractionClass class)
-            (as_answer no_answer result) self.new }
+            (answered_as no_answer result) self.new }
     {
         self.serve_done(federate, Service::UnsubscribeInteractionClass { class })
     }

@@ -3,7 +3,8 @@
 ghost use Rattle.std.specs.Prelude.{None, Some};
 ghost use Rattle.hla_machine.specs.declared.service.Service.TheVariants as service;
 ghost use Rattle.hla_machine.specs.declared.step.Answer.TheVariants as answer;
-ghost use Rattle.hla_session.specs.Calls.{IsServiceCalled, as_answer, no_answer};
+ghost use Rattle.hla_federation.specs.Steps.Answering.{answered_as};
+ghost use Rattle.hla_session.specs.Calls.{IsServiceCalled, no_answer};
 
 use crate::answers::Registration;
 use crate::lists::{list_of_bytes, list_of_numbers};
@@ -28,7 +29,7 @@ impl Session {
         class: ClassNo,
     ) -> Result<Registration, Fault>
         ensures { IsServiceCalled self.old federate (service.RegisterObjectInstance class None)
-            (as_answer (λ r. answer.Registered r.object r.name) result) self.new }
+            (answered_as (λ r. answer.Registered r.object r.name) result) self.new }
     {
         self.serve_registration(
             federate,
@@ -49,7 +50,7 @@ impl Session {
     ) -> Result<Registration, Fault>
         ensures { IsServiceCalled self.old federate
             (service.RegisterObjectInstance class (Some name.now))
-            (as_answer (λ r. answer.Registered r.object r.name) result) self.new }
+            (answered_as (λ r. answer.Registered r.object r.name) result) self.new }
     {
         let name = list_of_bytes(alloc, name)?;
         self.serve_registration(
@@ -75,7 +76,7 @@ impl Session {
     ) -> Result<Option<EventHandle>, Fault>
         ensures { IsServiceCalled self.old federate
             (service.UpdateAttributeValues object values stamp)
-            (as_answer answer.Sent result) self.new }
+            (answered_as answer.Sent result) self.new }
     {
         self.serve_event(
             federate,
@@ -100,7 +101,7 @@ impl Session {
         stamp: Option<Ticks>,
     ) -> Result<Option<EventHandle>, Fault>
         ensures { IsServiceCalled self.old federate (service.SendInteraction class values stamp)
-            (as_answer answer.Sent result) self.new }
+            (answered_as answer.Sent result) self.new }
     {
         self.serve_event(
             federate,
@@ -122,7 +123,7 @@ impl Session {
         stamp: Option<Ticks>,
     ) -> Result<(), Fault>
         ensures { IsServiceCalled self.old federate (service.DeleteObjectInstance object stamp)
-            (as_answer no_answer result) self.new }
+            (answered_as no_answer result) self.new }
     {
         self.serve_done(federate, Service::DeleteObjectInstance { object, stamp })
     }
@@ -141,7 +142,7 @@ impl Session {
     ) -> Result<(), Fault>
         ensures { IsServiceCalled self.old federate
             (service.ChangeAttributeOrderType object attributes.now order)
-            (as_answer no_answer result)
+            (answered_as no_answer result)
             self.new }
     {
         let attributes = list_of_numbers(alloc, attributes)?;
@@ -165,7 +166,7 @@ impl Session {
         order: Order,
     ) -> Result<(), Fault>
         ensures { IsServiceCalled self.old federate (service.ChangeInteractionOrderType class order)
-            (as_answer no_answer result) self.new }
+            (answered_as no_answer result) self.new }
     {
         self.serve_done(
             federate,
@@ -178,7 +179,7 @@ impl Session {
     /// no longer.
     pub fn retract(&mut self, federate: FederateNo, event: EventHandle) -> Result<(), Fault>
         ensures { IsServiceCalled self.old federate (service.Retract event)
-            (as_answer no_answer result)
+            (answered_as no_answer result)
             self.new }
     {
         self.serve_done(federate, Service::Retract { event })

@@ -4,22 +4,21 @@ ghost use Rattle.std.specs.Prelude.{◌≡◌, None, IfOk, IfErr, OnErr};
 ghost use Rattle.hla_machine.specs.declared.service.Service.TheVariants as service;
 ghost use Rattle.hla_machine.specs.declared.step.Step.TheVariants.{Join, Call, Carry, Announce, Tick};
 ghost use Rattle.hla_machine.specs.declared.step.Answer.TheVariants as answer;
-ghost use Rattle.hla_history.specs.Forms.{NoAnswer, ARegistration, AHandle, AName, AnEvent, ATime, IsOfForm, service_form, step_form};
+ghost use Rattle.hla_history.specs.Forms.{NoAnswer, ARegistration, AHandle, AName, AnEvent, ATime, IsOfForm, service_form};
 ghost use Rattle.hla_base.specs.declared.fault.Fault.TheVariants.{OutOfMemory};
 ghost use Rattle.hla_components.specs.Components.{new_components};
 ghost use Rattle.hla_federation.specs.Steps.State.{state_of};
-ghost use Rattle.hla_session.specs.Calls.{IsCalled, IsServiceCalled, IsRefused, HasStepped, as_answer, no_answer};
+ghost use Rattle.hla_federation.specs.Steps.Answering.{answered_as};
+ghost use Rattle.hla_session.specs.Calls.{IsCalled, IsServiceCalled, IsRefused, HasStepped, no_answer};
 
 use crate::answers::{
-    Registration, announced_in, callback_in, carried_in, done_in, event_in, federate_in, handle_in,
-    name_in, registration_in, time_in,
+    Registration, done_in, event_in, handle_in, name_in, registration_in, time_in,
 };
-use crate::lists::list_of_bytes;
 use hla_base::{EventHandle, Fault, FederateNo, List, Plain, Ticks};
 use hla_callbacks::Callback;
 use hla_catalogue::Catalogue;
 use hla_federation::Federation;
-use hla_machine::{Answer, Carried, ResignAction, Service, Step};
+use hla_machine::{Answer, Carried, ResignAction, Service};
 use std::alloc::Global;
 
 /// A federation execution, what its FED file declares, and the callback that the last tick gave, of whichever federate.
@@ -47,30 +46,21 @@ impl Session {
         })
     }
 
-    /// A step, which leaves the last callback as it is.
-    #[tactic(auto, using(crate::proofs::Forms::answer_form))]
-    fn act(&mut self, step: &Step) -> Result<Answer, Fault>
-        ensures called { IsCalled self.old step.now result self.new }
-        ensures form { IfOk result (λ a. IsOfForm (step_form step.now) a) }
-    {
-        self.federation.step(step)
-    }
-
     /// Calls a service.
+    #[tactic(auto, using(crate::proofs::Forms::answer_form, crate::proofs::Forms::called))]
     fn serve(&mut self, federate: FederateNo, service: Service) -> Result<Answer, Fault>
         ensures served { IsServiceCalled self.old federate service result self.new }
         ensures form { IfOk result (λ a. IsOfForm (service_form service) a) }
     {
-        let step = Step::Call { federate, service };
-        let answer = self.act(&step);
-        drop(step);
+        let answer = self.federation.call(federate, &service);
+        drop(service);
         answer
     }
 
     /// Calls a service that answers nothing.
     pub(crate) fn serve_done(&mut self, federate: FederateNo, service: Service) -> Result<(), Fault>
         requires { service_form service ≡ NoAnswer }
-        ensures { IsServiceCalled self.old federate service (as_answer no_answer result) self.new }
+        ensures { IsServiceCalled self.old federate service (answered_as no_answer result) self.new }
     {
         done_in(self.serve(federate, service))
     }
@@ -83,7 +73,7 @@ impl Session {
     ) -> Result<Registration, Fault>
         requires { service_form service ≡ ARegistration }
         ensures { IsServiceCalled self.old federate service
-            (as_answer (λ r. answer.Registered r.object r.name) result) self.new }
+            (answered_as (λ r. answer.Registered r.object r.name) result) self.new }
     {
         registration_in(self.serve(federate, service))
     }
@@ -95,7 +85,7 @@ impl Session {
         service: Service,
     ) -> Result<Option<EventHandle>, Fault>
         requires { service_form service ≡ AnEvent }
-        ensures { IsServiceCalled self.old federate service (as_answer answer.Sent result)
+        ensures { IsServiceCalled self.old federate service (answered_as answer.Sent result)
             self.new }
     {
         event_in(self.serve(federate, service))
@@ -108,7 +98,7 @@ impl Session {
         service: Service,
     ) -> Result<Ticks, Fault>
         requires { service_form service ≡ ATime }
-        ensures { IsServiceCalled self.old federate service (as_answer answer.Time result)
+        ensures { IsServiceCalled self.old federate service (answered_as answer.Time result)
             self.new }
     {
         time_in(self.serve(federate, service))
@@ -121,7 +111,7 @@ impl Session {
         service: Service,
     ) -> Result<u32, Fault>
         requires { service_form service ≡ AHandle }
-        ensures { IsServiceCalled self.old federate service (as_answer answer.Handle result)
+        ensures { IsServiceCalled self.old federate service (answered_as answer.Handle result)
             self.new }
     {
         handle_in(self.serve(federate, service))
@@ -134,7 +124,7 @@ impl Session {
         service: Service,
     ) -> Result<List<u8>, Fault>
         requires { service_form service ≡ AName }
-        ensures { IsServiceCalled self.old federate service (as_answer answer.Name result)
+        ensures { IsServiceCalled self.old federate service (answered_as answer.Name result)
             self.new }
     {
         name_in(self.serve(federate, service))
@@ -144,14 +134,11 @@ impl Session {
     /// number. `FederateAlreadyExecutionMember` where a joined federate has that name; `LimitReached` where the name has
     /// another length, or sixteen federates have joined so far; `OutOfMemory` where a growth was refused. Nothing has
     /// changed at any fault.
-    pub fn join(&mut self, alloc: Global, name: &[u8]) -> Result<FederateNo, Fault>
-        ensures { IsCalled self.old (Join name.now) (as_answer answer.Federate result) self.new }
+    #[tactic(auto, using(crate::proofs::Forms::called))]
+    pub fn join(&mut self, name: &[u8]) -> Result<FederateNo, Fault>
+        ensures { IsCalled self.old (Join name.now) (answered_as answer.Federate result) self.new }
     {
-        let name = list_of_bytes(alloc, name)?;
-        let step = Step::Join { name };
-        let answer = self.act(&step);
-        drop(step);
-        federate_in(answer)
+        self.federation.join(name)
     }
 
     /// Resign Federation Execution (HLA 1.3, federation management); the action says what becomes of the federate's
@@ -160,7 +147,7 @@ impl Session {
     /// serial above 10^18; `OutOfMemory` where a growth was refused. Nothing has changed at any fault.
     pub fn resign(&mut self, federate: FederateNo, action: ResignAction) -> Result<(), Fault>
         ensures { IsServiceCalled self.old federate (service.Resign action)
-            (as_answer no_answer result)
+            (answered_as no_answer result)
             self.new }
     {
         self.serve_done(federate, Service::Resign { action })
@@ -169,24 +156,22 @@ impl Session {
     /// The first message on the wire from one federate to another arrives (this profile). Answers what it was.
     /// `FederateNotExecutionMember` where the receiver is not joined, the sender never was, or both are one; `OutOfMemory`
     /// where a growth was refused. Nothing has changed at any fault.
+    #[tactic(auto, using(crate::proofs::Forms::called))]
     pub fn carry(&mut self, from: FederateNo, to: FederateNo) -> Result<Carried, Fault>
-        ensures { IsCalled self.old (Carry from to) (as_answer answer.Carried result) self.new }
+        ensures { IsCalled self.old (Carry from to) (answered_as answer.Carried result) self.new }
     {
-        let step = Step::Carry { from, to };
-        let answer = self.act(&step);
-        carried_in(answer)
+        self.federation.carry(from, to)
     }
 
     /// A federate announces its promise by a null message on each of its wires, where it is above the last one (this
     /// profile). Answers the promise, in ticks, if it was announced. `FederateNotExecutionMember`; `OutOfMemory` where a
     /// growth was refused. Nothing has changed at any fault.
+    #[tactic(auto, using(crate::proofs::Forms::called))]
     pub fn announce(&mut self, federate: FederateNo) -> Result<Option<Ticks>, Fault>
-        ensures { IsCalled self.old (Announce federate) (as_answer answer.Announced result)
+        ensures { IsCalled self.old (Announce federate) (answered_as answer.Announced result)
             self.new }
     {
-        let step = Step::Announce { federate };
-        let answer = self.act(&step);
-        announced_in(answer)
+        self.federation.announce(federate)
     }
 
     /// Tick (HLA 1.3): a federate picks up at most one callback, which takes the place of the last one.
@@ -197,9 +182,7 @@ impl Session {
         ensures refused { IfErr result (IsRefused self.old (Tick federate)) }
         ensures unchanged { OnErr result (self.new ≡ self.old) }
     {
-        let step = Step::Tick { federate };
-        let answer = self.act(&step);
-        self.callback = callback_in(answer)?;
+        self.callback = self.federation.tick(federate)?;
         Ok(())
     }
 }

@@ -2,7 +2,8 @@
 
 ghost use Rattle.hla_machine.specs.declared.service.Service.TheVariants as service;
 ghost use Rattle.hla_machine.specs.declared.step.Answer.TheVariants as answer;
-ghost use Rattle.hla_session.specs.Calls.{IsServiceCalled, as_answer};
+ghost use Rattle.hla_federation.specs.Steps.Answering.{answered_as};
+ghost use Rattle.hla_session.specs.Calls.{IsServiceCalled};
 
 use crate::lists::list_of_bytes;
 use crate::session::Session;
@@ -22,7 +23,7 @@ impl Session {
         name: &[u8],
     ) -> Result<ClassNo, Fault>
         ensures { IsServiceCalled self.old federate (service.GetObjectClassHandle name.now)
-            (as_answer answer.Handle result) self.new }
+            (answered_as answer.Handle result) self.new }
     {
         let name = list_of_bytes(alloc, name)?;
         self.serve_handle(federate, Service::GetObjectClassHandle { name })
@@ -37,7 +38,7 @@ impl Session {
         name: &[u8],
     ) -> Result<ClassNo, Fault>
         ensures { IsServiceCalled self.old federate (service.GetInteractionClassHandle name.now)
-            (as_answer answer.Handle result) self.new }
+            (answered_as answer.Handle result) self.new }
     {
         let name = list_of_bytes(alloc, name)?;
         self.serve_handle(federate, Service::GetInteractionClassHandle { name })
@@ -53,7 +54,7 @@ impl Session {
         class: ClassNo,
     ) -> Result<AttributeNo, Fault>
         ensures { IsServiceCalled self.old federate (service.GetAttributeHandle name.now class)
-            (as_answer answer.Handle result) self.new }
+            (answered_as answer.Handle result) self.new }
     {
         let name = list_of_bytes(alloc, name)?;
         self.serve_handle(federate, Service::GetAttributeHandle { name, class })
@@ -69,7 +70,7 @@ impl Session {
         class: ClassNo,
     ) -> Result<ParameterNo, Fault>
         ensures { IsServiceCalled self.old federate (service.GetParameterHandle name.now class)
-            (as_answer answer.Handle result) self.new }
+            (answered_as answer.Handle result) self.new }
     {
         let name = list_of_bytes(alloc, name)?;
         self.serve_handle(federate, Service::GetParameterHandle { name, class })
@@ -84,7 +85,7 @@ impl Session {
         name: &[u8],
     ) -> Result<ObjectNo, Fault>
         ensures { IsServiceCalled self.old federate (service.GetObjectInstanceHandle name.now)
-            (as_answer answer.Handle result) self.new }
+            (answered_as answer.Handle result) self.new }
     {
         let name = list_of_bytes(alloc, name)?;
         self.serve_handle(federate, Service::GetObjectInstanceHandle { name })
@@ -98,7 +99,7 @@ impl Session {
         object: ObjectNo,
     ) -> Result<List<u8>, Fault>
         ensures { IsServiceCalled self.old federate (service.GetObjectInstanceName object)
-            (as_answer answer.Name result) self.new }
+            (answered_as answer.Name result) self.new }
     {
         self.serve_name(federate, Service::GetObjectInstanceName { object })
     }

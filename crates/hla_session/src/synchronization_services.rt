@@ -1,7 +1,8 @@
 //! Synchronization points of a session.
 
 ghost use Rattle.hla_machine.specs.declared.service.Service.TheVariants as service;
-ghost use Rattle.hla_session.specs.Calls.{IsServiceCalled, as_answer, no_answer};
+ghost use Rattle.hla_federation.specs.Steps.Answering.{answered_as};
+ghost use Rattle.hla_session.specs.Calls.{IsServiceCalled, no_answer};
 
 use crate::lists::list_of_bytes;
 use crate::session::Session;
@@ -23,7 +24,7 @@ impl Session {
         label: &[u8],
     ) -> Result<(), Fault>
         ensures { IsServiceCalled self.old federate
-            (service.RegisterFederationSynchronizationPoint label.now) (as_answer no_answer result)
+            (service.RegisterFederationSynchronizationPoint label.now) (answered_as no_answer result)
             self.new }
     {
         let label = list_of_bytes(alloc, label)?;
@@ -44,7 +45,7 @@ impl Session {
         label: &[u8],
     ) -> Result<(), Fault>
         ensures { IsServiceCalled self.old federate (service.SynchronizationPointAchieved label.now)
-            (as_answer no_answer result) self.new }
+            (answered_as no_answer result) self.new }
     {
         let label = list_of_bytes(alloc, label)?;
         self.serve_done(federate, Service::SynchronizationPointAchieved { label })

@@ -2,7 +2,8 @@
 
 ghost use Rattle.hla_machine.specs.declared.service.Service.TheVariants as service;
 ghost use Rattle.hla_machine.specs.declared.step.Answer.TheVariants as answer;
-ghost use Rattle.hla_session.specs.Calls.{IsServiceCalled, as_answer, no_answer};
+ghost use Rattle.hla_federation.specs.Steps.Answering.{answered_as};
+ghost use Rattle.hla_session.specs.Calls.{IsServiceCalled, no_answer};
 
 use crate::session::Session;
 use hla_base::{Fault, FederateNo, Ticks};
@@ -24,7 +25,7 @@ impl Session {
         lookahead: Ticks,
     ) -> Result<(), Fault>
         ensures { IsServiceCalled self.old federate (service.EnableTimeRegulation time lookahead)
-            (as_answer no_answer result) self.new }
+            (answered_as no_answer result) self.new }
     {
         self.serve_done(federate, Service::EnableTimeRegulation { time, lookahead })
     }
@@ -32,7 +33,7 @@ impl Session {
     /// Disable Time Regulation (HLA 1.3, time management). `TimeRegulationWasNotEnabled`.
     pub fn disable_time_regulation(&mut self, federate: FederateNo) -> Result<(), Fault>
         ensures { IsServiceCalled self.old federate service.DisableTimeRegulation
-            (as_answer no_answer result)
+            (answered_as no_answer result)
             self.new }
     {
         self.serve_done(federate, Service::DisableTimeRegulation)
@@ -42,7 +43,7 @@ impl Session {
     /// `TimeAdvanceAlreadyInProgress`; `TimeConstrainedAlreadyEnabled`; `EnableTimeConstrainedPending`.
     pub fn enable_time_constrained(&mut self, federate: FederateNo) -> Result<(), Fault>
         ensures { IsServiceCalled self.old federate service.EnableTimeConstrained
-            (as_answer no_answer result)
+            (answered_as no_answer result)
             self.new }
     {
         self.serve_done(federate, Service::EnableTimeConstrained)
@@ -51,7 +52,7 @@ impl Session {
     /// Disable Time Constrained (HLA 1.3, time management). `TimeAdvanceAlreadyInProgress`; `TimeConstrainedWasNotEnabled`.
     pub fn disable_time_constrained(&mut self, federate: FederateNo) -> Result<(), Fault>
         ensures { IsServiceCalled self.old federate service.DisableTimeConstrained
-            (as_answer no_answer result)
+            (answered_as no_answer result)
             self.new }
     {
         self.serve_done(federate, Service::DisableTimeConstrained)
@@ -63,7 +64,7 @@ impl Session {
     /// `FederationTimeAlreadyPassed` where it is below the federate's time.
     pub fn time_advance_request(&mut self, federate: FederateNo, time: Ticks) -> Result<(), Fault>
         ensures { IsServiceCalled self.old federate (service.TimeAdvanceRequest time)
-            (as_answer no_answer result)
+            (answered_as no_answer result)
             self.new }
     {
         self.serve_done(federate, Service::TimeAdvanceRequest { time })
@@ -79,7 +80,7 @@ impl Session {
         time: Ticks,
     ) -> Result<(), Fault>
         ensures { IsServiceCalled self.old federate (service.TimeAdvanceRequestAvailable time)
-            (as_answer no_answer result) self.new }
+            (answered_as no_answer result) self.new }
     {
         self.serve_done(federate, Service::TimeAdvanceRequestAvailable { time })
     }
@@ -90,7 +91,7 @@ impl Session {
     /// federate's time.
     pub fn next_event_request(&mut self, federate: FederateNo, time: Ticks) -> Result<(), Fault>
         ensures { IsServiceCalled self.old federate (service.NextEventRequest time)
-            (as_answer no_answer result)
+            (answered_as no_answer result)
             self.new }
     {
         self.serve_done(federate, Service::NextEventRequest { time })
@@ -106,7 +107,7 @@ impl Session {
         time: Ticks,
     ) -> Result<(), Fault>
         ensures { IsServiceCalled self.old federate (service.NextEventRequestAvailable time)
-            (as_answer no_answer result) self.new }
+            (answered_as no_answer result) self.new }
     {
         self.serve_done(federate, Service::NextEventRequestAvailable { time })
     }
@@ -117,7 +118,7 @@ impl Session {
     /// `FederationTimeAlreadyPassed` where it is below the federate's time.
     pub fn flush_queue_request(&mut self, federate: FederateNo, time: Ticks) -> Result<(), Fault>
         ensures { IsServiceCalled self.old federate (service.FlushQueueRequest time)
-            (as_answer no_answer result)
+            (answered_as no_answer result)
             self.new }
     {
         self.serve_done(federate, Service::FlushQueueRequest { time })
@@ -127,7 +128,7 @@ impl Session {
     /// `TimeRegulationWasNotEnabled`; `TimeAdvanceAlreadyInProgress`; `InvalidLookahead` where it is above 10^18.
     pub fn modify_lookahead(&mut self, federate: FederateNo, lookahead: Ticks) -> Result<(), Fault>
         ensures { IsServiceCalled self.old federate (service.ModifyLookahead lookahead)
-            (as_answer no_answer result) self.new }
+            (answered_as no_answer result) self.new }
     {
         self.serve_done(federate, Service::ModifyLookahead { lookahead })
     }
@@ -136,7 +137,7 @@ impl Session {
     /// is asked for. `AsynchronousDeliveryAlreadyEnabled`.
     pub fn enable_asynchronous_delivery(&mut self, federate: FederateNo) -> Result<(), Fault>
         ensures { IsServiceCalled self.old federate service.EnableAsynchronousDelivery
-            (as_answer no_answer result) self.new }
+            (answered_as no_answer result) self.new }
     {
         self.serve_done(federate, Service::EnableAsynchronousDelivery)
     }
@@ -144,7 +145,7 @@ impl Session {
     /// Disable Asynchronous Delivery (HLA 1.3, time management). `AsynchronousDeliveryAlreadyDisabled`.
     pub fn disable_asynchronous_delivery(&mut self, federate: FederateNo) -> Result<(), Fault>
         ensures { IsServiceCalled self.old federate service.DisableAsynchronousDelivery
-            (as_answer no_answer result) self.new }
+            (answered_as no_answer result) self.new }
     {
         self.serve_done(federate, Service::DisableAsynchronousDelivery)
     }
@@ -152,7 +153,7 @@ impl Session {
     /// Query LBTS (HLA 1.3, time management). Answers, in ticks, the federate's bound, below which no message in
     /// time-stamp order will come, or `FOREVER`. No fault but `FederateNotExecutionMember`.
     pub fn query_lbts(&mut self, federate: FederateNo) -> Result<Ticks, Fault>
-        ensures { IsServiceCalled self.old federate service.QueryLbts (as_answer answer.Time result)
+        ensures { IsServiceCalled self.old federate service.QueryLbts (answered_as answer.Time result)
             self.new }
     {
         self.serve_time(federate, Service::QueryLbts)
@@ -161,7 +162,7 @@ impl Session {
     /// Query Federate Time (HLA 1.3, time management). Answers it in ticks. No fault but `FederateNotExecutionMember`.
     pub fn query_federate_time(&mut self, federate: FederateNo) -> Result<Ticks, Fault>
         ensures { IsServiceCalled self.old federate service.QueryFederateTime
-            (as_answer answer.Time result)
+            (answered_as answer.Time result)
             self.new }
     {
         self.serve_time(federate, Service::QueryFederateTime)
@@ -171,7 +172,7 @@ impl Session {
     /// `FederateNotExecutionMember`.
     pub fn query_min_next_event_time(&mut self, federate: FederateNo) -> Result<Ticks, Fault>
         ensures { IsServiceCalled self.old federate service.QueryMinNextEventTime
-            (as_answer answer.Time result)
+            (answered_as answer.Time result)
             self.new }
     {
         self.serve_time(federate, Service::QueryMinNextEventTime)
@@ -181,7 +182,7 @@ impl Session {
     /// `FederateNotExecutionMember`.
     pub fn query_lookahead(&mut self, federate: FederateNo) -> Result<Ticks, Fault>
         ensures { IsServiceCalled self.old federate service.QueryLookahead
-            (as_answer answer.Time result)
+            (answered_as answer.Time result)
             self.new }
     {
         self.serve_time(federate, Service::QueryLookahead)
