@@ -47,12 +47,17 @@ impl Parts {
         ensures quiet { IfOk result (λ m. AreQuiet m.shown.incoming) }
         ensures err { IfErr result (λ e. e ≡ Fault.OutOfMemory) }
     {
+        let announcements = self.points.announcements(self.alloc)?;
         let name = name_copy(self.alloc, name)?;
         let mut member = Member::new(self.alloc, name)?;
         self.members.introduce(&mut member);
-        let announcements = self.points.announcements(self.alloc)?;
-        member.tell(announcements.as_slice())?;
-        Ok(member)
+        match member.tell(announcements.as_slice()) {
+            Ok(()) => Ok(member),
+            Err(fault) => {
+                drop(member);
+                Err(fault)
+            }
+        }
     }
 
     /// Join Federation Execution. Refused, it changes nothing: `FederateAlreadyExecutionMember` where a joined federate has

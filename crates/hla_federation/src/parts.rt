@@ -35,7 +35,14 @@ impl Model for Parts {
 
     ghost Value = { FederationValue };
 
-    ghost view = { λ p. record { catalogue = p.catalogue; points = p.points; declarations = p.declarations; objects = p.registry; members = p.members.shown; next_name = p.next_name } };
+    ghost view = { λ p. record {
+      catalogue = p.catalogue;
+      points = p.points;
+      declarations = p.declarations;
+      objects = p.registry;
+      members = p.members.shown;
+      next_name = p.next_name;
+    } };
 }
 
 impl Parts {

@@ -1,26 +1,24 @@
 //! Which fault a step is refused with: the first of its list that applies.
 
-ghost use Rattle.std.specs.Prelude.{◌≡◌, ◌<◌, ◌≤◌, ℕ, not, length, ◌∷◌, []};
+ghost use Rattle.std.specs.Prelude.{◌≡◌, ◌<◌, not, ◌∷◌, []};
 ghost use Rattle.std.specs.List.{list_any};
 ghost use Rattle.hla_base.specs.declared.content.HandleValuePair.{HandleValuePair};
 ghost use Rattle.hla_catalogue.specs.Lookup.{has_attribute, has_parameter};
-ghost use Rattle.hla_machine.specs.Directory.{is_of_order, order_of_attribute, update_sent};
 ghost use Rattle.hla_catalogue.specs.declared.declared.Order.{Order};
 ghost use Rattle.hla_base.specs.RowRefusals.{first_fault};
 ghost use Rattle.hla_machine.specs.Refusals.{refusal, joined_test, no_object_class, no_interaction_class, no_attribute, is_length_in, is_owned, is_published};
 ghost use Rattle.hla_machine.specs.declared.service.Service.TheVariants as service;
 ghost use Rattle.hla_machine.specs.declared.step.Step.TheVariants as step;
 ghost use Rattle.hla_components.specs.Next.{components_seen};
-ghost use Rattle.hla_federation.specs.Steps.Sending.{TellsBadStamp};
 ghost use Rattle.hla_federation.specs.Steps.Soundness.{MayCall};
 ghost use Rattle.hla_federation.specs.Steps.State.{state_of, GivesHandle};
 
-use crate::heading::is_timestamp;
+mod messages;
+
 use crate::parts::Parts;
 use hla_base::{
-    AttributeNo, ClassNo, EventHandle, Fault, FederateNo, HandleValuePair, List, MAX_FEDERATE_NAME,
-    MAX_JOINS, MAX_NAME, MAX_OBJECTS, MAX_POINT_LABEL, MAX_SERIAL, MAX_TIME, ObjectNo, ParameterNo,
-    Ticks,
+    AttributeNo, ClassNo, Fault, FederateNo, HandleValuePair, List, MAX_FEDERATE_NAME, MAX_JOINS,
+    MAX_NAME, MAX_OBJECTS, MAX_POINT_LABEL, MAX_SERIAL, ObjectNo, ParameterNo,
 };
 use hla_catalogue::Order;
 use hla_machine::ResignAction;
@@ -315,52 +313,6 @@ impl Parts {
         }
     }
 
-    /// Whether a stamp is beyond `MAX_TIME` or, where some message goes in time-stamp order, below the least stamp that the
-    /// federate may send. `is_stamped` says whether some message has time-stamp order.
-    fn is_bad_stamp(&self, federate: FederateNo, stamp: Option<Ticks>, is_stamped: bool) -> bool
-        requires some { 0 < federate }
-        requires within { federate < (state_of self.now).directory.next_federate }
-        ensures { TellsBadStamp ((state_of self.now).row federate) stamp is_stamped result }
-    {
-        let Some(stamp) = stamp else {
-            return false;
-        };
-        let state = self.members.local(federate).state();
-        stamp > MAX_TIME
-            || (is_stamped && state.is_regulation_enabled() && stamp < state.least_stamp())
-    }
-
-    /// Why an interaction may not be sent with this stamp, if it may not.
-    pub fn send_fault(
-        &self,
-        federate: FederateNo,
-        class: ClassNo,
-        values: &[HandleValuePair],
-        stamp: Option<Ticks>,
-    ) -> Option<Fault>
-        requires { MayCall self.now federate }
-        ensures { result ≡ refusal (components_seen (state_of self.now))
-            (step.Call federate (service.SendInteraction class values.now stamp)) }
-    {
-        let is_stamped = is_timestamp(self.order_of_interaction(federate, class));
-        if !self.catalogue.is_interaction_class(class) {
-            Some(Fault::InteractionClassNotDefined)
-        } else if self.lacks_parameter(class, values) {
-            Some(Fault::InteractionParameterNotDefined)
-        } else if !self
-            .declarations
-            .publishes_interaction_class(federate, class)
-        {
-            Some(Fault::InteractionClassNotPublished)
-        } else if self.is_bad_stamp(federate, stamp, is_stamped) {
-            Some(Fault::InvalidFederationTime)
-        } else if self.members.next_serial(federate) > MAX_SERIAL {
-            Some(Fault::LimitReached)
-        } else {
-            None
-        }
-    }
-
     /// Why a federate may not join under a name, if it may not.
     pub fn join_fault(&self, name: &[u8]) -> Option<Fault>
         ensures { result ≡ refusal (components_seen (state_of self.now)) (step.Join name.now) }
@@ -370,84 +322,6 @@ impl Parts {
         } else if self.members.next_federate() as usize > MAX_JOINS
             || !fits_name(name, MAX_FEDERATE_NAME)
         {
-            Some(Fault::LimitReached)
-        } else {
-            None
-        }
-    }
-
-    /// Whether one of these values is of an attribute whose updates have this order, of this object and now.
-    pub fn has_order(&self, order: Order, object: ObjectNo, values: &[HandleValuePair]) -> bool
-        ensures { result ≡ list_any (λ (v : HandleValuePair). is_of_order order
-            (order_of_attribute (state_of self.now).directory object v.handle)) values.now }
-    {
-        values
-            .iter()
-            .any(|v| self.order_of_attribute(object, v.handle) == order)
-    }
-
-    /// How many messages an update of an object makes: one for each order that one of its attributes has.
-    fn count_parts(&self, object: ObjectNo, values: &[HandleValuePair]) -> u64
-        ensures count { result ≡ length (update_sent (state_of self.now).directory object values.now) }
-        ensures few { result ≤ 2 }
-    {
-        let received = self.has_order(Order::Receive, object, values);
-        let stamped = self.has_order(Order::Timestamp, object, values);
-        u64::from(received) + u64::from(stamped)
-    }
-
-    /// Why attributes may not be updated with this stamp, if they may not.
-    pub fn update_fault(
-        &self,
-        federate: FederateNo,
-        object: ObjectNo,
-        values: &[HandleValuePair],
-        stamp: Option<Ticks>,
-    ) -> Option<Fault>
-        requires { MayCall self.now federate }
-        ensures { result ≡ refusal (components_seen (state_of self.now))
-            (step.Call federate (service.UpdateAttributeValues object values.now stamp)) }
-    {
-        let class = self.registry.class_of(object);
-        let is_stamped = self.has_order(Order::Timestamp, object, values);
-        if !self.registry.is_known(object, federate) {
-            Some(Fault::ObjectNotKnown)
-        } else if self.lacks_value(class, values) {
-            Some(Fault::AttributeNotDefined)
-        } else if self.lacks_ownership(federate, object, values) {
-            Some(Fault::AttributeNotOwned)
-        } else if self.lacks_publication(federate, class, values) {
-            Some(Fault::AttributeNotPublished)
-        } else if self.is_bad_stamp(federate, stamp, is_stamped) {
-            Some(Fault::InvalidFederationTime)
-        } else if self.members.next_serial(federate)
-            > MAX_SERIAL + 1 - self.count_parts(object, values)
-        {
-            Some(Fault::LimitReached)
-        } else {
-            None
-        }
-    }
-
-    /// Why an object may not be deleted with this stamp, if it may not.
-    pub fn delete_fault(
-        &self,
-        federate: FederateNo,
-        object: ObjectNo,
-        stamp: Option<Ticks>,
-    ) -> Option<Fault>
-        requires { MayCall self.now federate }
-        ensures { result ≡ refusal (components_seen (state_of self.now))
-            (step.Call federate (service.DeleteObjectInstance object stamp)) }
-    {
-        let is_stamped = is_timestamp(self.order_of_deletion(object));
-        if !self.registry.is_known(object, federate) {
-            Some(Fault::ObjectNotKnown)
-        } else if self.registry.owner(object) != federate {
-            Some(Fault::DeletePrivilegeNotHeld)
-        } else if self.is_bad_stamp(federate, stamp, is_stamped) {
-            Some(Fault::InvalidFederationTime)
-        } else if self.members.next_serial(federate) > MAX_SERIAL {
             Some(Fault::LimitReached)
         } else {
             None
@@ -527,25 +401,6 @@ impl Parts {
             (step.Call federate (service.ChangeInteractionOrderType class order)) }
     {
         self.unpublish_interaction_fault(federate, class)
-    }
-
-    /// Why a federate may not retract a message, if it may not: it is another's, or may be retracted no more.
-    pub fn retract_fault(&self, federate: FederateNo, event: EventHandle) -> Option<Fault>
-        requires { MayCall self.now federate }
-        ensures { result ≡ refusal (components_seen (state_of self.now))
-            (step.Call federate (service.Retract event)) }
-    {
-        let state = self.members.local(federate).state();
-        let may_retract = self.members.sent(federate).may_retract(
-            state.is_regulation_enabled(),
-            state.least_stamp(),
-            event.serial,
-        );
-        if event.sender == federate && may_retract {
-            None
-        } else {
-            Some(Fault::InvalidRetractionHandle)
-        }
     }
 
     /// Why a federate may not register a synchronization point of this label, if it may not.
