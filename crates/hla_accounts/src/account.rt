@@ -110,12 +110,13 @@ impl Account {
               next_serial = self.old.next_serial + 1;
               sent = self.new.sent;
             }) }
-        ensures sent { OnOk result (sent_of self.new.sent ≡ upd (sent_of self.old.sent) self.old.next_serial (record {
-          stamp = stamp;
-          retractable = true;
-          retracted = false;
-          receivers = federate_set receivers;
-        })) }
+        ensures sent { OnOk result (sent_of self.new.sent ≡ upd (sent_of self.old.sent)
+            self.old.next_serial (record {
+              stamp = stamp;
+              retractable = true;
+              retracted = false;
+              receivers = federate_set receivers;
+            })) }
         ensures err { IfErr result (λ e. e ≡ Fault.OutOfMemory) }
         ensures unchanged { OnErr result (self.new ≡ self.old) }
     {

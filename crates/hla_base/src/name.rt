@@ -35,7 +35,8 @@ impl Model for ExecutionName {
     ghost inverse = { λ bs. record { bytes = padded_name bs; len = length bs } };
 
     ghost inverse_ok = { λ n h.
-        let e : (padded_name (take n.len n.bytes), length (take n.len n.bytes)) ≡ (n.bytes, n.len) = Prim.cc in
+        let e : (padded_name (take n.len n.bytes), length (take n.len n.bytes)) ≡ (n.bytes, n.len)
+        = Prim.cc in
         ap (λ (p : List ℕ × ℕ). record { bytes = p.0; len = p.1 }) e };
 }
 

@@ -125,9 +125,16 @@ impl Catalogue {
 }
 
 impl PartialEq for Catalogue {
-    ghost eq = { eq_of_both (on (λ t. t.object_classes) ⟦<List<ObjectClass> as PartialEq>⟧.eq) (eq_of_both (on (λ t. t.interaction_classes) ⟦<List<InteractionClass> as PartialEq>⟧.eq) (eq_of_both (on (λ t. t.attributes) ⟦<List<Attribute> as PartialEq>⟧.eq) (on (λ t. t.parameters) ⟦<List<Parameter> as PartialEq>⟧.eq))) };
+    ghost eq = { eq_of_both (on (λ t. t.object_classes) ⟦<List<ObjectClass> as PartialEq>⟧.eq)
+        (eq_of_both (on (λ t. t.interaction_classes) ⟦<List<InteractionClass> as PartialEq>⟧.eq)
+        (eq_of_both (on (λ t. t.attributes) ⟦<List<Attribute> as PartialEq>⟧.eq)
+        (on (λ t. t.parameters) ⟦<List<Parameter> as PartialEq>⟧.eq))) };
 
-    ghost laws = { partial_equiv_from_equiv (and_equiv (on_equiv (λ t. t.object_classes) (lists_equiv object_class_laws)) (and_equiv (on_equiv (λ t. t.interaction_classes) (lists_equiv interaction_class_laws)) (and_equiv (on_equiv (λ t. t.attributes) (lists_equiv attribute_laws)) (on_equiv (λ t. t.parameters) (lists_equiv parameter_laws))))) };
+    ghost laws = { partial_equiv_from_equiv
+        (and_equiv (on_equiv (λ t. t.object_classes) (lists_equiv object_class_laws))
+        (and_equiv (on_equiv (λ t. t.interaction_classes) (lists_equiv interaction_class_laws))
+        (and_equiv (on_equiv (λ t. t.attributes) (lists_equiv attribute_laws))
+        (on_equiv (λ t. t.parameters) (lists_equiv parameter_laws))))) };
 
     fn eq(&self, other: &Catalogue) -> bool {
         self.object_classes() == other.object_classes()
@@ -138,7 +145,10 @@ impl PartialEq for Catalogue {
 }
 
 impl Eq for Catalogue {
-    ghost laws = { and_equiv (on_equiv (λ t. t.object_classes) (lists_equiv object_class_laws)) (and_equiv (on_equiv (λ t. t.interaction_classes) (lists_equiv interaction_class_laws)) (and_equiv (on_equiv (λ t. t.attributes) (lists_equiv attribute_laws)) (on_equiv (λ t. t.parameters) (lists_equiv parameter_laws)))) };
+    ghost laws = { and_equiv (on_equiv (λ t. t.object_classes) (lists_equiv object_class_laws))
+        (and_equiv (on_equiv (λ t. t.interaction_classes) (lists_equiv interaction_class_laws))
+        (and_equiv (on_equiv (λ t. t.attributes) (lists_equiv attribute_laws))
+        (on_equiv (λ t. t.parameters) (lists_equiv parameter_laws)))) };
 }
 
 impl Clone for Catalogue {
@@ -157,7 +167,13 @@ impl Plain for Catalogue {
     ghost use Rattle.hla_catalogue.specs.contracts.declared.AttributePlain.TheImpl.Laws.{lists-law as same_attributes};
     ghost use Rattle.hla_catalogue.specs.contracts.declared.ParameterPlain.TheImpl.Laws.{lists-law as same_parameters};
 
-    ghost exact = { Prim.search (rules, same_object_classes, same_interaction_classes, same_attributes, same_parameters) };
+    ghost exact = { Prim.search (
+      rules,
+      same_object_classes,
+      same_interaction_classes,
+      same_attributes,
+      same_parameters,
+    ) };
 
     ghost cloned = { Prim.search rules };
 }

@@ -35,11 +35,17 @@ impl Model for Draft {
 
     ghost Value = { CatalogueValue };
 
-    ghost view = { λ c. record { object_classes = c.object_classes; interaction_classes = c.interaction_classes; attributes = c.attributes; parameters = c.parameters } };
+    ghost view = { λ c. record {
+      object_classes = c.object_classes;
+      interaction_classes = c.interaction_classes;
+      attributes = c.attributes;
+      parameters = c.parameters;
+    } };
 
     ghost use Rattle.hla_catalogue.specs.Indexes.{AreIndexed};
 
-    ghost invariant = { λ c. AreIndexed c.object_classes c.interaction_classes c.attributes c.parameters c.object_paths c.interaction_paths c.attribute_names c.parameter_names };
+    ghost invariant = { λ c. AreIndexed c.object_classes c.interaction_classes c.attributes c.parameters
+        c.object_paths c.interaction_paths c.attribute_names c.parameter_names };
 }
 
 impl Drop for Draft {

@@ -56,40 +56,7 @@ pub(crate) fn declaration_of(service: &Service) -> Option<ClassDeclaration>
         Service::UnsubscribeInteractionClass { class } => Some(
             ClassDeclaration::UnsubscribeInteraction { class: *class },
         ),
-        Service::Resign { .. }
-        | Service::PublishObjectClass { .. }
-        | Service::SubscribeObjectClassAttributes { .. }
-        | Service::RegisterObjectInstance { .. }
-        | Service::UpdateAttributeValues { .. }
-        | Service::SendInteraction { .. }
-        | Service::DeleteObjectInstance { .. }
-        | Service::ChangeAttributeOrderType { .. }
-        | Service::ChangeInteractionOrderType { .. }
-        | Service::RegisterFederationSynchronizationPoint { .. }
-        | Service::SynchronizationPointAchieved { .. }
-        | Service::Retract { .. }
-        | Service::EnableTimeRegulation { .. }
-        | Service::DisableTimeRegulation
-        | Service::EnableTimeConstrained
-        | Service::DisableTimeConstrained
-        | Service::TimeAdvanceRequest { .. }
-        | Service::TimeAdvanceRequestAvailable { .. }
-        | Service::NextEventRequest { .. }
-        | Service::NextEventRequestAvailable { .. }
-        | Service::FlushQueueRequest { .. }
-        | Service::ModifyLookahead { .. }
-        | Service::EnableAsynchronousDelivery
-        | Service::DisableAsynchronousDelivery
-        | Service::QueryLbts
-        | Service::QueryFederateTime
-        | Service::QueryMinNextEventTime
-        | Service::QueryLookahead
-        | Service::GetObjectClassHandle { .. }
-        | Service::GetInteractionClassHandle { .. }
-        | Service::GetAttributeHandle { .. }
-        | Service::GetParameterHandle { .. }
-        | Service::GetObjectInstanceHandle { .. }
-        | Service::GetObjectInstanceName { .. } => None,
+        _ => None,
     }
 }
 

@@ -33,7 +33,13 @@ impl Model for KeptExecution {
 
     ghost Value = { KeptValue };
 
-    ghost view = { λ k. record { catalogue = k.catalogue; declarations = k.declarations; objects = k.registry; accounts = k.accounts; points = k.points } };
+    ghost view = { λ k. record {
+      catalogue = k.catalogue;
+      declarations = k.declarations;
+      objects = k.registry;
+      accounts = k.accounts;
+      points = k.points;
+    } };
 }
 
 /// Whether any federate is joined.

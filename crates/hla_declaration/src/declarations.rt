@@ -37,9 +37,14 @@ impl Model for Declarations {
 
     ghost Value = { DeclarationLists };
 
-    ghost view = { λ d. record { object_classes = d.object_classes; interaction_classes = d.interaction_classes; members = d.members.items } };
+    ghost view = { λ d. record {
+      object_classes = d.object_classes;
+      interaction_classes = d.interaction_classes;
+      members = d.members.items;
+    } };
 
-    ghost invariant = { λ d. AreDeclarationsWhole d.object_classes d.interaction_classes d.members.items d.object_subscribers d.interaction_subscribers };
+    ghost invariant = { λ d. AreDeclarationsWhole d.object_classes d.interaction_classes d.members.items
+        d.object_subscribers d.interaction_subscribers };
 }
 
 impl Declarations {

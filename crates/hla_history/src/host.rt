@@ -203,8 +203,10 @@ impl<B: FederateAmbassador> Hosted<B> {
           actor = actor;
           execution = self.old.name;
           act = act.Step (step.Call federate (service.Resign action));
-          outcome = (next (components_hosted self.old.federation) (step.Call federate (service.Resign action))).outcome;
-          choice = (next (components_hosted self.old.federation) (step.Call federate (service.Resign action))).choice;
+          outcome = (next (components_hosted self.old.federation)
+              (step.Call federate (service.Resign action))).outcome;
+          choice = (next (components_hosted self.old.federation)
+              (step.Call federate (service.Resign action))).choice;
         }) }
         ensures own { IfOk result (λ p. p.1.own ≡ p.0) }
         ensures answer { IfOk result (λ p. p.1.answer ≡ p.0.outcome) }

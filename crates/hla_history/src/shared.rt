@@ -55,7 +55,8 @@ impl<L: Ledger, B: FederateAmbassador> Model for Shared<L, B> {
       executions = s.executions.items;
     } };
 
-    ghost invariant = { λ s. IsLockKept s.history.items (hosts_of s.counts.creates s.counts.present s.executions.items) s.book.total
+    ghost invariant = { λ s. IsLockKept s.history.items
+        (hosts_of s.counts.creates s.counts.present s.executions.items) s.book.total
         × (vec_len s.history ≤ s.limit) × (s.limit ≤ vec_capacity s.history) };
 }
 

@@ -182,5 +182,11 @@ impl Plain for Record {
         let act : y.act ≡ x.act = Prim.search (cloned_act) in
         let outcome : y.outcome ≡ x.outcome = Prim.search (cloned_outcome) in
         let choice : y.choice ≡ x.choice = Prim.search (cloned_choice) in
-        λ i. record { actor = actor i; execution = execution i; act = act i; outcome = outcome i; choice = choice i } };
+        λ i. record {
+          actor = actor i;
+          execution = execution i;
+          act = act i;
+          outcome = outcome i;
+          choice = choice i;
+        } };
 }

@@ -48,7 +48,17 @@ impl Model for Member {
 
     ghost Value = { RoomyMember };
 
-    ghost view = { λ m. record { shown = record { name = m.name; joined = m.joined; next_serial = m.next_serial; local = m.local; sent = m.sent; incoming = m.incoming.wires }; rooms = m.incoming.rooms } };
+    ghost view = { λ m. record {
+      shown = record {
+        name = m.name;
+        joined = m.joined;
+        next_serial = m.next_serial;
+        local = m.local;
+        sent = m.sent;
+        incoming = m.incoming.wires;
+      };
+      rooms = m.incoming.rooms;
+    } };
 }
 
 impl Member {

@@ -25,7 +25,10 @@ impl Model for Wire {
 
     ghost Value = { WireValue };
 
-    ghost view = { λ w. record { messages = w.messages.items; room = deque_capacity w.messages - deque_len w.messages } };
+    ghost view = { λ w. record {
+      messages = w.messages.items;
+      room = deque_capacity w.messages - deque_len w.messages;
+    } };
 }
 
 impl Wire {

@@ -264,7 +264,8 @@ impl Registry {
         requires some { 0 < object }
         requires registered { object < (registry_of self.old).next_object }
         requires numbered { AreUpTo count attributes.now }
-        ensures ok { OnOk result (registry_of self.new ≡ with_orders (registry_of self.old) object attributes.now order) }
+        ensures ok { OnOk result (registry_of self.new ≡ with_orders (registry_of self.old) object
+            attributes.now order) }
         ensures err { IfErr result (λ e. e ≡ Fault.OutOfMemory) }
         ensures unchanged { OnErr result (self.new ≡ self.old) }
     {

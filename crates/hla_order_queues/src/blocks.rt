@@ -162,7 +162,8 @@ fn roomy_separator(separators: &mut Separators, key: EventKey, alloc: Global) ->
     requires unique { IsUnique (events_of separators.old) }
     ensures same { events_of separators.new ≡ events_of separators.old }
     ensures blocks { AreBlocks separators.new }
-    ensures below { (xs : List EventValue) → AreBelowBlocks xs separators.old → AreBelowBlocks xs separators.new }
+    ensures below { (xs : List EventValue) → AreBelowBlocks xs separators.old
+        → AreBelowBlocks xs separators.new }
     ensures place { IfSome result (λ f. IsPlace key f separators.new) }
 {
     let separator = separators.separator_of(key)?;
@@ -194,7 +195,8 @@ fn split_at(separators: &mut Separators, separator: EventKey, alloc: Global) -> 
     requires many { MatchOption (block_at separator separators.old) ⊥ (λ b. 2 ≤ length b) }
     ensures same { events_of separators.new ≡ events_of separators.old }
     ensures blocks { AreBlocks separators.new }
-    ensures below { (xs : List EventValue) → AreBelowBlocks xs separators.old → AreBelowBlocks xs separators.new }
+    ensures below { (xs : List EventValue) → AreBelowBlocks xs separators.old
+        → AreBelowBlocks xs separators.new }
 {
     let Some(middle) = middle_of(separators, separator) else {
         return false;
@@ -262,7 +264,8 @@ fn drop_empty(separators: &mut Separators, separator: EventKey)
     ensures events { events_of separators.new ≡ events_of separators.old }
     ensures separatored { AreSeparatored separators.new }
     ensures filled { AllByRecursion (λ e. 0 < length e.1) separators.new }
-    ensures below { (xs : List EventValue) → AreBelowBlocks xs separators.old → AreBelowBlocks xs separators.new }
+    ensures below { (xs : List EventValue) → AreBelowBlocks xs separators.old
+        → AreBelowBlocks xs separators.new }
 {
     if len_at(separators, separator) == 0 {
         let _ = separators.remove(separator);

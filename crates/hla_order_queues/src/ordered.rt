@@ -31,7 +31,8 @@ impl Model for Ordered {
 
     ghost view = { λ q. q.first ++ events_of q.later };
 
-    ghost invariant = { λ q. AreInOrder q.first (events_of q.later) q.count × AreBelowBlocks q.first q.later };
+    ghost invariant = { λ q. AreInOrder q.first (events_of q.later) q.count
+        × AreBelowBlocks q.first q.later };
 }
 
 impl Ordered {

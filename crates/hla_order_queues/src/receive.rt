@@ -24,7 +24,10 @@ impl Model for RoQueue {
 
     ghost Value = { Queue };
 
-    ghost view = { λ q. record { events = q.events.items; room = deque_capacity q.events - deque_len q.events } };
+    ghost view = { λ q. record {
+      events = q.events.items;
+      room = deque_capacity q.events - deque_len q.events;
+    } };
 }
 
 impl RoQueue {

@@ -45,7 +45,8 @@ impl<L: Ledger + Naming, B: FederateAmbassador, W: Publisher<L>> Model for Rti<L
 
     ghost view = { λ r. record { handed = r.handed; couriers = r.couriers; own = r.seat } };
 
-    ghost invariant = { λ r. (r.rest.parts + r.handed ≡ max_callers) × (r.rest.amount ≡ 0) × (r.seat.number ≡ 0) };
+    ghost invariant = { λ r. (r.rest.parts + r.handed ≡ max_callers) × (r.rest.amount ≡ 0)
+        × (r.seat.number ≡ 0) };
 }
 
 impl<L: Ledger + Naming, B: FederateAmbassador, W: Publisher<L>> Rti<L, B, W> {
@@ -129,7 +130,8 @@ impl<L: Ledger + Naming, B: FederateAmbassador, W: Publisher<L>> Rti<L, B, W> {
             (λ _. self.new.couriers ≡ self.old.couriers) }
         ensures own { self.new.own ≡ self.old.own }
         ensures err { IfErr result (λ e.
-            ((e ≡ Fault.LimitReached) × ((max_couriers ≤ self.old.couriers) ⊎ (max_callers ≤ self.old.handed)))
+            ((e ≡ Fault.LimitReached)
+            × ((max_couriers ≤ self.old.couriers) ⊎ (max_callers ≤ self.old.handed)))
             ⊎ (e ≡ Fault.OutOfMemory)) }
     {
         if self.couriers >= MAX_COURIERS || self.handed >= MAX_CALLERS {
@@ -193,7 +195,8 @@ impl<L: Ledger + Naming, B: FederateAmbassador, W: Publisher<L>> Rti<L, B, W> {
         ensures refused { IfErr result (λ e.
             (HasActed self.old.own execution (act.Step (step.Join name)) (outcome.Refused e.0) self.new.own
             ⊎ HasNotActed self.old.own e.0 self.new.own)
-            ⊎ ((e.0 ≡ Fault.LimitReached) × (max_callers ≤ self.old.handed) × (self.new.own ≡ self.old.own))) }
+            ⊎ ((e.0 ≡ Fault.LimitReached) × (max_callers ≤ self.old.handed)
+            × (self.new.own ≡ self.old.own))) }
         ensures returned { IfErr result (λ e. e.1 ≡ ambassador) }
     {
         if self.handed >= MAX_CALLERS {

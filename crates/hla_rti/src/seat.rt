@@ -37,7 +37,11 @@ impl<L: Ledger> Model for Seat<L> {
 
     ghost Value = { Caller };
 
-    ghost view = { λ s. record { number = s.number; transcript = s.transcript.items; share = s.share.amount } };
+    ghost view = { λ s. record {
+      number = s.number;
+      transcript = s.transcript.items;
+      share = s.share.amount;
+    } };
 
     ghost invariant = { λ s. (s.share.parts ≡ 1) × (s.share.amount ≡ length s.transcript.items) };
 }

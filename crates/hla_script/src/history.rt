@@ -23,7 +23,8 @@ fn print_refusal(
     number: usize,
     fault: Fault,
 ) -> Result<bool, Fault>
-    ensures text { OnOk result (text.new ≡ text.old ++ line_text catalogue.now number (outcome.Refused fault)) }
+    ensures text { OnOk result (text.new ≡ text.old ++ line_text catalogue.now number
+        (outcome.Refused fault)) }
     ensures remembered { IfOk result (λ whole. whole ≡ true → fault ≢ Fault.OutOfMemory) }
 {
     let refused = Outcome::Refused(fault);

@@ -33,9 +33,11 @@ impl Model for TimeState {
 
     ghost Value = { TimeRow };
 
-    ghost view = { λ s. row_held s.time s.floor s.regulating s.regulation_time s.constrained s.asynchronous s.advance s.first_pick s.flushed s.bar s.enablings };
+    ghost view = { λ s. row_held s.time s.floor s.regulating s.regulation_time s.constrained
+        s.asynchronous s.advance s.first_pick s.flushed s.bar s.enablings };
 
-    ghost invariant = { λ s. IsWithin (row_held s.time s.floor s.regulating s.regulation_time s.constrained s.asynchronous s.advance s.first_pick s.flushed s.bar s.enablings) };
+    ghost invariant = { λ s. IsWithin (row_held s.time s.floor s.regulating s.regulation_time
+        s.constrained s.asynchronous s.advance s.first_pick s.flushed s.bar s.enablings) };
 }
 
 impl TimeState {

@@ -37,42 +37,7 @@ pub fn time_query_of(service: &Service) -> Option<Query>
         Service::QueryFederateTime => Some(Query::FederateTime),
         Service::QueryMinNextEventTime => Some(Query::NextEvent),
         Service::QueryLookahead => Some(Query::Lookahead),
-        Service::TimeAdvanceRequest { .. }
-        | Service::TimeAdvanceRequestAvailable { .. }
-        | Service::NextEventRequest { .. }
-        | Service::NextEventRequestAvailable { .. }
-        | Service::FlushQueueRequest { .. }
-        | Service::DisableTimeRegulation
-        | Service::EnableTimeConstrained
-        | Service::ModifyLookahead { .. }
-        | Service::EnableAsynchronousDelivery
-        | Service::DisableAsynchronousDelivery
-        | Service::Resign { .. }
-        | Service::PublishObjectClass { .. }
-        | Service::UnpublishObjectClass { .. }
-        | Service::SubscribeObjectClassAttributes { .. }
-        | Service::UnsubscribeObjectClass { .. }
-        | Service::PublishInteractionClass { .. }
-        | Service::UnpublishInteractionClass { .. }
-        | Service::SubscribeInteractionClass { .. }
-        | Service::UnsubscribeInteractionClass { .. }
-        | Service::RegisterObjectInstance { .. }
-        | Service::UpdateAttributeValues { .. }
-        | Service::SendInteraction { .. }
-        | Service::DeleteObjectInstance { .. }
-        | Service::ChangeAttributeOrderType { .. }
-        | Service::ChangeInteractionOrderType { .. }
-        | Service::RegisterFederationSynchronizationPoint { .. }
-        | Service::SynchronizationPointAchieved { .. }
-        | Service::Retract { .. }
-        | Service::EnableTimeRegulation { .. }
-        | Service::DisableTimeConstrained
-        | Service::GetObjectClassHandle { .. }
-        | Service::GetInteractionClassHandle { .. }
-        | Service::GetAttributeHandle { .. }
-        | Service::GetParameterHandle { .. }
-        | Service::GetObjectInstanceHandle { .. }
-        | Service::GetObjectInstanceName { .. } => None,
+        _ => None,
     }
 }
 

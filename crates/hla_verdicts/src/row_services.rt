@@ -46,36 +46,7 @@ pub fn row_change_of(service: &Service) -> Option<RowChange>
         }),
         Service::EnableAsynchronousDelivery => Some(RowChange::SetAsynchronous { is_on: true }),
         Service::DisableAsynchronousDelivery => Some(RowChange::SetAsynchronous { is_on: false }),
-        Service::Resign { .. }
-        | Service::PublishObjectClass { .. }
-        | Service::UnpublishObjectClass { .. }
-        | Service::SubscribeObjectClassAttributes { .. }
-        | Service::UnsubscribeObjectClass { .. }
-        | Service::PublishInteractionClass { .. }
-        | Service::UnpublishInteractionClass { .. }
-        | Service::SubscribeInteractionClass { .. }
-        | Service::UnsubscribeInteractionClass { .. }
-        | Service::RegisterObjectInstance { .. }
-        | Service::UpdateAttributeValues { .. }
-        | Service::SendInteraction { .. }
-        | Service::DeleteObjectInstance { .. }
-        | Service::ChangeAttributeOrderType { .. }
-        | Service::ChangeInteractionOrderType { .. }
-        | Service::RegisterFederationSynchronizationPoint { .. }
-        | Service::SynchronizationPointAchieved { .. }
-        | Service::Retract { .. }
-        | Service::EnableTimeRegulation { .. }
-        | Service::DisableTimeConstrained
-        | Service::QueryLbts
-        | Service::QueryFederateTime
-        | Service::QueryMinNextEventTime
-        | Service::QueryLookahead
-        | Service::GetObjectClassHandle { .. }
-        | Service::GetInteractionClassHandle { .. }
-        | Service::GetAttributeHandle { .. }
-        | Service::GetParameterHandle { .. }
-        | Service::GetObjectInstanceHandle { .. }
-        | Service::GetObjectInstanceName { .. } => None,
+        _ => None,
     }
 }
 
