@@ -1,6 +1,6 @@
 //! Playing a script behind the lock, line by line on one thread.
 //!
-//! Here and in the modules beside it what is large goes to `drop` by name: such a call is proved once, and what goes out of
+//! Here, as in `hla_run`, what is large goes to `drop` by name: such a call is proved once, and what goes out of
 //! scope is taken apart, variant by variant, in the proof of each function that lets it.
 
 ghost use Rattle.std.specs.Prelude.{◌≡◌, ◌||◌, ◌+◌, ◌<◌, ◌≤◌, ℕ, List, [], OnOk, IfOk, IfErr, codes, vec_len, vec_capacity};

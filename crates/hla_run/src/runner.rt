@@ -1,4 +1,7 @@
 //! Running a script, each federate on a thread of its own.
+//!
+//! Here and in the modules beside it what is large goes to `drop` by name: such a call is proved once, and what goes out of
+//! scope is taken apart, variant by variant, in the proof of each function that lets it.
 
 ghost use Rattle.std.specs.Prelude.{◌≡◌, ◌||◌, ◌≤◌, [], IfOk, OnOk, IfErr, length, vec_len};
 ghost use Rattle.std.specs.List.{All};
