@@ -8,9 +8,6 @@ use Rattle.hla_callbacks.specs.declared.callback.Callback.{Callback}
 use Rattle.hla_catalogue.specs.CatalogueValue.{CatalogueValue}
 use Rattle.hla_commands.specs.declared.lines.Line.{Line}
 use Rattle.hla_machine.specs.declared.service.Service.{Service}
-use Rattle.hla_machine.specs.declared.service.Service.TheVariants as service
-use Rattle.hla_machine.specs.declared.service.ResignAction.{ResignAction}
-use Rattle.hla_machine.specs.declared.step.Act.{Act}
 use Rattle.hla_machine.specs.declared.step.Act.TheVariants as act
 use Rattle.hla_machine.specs.declared.step.Answer.{Answer}
 use Rattle.hla_machine.specs.declared.step.Answer.TheVariants as answer
@@ -26,13 +23,12 @@ use Rattle.hla_requests.specs.declared.steps.Request.{Request}
 use Rattle.hla_requests.specs.declared.steps.Request.TheVariants as request
 use Rattle.hla_requests.specs.Members.{members, members_from, member_after, with_change, with_create, change_of}
 use Rattle.hla_history.specs.Closing.{records_by}
-use Rattle.hla_rti.specs.Callers.{Caller, FederateCaller, Leaver, HasActed, HasNotActed, HasAnswered, HasResigned, IsServed, answer_given, said, nothing, new_caller}
+use Rattle.hla_rti.specs.Callers.{Caller, FederateCaller, Leaver, HasActed, HasNotActed, answer_given, said, nothing, new_caller}
 use Rattle.hla_rti.specs.Close.{AllAgree}
 use Rattle.hla_in_order.specs.InOrder.{RequestEnds, Unrecorded, Recorded, LineComesOut, Does, IsUnrecorded, IsCaller, IsStepper, IsEntrant, act_asked, number_joined, entrants, callers, HasJust}
 use Rattle.hla_in_order.specs.Players.{IsAs, IsBook, Stand}
 use Rattle.hla_in_order.specs.Turns.{DoesIn, IsJoinedAs, IsJoinedAt, DoesAt, Led, members_noted, HasLeft, HaveLeft}
-use Rattle.hla_run.specs.Deeds.{caller_of, HasTold, StaysAs, DoesDeed}
-use Rattle.hla_run.proofs.DeedLemmas.{answer_told}
+use Rattle.hla_run.specs.Deeds.{caller_of, HasTold, StaysAs}
 use Rattle.hla_run.specs.declared.player.Player.{Player}
 use Rattle.hla_run.specs.declared.player.Player.TheVariants as player
 use Rattle.hla_run.specs.declared.player.Deed.{Deed}

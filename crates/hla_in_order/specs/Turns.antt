@@ -1,18 +1,14 @@
 -- What the functions that do the lines one after another say of each other
 use Rattle.std.specs.Prelude.{map, ◌≡◌, ◌⊎◌, ◌+◌, ◌≤◌, ◌<◌, ℕ, List, [], ◌++◌, length, Option, None, Some, codes, slice_get, slice_set}
 use Rattle.std.specs.Io.KnownBytes.{Appends}
-use Rattle.hla_base.specs.declared.fault.Fault.{Fault}
 use Rattle.hla_base.specs.declared.fault.Fault.TheVariants as fault
 use Rattle.hla_catalogue.specs.CatalogueValue.{CatalogueValue}
 use Rattle.hla_commands.specs.declared.lines.Command.{Command}
 use Rattle.hla_commands.specs.declared.lines.Line.{Line}
-use Rattle.hla_machine.specs.declared.step.Act.{Act}
-use Rattle.hla_machine.specs.declared.step.Act.TheVariants as act
 use Rattle.hla_machine.specs.declared.step.Outcome.{Outcome}
 use Rattle.hla_machine.specs.declared.step.Outcome.TheVariants as outcome
 use Rattle.hla_machine.specs.declared.step.Record.{Record}
-use Rattle.hla_machine.specs.declared.step.Step.TheVariants as step
-use Rattle.hla_rti.specs.Callers.{Caller, FederateCaller, Leaver, Office, HasActed, HasNotActed, answer_given}
+use Rattle.hla_rti.specs.Callers.{Caller, FederateCaller, Leaver, Office}
 use Rattle.hla_requests.specs.declared.members.NamedFederate.{NamedFederate}
 use Rattle.hla_requests.specs.declared.steps.Request.{Request}
 use Rattle.hla_requests.specs.declared.steps.Request.TheVariants as request
@@ -25,7 +21,6 @@ use Rattle.hla_run.specs.Deeds.{DoesDeed}
 use Rattle.hla_run.specs.declared.player.Player.{Player}
 use Rattle.hla_run.specs.declared.player.Player.TheVariants as player
 use Rattle.hla_run.specs.declared.player.Deed.{Deed}
-use Rattle.hla_run.specs.declared.player.Deed.TheVariants as deed
 use Rattle.hla_run.specs.declared.fault.RunFault.{RunFault}
 use Rattle.hla_run.specs.declared.fault.RunFault.TheVariants as stop
 

@@ -1,10 +1,7 @@
 -- What a line has a federate of a script do.
-use Rattle.std.proofs.Common.{◌≡◌, ◌+◌, suc, arith, ℕ, List, [], ◌∷◌, ◌++◌, ◌⊎◌, inl, inr, Option, Some, Result, Ok, Err, length, refl, sym, ap, subst, ◌∙◌, codes}
-use Rattle.std.specs.Prelude.{slice_get, slice_set, zero, IfOk, IfErr}
-use Rattle.std.proofs.lemmas.Option.{slice_get_within}
+use Rattle.std.proofs.Common.{◌≡◌, ℕ, List, ◌⊎◌, inl, inr, Result, Err, refl, ap, ◌∙◌}
 use Rattle.hla_base.specs.declared.fault.Fault.{Fault}
 use Rattle.hla_base.specs.declared.fault.Fault.TheVariants as fault
-use Rattle.hla_callbacks.specs.declared.callback.Callback.{Callback}
 use Rattle.hla_machine.specs.declared.service.Service.{Service}
 use Rattle.hla_machine.specs.declared.service.Service.TheVariants as service
 use Rattle.hla_machine.specs.declared.service.ResignAction.{ResignAction}
@@ -14,14 +11,11 @@ use Rattle.hla_machine.specs.declared.step.Answer.{Answer}
 use Rattle.hla_machine.specs.declared.step.Answer.TheVariants as answer
 use Rattle.hla_machine.specs.declared.step.Outcome.{Outcome}
 use Rattle.hla_machine.specs.declared.step.Outcome.TheVariants as outcome
-use Rattle.hla_machine.specs.declared.step.Record.{Record}
-use Rattle.hla_machine.specs.declared.step.Step.{Step}
 use Rattle.hla_machine.specs.declared.step.Step.TheVariants as step
-use Rattle.hla_rti.specs.Callers.{Caller, FederateCaller, Leaver, HasActed, HasNotActed, HasAnswered, HasResigned, IsServed, answer_given, said, nothing, new_caller}
+use Rattle.hla_rti.specs.Callers.{Caller, FederateCaller, Leaver, HasAnswered, HasResigned, IsServed, answer_given}
 use Rattle.hla_run.specs.Deeds.{HasTold, DoesDeed}
 use Rattle.hla_run.specs.declared.player.Player.{Player}
 use Rattle.hla_run.specs.declared.player.Player.TheVariants as player
-use Rattle.hla_run.specs.declared.player.Deed.{Deed}
 use Rattle.hla_run.specs.declared.player.Deed.TheVariants as deed
 
 -- ---- what is told

@@ -7,7 +7,7 @@ use Rattle.hla_machine.specs.declared.step.Outcome.TheVariants as outcome
 use Rattle.hla_components.specs.Components.{Components}
 use Rattle.hla_components.specs.Next.{next}
 use Rattle.hla_federation.specs.FederationValue.{FederationValue}
-use Rattle.hla_federation.specs.Steps.Answering.{DoesStep, answered_as}
+use Rattle.hla_federation.specs.Steps.Answering.{DoesStep}
 use Rattle.hla_history.specs.Forms.{IsOfForm, step_form}
 use Rattle.hla_history.proofs.Steps.FormLaws.{ends_in_form}
 use Rattle.hla_session.specs.Calls.{IsCalled}
