@@ -18,11 +18,6 @@ impl Digest {
         }
     }
 
-    /// A digest that is this number.
-    pub fn of(value: u64) -> Digest {
-        Digest { value }
-    }
-
     /// What was added so far, as a number.
     pub fn value(self) -> u64 {
         self.value

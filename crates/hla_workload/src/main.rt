@@ -4,7 +4,7 @@
 //!     hla_workload NAME FEDERATES AMOUNT ROUNDS SEED
 //!
 //! `federation` runs federates on threads through the infrastructure, `check` has recorded runs judged, `steps` plays a federation in one
-//! process, `scripts` plays scripts, and `threads` runs one with a thread for each federate; `small` does a little of each. `endure` is `federation` under hard conditions: the ambassador of the
+//! process, and `scripts` plays scripts; `small` does a little of each. `endure` is `federation` under hard conditions: the ambassador of the
 //! first federate fails in callbacks by chance, a monitor is read all the while, and the records are judged at the end. It prints how many
 //! there are, too, and on standard error how often the ambassador failed and the monitor was read.
 #![tactic(auto)]
@@ -20,7 +20,6 @@ mod scripts;
 mod sizes;
 mod stage;
 mod texts;
-mod threads;
 mod values;
 
 use crate::digest::Digest;
@@ -43,12 +42,11 @@ enum Workload {
     Check,
     Steps,
     Scripts,
-    Threads,
     Small,
 }
 
 const USAGE: &str =
-    "usage: hla_workload federation|endure|check|steps|scripts|threads|small FEDERATES AMOUNT ROUNDS SEED";
+    "usage: hla_workload federation|endure|check|steps|scripts|small FEDERATES AMOUNT ROUNDS SEED";
 
 /// The workload of a name.
 fn named(name: &str) -> Option<Workload> {
@@ -58,7 +56,6 @@ fn named(name: &str) -> Option<Workload> {
         "check" => Some(Workload::Check),
         "steps" => Some(Workload::Steps),
         "scripts" => Some(Workload::Scripts),
-        "threads" => Some(Workload::Threads),
         "small" => Some(Workload::Small),
         _ => None,
     }
@@ -109,7 +106,6 @@ fn small<R: Threads + Wait + Sync>(rt: &R, alloc: Global, sizes: Sizes) -> Resul
     digest.add(checks::run(alloc, sizes)?.value());
     digest.add(checks::run_plays(alloc, sizes)?.value());
     digest.add(scripts::run_plays(alloc, sizes)?.value());
-    digest.add(threads::run(rt, alloc, sizes)?.value());
     Ok(digest)
 }
 
@@ -126,7 +122,6 @@ fn done<R: Threads + Wait + Sync>(
         Workload::Check => checks::run(alloc, sizes),
         Workload::Steps => checks::run_plays(alloc, sizes),
         Workload::Scripts => scripts::run_plays(alloc, sizes),
-        Workload::Threads => threads::run(rt, alloc, sizes),
         Workload::Small => small(rt, alloc, sizes),
     };
     Ok(Endured::unjudged(digest?))

@@ -1,4 +1,4 @@
-use Rattle.hla_workload.proofs.threads.run.Given as goal
+use Rattle.hla_thread_workload.proofs.done.Given as goal
 
 -- the ledger that was just made
 abbrev pub ghosts-run_at-L-Ledger : goal.ghosts-run_at-L-Ledger
