@@ -1,2 +1,2 @@
--- Nothing waits in time-stamp order
+-- Nothing waits in time-stamp order, or one message does
 pub mod Waiting

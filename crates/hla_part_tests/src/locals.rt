@@ -33,6 +33,43 @@ fn is_taken(
     }
 }
 
+/// Whether a removal that was sent in time-stamp order is taken in, where one message of another sender waits in that order.
+fn is_taken_beside(
+    alloc: Global,
+    local: &mut Local,
+    sender: FederateNo,
+    serial: Serial,
+    stamp: Ticks,
+) -> bool
+    requires some { 0 < sender }
+    requires within { sender ≤ max_joins }
+{
+    let Some(first) = local.first_ordered() else {
+        return false;
+    };
+    let other = first.sender;
+    let Ok(handles) = local.ordered_below(alloc, FOREVER) else {
+        return false;
+    };
+    let count = handles.len();
+    drop(handles);
+    let event = Event {
+        sender,
+        serial,
+        ordered: true,
+        stamp,
+        content: Content::Removal { object: 1 },
+    };
+    let Ok(event) = SharedEvent::new(alloc, event) else {
+        return false;
+    };
+    if sender == other || count != 1 {
+        drop(event);
+        return false;
+    }
+    local.accept(sender, Message::Event(event)).is_ok()
+}
+
 /// Whether a retraction of what waits in receive order, or nowhere, is taken in, where nothing waits in time-stamp order.
 fn is_retracted(local: &mut Local, sender: FederateNo, serial: Serial) -> bool
     requires some { 0 < sender }
@@ -74,22 +111,12 @@ fn pending(alloc: Global) -> Local {
 #[test]
 fn gives_in_receive_order_what_is_below_its_time(rt: HostRuntime) {
     let mut local = pending(rt.alloc());
-    assert!(rt; is_taken(rt.alloc(), &mut local, 3, 1, 5));
+    assert!(rt; is_taken(rt.alloc(), &mut local, 2, 1, 12));
+    assert!(rt; is_taken_beside(rt.alloc(), &mut local, 3, 1, 5));
     assert!(rt; picked(&mut local) == Some(NextPick::Constraint));
     assert!(rt; local.next_pick() == NextPick::Nothing);
-    assert!(rt; is_taken(rt.alloc(), &mut local, 2, 1, 12));
     local.set_asynchronous_delivery(true);
     assert!(rt; picked(&mut local) == Some(NextPick::Received));
-    assert!(rt; local.least_waiting() == 12);
-}
-
-#[test]
-fn keeps_in_order_what_is_not_below_its_time(rt: HostRuntime) {
-    let mut local = pending(rt.alloc());
-    assert!(rt; is_taken(rt.alloc(), &mut local, 2, 1, 12));
-    assert!(rt; picked(&mut local) == Some(NextPick::Constraint));
-    local.set_asynchronous_delivery(true);
-    assert!(rt; local.next_pick() == NextPick::Nothing);
     assert!(rt; local.least_waiting() == 12);
 }
 
