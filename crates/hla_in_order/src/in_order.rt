@@ -3,7 +3,7 @@
 //! Here, as in `hla_run`, what is large goes to `drop` by name: such a call is proved once, and what goes out of
 //! scope is taken apart, variant by variant, in the proof of each function that lets it.
 
-ghost use Rattle.std.specs.Prelude.{◌≡◌, ◌||◌, ◌+◌, ◌<◌, ◌≤◌, ℕ, List, [], OnOk, IfOk, IfErr, codes, vec_len, vec_capacity};
+ghost use Rattle.std.specs.Prelude.{◌≡◌, ◌||◌, ◌<◌, ◌≤◌, ℕ, List, [], drop, length, OnOk, IfOk, IfErr, codes, vec_len, vec_capacity};
 ghost use Rattle.std.specs.List.{All};
 ghost use Rattle.hla_base.specs.Limits.{ledger_parts, max_history_limit};
 ghost use Rattle.hla_run.specs.Joining.{joins, joins_by, script_joins, step_joins};
@@ -78,8 +78,8 @@ impl<L: Ledger + Naming, B: FederateAmbassador, P: Publisher<L>> Cast<L, B, P> {
         rti: &mut Rti<L, B, P>,
         name: List<u8>,
     ) -> Result<Outcome, Fault>
-        requires { 0 < self.old.ambassadors }
-        ensures ambassadors { self.new.ambassadors + 1 ≡ self.old.ambassadors }
+        requires { 0 < length self.old.ambassadors }
+        ensures ambassadors { self.new.ambassadors ≡ drop 1 self.old.ambassadors }
         ensures members { self.new.members ≡ self.old.members }
         ensures led { IfOk result (λ out. (fed : List ℕ) →
             RequestLeads fed (request.Step (step.Join name)) out rti.old self.old rti.new self.new) }
@@ -139,8 +139,8 @@ impl<L: Ledger + Naming, B: FederateAmbassador, P: Publisher<L>> Cast<L, B, P> {
 
     /// Does a step. An error is want of memory outside the step.
     fn step(&mut self, rt: &impl Wait, rti: &mut Rti<L, B, P>, step: Step) -> Result<Outcome, Fault>
-        requires { step_joins step ≤ self.old.ambassadors }
-        ensures ambassadors { self.new.ambassadors + step_joins step ≡ self.old.ambassadors }
+        requires { step_joins step ≤ length self.old.ambassadors }
+        ensures ambassadors { self.new.ambassadors ≡ drop (step_joins step) self.old.ambassadors }
         ensures members { self.new.members ≡ self.old.members }
         ensures led { IfOk result (λ out. (fed : List ℕ) → RequestLeads fed (request.Step step) out
             rti.old self.old rti.new self.new) }
@@ -161,9 +161,9 @@ impl<L: Ledger + Naming, B: FederateAmbassador, P: Publisher<L>> Cast<L, B, P> {
         rti: &mut Rti<L, B, P>,
         step: Step,
     ) -> Result<Outcome, Fault>
-        requires { step_joins step ≤ self.old.ambassadors }
+        requires { step_joins step ≤ length self.old.ambassadors }
         ensures ambassadors { OnOk result
-            (self.new.ambassadors + step_joins step ≡ self.old.ambassadors) }
+            (self.new.ambassadors ≡ drop (step_joins step) self.old.ambassadors) }
         ensures members { IfOk result (λ out. self.new.members.items
             ≡ with_change self.old.members.items (change_of step) out) }
         ensures led { IfOk result (λ out. (fed : List ℕ) → RequestLeads fed (request.Step step) out
@@ -209,8 +209,8 @@ impl<L: Ledger + Naming, B: FederateAmbassador, P: Publisher<L>> Cast<L, B, P> {
 
     /// Lets the ambassador go of a line that joins, and makes no step.
     fn pass_over(&mut self, command: &Command<'_>)
-        requires { joins_by command.now ≤ self.old.ambassadors }
-        ensures ambassadors { self.new.ambassadors + joins_by command.now ≡ self.old.ambassadors }
+        requires { joins_by command.now ≤ length self.old.ambassadors }
+        ensures ambassadors { self.new.ambassadors ≡ drop (joins_by command.now) self.old.ambassadors }
         ensures members { self.new.members.items ≡ self.old.members.items }
         ensures courier { self.new.courier ≡ self.old.courier }
         ensures execution { self.new.execution ≡ self.old.execution }
@@ -231,9 +231,9 @@ impl<L: Ledger + Naming, B: FederateAmbassador, P: Publisher<L>> Cast<L, B, P> {
         catalogue: &Catalogue,
         command: &Command<'_>,
     ) -> Result<Outcome, Fault>
-        requires { joins_by command.now ≤ self.old.ambassadors }
+        requires { joins_by command.now ≤ length self.old.ambassadors }
         ensures ambassadors { OnOk result
-            (self.new.ambassadors + joins_by command.now ≡ self.old.ambassadors) }
+            (self.new.ambassadors ≡ drop (joins_by command.now) self.old.ambassadors) }
         ensures led { IfOk result (λ out. LineLeads catalogue.now fed.now command.now out
             rti.old self.old rti.new self.new) }
     {
@@ -262,7 +262,7 @@ impl<L: Ledger + Naming, B: FederateAmbassador, P: Publisher<L>> Cast<L, B, P> {
         lines: &[Line<'_>],
         outcomes: &mut Outcomes,
     ) -> Result<(), Fault>
-        requires enough { joins lines.now ≤ self.old.ambassadors }
+        requires enough { joins lines.now ≤ length self.old.ambassadors }
         requires set { IsSet [] rti.old self.old }
         requires nobody { self.old.members.items ≡ [] }
         requires none { outcomes.old ≡ [] }
@@ -313,7 +313,7 @@ fn played<L: Ledger + Naming, B: FederateAmbassador, P: Publisher<L>>(
     ambassadors: Ambassadors<B>,
     outcomes: &mut Outcomes,
 ) -> Result<Vec<Left<L, B>>, Fault>
-    requires enough { joins lines.now ≤ ambassadors }
+    requires enough { joins lines.now ≤ length ambassadors }
     requires first { rti.old ≡ record { handed = 0; couriers = 0; own = new_caller 0 } }
     requires none { outcomes.old ≡ [] }
     ensures { IfOk result
@@ -344,7 +344,7 @@ fn told_in_order<L: Ledger + Naming, B: FederateAmbassador, P: Publisher<L>, W: 
     out: &mut Watched<W>,
 ) -> Result<Ran, RunFault>
     requires parts { L.parts ≡ ledger_parts }
-    requires enough { joins lines.now ≤ ambassadors }
+    requires enough { joins lines.now ≤ length ambassadors }
     requires first { rti ≡ record { handed = 0; couriers = 0; own = new_caller 0 } }
     ensures told { IfOk result (λ r. AreDone catalogue.now fed.now lines.now
         (W.contents out.old.inner) (W.contents out.new.inner) r.closed) }

@@ -1,5 +1,5 @@
 -- What a run of a script writes
-use Rattle.std.specs.Prelude.{◌≡◌, ◌≤◌, ◌<◌, ℕ, List, [], length, take, Option, None, Some, Ok, Err, Bool, true, false, Result, ◌⊎◌, slice_get, slice_index_or}
+use Rattle.std.specs.Prelude.{◌≡◌, ◌≤◌, ◌<◌, ℕ, List, [], length, take, Option, None, Some, Ok, Err, Bool, true, false, Result, ◌⊎◌, ◌∷◌, slice_get, slice_index_or, slice_set}
 use Rattle.std.specs.List.{flat_map, enumerate_from}
 use Rattle.std.specs.Io.KnownBytes.{Appends}
 use Rattle.hla_catalogue.specs.CatalogueValue.{CatalogueValue}
@@ -16,6 +16,7 @@ use Rattle.hla_commands.specs.Script.{script_of, ParsesAs}
 use Rattle.hla_transcript.specs.Printed.{line_text}
 use Rattle.hla_run.specs.Joining.{script_joins}
 use Rattle.hla_run.specs.declared.fault.RunFault.{RunFault}
+use Rattle.hla_run.specs.declared.outcomes.LineOutcome.{LineOutcome}
 use Rattle.hla_run.specs.declared.fault.RunFault.TheVariants as stop
 
 -- how a line came out, where it was done
@@ -30,6 +31,15 @@ told_at c outcomes place l = told_line c l (slice_index_or outcomes place None)
 -- how the lines came out that were done, in the order of the script
 abbrev pub told_text : CatalogueValue → List Line → List (Option Outcome) → List ℕ
 told_text c lines outcomes = flat_map (λ p. told_at c outcomes p.0 p.1) (enumerate_from 0 lines)
+
+-- how lines came out, once it is noted how one more did, in place of what was noted of it before
+abbrev pub with_line_noted : List (Option Outcome) → LineOutcome → List (Option Outcome)
+with_line_noted outcomes told = slice_set outcomes told.place (Some told.outcome)
+
+-- the same of several, one after another
+abbrev pub with_lines_noted : List (Option Outcome) → List LineOutcome → List (Option Outcome)
+with_lines_noted outcomes [] = outcomes
+with_lines_noted outcomes (told ∷ others) = with_lines_noted (with_line_noted outcomes told) others
 
 -- a line that carries or announces, which is not run on threads
 abbrev pub IsPassedOver : Command → Type 0

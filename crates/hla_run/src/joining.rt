@@ -1,6 +1,6 @@
 //! Who joins: the lines of a script that do, and their ambassadors.
 
-ghost use Rattle.std.specs.Prelude.{◌≡◌, ◌+◌, ◌<◌, [], vec_len, IfOk, IfErr};
+ghost use Rattle.std.specs.Prelude.{◌≡◌, ◌<◌, ◌∷◌, [], length, vec_len, IfOk, IfErr};
 ghost use Rattle.std.specs.List.{All};
 ghost use Rattle.hla_run.specs.Joining.{joins, script_joins};
 
@@ -55,19 +55,19 @@ pub fn recorders(alloc: Global, script: &[u8]) -> Result<Vec<Recorder>, Fault>
     }
 }
 
-/// The ambassadors of the federates that are to join, in their order; none has heard anything. Contracts see how many there are.
+/// The ambassadors of the federates that are to join; none has heard anything. Contracts see the list of them, in their order.
 #[derive(Drop)]
 pub struct Ambassadors<B: FederateAmbassador> {
     rest: VecDeque<B>,
 }
 
 impl<B: FederateAmbassador> Model for Ambassadors<B> {
-    ghost use Rattle.std.specs.Prelude.{◌≡◌, ℕ, [], length};
+    ghost use Rattle.std.specs.Prelude.{◌≡◌, List, []};
     ghost use Rattle.std.specs.List.{All};
 
-    ghost Value = { ℕ };
+    ghost Value = { List B };
 
-    ghost view = { λ a. length a.rest.items };
+    ghost view = { λ a. a.rest.items };
 
     ghost invariant = { λ a. All (λ b. B.heard b ≡ []) a.rest.items };
 }
@@ -76,7 +76,7 @@ impl<B: FederateAmbassador> Ambassadors<B> {
     /// Those of a list, from its first on.
     pub fn new(all: Vec<B>) -> Ambassadors<B>
         requires { All (λ b. B.heard b ≡ []) all.items }
-        ensures { result ≡ vec_len all }
+        ensures { result ≡ all.items }
     {
         Ambassadors {
             rest: VecDeque::from_vec(all),
@@ -85,9 +85,9 @@ impl<B: FederateAmbassador> Ambassadors<B> {
 
     /// Takes the first out.
     pub fn take_first(&mut self) -> B
-        requires { 0 < self.old }
+        requires { 0 < length self.old }
         ensures heard { B.heard result ≡ [] }
-        ensures rest { self.new + 1 ≡ self.old }
+        ensures taken { self.old ≡ result ∷ self.new }
     {
         match self.rest.pop_front() {
             Some(ambassador) => ambassador,

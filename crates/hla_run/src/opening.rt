@@ -1,6 +1,6 @@
 //! What is done before the federates' threads begin, and after they have ended.
 
-ghost use Rattle.std.specs.Prelude.{◌≡◌, ◌+◌, ◌<◌, ◌≤◌, length, IfOk, OnOk};
+ghost use Rattle.std.specs.Prelude.{◌≡◌, ◌<◌, ◌≤◌, drop, length, IfOk, OnOk};
 ghost use Rattle.hla_run.specs.Joining.{joins, joins_by};
 
 use crate::joining::Ambassadors;
@@ -37,8 +37,8 @@ fn joined<L: Ledger + Naming, B: FederateAmbassador, P: Publisher<L>>(
     ambassadors: &mut Ambassadors<B>,
     lives: &mut Vec<Life<L, B, P>>,
 ) -> Result<Outcome, Fault>
-    requires { 0 < ambassadors.old }
-    ensures { OnOk result (ambassadors.new + 1 ≡ ambassadors.old) }
+    requires { 0 < length ambassadors.old }
+    ensures { OnOk result (ambassadors.new ≡ drop 1 ambassadors.old) }
 {
     let own = copied(alloc, name)?;
     let name = copied(alloc, name)?;
@@ -78,8 +78,8 @@ fn opened<L: Ledger + Naming, B: FederateAmbassador, P: Publisher<L>>(
     ambassadors: &mut Ambassadors<B>,
     lives: &mut Vec<Life<L, B, P>>,
 ) -> Result<Option<Outcome>, Fault>
-    requires { joins_by command.now ≤ ambassadors.old }
-    ensures { OnOk result (ambassadors.new + joins_by command.now ≡ ambassadors.old) }
+    requires { joins_by command.now ≤ length ambassadors.old }
+    ensures { OnOk result (ambassadors.new ≡ drop (joins_by command.now) ambassadors.old) }
 {
     match command {
         Command::Create => Ok(Some(outcome_of_done(rti.create(rt, execution, fed)))),
@@ -106,7 +106,7 @@ pub fn open<L: Ledger + Naming, B: FederateAmbassador, P: Publisher<L>>(
     mut ambassadors: Ambassadors<B>,
     outcomes: &mut Outcomes,
 ) -> Result<Vec<Life<L, B, P>>, Fault>
-    requires { joins lines.now ≤ ambassadors }
+    requires { joins lines.now ≤ length ambassadors }
     ensures { OnOk result (length outcomes.new ≡ length outcomes.old) }
 {
     let mut lives = Vec::new(alloc);

@@ -1,9 +1,9 @@
 //! How the lines of a script came out.
 
-ghost use Rattle.std.specs.Prelude.{◌≡◌, ◌++◌, ◌∷◌, [], Some, OnOk, IfOk, IfErr, IsTrue, length, ℕ};
+ghost use Rattle.std.specs.Prelude.{◌≡◌, ◌++◌, ◌∷◌, [], None, Some, OnOk, IfOk, IfErr, IsTrue, length, replicate, ℕ};
 ghost use Rattle.hla_machine.specs.declared.step.Answer.TheVariants as answer;
 ghost use Rattle.hla_rti.specs.Callers.{answer_given, said, nothing};
-ghost use Rattle.hla_run.specs.Running.{AreAllDone, IsDealtWith, told_at, told_text};
+ghost use Rattle.hla_run.specs.Running.{AreAllDone, IsDealtWith, told_at, told_text, with_line_noted, with_lines_noted};
 
 use hla_base::{Fault, List, Ticks};
 use hla_callbacks::Callback;
@@ -142,7 +142,8 @@ fn are_all_done(outcomes: &[Option<Outcome>], lines: &[Line<'_>]) -> bool
 impl Outcomes {
     /// No outcome for each of so many lines; `OutOfMemory` where the room was refused.
     pub fn new(alloc: Global, lines: usize) -> Result<Outcomes, Fault>
-        ensures { IfOk result (λ o. length o ≡ lines) }
+        ensures length { IfOk result (λ o. length o ≡ lines) }
+        ensures none { IfOk result (λ o. o ≡ replicate lines None) }
     {
         let Ok(mut by_place) = Vec::with_capacity(alloc, lines) else {
             return Err(Fault::OutOfMemory);
@@ -175,9 +176,10 @@ impl Outcomes {
         }
     }
 
-    /// Notes how the line at a place came out.
+    /// Notes how the line at a place came out, in place of what was noted of it before.
     pub fn note(&mut self, told: LineOutcome)
-        ensures { length self.new ≡ length self.old }
+        ensures length { length self.new ≡ length self.old }
+        ensures noted { self.new ≡ with_line_noted self.old told }
     {
         match self.by_place.get_mut(told.place) {
             Some(slot) => drop(slot.replace(told.outcome)),
@@ -185,9 +187,10 @@ impl Outcomes {
         }
     }
 
-    /// Notes how lines came out.
+    /// Notes how lines came out, one after another.
     pub fn note_all(&mut self, all: Vec<LineOutcome>)
-        ensures { length self.new ≡ length self.old }
+        ensures length { length self.new ≡ length self.old }
+        ensures noted { self.new ≡ with_lines_noted self.old all.items }
     {
         for told in all {
             self.note(told);

@@ -102,7 +102,7 @@ fn ran<
     gate: &G,
     outcomes: &mut Outcomes,
 ) -> Result<Vec<Left<L, B>>, Fault>
-    requires { joins lines.now ≤ ambassadors }
+    requires { joins lines.now ≤ length ambassadors }
     ensures each { OnOk result (length outcomes.new ≡ length outcomes.old) }
     ensures done { OnOk result (AreAllDone lines.now outcomes.new) }
 {
@@ -153,7 +153,7 @@ fn told_on_threads<
     out: &mut Watched<W>,
 ) -> Result<Ran, RunFault>
     requires parts { L.parts ≡ ledger_parts }
-    requires enough { joins lines.now ≤ ambassadors }
+    requires enough { joins lines.now ≤ length ambassadors }
     ensures told { OnOk result (AreTold catalogue.now lines.now (W.contents out.old.inner)
         (W.contents out.new.inner)) }
     ensures seen { IfOk result (λ r. IsSeen is_watched r.closed r.seen) }

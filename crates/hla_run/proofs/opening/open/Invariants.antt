@@ -3,4 +3,4 @@ use Rattle.hla_run.specs.Joining.{joins}
 use Rattle.hla_run.proofs.opening.open.Given as goal
 
 abbrev pub invariant-loop-place : goal.invariant-loop-place
-invariant-loop-place g l = (length l.outcomes ≡ length l.fn.outcomes) × (joins (drop l.place l.lines) ≤ l.ambassadors)
+invariant-loop-place g l = (length l.outcomes ≡ length l.fn.outcomes) × (joins (drop l.place l.lines) ≤ length l.ambassadors)
