@@ -5,7 +5,8 @@
 program tries them and those. It applies a file, checks the crate once, and looks for an error in each function that the file changes. Of
 several wrong bodies of one function the first is checked so, and each other one alone, as is one of a function that calls another
 that the file changes. What turns a definition is refused by a theorem somewhere above it, so each of these is checked alone. It works
-in the folder of the crate, over what earlier checks kept, and puts the sources back; edit nothing while it runs.
+in the folder of the crate, over what earlier checks kept, and puts the sources back; edit nothing while it runs. One that the compiler
+refuses counts as not refused.
 
     bench/wrong_bodies.py [--alone] [--apply] [--write] [CRATE..]
 
@@ -27,6 +28,8 @@ FOLDERS = ("must-fail", "wrong-bodies")
 FUNCTION = re.compile(r'^\s*(?:pub(?:\([a-z]+\))?\s+)?(?:const\s+)?(?:extern\s+"C"\s+)?fn\s+(\w+)')
 BLOCK = re.compile(r"^(?:pub\s+)?(?:impl|trait)\b.*")
 ERROR = re.compile(r"(?:note: )?(?:\./)?((?:src|specs)/\S+?):(\d+):\d+:")
+# The compiler refuses what is no program: that says nothing of a contract.
+NO_PROGRAM = "error["
 # An answer to a goal of a function stands in a folder of the function's name.
 ANSWER = re.compile(r"(?:\./)?proofs/\S+/(\w+)/\w+\.antt:\d+:\d+: error")
 
@@ -114,8 +117,9 @@ def tried(folder, edit, alone):
         found, changed, any_refused = refused(folder, some)
         for it in some:
             by = [at for at in sorted(changed[it[0]], key=str) if at in found]
-            is_refused = bool(by) or len(some) == 1 and any_refused
-            if not is_refused and len(some) > 1:
+            is_program = not (by and NO_PROGRAM in found[by[0]])
+            is_refused = is_program and (bool(by) or len(some) == 1 and any_refused)
+            if is_program and not is_refused and len(some) > 1:
                 # (a function is not checked where one that it calls is refused)
                 groups.append([it])
                 continue
