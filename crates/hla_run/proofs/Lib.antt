@@ -6,3 +6,5 @@ pub mod JoinLemmas
 pub mod EndLemmas
 -- What a line has a federate of a script do
 pub mod DeedLemmas
+-- What is told of the lines of federates is what records answer
+pub mod RecordLemmas

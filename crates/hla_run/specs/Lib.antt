@@ -4,3 +4,5 @@ pub mod Joining
 pub mod Running
 -- What a line has a federate of a script do
 pub mod Deeds
+-- What is told of the lines of federates, by the records of the history
+pub mod Recorded

@@ -1,5 +1,11 @@
 //! A federate's life on its thread.
 
+ghost use Rattle.std.specs.Prelude.{◌≡◌};
+ghost use Rattle.hla_machine.specs.declared.step.Act.TheVariants as act;
+ghost use Rattle.hla_machine.specs.declared.step.Step.TheVariants as step;
+ghost use Rattle.hla_run.specs.Deeds.{caller_of};
+ghost use Rattle.hla_run.specs.Recorded.{HasExtended, IsActRecorded, IsCallAt, IsCallRecorded, IsLifeRecorded};
+
 use crate::gate::Gate;
 use crate::outcomes::{LineOutcome, outcome_of_tick};
 use crate::player::{Acted, Deed, Player, do_deed};
@@ -122,9 +128,15 @@ fn called_back<L: Ledger + Naming, B: FederateAmbassador, P: Publisher<L>, G: Ga
     stage: &Stage<G>,
     federate: &mut Federate<L, B, P>,
     courier: &mut Courier<L, B, P>,
-) -> Outcome {
+) -> Outcome
+    ensures execution { federate.new.execution ≡ federate.old.execution }
+    ensures federate { federate.new.federate ≡ federate.old.federate }
+    ensures extended { HasExtended federate.old.caller federate.new.caller }
+    ensures recorded { IsActRecorded federate.new.caller.transcript
+        (act.Step (step.Tick federate.old.federate)) result }
+{
     let mut wait = LineWait::new();
-    for _ in 0..MAX_TICKS {
+    for _tick in 0..MAX_TICKS {
         let seen = stage.room.bouts();
         match outcome_of_tick(federate.tick(rt)) {
             Outcome::Done(Answer::Ticked(None)) => {
@@ -143,7 +155,11 @@ fn done<L: Ledger + Naming, B: FederateAmbassador, P: Publisher<L>, G: Gate>(
     player: Player<L, B, P>,
     courier: &mut Courier<L, B, P>,
     call: &Call<'_>,
-) -> Acted<L, B, P> {
+) -> Acted<L, B, P>
+    ensures extended { HasExtended (caller_of player) (caller_of result.player) }
+    ensures recorded { IsCallRecorded stage.now.catalogue.now (caller_of result.player).transcript call.now
+        result.outcome }
+{
     let mut federate = match player {
         Player::Joined(federate) => federate,
         Player::Gone(left) => {
@@ -175,7 +191,11 @@ impl<L: Ledger + Naming, B: FederateAmbassador, P: Publisher<L>> Life<L, B, P> {
         place: usize,
         line: usize,
         call: &Call<'_>,
-    ) -> Life<L, B, P> {
+    ) -> Life<L, B, P>
+        requires { IsCallAt stage.now.lines.now place call.now }
+        ensures { IsLifeRecorded stage.now.catalogue.now stage.now.lines.now self
+            → IsLifeRecorded stage.now.catalogue.now stage.now.lines.now result }
+    {
         let Life {
             name,
             number,
@@ -206,7 +226,10 @@ pub fn live<L: Ledger + Naming, B: FederateAmbassador, P: Publisher<L>, G: Gate>
     rt: &impl Wait,
     stage: &Stage<G>,
     mut life: Life<L, B, P>,
-) -> Life<L, B, P> {
+) -> Life<L, B, P>
+    ensures { IsLifeRecorded stage.now.catalogue.now stage.now.lines.now life
+        → IsLifeRecorded stage.now.catalogue.now stage.now.lines.now result }
+{
     for (place, line) in stage.lines.iter().enumerate() {
         if let Command::Federate { name, call } = &line.command {
             if name.as_slice() == life.name.as_slice() {

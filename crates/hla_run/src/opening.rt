@@ -1,7 +1,8 @@
 //! What is done before the federates' threads begin, and after they have ended.
 
-ghost use Rattle.std.specs.Prelude.{◌≡◌, ◌<◌, ◌≤◌, drop, length, IfOk, OnOk};
+ghost use Rattle.std.specs.Prelude.{◌≡◌, ◌<◌, ◌≤◌, drop, length, IfOk, IfSome, OnOk};
 ghost use Rattle.hla_run.specs.Joining.{joins, joins_by};
+ghost use Rattle.hla_run.specs.Recorded.{AreFresh, KeepsRecorded, NeedsNoRecord};
 
 use crate::joining::Ambassadors;
 use crate::life::Life;
@@ -38,7 +39,8 @@ fn joined<L: Ledger + Naming, B: FederateAmbassador, P: Publisher<L>>(
     lives: &mut Vec<Life<L, B, P>>,
 ) -> Result<Outcome, Fault>
     requires { 0 < length ambassadors.old }
-    ensures { OnOk result (ambassadors.new ≡ drop 1 ambassadors.old) }
+    ensures taken { OnOk result (ambassadors.new ≡ drop 1 ambassadors.old) }
+    ensures fresh { OnOk result (AreFresh lives.old.items → AreFresh lives.new.items) }
 {
     let own = copied(alloc, name)?;
     let name = copied(alloc, name)?;
@@ -79,7 +81,9 @@ fn opened<L: Ledger + Naming, B: FederateAmbassador, P: Publisher<L>>(
     lives: &mut Vec<Life<L, B, P>>,
 ) -> Result<Option<Outcome>, Fault>
     requires { joins_by command.now ≤ length ambassadors.old }
-    ensures { OnOk result (ambassadors.new ≡ drop (joins_by command.now) ambassadors.old) }
+    ensures taken { OnOk result (ambassadors.new ≡ drop (joins_by command.now) ambassadors.old) }
+    ensures fresh { OnOk result (AreFresh lives.old.items → AreFresh lives.new.items) }
+    ensures aside { IfOk result (λ out. IfSome out (NeedsNoRecord command.now)) }
 {
     match command {
         Command::Create => Ok(Some(outcome_of_done(rti.create(rt, execution, fed)))),
@@ -107,7 +111,9 @@ pub fn open<L: Ledger + Naming, B: FederateAmbassador, P: Publisher<L>>(
     outcomes: &mut Outcomes,
 ) -> Result<Vec<Life<L, B, P>>, Fault>
     requires { joins lines.now ≤ length ambassadors }
-    ensures { OnOk result (length outcomes.new ≡ length outcomes.old) }
+    ensures each { OnOk result (length outcomes.new ≡ length outcomes.old) }
+    ensures fresh { IfOk result (λ lives. AreFresh lives.items) }
+    ensures recorded { OnOk result (KeepsRecorded lines.now outcomes.old outcomes.new) }
 {
     let mut lives = Vec::new(alloc);
     for (place, line) in lines.iter().enumerate() {
@@ -136,7 +142,8 @@ pub fn destroy<L: Ledger + Naming, B: FederateAmbassador, P: Publisher<L>>(
     lines: &[Line<'_>],
     outcomes: &mut Outcomes,
 )
-    ensures { length outcomes.new ≡ length outcomes.old }
+    ensures each { length outcomes.new ≡ length outcomes.old }
+    ensures recorded { KeepsRecorded lines.now outcomes.old outcomes.new }
 {
     for (place, line) in lines.iter().enumerate() {
         if let Command::Destroy = &line.command {
@@ -160,7 +167,8 @@ pub fn refuse_strangers<L: Ledger + Naming, B: FederateAmbassador, P: Publisher<
     lines: &[Line<'_>],
     outcomes: &mut Outcomes,
 )
-    ensures { length outcomes.new ≡ length outcomes.old }
+    ensures each { length outcomes.new ≡ length outcomes.old }
+    ensures recorded { KeepsRecorded lines.now outcomes.old outcomes.new }
 {
     for (place, line) in lines.iter().enumerate() {
         if let Command::Federate { name, .. } = &line.command {

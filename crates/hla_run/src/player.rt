@@ -3,6 +3,7 @@
 ghost use Rattle.std.specs.Prelude.{◌≡◌};
 ghost use Rattle.hla_machine.specs.declared.service.Service.TheVariants as service;
 ghost use Rattle.hla_run.specs.Deeds.{DoesDeed, caller_of};
+ghost use Rattle.hla_run.specs.Recorded.{IsDeedOf};
 ghost use Rattle.hla_run.specs.declared.player.Deed.TheVariants as deed;
 
 use crate::outcomes::{outcome_of, outcome_of_tick};
@@ -43,7 +44,9 @@ pub enum Deed {
 
 impl Deed {
     /// What a call of a script asks of a federate, by the names of a catalogue.
-    pub fn of(alloc: Global, catalogue: &Catalogue, call: &Call<'_>) -> Deed {
+    pub fn of(alloc: Global, catalogue: &Catalogue, call: &Call<'_>) -> Deed
+        ensures { IsDeedOf catalogue.now call.now result }
+    {
         match service_of(alloc, catalogue, call) {
             Ok(None) => Deed::Tick,
             Ok(Some(service)) => Deed::Serve(service),

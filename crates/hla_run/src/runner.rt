@@ -3,13 +3,16 @@
 //! Here and in the modules beside it what is large goes to `drop` by name: such a call is proved once, and what goes out of
 //! scope is taken apart, variant by variant, in the proof of each function that lets it.
 
-ghost use Rattle.std.specs.Prelude.{◌≡◌, ◌||◌, ◌≤◌, [], IfOk, OnOk, IfErr, length, vec_len};
+ghost use Rattle.std.specs.Prelude.{◌≡◌, ◌||◌, ◌≤◌, [], IfOk, OnOk, IfErr, length, vec_len, List, None, replicate};
 ghost use Rattle.std.specs.List.{All};
 ghost use Rattle.hla_base.specs.Limits.{ledger_parts};
+ghost use Rattle.hla_machine.specs.declared.step.Record.{Record};
+ghost use Rattle.hla_run.specs.Deeds.{caller_of};
 ghost use Rattle.hla_run.specs.Joining.{joins, script_joins};
-ghost use Rattle.hla_run.specs.Running.{AreAllDone, AreTold, IsRunFrom, IsSeen, StopsRun, StopsTelling, is_unwritten_run};
+ghost use Rattle.hla_run.specs.Recorded.{AreOutcomesRecorded, AreTranscriptsIn, GathersRecorded, IsLifeRecorded, IsRunRecorded, IsToldRecorded, LeavesBehind};
+ghost use Rattle.hla_run.specs.Running.{AreAllDone, AreTold, IsRunFrom, IsSeen, StopsRun, StopsTelling, is_unwritten_run, with_lines_noted};
 
-use crate::closing::close_told;
+use crate::closing::close_seen;
 use crate::fault::RunFault;
 use crate::gate::Gate;
 use crate::joining::Ambassadors;
@@ -18,7 +21,7 @@ use crate::opening::{destroy, open, refuse_strangers};
 use crate::outcomes::Outcomes;
 use crate::resting::RestingRoom;
 use crate::texts::{Texts, read_texts};
-use crate::watching::{Ran, last_read, to_the_end, watcher};
+use crate::watching::{Ran, last_read, watcher};
 use hla_base::{ExecutionName, Fault, MAX_HISTORY};
 use hla_callbacks::FederateAmbassador;
 use hla_catalogue::Catalogue;
@@ -39,7 +42,9 @@ fn gathered<L: Ledger + Naming, B: FederateAmbassador, P: Publisher<L>>(
     lefts: &mut Vec<Left<L, B>>,
     outcomes: &mut Outcomes,
 ) -> Result<(), Fault>
-    ensures { length outcomes.new ≡ length outcomes.old }
+    ensures each { length outcomes.new ≡ length outcomes.old }
+    ensures told { outcomes.new ≡ with_lines_noted outcomes.old life.told.items }
+    ensures left { OnOk result (LeavesBehind lefts.old.items (caller_of life.player) lefts.new.items) }
 {
     let Life {
         player,
@@ -64,7 +69,9 @@ fn gathered_all<L: Ledger + Naming, B: FederateAmbassador, P: Publisher<L>>(
     lives: Vec<Life<L, B, P>>,
     outcomes: &mut Outcomes,
 ) -> Result<Vec<Left<L, B>>, Fault>
-    ensures { OnOk result (length outcomes.new ≡ length outcomes.old) }
+    ensures each { OnOk result (length outcomes.new ≡ length outcomes.old) }
+    ensures recorded { IfOk result (λ lefts. GathersRecorded lives.items lefts.items outcomes.old
+        outcomes.new) }
 {
     let mut lefts = Vec::new(alloc);
     for life in lives {
@@ -102,9 +109,12 @@ fn ran<
     gate: &G,
     outcomes: &mut Outcomes,
 ) -> Result<Vec<Left<L, B>>, Fault>
-    requires { joins lines.now ≤ length ambassadors }
+    requires enough { joins lines.now ≤ length ambassadors }
+    requires blank { outcomes.old ≡ replicate (length lines.now) None }
     ensures each { OnOk result (length outcomes.new ≡ length outcomes.old) }
     ensures done { OnOk result (AreAllDone lines.now outcomes.new) }
+    ensures recorded { IfOk result (λ lefts. (history : List Record) → AreTranscriptsIn history lefts.items
+        → AreOutcomesRecorded catalogue.now lines.now history outcomes.new) }
 {
     let execution = ExecutionName::new(b"play")?;
     let lives = open(rt, alloc, rti, execution, fed, lines, ambassadors, outcomes)?;
@@ -118,7 +128,11 @@ fn ran<
         joined: number_of(lives.as_slice()),
         room: RestingRoom::new(lives.len()),
     };
-    let Ok(lives) = thread::map_vec(rt, lives, &|life| live(rt, &stage, life)) else {
+    let lived = |life: Life<L, B, P>| -> Life<L, B, P>
+        ensures { IsLifeRecorded stage.entry.catalogue.now stage.entry.lines.now life
+            → IsLifeRecorded stage.entry.catalogue.now stage.entry.lines.now result }
+    { live(rt, &stage, life) };
+    let Ok(lives) = thread::map_vec(rt, lives, &lived) else {
         return Err(Fault::OutOfMemory);
     };
     let lefts = gathered_all(alloc, lives, outcomes)?;
@@ -156,6 +170,8 @@ fn told_on_threads<
     requires enough { joins lines.now ≤ length ambassadors }
     ensures told { OnOk result (AreTold catalogue.now lines.now (W.contents out.old.inner)
         (W.contents out.new.inner)) }
+    ensures recorded { IfOk result (λ r. IsToldRecorded r.closed catalogue.now lines.now
+        (W.contents out.old.inner) (W.contents out.new.inner)) }
     ensures seen { IfOk result (λ r. IsSeen is_watched r.closed r.seen) }
     ensures stopped { IfErr result (StopsTelling catalogue.now lines.now (W.contents out.old.inner)
         (W.contents out.new.inner)) }
@@ -185,8 +201,9 @@ fn told_on_threads<
         drop(rti);
         return Err(RunFault::Memory);
     };
-    let closed = close_told(rt, alloc, rti, lefts, catalogue, lines, &outcomes, out)?;
-    to_the_end(closed, seen)
+    close_seen(
+        rt, alloc, rti, lefts, catalogue, lines, &outcomes, seen, out,
+    )
 }
 
 /// Runs a script over a FED file in an execution named `play`, behind the lock of a run-time infrastructure: first the lines
@@ -235,6 +252,11 @@ pub fn run_scripts<
     // What was written is an outcome for each line that does not carry or announce, in the order of the script.
     ensures written { OnOk result (IsRunFrom fed.now script.now (W.contents out.old.inner)
         (W.contents out.new.inner)) }
+
+    // Where that says of a federate's line that it was done, a record of the history is of the act that the line asks for, and
+    // answers so.
+    ensures recorded { IfOk result (λ r. IsRunRecorded r.closed fed.now script.now
+        (W.contents out.old.inner) (W.contents out.new.inner)) }
 
     // What a monitor read last, where one was to watch, are the counts of a beginning of the records.
     ensures seen { IfOk result (λ r. IsSeen is_watched r.closed r.seen) }

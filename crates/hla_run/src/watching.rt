@@ -1,6 +1,6 @@
 //! A monitor beside a run of a script.
 
-ghost use Rattle.std.specs.Prelude.{◌≡◌, IfOk, IfErr, IsTrue, is_some};
+ghost use Rattle.std.specs.Prelude.{◌≡◌, IfOk, IsTrue, is_some};
 ghost use Rattle.hla_run.specs.Running.{CountsBeginning, IsSeen};
 
 use crate::fault::RunFault;
@@ -64,25 +64,5 @@ pub fn is_seen(seen: Option<Status>, records: &[Record]) -> bool
     match seen {
         None => true,
         Some(status) => counts_beginning(status, records),
-    }
-}
-
-/// A run to its end, where what was read last are the counts of a beginning of the records; else `Monitor`.
-pub fn to_the_end(closed: Closed, seen: Option<Status>) -> Result<Ran, RunFault>
-    ensures ok { IfOk result (λ r. IsSeen (is_some seen) r.closed r.seen) }
-    ensures err { IfErr result (λ e. e ≡ RunFault.Monitor) }
-{
-    match seen {
-        None => Ok(Ran { closed, seen: None }),
-        Some(status) => {
-            if counts_beginning(status, closed.records()) {
-                Ok(Ran {
-                    closed,
-                    seen: Some(status),
-                })
-            } else {
-                Err(RunFault::Monitor)
-            }
-        }
     }
 }

@@ -1,7 +1,11 @@
-use Rattle.std.proofs.Common.{◌≡◌, ◌-◌, List, Option, length, ap, ◌∙◌, arith, length-drop}
+use Rattle.std.specs.Prelude.{IfSome}
+use Rattle.std.proofs.Common.{◌≡◌, ◌-◌, List, Option, length, ap, subst, ◌∙◌, arith, length-drop}
 use Rattle.hla_machine.specs.declared.step.Outcome.{Outcome}
 use Rattle.hla_run.specs.Joining.{joins_by}
+use Rattle.hla_run.specs.Recorded.{NeedsNoRecord}
+use Rattle.hla_run.specs.declared.outcomes.LineOutcome.{LineOutcome}
 use Rattle.hla_run.proofs.JoinLemmas.{joins_more}
+use Rattle.hla_run.proofs.RecordLemmas.{kept_noted, kept_same, line_at, telling_aside}
 use Rattle.hla_run.proofs.opening.open.Goals.{in-Some, in_default}
 use Rattle.hla_run.proofs.opening.open.Goals as goal
 
@@ -9,11 +13,24 @@ pub loop-place-preserved : goal.loop-place-preserved
 loop-place-preserved g c =
     let taken = joins_by c.index-lines-place.result.command in
     let left : length c.opened.new.ambassadors ≡ length c.loop-place.ambassadors - taken =
-    ap (λ (bs : List g.row.B.Denot). length bs) c.in_ok-opened.ensures ∙ length-drop taken c.loop-place.ambassadors in
-    let more = joins_more c.args.lines.now c.loop-place.place c.index-lines-place.result c.loop-place-test.true c.index-lines-place.is in (
-      elim c.match-opened.branch [
-        | in-Some w ↦ ap (λ (os : List (Option Outcome)). length os) w.outcomes-is ∙ w.note.ensures.length ∙ c.loop-place.invariant.0
-        | in_default w ↦ ap (λ (os : List (Option Outcome)). length os) w.outcomes-is ∙ c.loop-place.invariant.0
-      ],
-      omega (arith, more, left, c.loop-place.invariant.1),
-    )
+    ap (λ (bs : List g.row.B.Denot). length bs) c.in_ok-opened.ensures.taken ∙ length-drop taken c.loop-place.ambassadors in
+    let more = joins_more c.args.lines.now c.loop-place.place c.index-lines-place.result c.loop-place-test.true c.index-lines-place.is in
+    let lines = c.args.lines.now in
+    let before = c.loop-place.outcomes in
+    let l = c.index-lines-place.result in
+    let at = line_at lines c.loop-place.place l c.loop-place-test.true c.index-lines-place.is in
+    record {
+      each = elim c.match-opened.branch [
+        | in-Some w ↦ ap (λ (os : List (Option Outcome)). length os) w.outcomes-is ∙ w.note.ensures.length ∙ c.loop-place.invariant.each
+        | in_default w ↦ ap (λ (os : List (Option Outcome)). length os) w.outcomes-is ∙ c.loop-place.invariant.each
+      ];
+      enough = omega (arith, more, left, c.loop-place.invariant.enough);
+      fresh = c.in_ok-opened.ensures.fresh c.loop-place.invariant.fresh;
+      recorded = elim c.match-opened.branch [
+        | in-Some w ↦
+            let told : LineOutcome = record { place = c.loop-place.place; outcome = w.in-Some.outcome } in
+            let aside = subst (λ (o : Option Outcome). IfSome o (NeedsNoRecord l.command)) w.in-Some.is c.in_ok-opened.ensures.aside in
+            kept_noted lines c.args.outcomes.now before c.match-opened.outcomes told c.loop-place.invariant.recorded (w.outcomes-is ∙ w.note.ensures.noted) (telling_aside lines told l at aside)
+        | in_default w ↦ kept_same lines c.args.outcomes.now before c.match-opened.outcomes c.loop-place.invariant.recorded w.outcomes-is
+      ];
+    }
