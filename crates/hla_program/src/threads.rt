@@ -5,6 +5,7 @@ ghost use Rattle.hla_base.specs.Limits.{ledger_parts};
 ghost use Rattle.hla_transcript.specs.Watching.{stream_of};
 ghost use Rattle.hla_checker.specs.Faults.{IsWholeRun};
 ghost use Rattle.hla_run.specs.Joining.{script_joins};
+ghost use Rattle.hla_run.specs.Recorded.{IsRunRecorded};
 ghost use Rattle.hla_run.specs.Running.{IsRunFrom, IsSeen, StopsRun, is_unwritten_run};
 ghost use Rattle.hla_program.specs.Program.{EndsJudging, EndsRunning};
 ghost use Rattle.hla_program.specs.declared.finding.Finding.TheVariants as found;
@@ -75,6 +76,8 @@ fn run_recorded<L: Ledger + Naming + Send + Sync, R: Threads + Wait + Sync, W: W
     requires book { means.opened.seen.book ≡ L.book }
     ensures written { OnOk result (IsRunFrom fed.now script.now (W.contents out.old.inner)
         (W.contents out.new.inner)) }
+    ensures recorded { IfOk result (λ r. IsRunRecorded r.closed fed.now script.now
+        (W.contents out.old.inner) (W.contents out.new.inner)) }
     ensures seen { IfOk result (λ r. IsSeen is_watched r.closed r.seen) }
     ensures stopped { IfErr result (StopsRun fed.now script.now (script_joins script.now)
         (W.contents out.old.inner) (W.contents out.new.inner)) }
