@@ -291,13 +291,13 @@ impl Meter {
         if self.history.is_some() {
             self.record(Step::Tick { federate })?;
         }
-        // The callback is read where it lies, and goes out of scope there: to move what was just written, field by field, waits
-        // until all of it is in memory.
-        let ticked = self.federation.tick(federate);
-        match &ticked {
-            Ok(Some(callback)) => Ok(Some(brought_by(callback))),
-            Ok(None) => Ok(None),
-            Err(fault) => Err(*fault),
+        match self.federation.tick(federate)? {
+            Some(callback) => {
+                let brought = brought_by(&callback);
+                drop(callback);
+                Ok(Some(brought))
+            }
+            None => Ok(None),
         }
     }
 
