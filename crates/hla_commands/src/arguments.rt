@@ -102,7 +102,8 @@ fn digits_value(digits: &[u8]) -> Option<u64>
     Some(value)
 }
 
-/// The number that a word of decimal digits says.
+/// The number that a word of decimal digits says. `BadNumber` where it is empty, is not of decimal digits alone, or says
+/// more than a `u64` holds.
 fn number_of(word: &[u8]) -> Result<u64, ScriptFaultKind>
     ensures { result ≡ word_number word.now }
 {

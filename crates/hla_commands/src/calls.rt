@@ -13,7 +13,8 @@ use crate::vocabulary::{TimeVerb, Verb};
 use crate::words::Words;
 use std::alloc::Global;
 
-/// A publication of an object class or a subscription to one, with its attributes.
+/// A publication of an object class or a subscription to one, with its attributes. `MissingWord` where the class is
+/// missing; `OutOfMemory` where a growth was refused.
 fn declare_object<'a>(
     alloc: Global,
     declaration: Declaration,
@@ -30,7 +31,7 @@ fn declare_object<'a>(
     })
 }
 
-/// A registration, with or without a name.
+/// A registration, with or without a name. `MissingWord` where the class is missing.
 fn register<'a>(words: &mut Words<'a>) -> Result<Call<'a>, ScriptFaultKind>
     ensures { Gives result words.new (register_in words.old) }
 {
@@ -39,7 +40,8 @@ fn register<'a>(words: &mut Words<'a>) -> Result<Call<'a>, ScriptFaultKind>
     Ok(Call::Register { class, name })
 }
 
-/// An update.
+/// An update. `MissingWord` where the object or the class is missing; `BadNumber` as of `number`; `BadWord` and
+/// `OutOfMemory` as of `pairs_and_stamp`.
 fn update<'a>(alloc: Global, words: &mut Words<'a>) -> Result<Call<'a>, ScriptFaultKind>
     ensures { Reads result words.new (update_in words.old) }
 {
@@ -54,7 +56,7 @@ fn update<'a>(alloc: Global, words: &mut Words<'a>) -> Result<Call<'a>, ScriptFa
     })
 }
 
-/// An interaction.
+/// An interaction. `MissingWord` where the class is missing; `BadWord` and `OutOfMemory` as of `pairs_and_stamp`.
 fn send<'a>(alloc: Global, words: &mut Words<'a>) -> Result<Call<'a>, ScriptFaultKind>
     ensures { Reads result words.new (send_in words.old) }
 {
@@ -67,7 +69,8 @@ fn send<'a>(alloc: Global, words: &mut Words<'a>) -> Result<Call<'a>, ScriptFaul
     })
 }
 
-/// A deletion.
+/// A deletion. `MissingWord` where the object is missing; `BadNumber` as of `number`; `BadWord` where the word behind it is
+/// no stamp.
 fn delete<'a>(words: &mut Words<'a>) -> Result<Call<'a>, ScriptFaultKind>
     ensures { Gives result words.new (delete_in words.old) }
 {
@@ -76,7 +79,8 @@ fn delete<'a>(words: &mut Words<'a>) -> Result<Call<'a>, ScriptFaultKind>
     Ok(Call::Delete { object, stamp })
 }
 
-/// A change of the order of attributes of an object.
+/// A change of the order of attributes of an object. `MissingWord` where the object, the class or the order is missing;
+/// `BadNumber` as of `number`; `BadWord` where another word stands for the order; `OutOfMemory` where a growth was refused.
 fn attribute_order<'a>(alloc: Global, words: &mut Words<'a>) -> Result<Call<'a>, ScriptFaultKind>
     ensures { Reads result words.new (attribute_order_in words.old) }
 {
@@ -92,7 +96,8 @@ fn attribute_order<'a>(alloc: Global, words: &mut Words<'a>) -> Result<Call<'a>,
     })
 }
 
-/// A change of the order of interactions.
+/// A change of the order of interactions. `MissingWord` where the class or the order is missing; `BadWord` where another
+/// word stands for the order.
 fn interaction_order<'a>(words: &mut Words<'a>) -> Result<Call<'a>, ScriptFaultKind>
     ensures { Gives result words.new (interaction_order_in words.old) }
 {
@@ -101,7 +106,7 @@ fn interaction_order<'a>(words: &mut Words<'a>) -> Result<Call<'a>, ScriptFaultK
     Ok(Call::ChangeInteractionOrder { class, order })
 }
 
-/// An enabling of time regulation.
+/// An enabling of time regulation. `MissingWord` where the time or the lookahead is missing; `BadNumber` as of `number`.
 fn regulate<'a>(words: &mut Words<'a>) -> Result<Call<'a>, ScriptFaultKind>
     ensures { Gives result words.new (regulate_in words.old) }
 {
@@ -110,7 +115,7 @@ fn regulate<'a>(words: &mut Words<'a>) -> Result<Call<'a>, ScriptFaultKind>
     Ok(Call::EnableTimeRegulation { time, lookahead })
 }
 
-/// A retraction.
+/// A retraction. `MissingWord` and `BadWord` as of `handle`.
 fn retract<'a>(words: &mut Words<'a>) -> Result<Call<'a>, ScriptFaultKind>
     ensures { Gives result words.new (retract_in words.old) }
 {
@@ -118,7 +123,7 @@ fn retract<'a>(words: &mut Words<'a>) -> Result<Call<'a>, ScriptFaultKind>
     Ok(Call::Retract { sender, serial })
 }
 
-/// A verb of time management with its words.
+/// A verb of time management with its words. `MissingWord`, `BadNumber` or `BadWord` as of what it wants behind it.
 fn time_call_by<'a>(verb: TimeVerb, words: &mut Words<'a>) -> Result<Call<'a>, ScriptFaultKind>
     ensures { Gives result words.new (time_call_by verb words.old) }
 {
@@ -144,7 +149,7 @@ fn time_call_by<'a>(verb: TimeVerb, words: &mut Words<'a>) -> Result<Call<'a>, S
     }
 }
 
-/// A verb with its words.
+/// A verb with its words. `MissingWord`, `BadWord`, `BadNumber` or `OutOfMemory` as of what it wants behind it.
 fn call_by<'a>(
     alloc: Global,
     verb: Verb,

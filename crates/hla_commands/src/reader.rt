@@ -17,7 +17,8 @@ use std::alloc::Global;
 /// The bytes of a usual line of a script, or some fewer.
 const USUAL_LINE: usize = 24;
 
-/// A command by its first word.
+/// A command by its first word. `MissingWord` and `BadWord` as of `federate` where it joins, carries or announces; the
+/// fault of `call` where a federate calls.
 fn command_by<'a>(
     alloc: Global,
     first: &'a [u8],
@@ -50,7 +51,7 @@ fn command_by<'a>(
     }
 }
 
-/// What the words of a line ask for.
+/// What the words of a line ask for. The fault of `command_by`; else `ExtraWord` where a word is left.
 fn command_in<'a>(
     alloc: Global,
     mut words: Words<'a>,
@@ -92,7 +93,8 @@ fn is_text(text: &[u8]) -> bool
     all
 }
 
-/// What a line asks for; its bytes are not tested once more where those of its text were.
+/// What a line asks for; its bytes are not tested once more where those of its text were. `TooLarge` where it is too long;
+/// else `BadByte` where a byte may not stand in it; else, where it is no comment, the fault of `command_in`.
 #[tactic(auto, unfolding(crate::specs::Script::command_of))]
 fn command<'a>(
     alloc: Global,

@@ -58,7 +58,7 @@ fn news_of(callback: Option<Callback>) -> News {
 }
 
 /// Has both federates announce what they will not send any more, and brings each the next message from the other. Without null
-/// messages no bound would rise, and no grant would come.
+/// messages no bound would rise, and no grant would come. Ends with the fault of the first of these calls that is refused.
 fn exchange<L: Ledger + Naming, W: Publisher<L>>(
     rt: &impl Wait,
     courier: &mut Courier<L, Recorder, W>,
@@ -71,7 +71,8 @@ fn exchange<L: Ledger + Naming, W: Publisher<L>>(
     Ok(())
 }
 
-/// Ticks until the time that was asked for is granted.
+/// Ticks until the time that was asked for is granted. `Refused` with the fault of the tick or of `exchange`; `NoGrant`
+/// where `MAX_TICKS` ticks told no grant.
 fn wait_for_grant<L: Ledger + Naming, W: Publisher<L>>(
     rt: &impl Wait,
     execution: ExecutionName,
@@ -90,7 +91,8 @@ fn wait_for_grant<L: Ledger + Naming, W: Publisher<L>>(
     Err(Trouble::NoGrant)
 }
 
-/// Sends the level at this time: ten litres for each tick of time.
+/// Sends the level at this time: ten litres for each tick of time. `Refused` with the fault of
+/// `Federate::send_interaction`, or with `OutOfMemory` where a growth was refused.
 fn tell_level<L: Ledger + Naming, W: Publisher<L>>(
     rt: &impl Wait,
     alloc: Global,
@@ -109,7 +111,8 @@ fn tell_level<L: Ledger + Naming, W: Publisher<L>>(
     Ok(())
 }
 
-/// Advances through the whole time, step by step.
+/// Advances through the whole time, step by step. `Refused` with the fault of the first call that is refused, or with
+/// `OutOfMemory` where a growth was refused; `NoGrant` as of `wait_for_grant`.
 fn advance<L: Ledger + Naming, W: Publisher<L>>(
     rt: &impl Wait,
     alloc: Global,

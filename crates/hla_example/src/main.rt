@@ -61,6 +61,7 @@ fn leave<L: Ledger + Naming, W: Publisher<L>>(
 }
 
 /// Takes the federates out of the execution and destroys it: nobody is left joined, and all places are there for `close`.
+/// The trouble of `leave`, or `Refused` with the fault of `Rti::destroy`.
 fn ended<L: Ledger + Naming, W: Publisher<L>>(
     rt: &impl Wait,
     alloc: Global,
@@ -76,7 +77,8 @@ fn ended<L: Ledger + Naming, W: Publisher<L>>(
     Ok(lefts)
 }
 
-/// Runs the federation to its end: the places of all who took part.
+/// Runs the federation to its end: the places of all who took part. `Refused` with the fault of the first call that is
+/// refused, or with `OutOfMemory` where memory was refused; else the trouble of `ended`.
 fn run<L: Ledger + Naming + Send + Sync, W: Publisher<L> + Send, R: Threads + Wait + Sync>(
     rt: &R,
     alloc: Global,
@@ -93,7 +95,7 @@ fn run<L: Ledger + Naming + Send + Sync, W: Publisher<L> + Send, R: Threads + Wa
     ended(rt, alloc, rti, tank, lived)
 }
 
-/// Prints a level that was told in time-stamp order.
+/// Prints a level that was told in time-stamp order. `io::Error` where the write fails.
 fn print_level<R: Runtime>(rt: &R, callback: &Callback) -> io::Result<()> {
     let Callback::ReceiveInteraction {
         values,
@@ -110,7 +112,7 @@ fn print_level<R: Runtime>(rt: &R, callback: &Callback) -> io::Result<()> {
     Ok(())
 }
 
-/// Prints what an ambassador was told.
+/// Prints what an ambassador was told. `io::Error` where a write fails.
 fn print_heard<R: Runtime>(rt: &R, ambassador: &Recorder) -> io::Result<()> {
     for callback in ambassador.callbacks() {
         print_level(rt, callback)?;
@@ -118,7 +120,7 @@ fn print_heard<R: Runtime>(rt: &R, ambassador: &Recorder) -> io::Result<()> {
     Ok(())
 }
 
-/// The ambassadors of those who resigned.
+/// The ambassadors of those who resigned. `Refused` with `OutOfMemory` where a growth was refused.
 fn ambassadors<L: Ledger>(
     alloc: Global,
     lefts: &mut Vec<Left<L, Recorder>>,
@@ -133,7 +135,8 @@ fn ambassadors<L: Ledger>(
 }
 
 /// Runs the federation, closes the infrastructure, which compares each transcript with the history, and answers what the
-/// ambassadors heard.
+/// ambassadors heard. `Refused` with the fault of `open_rti`; the trouble of `run` or `ambassadors`; `NotClosed` where the
+/// infrastructure does not close.
 fn simulated<L: Ledger + Naming + Send + Sync, R: Threads + Wait + Sync>(
     rt: &R,
     alloc: Global,
@@ -154,7 +157,7 @@ fn simulated<L: Ledger + Naming + Send + Sync, R: Threads + Wait + Sync>(
     }
 }
 
-/// Runs the federation and prints what was told; the status.
+/// Runs the federation and prints what was told; the status. `io::Error` where a write fails.
 fn told<R: Runtime + AllocGlobal + Threads + Wait + Sync>(rt: &R) -> io::Result<u8> {
     let ambassadors = match simulated::<Brand, R>(
         rt,

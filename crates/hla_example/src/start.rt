@@ -29,7 +29,7 @@ pub fn keep<T: Drop>(list: &mut Vec<T>, item: T) -> Result<(), Trouble> {
     }
 }
 
-/// A name as the services take it.
+/// A name as the services take it. `OutOfMemory` where a growth was refused.
 fn name(alloc: Global, text: &[u8]) -> Result<List<u8>, Fault> {
     let mut name = List::new(alloc);
     for letter in text {
@@ -54,7 +54,8 @@ pub fn joined<L: Ledger + Naming, W: Publisher<L>>(
     }
 }
 
-/// The pump publishes the levels and regulates time, and is told that it does.
+/// The pump publishes the levels and regulates time, and is told that it does. `Refused` with the fault of the first call
+/// that is refused, or with `OutOfMemory` where a growth was refused.
 fn set_up_pump<L: Ledger + Naming, W: Publisher<L>>(
     rt: &impl Wait,
     alloc: Global,
@@ -68,7 +69,8 @@ fn set_up_pump<L: Ledger + Naming, W: Publisher<L>>(
     Ok(Part::Pump { level, litres })
 }
 
-/// The display subscribes the class of the levels and is constrained by time, and is told that it is.
+/// The display subscribes the class of the levels and is constrained by time, and is told that it is. `Refused` with the
+/// fault of the first call that is refused, or with `OutOfMemory` where a growth was refused.
 fn set_up_display<L: Ledger + Naming, W: Publisher<L>>(
     rt: &impl Wait,
     alloc: Global,

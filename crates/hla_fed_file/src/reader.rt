@@ -160,7 +160,7 @@ impl Reader {
         }
     }
 
-    /// Goes behind an opening parenthesis that may stand here.
+    /// Goes behind an opening parenthesis that may stand here. `TooLarge` where `MAX_FED_NESTING` are open.
     fn deepen(&mut self, place: Place) -> Result<(), FedFaultKind>
         ensures { Moves result (with_paren_opened place self.old) self.new }
     {
@@ -180,7 +180,8 @@ impl Reader {
         self.depth = self.depth.saturating_sub(1);
     }
 
-    /// Declares the attribute that was read, unless it is ignored.
+    /// Declares the attribute that was read, unless it is ignored. `OutOfMemory` where a growth was refused, or the limit
+    /// is reached, which was tested at its name.
     fn declare_attribute(&mut self) -> Result<(), FedFaultKind>
         ensures { Moves result (Ok (with_attribute_declared self.old)) self.new }
     {
@@ -194,7 +195,8 @@ impl Reader {
         Ok(())
     }
 
-    /// Declares the interaction class whose options end, and goes on in it.
+    /// Declares the interaction class whose options end, and goes on in it. `OutOfMemory` where a growth was refused, or
+    /// the limit is reached, which was tested at its name.
     fn declare_class(&mut self) -> Result<(), FedFaultKind>
         ensures { Moves result (Ok (with_class_declared self.old)) self.new }
     {
@@ -213,7 +215,8 @@ impl Reader {
         Ok(())
     }
 
-    /// Takes an opening parenthesis.
+    /// Takes an opening parenthesis. `UnknownKeyword`, `ExpectedName`, `ExpectedClose` or `TrailingText` where another
+    /// token must stand; `TooLarge` where `MAX_FED_NESTING` are open; `OutOfMemory` as of `declare_class`.
     #[tactic(auto, unfolding(crate::specs::Reading::after_open))]
     fn open(&mut self) -> Result<(), FedFaultKind>
         ensures { Moves result (after_open self.old) self.new }
@@ -237,7 +240,7 @@ impl Reader {
         }
     }
 
-    /// Leaves a class, for the class around it or for the list of classes.
+    /// Leaves a class, for the class around it or for the list of classes. `OutOfMemory` where a growth was refused.
     fn leave_class(&mut self, alloc: Global, top: Lists, inner: Lists) -> Result<(), FedFaultKind>
         ensures { Moves result (Ok (with_class_left top inner self.old)) self.new }
     {
@@ -247,7 +250,7 @@ impl Reader {
         Ok(())
     }
 
-    /// Ends a list of lists.
+    /// Ends a list of lists. `OutOfMemory` where a growth was refused.
     fn close_list(&mut self, alloc: Global, lists: Lists) -> Result<(), FedFaultKind>
         ensures { Moves result (Ok (with_list_closed lists self.old)) self.new }
     {
@@ -266,7 +269,8 @@ impl Reader {
         Ok(())
     }
 
-    /// Takes a closing parenthesis.
+    /// Takes a closing parenthesis. `ExpectedOpen`, `UnknownKeyword`, `ExpectedName` or `TrailingText` where another token
+    /// must stand; `OutOfMemory` as of `declare_attribute`, `declare_class` and `close_list`.
     #[tactic(auto, unfolding(crate::specs::Reading::after_close))]
     fn close(&mut self, alloc: Global) -> Result<(), FedFaultKind>
         ensures { Moves result (after_close self.old) self.new }
@@ -293,7 +297,8 @@ impl Reader {
         Ok(())
     }
 
-    /// Takes the name of an object class.
+    /// Takes the name of an object class. `TooLarge` where there are `MAX_CLASSES` of them; `OutOfMemory` where a growth
+    /// was refused.
     fn open_object_class(&mut self, alloc: Global, name: &[u8]) -> Result<(), FedFaultKind>
         ensures { Moves result (after_name_at NameOf.ObjectClass self.old name.now) self.new }
     {
@@ -319,7 +324,8 @@ impl Reader {
         Ok(())
     }
 
-    /// Takes the name of an interaction class.
+    /// Takes the name of an interaction class. `TooLarge` where there are `MAX_CLASSES` of them; `OutOfMemory` where a
+    /// growth was refused.
     fn open_interaction_class(&mut self, alloc: Global, name: &[u8]) -> Result<(), FedFaultKind>
         ensures { Moves result (after_name_at NameOf.InteractionClass self.old name.now) self.new }
     {
@@ -340,7 +346,8 @@ impl Reader {
         Ok(())
     }
 
-    /// Takes the name of an attribute.
+    /// Takes the name of an attribute. Where no open class has one of that name: `TooLarge` where there are
+    /// `MAX_ATTRIBUTES` in all; `OutOfMemory` where a growth was refused.
     fn open_attribute(&mut self, alloc: Global, name: &[u8]) -> Result<(), FedFaultKind>
         ensures { Moves result (after_name_at NameOf.Attribute self.old name.now) self.new }
     {
@@ -369,7 +376,8 @@ impl Reader {
         Ok(())
     }
 
-    /// Takes the name of a parameter.
+    /// Takes the name of a parameter. Where no open class has one of that name: `TooLarge` where there are `MAX_PARAMETERS`
+    /// in all; `OutOfMemory` where a growth was refused.
     fn open_parameter(&mut self, alloc: Global, name: &[u8]) -> Result<(), FedFaultKind>
         ensures { Moves result (after_name_at NameOf.Parameter self.old name.now) self.new }
     {
@@ -398,7 +406,8 @@ impl Reader {
         Ok(())
     }
 
-    /// Takes a name where one must stand.
+    /// Takes a name where one must stand. `ExpectedName` where it is empty; `TooLarge` where it has more than `MAX_NAME`
+    /// bytes; else the fault of what it opens: `TooLarge` or `OutOfMemory`.
     #[tactic(auto, unfolding(crate::specs::Reading::after_name))]
     fn take_name(&mut self, alloc: Global, naming: NameOf, name: &[u8]) -> Result<(), FedFaultKind>
         ensures { Moves result (after_name naming self.old name.now) self.new }
@@ -421,7 +430,7 @@ impl Reader {
         }
     }
 
-    /// Takes a keyword behind an opening parenthesis.
+    /// Takes a keyword behind an opening parenthesis. `UnknownKeyword` where it is none that may stand there.
     fn begin(&mut self, head: Head, word: &[u8]) -> Result<(), FedFaultKind>
         ensures { Moves result (with_place (place_behind_keyword head self.old.depth
             (keyword_of word.now)) self.old) self.new }
@@ -435,7 +444,7 @@ impl Reader {
         }
     }
 
-    /// Takes a word in the options of an attribute.
+    /// Takes a word in the options of an attribute. `UnknownKeyword` where it is none that may stand there.
     fn attribute_option(&mut self, stage: OptionStage, word: &[u8]) -> Result<(), FedFaultKind>
         ensures { Moves result (attribute_option stage (keyword_of word.now) self.old) self.new }
     {
@@ -462,7 +471,8 @@ impl Reader {
         }
     }
 
-    /// Takes a word in the options of an interaction class.
+    /// Takes a word in the options of an interaction class. `UnknownKeyword` where it is none that may stand there;
+    /// `OutOfMemory` as of `declare_class`.
     fn class_option(&mut self, stage: OptionStage, word: &[u8]) -> Result<(), FedFaultKind>
         ensures { Moves result (class_option stage (keyword_of word.now) self.old) self.new }
     {
@@ -488,7 +498,8 @@ impl Reader {
         }
     }
 
-    /// Takes a bare word.
+    /// Takes a bare word. `ExpectedOpen`, `ExpectedClose` or `TrailingText` where another token must stand; else the fault
+    /// of `begin`, `take_name`, `attribute_option` or `class_option`, which takes it.
     #[tactic(auto, unfolding(crate::specs::Reading::after_word))]
     fn take_word(&mut self, alloc: Global, word: &[u8]) -> Result<(), FedFaultKind>
         ensures { Moves result (after_word self.old word.now) self.new }
@@ -507,7 +518,8 @@ impl Reader {
         }
     }
 
-    /// Takes a quoted name.
+    /// Takes a quoted name. `ExpectedOpen`, `ExpectedClose`, `UnknownKeyword` or `TrailingText` where another token must
+    /// stand; else the fault of `take_name` or `declare_class`.
     #[tactic(auto, unfolding(crate::specs::Reading::after_quoted))]
     fn take_quoted_name(&mut self, alloc: Global, name: &[u8]) -> Result<(), FedFaultKind>
         ensures { Moves result (after_quoted self.old name.now) self.new }

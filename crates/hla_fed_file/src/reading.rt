@@ -14,7 +14,8 @@ use hla_base::MAX_FED_FILE;
 use hla_catalogue::Catalogue;
 use std::alloc::Global;
 
-/// Takes all tokens of a text, and gives the line of its end.
+/// Takes all tokens of a text, and gives the line of its end. Else the first fault of `Reader::take`, with the line of its
+/// token.
 #[tactic(auto, using(crate::proofs::Lexical::ReadingLemmas::steps))]
 fn take_all(reader: &mut Reader, alloc: Global, text: &[u8]) -> Result<usize, FedFault>
     requires { length text.now ≤ max_fed_file }
@@ -51,7 +52,8 @@ fn finished(reader: Reader, alloc: Global, line: usize) -> Result<Catalogue, Fed
     }
 }
 
-/// Reads a text token by token.
+/// Reads a text token by token. `TooLarge`, at line 1, where it is longer than `MAX_FED_FILE`; else the fault of
+/// `take_all`, or else that of `finished`.
 fn read_tokens(alloc: Global, text: &[u8]) -> Result<Catalogue, FedFault>
     ensures { ReadsAs result (reading_of text.now) }
 {

@@ -27,7 +27,8 @@ impl Parts {
         }
     }
 
-    /// What Disable Time Constrained would move for a federate that is joined.
+    /// What Disable Time Constrained would move for a federate that is joined. `OutOfMemory` where the list of it was
+    /// refused room.
     fn unconstrain_choice(&self, federate: FederateNo) -> Result<Choice, Fault>
         requires { MayCall self.now federate }
         ensures ok { IfOk result (λ c. c ≡ (next (state_of self.now) (step.Call federate
@@ -44,7 +45,8 @@ impl Parts {
         }
     }
 
-    /// What a service would choose.
+    /// What a service would choose. `OutOfMemory` where the list of what would move was refused room, which happens to no
+    /// service but those that take memory themselves.
     fn service_choice(&self, federate: FederateNo, service: &Service) -> Result<Choice, Fault>
         requires { IsSound self.now }
         ensures ok { IfOk result (λ c. c ≡
@@ -65,7 +67,8 @@ impl Parts {
         }
     }
 
-    /// What a tick would choose: the messages that would move where the federate is constrained from now on.
+    /// What a tick would choose: the messages that would move where the federate is constrained from now on. `OutOfMemory`
+    /// where the list of them was refused room.
     fn tick_choice(&self, federate: FederateNo) -> Result<Choice, Fault>
         requires { IsSound self.now }
         ensures ok { IfOk result (λ c. c ≡ (next (state_of self.now) (step.Tick federate)).choice) }

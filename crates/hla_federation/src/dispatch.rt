@@ -22,7 +22,8 @@ impl Parts {
         self.serve(federate, service)
     }
 
-    /// A service for a federate that is joined.
+    /// A service for a federate that is joined. Refused, it changes nothing: with the first fault that the definitions
+    /// give, or with `OutOfMemory` where they give none, the service is one that takes memory, and a growth was refused.
     #[tactic(auto, using(crate::proofs::Steps::Doing::ends_chosen))]
     fn serve(&mut self, federate: FederateNo, service: &Service) -> Result<Answer, Fault>
         requires may { MayCall self.old federate }
@@ -99,7 +100,9 @@ impl Parts {
         }
     }
 
-    /// A service of time management that a federate calls, but for the queries.
+    /// A service of time management that a federate calls, but for the queries. Refused, it changes nothing: with the first
+    /// fault that the definitions give, or with `OutOfMemory` where they give none, the service is one that takes memory,
+    /// and a growth was refused.
     #[tactic(auto, using(crate::proofs::Steps::Doing::ends_chosen))]
     fn manage_time(&mut self, federate: FederateNo, service: &Service) -> Result<Answer, Fault>
         requires may { MayCall self.old federate }
@@ -153,7 +156,8 @@ impl Parts {
         }
     }
 
-    /// A support service that a federate calls.
+    /// A support service that a federate calls. Nothing changes. It is refused with the fault of that service; else with
+    /// `OutOfMemory` where the copy of an object's name was refused room.
     fn look_up(&self, federate: FederateNo, service: &Service) -> Result<Answer, Fault>
         requires may { MayCall self.now federate }
         requires look_up { IsLookUp service.now }

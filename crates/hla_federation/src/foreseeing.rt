@@ -185,7 +185,7 @@ impl Parts {
         }
     }
 
-    /// What registering an object would answer.
+    /// What registering an object would answer. `OutOfMemory` where the copy of its name was refused room.
     fn next_registration(
         &self,
         federate: FederateNo,
@@ -250,7 +250,8 @@ impl Parts {
             .handle()
     }
 
-    /// What a service that is not refused would answer.
+    /// What a service that is not refused would answer. `OutOfMemory` where the copy of a name was refused room, which
+    /// happens to no service but those that take memory themselves.
     #[tactic(auto, using(crate::proofs::Steps::Foreseeing::answers_allowed))]
     fn next_service_answer(&self, federate: FederateNo, service: &Service) -> Result<Answer, Fault>
         requires may { MayCall self.now federate }
@@ -300,7 +301,8 @@ impl Parts {
         self.members.next_carried(from, to)
     }
 
-    /// A copy of the callback that a federate would be given.
+    /// A copy of the callback that a federate would be given. `OutOfMemory` where a message, a discovery or a notice would
+    /// be given and its copy was refused.
     fn next_callback(&self, federate: FederateNo) -> Result<Option<Callback>, Fault>
         requires some { 0 < federate }
         requires within { federate < (state_of self.now).directory.next_federate }
@@ -321,7 +323,8 @@ impl Parts {
         self.members.next_federate()
     }
 
-    /// What a step that is not refused would answer.
+    /// What a step that is not refused would answer. `OutOfMemory` where a copy was refused room: it happens to no step but
+    /// those that take memory themselves, and a tick that would give a message, a discovery or a notice.
     fn next_answer(&self, step: &Step) -> Result<Answer, Fault>
         requires sound { IsSound self.now }
         requires allowed { refusal (components_seen (state_of self.now)) step.now ≡ None }

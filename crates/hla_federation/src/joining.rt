@@ -30,7 +30,7 @@ use hla_members::{Member, Outbox};
 
 impl Parts {
     /// A federate of this name that has just joined, knows what each other one announced last, and is to be told of each
-    /// synchronization point that is open.
+    /// synchronization point that is open. `OutOfMemory` where a growth was refused.
     fn newcomer(&self, name: &[u8]) -> Result<Member, Fault>
         requires few { (members_of self.now.members).next_federate ≤ max_joins }
         ensures new { IfOk result (λ m. m.shown ≡ record (new_member name.now [] m.shown.incoming) {
@@ -84,7 +84,8 @@ impl Parts {
         Ok(federate)
     }
 
-    /// Adds the removals of these objects, in their order.
+    /// Adds the removals of these objects, in their order. `OutOfMemory` where a growth was refused; nothing is said of the
+    /// outbox then.
     fn address_removals(
         &self,
         outbox: &mut Outbox,
@@ -111,7 +112,8 @@ impl Parts {
         Ok(())
     }
 
-    /// What a federate that resigns sends, from its next serial on: the removals of its objects, and what it announces last.
+    /// What a federate that resigns sends, from its next serial on: the removals of its objects, and what it announces
+    /// last. `OutOfMemory` where a growth was refused.
     fn parting(
         &self,
         federate: FederateNo,

@@ -45,7 +45,7 @@ fn made_for<'a, 'b>(
     }
 }
 
-/// One more share of an event, if there is one.
+/// One more share of an event, if there is one. `OutOfMemory` where the share was refused.
 fn share_of(event: &Option<SharedEvent>) -> Result<Option<SharedEvent>, Fault>
     ensures ok { IfOk result (λ e. e ≡ event.now) }
     ensures err { IfErr result (λ e. e ≡ Fault.OutOfMemory) }
@@ -87,7 +87,8 @@ fn is_shown(subscribed: &[AttributeNo], attribute: AttributeNo, place: usize, hi
 }
 
 impl Parts {
-    /// The values of the attributes that are subscribed, where the first that is not is at this place.
+    /// The values of the attributes that are subscribed, where the first that is not is at this place. `OutOfMemory` where
+    /// a growth was refused.
     fn shown_attributes(
         &self,
         subscribed: &[AttributeNo],
@@ -111,7 +112,7 @@ impl Parts {
     }
 
     /// The part of an update that those are shown who subscribe these attributes, where the first value that they are not shown is
-    /// at this place: nothing, where it says nothing of them.
+    /// at this place: nothing, where it says nothing of them. `OutOfMemory` where a growth was refused.
     fn part_for(
         &self,
         heading: Heading,
@@ -138,7 +139,7 @@ impl Parts {
 
     /// The same part: a share of what was made for others that subscribe the same, where that was kept. The first part is
     /// kept and no other, so that a receiver compares its attributes with one list at most, and costs no more than a value
-    /// that is looked for in it.
+    /// that is looked for in it. `OutOfMemory` where a growth was refused; nothing is said of `made` then.
     fn shared_part<'a>(
         &self,
         made: &mut Option<Made<'a>>,
@@ -175,7 +176,7 @@ impl Parts {
     }
 
     /// The update for those who subscribe these attributes: a share of `whole` where these are all that it says; nothing
-    /// where it says nothing of them.
+    /// where it says nothing of them. `OutOfMemory` where a growth was refused; nothing is said of `made` then.
     fn reflection_for<'a>(
         &self,
         made: &mut Option<Made<'a>>,

@@ -150,7 +150,7 @@ impl Parts {
         }
     }
 
-    /// The object class of this name, or why it is not told.
+    /// The object class of this name. `NameNotFound` where there is none.
     pub fn object_class_handle(&self, federate: FederateNo, name: &[u8]) -> Result<ClassNo, Fault>
         requires { MayCall self.now federate }
         ensures { GivesHandle self.now (step.Call federate (service.GetObjectClassHandle name.now)) result }
@@ -161,7 +161,7 @@ impl Parts {
         }
     }
 
-    /// The interaction class of this name, or why it is not told.
+    /// The interaction class of this name. `NameNotFound` where there is none.
     pub fn interaction_class_handle(
         &self,
         federate: FederateNo,
@@ -177,7 +177,8 @@ impl Parts {
         }
     }
 
-    /// The attribute of this name that a class has, or why it is not told.
+    /// The attribute of this name that a class has. `ObjectClassNotDefined` where the FED file has no such class; else
+    /// `NameNotFound` where the class has no attribute of this name.
     pub fn attribute_handle(
         &self,
         federate: FederateNo,
@@ -197,7 +198,8 @@ impl Parts {
         }
     }
 
-    /// The parameter of this name that a class has, or why it is not told.
+    /// The parameter of this name that a class has. `InteractionClassNotDefined` where the FED file has no such class; else
+    /// `NameNotFound` where the class has no parameter of this name.
     pub fn parameter_handle(
         &self,
         federate: FederateNo,
@@ -217,7 +219,7 @@ impl Parts {
         }
     }
 
-    /// The object of this name that a federate knows, or why it is not told.
+    /// The object of this name that a federate knows. `ObjectNotKnown` where it knows none.
     pub fn object_handle(&self, federate: FederateNo, name: &[u8]) -> Result<ObjectNo, Fault>
         requires { MayCall self.now federate }
         ensures { GivesHandle self.now (step.Call federate (service.GetObjectInstanceHandle name.now))

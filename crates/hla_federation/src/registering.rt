@@ -27,7 +27,7 @@ use hla_members::{Direction, Outbox};
 use hla_null_message::Message;
 
 impl Parts {
-    /// A copy of the attributes that a federate publishes of a class.
+    /// A copy of the attributes that a federate publishes of a class. `OutOfMemory` where room for it was refused.
     fn published_copy(
         &self,
         federate: FederateNo,
@@ -44,7 +44,8 @@ impl Parts {
         }
     }
 
-    /// Adds the discovery of a new object for each of its receivers.
+    /// Adds the discovery of a new object for each of its receivers. `OutOfMemory` where a growth was refused; nothing is
+    /// said of the outbox then.
     fn address_discoveries(
         &self,
         outbox: &mut Outbox,
@@ -164,7 +165,7 @@ impl Parts {
     }
 
     /// Adds the discovery of each object that a federate is to discover once it subscribes a class too, for the wire from
-    /// its owner.
+    /// its owner. `OutOfMemory` where a growth was refused; nothing is said of the outbox then.
     fn address_found(
         &self,
         outbox: &mut Outbox,

@@ -27,7 +27,8 @@ impl Parts {
         self.is_other(sender, peer) && self.members.sent(sender).is_receiver(serial, peer)
     }
 
-    /// Adds the retraction of a message for each federate that is told of it.
+    /// Adds the retraction of a message for each federate that is told of it. `OutOfMemory` where a growth was refused;
+    /// nothing is said of the outbox then.
     fn address_retraction(
         &self,
         outbox: &mut Outbox,

@@ -46,7 +46,7 @@ fn handle_noted(sender: FederateNo, note: &Option<Note>) -> Option<EventHandle>
 }
 
 impl Parts {
-    /// The values of the parameters that a class has.
+    /// The values of the parameters that a class has. `OutOfMemory` where a growth was refused.
     fn shown_parameters(
         &self,
         class: ClassNo,
@@ -75,7 +75,8 @@ impl Parts {
             .all(|v| self.catalogue.has_parameter(class, v.handle))
     }
 
-    /// The values of the parameters that a class has, shared: those that are given, where it has all of them.
+    /// The values of the parameters that a class has, shared: those that are given, where it has all of them. `OutOfMemory`
+    /// where a growth was refused.
     fn parameters_for(
         &self,
         class: ClassNo,
@@ -94,7 +95,8 @@ impl Parts {
         Ok(shared)
     }
 
-    /// The interaction as those receive it who do so at a class: with the parameters that the class has.
+    /// The interaction as those receive it who do so at a class: with the parameters that the class has. `OutOfMemory`
+    /// where a growth was refused.
     fn interaction_at(
         &self,
         heading: Heading,
@@ -109,7 +111,8 @@ impl Parts {
         heading.event(self.alloc, Content::Interaction { class, values })
     }
 
-    /// The same for one who receives it at a class: a share of `whole`, where that is as it is at this class.
+    /// The same for one who receives it at a class: a share of `whole`, where that is as it is at this class. `OutOfMemory`
+    /// where a growth was refused.
     fn interaction_for(
         &self,
         whole: &SharedEvent,
@@ -141,7 +144,7 @@ impl Parts {
             .all(|v| self.order_of_attribute(object, v.handle) == order)
     }
 
-    /// Copies of the values of the attributes whose updates have this order.
+    /// Copies of the values of the attributes whose updates have this order. `OutOfMemory` where a growth was refused.
     fn picked_of_order(
         &self,
         object: ObjectNo,
@@ -162,6 +165,7 @@ impl Parts {
     }
 
     /// The values of the attributes whose updates have this order, shared: those that are given, where all of them have it.
+    /// `OutOfMemory` where a growth was refused.
     fn values_of_order(
         &self,
         object: ObjectNo,
@@ -208,6 +212,7 @@ impl Parts {
     }
 
     /// Adds an interaction for each federate that receives it, at the class at which it does, and answers who they are.
+    /// `OutOfMemory` where a growth was refused; nothing is said of the outbox then.
     fn address_interaction(
         &self,
         outbox: &mut Outbox,
@@ -236,6 +241,7 @@ impl Parts {
     }
 
     /// Adds an update for each federate that receives it, with the attributes that it is shown, and answers who they are.
+    /// `OutOfMemory` where a growth was refused; nothing is said of the outbox then.
     fn address_update(
         &self,
         outbox: &mut Outbox,
@@ -309,6 +315,7 @@ impl Parts {
     }
 
     /// Adds a part of an update, and answers who receives it; none where the part has no values, and so makes no message.
+    /// `OutOfMemory` where a growth was refused; nothing is said of the outbox then.
     fn address_part(
         &self,
         outbox: &mut Outbox,
@@ -333,7 +340,7 @@ impl Parts {
     }
 
     /// Adds the part of an update that has one order, and answers who receives it. Where no value has that order, there is no
-    /// such part, and no list of it is made.
+    /// such part, and no list of it is made. `OutOfMemory` where a growth was refused; nothing is said of the outbox then.
     fn address_order(
         &self,
         outbox: &mut Outbox,

@@ -29,7 +29,7 @@ pub(crate) fn place_of<B: FederateAmbassador>(
     executions.iter().position(|h| h.is_named(name))
 }
 
-/// The record of a step of an execution that does not exist, and its copies.
+/// The record of a step of an execution that does not exist, and its copies. `OutOfMemory` where a growth was refused.
 pub(crate) fn refused_step(
     alloc: Global,
     actor: u32,
@@ -87,7 +87,8 @@ fn refuse_into(
 }
 
 /// Does a step that is no joining and no resigning, of the execution of this name, and writes the record at the end of the
-/// history and its copy at the end of a transcript, which both have room.
+/// history and its copy at the end of a transcript, which both have room. `OutOfMemory`, and nothing done or written, where
+/// a growth was refused.
 pub(crate) fn step_among_into<B: FederateAmbassador>(
     executions: &mut Vec<Hosted<B>>,
     actor: u32,

@@ -26,7 +26,7 @@ use hla_fed_file::{FedFaultKind, read};
 use hla_machine::{Act, Answer, Outcome, Record};
 use std::alloc::Global;
 
-/// What a FED file says; nothing where it is refused.
+/// What a FED file says; nothing where it is refused. `OutOfMemory` where a growth was refused.
 pub(crate) fn catalogue_read(alloc: Global, fed: &[u8]) -> Result<Option<Catalogue>, Fault>
     ensures ok { IfOk result (λ c. c ≡ catalogue_from fed.now) }
     ensures err { IfErr result (λ e. e ≡ Fault.OutOfMemory) }
@@ -128,7 +128,8 @@ fn add_recorded<B: FederateAmbassador>(
     }
 }
 
-/// Creates an execution that nobody has joined, for what its FED file was read as.
+/// Creates an execution that nobody has joined, for what its FED file was read as. `OutOfMemory`, and none created, where a
+/// growth was refused; any other fault is in the record.
 pub(crate) fn create_among<B: FederateAmbassador>(
     executions: &mut Vec<Hosted<B>>,
     counts: &mut Counts,
@@ -204,7 +205,8 @@ fn remove_named<B: FederateAmbassador>(executions: &mut Vec<Hosted<B>>, name: &E
     executions.retain(|h| !h.is_named(name));
 }
 
-/// Destroys an execution that no federate is joined to.
+/// Destroys an execution that no federate is joined to. `OutOfMemory`, and none destroyed, where a growth was refused; any
+/// other fault is in the record.
 pub(crate) fn destroy_among<B: FederateAmbassador>(
     executions: &mut Vec<Hosted<B>>,
     counts: &mut Counts,

@@ -10,7 +10,7 @@ use hla_base::{Fault, FederateNo};
 use hla_callbacks::{Callback, Ear, FederateAmbassador, FederateFault};
 use hla_machine::{Act, Answer, Outcome, Step};
 
-/// Has the ear of a federate make room, if it has one.
+/// Has the ear of a federate make room, if it has one. `OutOfMemory` where a growth was refused. Nothing is heard.
 fn make_room_at<B: FederateAmbassador>(
     ears: &mut Vec<Option<Ear<B>>>,
     federate: FederateNo,
@@ -35,7 +35,7 @@ fn make_room_at<B: FederateAmbassador>(
     }
 }
 
-/// Has the ear make the room that a tick may need.
+/// Has the ear make the room that a tick may need. `OutOfMemory` where a growth was refused. Nothing is heard.
 pub(crate) fn ready<B: FederateAmbassador>(
     ears: &mut Vec<Option<Ear<B>>>,
     step: &Step,
@@ -55,7 +55,7 @@ pub(crate) fn ready<B: FederateAmbassador>(
     }
 }
 
-/// Gives a federate a callback.
+/// Gives a federate a callback. `FederateFault` where its ambassador failed in it. The callback counts as heard either way.
 fn give_at<B: FederateAmbassador>(
     ears: &mut Vec<Option<Ear<B>>>,
     federate: FederateNo,

@@ -19,7 +19,7 @@ struct Outgoing {
     callback: Option<Callback>,
 }
 
-/// The copies of what goes out of a record.
+/// The copies of what goes out of a record. `OutOfMemory` where a growth was refused.
 fn copied_out(made: &Record) -> Result<Outgoing, Fault>
     ensures answer { IfOk result (λ x. x.answer ≡ made.now.outcome) }
     ensures callback { IfOk result (λ x. x.callback ≡ callback_in made.now.outcome) }

@@ -65,7 +65,8 @@ pub(crate) fn join_among<B: FederateAmbassador>(
     }
 }
 
-/// Resigns a federate from the execution of this name, and hands out its ambassador where that was done.
+/// Resigns a federate from the execution of this name, and hands out its ambassador where that was done. `OutOfMemory`, and
+/// nothing done, where a growth was refused; any other fault is in the record.
 pub(crate) fn resign_among<B: FederateAmbassador>(
     executions: &mut Vec<Hosted<B>>,
     actor: u32,

@@ -25,7 +25,7 @@ pub struct Stepped {
     pub answer: Outcome,
 }
 
-/// The callback in an outcome, copied.
+/// The callback in an outcome, copied. `OutOfMemory` where a growth was refused.
 pub(crate) fn copied_callback(outcome: &Outcome) -> Result<Option<Callback>, Fault>
     ensures ok { IfOk result (λ k. k ≡ callback_in outcome.now) }
     ensures err { IfErr result (λ e. e ≡ Fault.OutOfMemory) }
@@ -43,7 +43,7 @@ pub(crate) fn copied_callback(outcome: &Outcome) -> Result<Option<Callback>, Fau
     }
 }
 
-/// The caller's copies of a record.
+/// The caller's copies of a record. `OutOfMemory` where a growth was refused.
 pub(crate) fn copied(made: &Record) -> Result<Stepped, Fault>
     ensures own { IfOk result (λ s. s.own ≡ made.now) }
     ensures answer { IfOk result (λ s. s.answer ≡ made.now.outcome) }
@@ -59,7 +59,7 @@ pub(crate) fn copied(made: &Record) -> Result<Stepped, Fault>
     }
 }
 
-/// A record, and the caller's copies of it.
+/// A record, and the caller's copies of it. `OutOfMemory` where a growth was refused.
 fn with_copies(made: Record) -> Result<(Record, Stepped), Fault>
     ensures record { IfOk result (λ p. p.0 ≡ made) }
     ensures own { IfOk result (λ p. p.1.own ≡ p.0) }
@@ -75,7 +75,7 @@ fn with_copies(made: Record) -> Result<(Record, Stepped), Fault>
     }
 }
 
-/// The record of an act that leaves nothing open, and the caller's copies.
+/// The record of an act that leaves nothing open, and the caller's copies. `OutOfMemory` where a growth was refused.
 pub(crate) fn recorded(
     alloc: Global,
     actor: u32,
@@ -110,7 +110,7 @@ pub(crate) fn recorded(
     }
 }
 
-/// The record of a step as it is foreseen.
+/// The record of a step as it is foreseen. `OutOfMemory` where a growth was refused.
 fn foreseen(
     federation: &Federation,
     actor: u32,
@@ -186,7 +186,8 @@ pub(crate) fn taken(
     }
 }
 
-/// Does a step whose answer is known.
+/// Does a step whose answer is known. `OutOfMemory`, and nothing done, where a growth was refused; any other fault is that
+/// answer.
 fn done(federation: &mut Federation, step: &Step) -> Result<(), Fault>
     ensures state { OnOk result (components_hosted federation.new
         ≡ (next (components_hosted federation.old) step.now).state) }

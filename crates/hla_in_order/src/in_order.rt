@@ -276,7 +276,8 @@ impl<L: Ledger + Naming, B: FederateAmbassador, P: Publisher<L>> Cast<L, B, P> {
         Ok(())
     }
 
-    /// Ends all callers: what they leave behind. Federates that have not resigned stay joined.
+    /// Ends all callers: what they leave behind. Federates that have not resigned stay joined. `OutOfMemory` where a growth
+    /// was refused.
     fn leave(self) -> Result<Vec<Left<L, B>>, Fault>
         ensures { IfOk result (λ lefts. (rs : List Record) (office : Office) → IsSet rs office self
             → HaveLeft rs lefts.items 1 (callers rs)) }
@@ -331,7 +332,8 @@ fn played<L: Ledger + Naming, B: FederateAmbassador, P: Publisher<L>>(
 }
 
 /// Does the lines of a script one after another, writes how they came out, and closes. Where `is_watched`, a monitor is there from
-/// before the first step on, and reads the counts once all is done.
+/// before the first step on, and reads the counts once all is done. `Memory`, and nothing written, where a growth was
+/// refused outside the steps or no monitor is to be had; else `Memory`, `Write`, `Close` or `Monitor` as of `close_seen`.
 fn told_in_order<L: Ledger + Naming, B: FederateAmbassador, P: Publisher<L>, W: Write>(
     rt: &impl Wait,
     alloc: Global,

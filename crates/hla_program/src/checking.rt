@@ -28,7 +28,8 @@ fn records_of(alloc: Global, fed: &[u8], script: &[u8]) -> Result<List<Record>, 
     }
 }
 
-/// What the central machine says of the records of a script that is played over a FED file.
+/// What the central machine says of the records of a script that is played over a FED file. `Fed` or else `Script` with the
+/// first fault of the texts; `Memory` where a line, its text or the judging ran out of it.
 fn judge_script(alloc: Global, fed: &[u8], script: &[u8]) -> Result<Finding, PlayFault>
     ensures ok { IfOk result (IsFound fed.now script.now) }
     ensures err { IfErr result (StopsCheck fed.now script.now) }

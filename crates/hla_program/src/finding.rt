@@ -32,7 +32,7 @@ pub(crate) fn finding_of(alloc: Global, records: &[Record]) -> Option<Finding>
     }
 }
 
-/// The line of what was found.
+/// The line of what was found. `AllocError` where memory was refused.
 fn finding_line(alloc: Global, finding: Finding) -> Result<String, AllocError>
     ensures { IfOk result (λ text. string_bytes text ≡ finding_line finding) }
 {
@@ -42,7 +42,8 @@ fn finding_line(alloc: Global, finding: Finding) -> Result<String, AllocError>
     }
 }
 
-/// The line of what was found, and behind it one of what a monitor read last, if one watched.
+/// The line of what was found, and behind it one of what a monitor read last, if one watched. `AllocError` where memory was
+/// refused.
 fn finding_text(alloc: Global, finding: Finding, seen: Option<Status>) -> Result<String, AllocError>
     ensures { IfOk result (λ text. string_bytes text ≡ finding_text finding seen) }
 {

@@ -21,28 +21,28 @@ pub const REFUSED: u8 = 1;
 /// The status of records that are no run of the central machine, and of transcripts that are not the history's.
 pub const DIFFERS: u8 = 3;
 
-/// The line of a fault in a file.
+/// The line of a fault in a file. `AllocError` where memory was refused.
 fn fault_line(alloc: Global, file: &str, line: usize, kind: &str) -> Result<String, AllocError>
     ensures { IfOk result (λ text. string_bytes text ≡ fault_line file.now line kind.now) }
 {
     format!(in alloc; "{file} line {line}: {kind}\n")
 }
 
-/// The line of a fault of a FED file.
+/// The line of a fault of a FED file. `AllocError` where memory was refused.
 fn fed_line(alloc: Global, fault: FedFault) -> Result<String, AllocError>
     ensures { IfOk result (λ text. string_bytes text ≡ fed_line fault) }
 {
     fault_line(alloc, "fed", fault.line, fault.kind.name())
 }
 
-/// The line of a fault of a script.
+/// The line of a fault of a script. `AllocError` where memory was refused.
 fn script_line(alloc: Global, fault: ScriptFault) -> Result<String, AllocError>
     ensures { IfOk result (λ text. string_bytes text ≡ script_line fault) }
 {
     fault_line(alloc, "script", fault.line, fault.kind.name())
 }
 
-/// The line of a file that was not read.
+/// The line of a file that was not read. `AllocError` where memory was refused.
 fn unread_line(alloc: Global, name: &str) -> Result<String, AllocError>
     ensures { IfOk result (λ text. string_bytes text ≡ unread_line name.now) }
 {

@@ -62,7 +62,7 @@ fn judge<W: Write, E: Write>(
 }
 
 /// Runs a script over a FED file, each federate on a thread of its own and with a recorder for its ambassador, of which there are
-/// always enough.
+/// always enough. `Memory` where a growth was refused for the recorders; else the fault of `run_scripts`.
 fn run_recorded<L: Ledger + Naming + Send + Sync, R: Threads + Wait + Sync, W: Write>(
     means: Means<'_, R>,
     is_watched: bool,

@@ -27,7 +27,7 @@ pub enum Class {
     Interaction(ClassNo),
 }
 
-/// The number that a look-up found.
+/// The number that a look-up found. Refused with this fault where it found none.
 fn number_or(number: Option<u32>, fault: Fault) -> Result<u32, AskFault>
     ensures { Finds result (number_or number fault) }
 {
@@ -98,7 +98,8 @@ impl Class {
     }
 }
 
-/// One more number, where no growth was refused before.
+/// One more number, where no growth was refused before. A fault is handed on as it is; else `Memory` where the growth was
+/// refused.
 fn with_number(
     numbers: Result<List<AttributeNo>, AskFault>,
     number: AttributeNo,
@@ -133,7 +134,8 @@ pub fn attributes(
     numbers
 }
 
-/// One more pair, where nothing was refused before. A value that is too long is told before want of memory.
+/// One more pair, where nothing was refused before. The fault is `Refused` as it was before, or else with `LimitReached`
+/// where the value is too long; or else `Memory` where a growth was refused, before or now.
 fn with_pair(
     alloc: Global,
     pairs: Result<List<HandleValuePair>, AskFault>,
@@ -159,7 +161,7 @@ fn with_pair(
     }
 }
 
-/// No pairs, and room for so many.
+/// No pairs, and room for so many. `Memory` where the room was refused.
 fn no_pairs(alloc: Global, room: usize) -> Result<List<HandleValuePair>, AskFault>
     ensures { Asks result (Ok []) }
 {

@@ -232,7 +232,8 @@ fn time_service(call: &Call<'_>) -> Option<Service>
     }
 }
 
-/// The service of objects, messages, synchronization points or time that a federate calls, if it is one.
+/// The service of objects, messages, synchronization points or time that a federate calls, if it is one. Refused, or
+/// `Memory`, as by `service_of`.
 fn object_service(
     alloc: Global,
     catalogue: &Catalogue,

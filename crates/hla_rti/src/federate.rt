@@ -60,7 +60,7 @@ impl<L: Ledger + Naming, B: FederateAmbassador, W: Publisher<L>> Federate<L, B, 
         )
     }
 
-    /// Calls a service that answers nothing.
+    /// Calls a service that answers nothing. The faults are those of `serve`.
     pub(crate) fn serve_done(&mut self, rt: &impl Wait, service: Service) -> Result<(), Fault>
         requires plain { IsPlain (step.Call self.old.federate service) }
         requires form { service_form service ≡ NoAnswer }
@@ -69,7 +69,7 @@ impl<L: Ledger + Naming, B: FederateAmbassador, W: Publisher<L>> Federate<L, B, 
         done_in(self.serve(rt, service))
     }
 
-    /// Calls a service that registers an object.
+    /// Calls a service that registers an object. The faults are those of `serve`.
     pub(crate) fn serve_registration(
         &mut self,
         rt: &impl Wait,
@@ -82,7 +82,7 @@ impl<L: Ledger + Naming, B: FederateAmbassador, W: Publisher<L>> Federate<L, B, 
         registration_in(self.serve(rt, service))
     }
 
-    /// Calls a service that sends a message.
+    /// Calls a service that sends a message. The faults are those of `serve`.
     pub(crate) fn serve_event(
         &mut self,
         rt: &impl Wait,
@@ -95,7 +95,7 @@ impl<L: Ledger + Naming, B: FederateAmbassador, W: Publisher<L>> Federate<L, B, 
         event_in(self.serve(rt, service))
     }
 
-    /// Calls a service that answers a time.
+    /// Calls a service that answers a time. The faults are those of `serve`.
     pub(crate) fn serve_time(&mut self, rt: &impl Wait, service: Service) -> Result<Ticks, Fault>
         requires plain { IsPlain (step.Call self.old.federate service) }
         requires form { service_form service ≡ ATime }
@@ -104,7 +104,7 @@ impl<L: Ledger + Naming, B: FederateAmbassador, W: Publisher<L>> Federate<L, B, 
         time_in(self.serve(rt, service))
     }
 
-    /// Calls a service that answers a number.
+    /// Calls a service that answers a number. The faults are those of `serve`.
     pub(crate) fn serve_handle(&mut self, rt: &impl Wait, service: Service) -> Result<u32, Fault>
         requires plain { IsPlain (step.Call self.old.federate service) }
         requires form { service_form service ≡ AHandle }
@@ -113,7 +113,7 @@ impl<L: Ledger + Naming, B: FederateAmbassador, W: Publisher<L>> Federate<L, B, 
         handle_in(self.serve(rt, service))
     }
 
-    /// Calls a service that answers a name.
+    /// Calls a service that answers a name. The faults are those of `serve`.
     pub(crate) fn serve_name(&mut self, rt: &impl Wait, service: Service) -> Result<List<u8>, Fault>
         requires plain { IsPlain (step.Call self.old.federate service) }
         requires form { service_form service ≡ AName }

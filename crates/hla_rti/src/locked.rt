@@ -258,7 +258,8 @@ impl<L: Ledger + Naming, B: FederateAmbassador, W: Publisher<L>> Locked<L, B, W>
         self.board.monitor()
     }
 
-    /// Compares all transcripts with the history, and takes the records out where they agree; then it has ended.
+    /// Compares all transcripts with the history, and takes the records out where they agree; then it has ended. Else
+    /// `Unsettled` with the place of the first that differs; then all comes back, and nothing has changed.
     pub(crate) fn settle(
         &mut self,
         seat: Seat<L>,

@@ -111,7 +111,8 @@ impl<L: Ledger, B: FederateAmbassador> Left<L, B> {
     }
 }
 
-/// What an outcome answers the caller.
+/// What an outcome answers the caller: a refusal its fault, and `FederateInternalError` where the ambassador failed in the
+/// callback.
 fn answered(outcome: Outcome) -> Result<Answer, Fault>
     ensures { result ≡ answer_given outcome }
 {
@@ -197,7 +198,8 @@ impl<L: Ledger + Naming> Seat<L> {
         answered(answer)
     }
 
-    /// Creates an execution under the lock, and writes it down.
+    /// Creates an execution under the lock, and writes it down. It answers what the record says; `HistoryFull` and
+    /// `OutOfMemory` come without a record, and then nothing has changed.
     pub(crate) fn create<B: FederateAmbassador, W: Publisher<L>>(
         &mut self,
         rt: &impl Wait,
@@ -217,7 +219,8 @@ impl<L: Ledger + Naming> Seat<L> {
         answered(answer)
     }
 
-    /// Destroys an execution under the lock, and writes it down.
+    /// Destroys an execution under the lock, and writes it down. It answers what the record says; `HistoryFull` and
+    /// `OutOfMemory` come without a record, and then nothing has changed.
     pub(crate) fn destroy<B: FederateAmbassador, W: Publisher<L>>(
         &mut self,
         rt: &impl Wait,

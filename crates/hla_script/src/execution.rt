@@ -142,7 +142,8 @@ impl Execution {
         }
     }
 
-    /// Creates the execution, unless it is there.
+    /// Creates the execution, unless it is there. `OutOfMemory` where a growth was refused; then nothing has changed. Any
+    /// other fault is in the record.
     fn create(&mut self, name: SharedList<u8>) -> Result<Record, Fault>
         requires { name ≡ codes "play" }
         ensures ok { IfOk result (λ r. IsActed (act.Create (created_catalogue self.old.catalogue r.outcome))
@@ -223,7 +224,8 @@ impl Execution {
         Ok(ending)
     }
 
-    /// Does a step of the execution.
+    /// Does a step of the execution. `OutOfMemory` where a growth was refused; then nothing has changed. Any other fault is
+    /// in the record.
     fn take(&mut self, name: SharedList<u8>, step: Step) -> Result<Record, Fault>
         requires name { name ≡ codes "play" }
         ensures ok { IfOk result (λ r. IsActed (act.Step step)

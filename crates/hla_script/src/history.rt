@@ -16,7 +16,8 @@ use hla_machine::{Outcome, Record};
 use hla_requests::{AskFault, Request};
 use hla_transcript::{Text, print_line};
 
-/// Prints a line that adds no record; whether it had the memory for what it asks.
+/// Prints a line that adds no record; whether it had the memory for what it asks. `OutOfMemory` where a growth was refused
+/// for the text.
 fn print_refusal(
     text: &mut Text,
     catalogue: &Catalogue,
@@ -47,7 +48,8 @@ fn no_room(records: &[Record]) -> Fault
     }
 }
 
-/// Reserves room for one more record.
+/// Reserves room for one more record. `HistoryFull` where there are `MAX_HISTORY`; else `OutOfMemory` where a growth was
+/// refused. The records stay as they are.
 fn reserve_one(records: &mut Vec<Record>) -> Result<(), Fault>
     ensures few { OnOk result (length records.old.items < max_history) }
     ensures room { OnOk result (vec_len records.new + 1 ≤ vec_capacity records.new) }
@@ -61,7 +63,9 @@ fn reserve_one(records: &mut Vec<Record>) -> Result<(), Fault>
     }
 }
 
-/// What a line asks for, where the history has room for its record: room for one more record is then reserved.
+/// What a line asks for, where the history has room for its record: room for one more record is then reserved. The fault of
+/// a line that makes no step; else `HistoryFull` where the history holds `MAX_HISTORY` records, or else `OutOfMemory` where
+/// a growth was refused. The records stay as they are.
 fn request_with_room(
     execution: &Execution,
     records: &mut Vec<Record>,

@@ -19,7 +19,7 @@ pub struct Registration {
     pub name: List<u8>,
 }
 
-/// An answer that says nothing.
+/// An answer that says nothing. A fault is handed on as it is.
 pub(crate) fn done_in(given: Result<Answer, Fault>) -> Result<(), Fault>
     requires { IfOk given (λ a. IsOfForm NoAnswer a) }
     ensures { answered_as no_answer result ≡ given }
@@ -33,7 +33,7 @@ pub(crate) fn done_in(given: Result<Answer, Fault>) -> Result<(), Fault>
     told
 }
 
-/// What was registered.
+/// What was registered. A fault is handed on as it is.
 pub(crate) fn registration_in(given: Result<Answer, Fault>) -> Result<Registration, Fault>
     requires { IfOk given (λ a. IsOfForm ARegistration a) }
     ensures { answered_as (λ r. answer.Registered r.object r.name) result ≡ given }
@@ -45,7 +45,7 @@ pub(crate) fn registration_in(given: Result<Answer, Fault>) -> Result<Registrati
     }
 }
 
-/// A number.
+/// A number. A fault is handed on as it is.
 pub(crate) fn handle_in(given: Result<Answer, Fault>) -> Result<u32, Fault>
     requires { IfOk given (λ a. IsOfForm AHandle a) }
     ensures { answered_as answer.Handle result ≡ given }
@@ -59,7 +59,7 @@ pub(crate) fn handle_in(given: Result<Answer, Fault>) -> Result<u32, Fault>
     told
 }
 
-/// A name.
+/// A name. A fault is handed on as it is.
 pub(crate) fn name_in(given: Result<Answer, Fault>) -> Result<List<u8>, Fault>
     requires { IfOk given (λ a. IsOfForm AName a) }
     ensures { answered_as answer.Name result ≡ given }
@@ -71,7 +71,7 @@ pub(crate) fn name_in(given: Result<Answer, Fault>) -> Result<List<u8>, Fault>
     }
 }
 
-/// The message that was sent in time-stamp order, if one was.
+/// The message that was sent in time-stamp order, if one was. A fault is handed on as it is.
 pub(crate) fn event_in(given: Result<Answer, Fault>) -> Result<Option<EventHandle>, Fault>
     requires { IfOk given (λ a. IsOfForm AnEvent a) }
     ensures { answered_as answer.Sent result ≡ given }
@@ -85,7 +85,7 @@ pub(crate) fn event_in(given: Result<Answer, Fault>) -> Result<Option<EventHandl
     told
 }
 
-/// A time, in ticks.
+/// A time, in ticks. A fault is handed on as it is.
 pub(crate) fn time_in(given: Result<Answer, Fault>) -> Result<Ticks, Fault>
     requires { IfOk given (λ a. IsOfForm ATime a) }
     ensures { answered_as answer.Time result ≡ given }

@@ -46,7 +46,7 @@ impl Session {
         })
     }
 
-    /// Calls a service.
+    /// Calls a service. The faults are those of `Federation::call`. Nothing has changed at any fault.
     #[tactic(auto, using(crate::proofs::Forms::answer_form, crate::proofs::Forms::called))]
     fn serve(&mut self, federate: FederateNo, service: Service) -> Result<Answer, Fault>
         ensures served { IsServiceCalled self.old federate service result self.new }
@@ -57,7 +57,7 @@ impl Session {
         answer
     }
 
-    /// Calls a service that answers nothing.
+    /// Calls a service that answers nothing. The faults are those of `serve`.
     pub(crate) fn serve_done(&mut self, federate: FederateNo, service: Service) -> Result<(), Fault>
         requires { service_form service ≡ NoAnswer }
         ensures { IsServiceCalled self.old federate service (answered_as no_answer result) self.new }
@@ -65,7 +65,7 @@ impl Session {
         done_in(self.serve(federate, service))
     }
 
-    /// Calls a service that registers an object.
+    /// Calls a service that registers an object. The faults are those of `serve`.
     pub(crate) fn serve_registration(
         &mut self,
         federate: FederateNo,
@@ -78,7 +78,7 @@ impl Session {
         registration_in(self.serve(federate, service))
     }
 
-    /// Calls a service that sends a message.
+    /// Calls a service that sends a message. The faults are those of `serve`.
     pub(crate) fn serve_event(
         &mut self,
         federate: FederateNo,
@@ -91,7 +91,7 @@ impl Session {
         event_in(self.serve(federate, service))
     }
 
-    /// Calls a service that answers a time.
+    /// Calls a service that answers a time. The faults are those of `serve`.
     pub(crate) fn serve_time(
         &mut self,
         federate: FederateNo,
@@ -104,7 +104,7 @@ impl Session {
         time_in(self.serve(federate, service))
     }
 
-    /// Calls a service that answers a number.
+    /// Calls a service that answers a number. The faults are those of `serve`.
     pub(crate) fn serve_handle(
         &mut self,
         federate: FederateNo,
@@ -117,7 +117,7 @@ impl Session {
         handle_in(self.serve(federate, service))
     }
 
-    /// Calls a service that answers a name.
+    /// Calls a service that answers a name. The faults are those of `serve`.
     pub(crate) fn serve_name(
         &mut self,
         federate: FederateNo,

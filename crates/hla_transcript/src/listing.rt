@@ -46,7 +46,8 @@ fn order_name(order: Order) -> &'static str
     }
 }
 
-/// Adds a transport and an order, each behind a space.
+/// Adds a transport and an order, each behind a space. `OutOfMemory` where a growth was refused; then a part may have been
+/// added.
 fn transport_and_order(text: &mut Text, transport: Transport, order: Order) -> Result<(), Fault>
     ensures ok { OnOk result (text.new ≡ text.old ++ (codes " " ++ transport_text transport ++ codes " " ++
         order_text order)) }
@@ -56,7 +57,7 @@ fn transport_and_order(text: &mut Text, transport: Transport, order: Order) -> R
     text.word_and_bytes(" ", order_name(order).as_bytes())
 }
 
-/// Adds the line of an attribute.
+/// Adds the line of an attribute. `OutOfMemory` where a growth was refused; then a part may have been added.
 fn attribute_line(text: &mut Text, number: u64, attribute: &Attribute) -> Result<(), Fault>
     ensures ok { OnOk result (text.new ≡ text.old ++ attribute_text number attribute.now) }
     ensures err { IfErr result (λ e. e ≡ Fault.OutOfMemory) }
@@ -67,7 +68,7 @@ fn attribute_line(text: &mut Text, number: u64, attribute: &Attribute) -> Result
     text.word("\n")
 }
 
-/// Adds the line of a parameter.
+/// Adds the line of a parameter. `OutOfMemory` where a growth was refused; then a part may have been added.
 fn parameter_line(text: &mut Text, number: u64, parameter: &Parameter) -> Result<(), Fault>
     ensures ok { OnOk result (text.new ≡ text.old ++ parameter_text number parameter.now) }
     ensures err { IfErr result (λ e. e ≡ Fault.OutOfMemory) }
@@ -91,7 +92,8 @@ fn empty_texts(alloc: Global, count: usize) -> Result<Vec<Text>, Fault>
     Ok(texts)
 }
 
-/// Adds the line of an attribute to the text of the class that declares it.
+/// Adds the line of an attribute to the text of the class that declares it. `OutOfMemory` where a growth was refused; then
+/// a part may have been added.
 fn note_attribute(texts: &mut Vec<Text>, number: u64, attribute: &Attribute) -> Result<(), Fault>
     ensures ok { OnOk result
         (EachGrows (λ class. own_attribute_text class number attribute.now) texts.old.items texts.new.items) }
@@ -105,7 +107,8 @@ fn note_attribute(texts: &mut Vec<Text>, number: u64, attribute: &Attribute) -> 
     }
 }
 
-/// Adds the line of a parameter to the text of the class that declares it.
+/// Adds the line of a parameter to the text of the class that declares it. `OutOfMemory` where a growth was refused; then a
+/// part may have been added.
 fn note_parameter(texts: &mut Vec<Text>, number: u64, parameter: &Parameter) -> Result<(), Fault>
     ensures ok { OnOk result
         (EachGrows (λ class. own_parameter_text class number parameter.now) texts.old.items texts.new.items) }
@@ -121,6 +124,7 @@ fn note_parameter(texts: &mut Vec<Text>, number: u64, parameter: &Parameter) -> 
 
 /// The lines of the attributes that each class declares itself, at its number. They are made in one pass over all attributes,
 /// since those of a class may stand apart, and a pass for each class would take as long again for each of them.
+/// `OutOfMemory` where a growth was refused.
 fn attribute_texts(
     alloc: Global,
     classes: usize,
@@ -138,6 +142,7 @@ fn attribute_texts(
 }
 
 /// The lines of the parameters that each class declares itself, at its number, made in one pass over all parameters.
+/// `OutOfMemory` where a growth was refused.
 fn parameter_texts(
     alloc: Global,
     classes: usize,
@@ -154,7 +159,7 @@ fn parameter_texts(
     Ok(texts)
 }
 
-/// Adds the line of an object class.
+/// Adds the line of an object class. `OutOfMemory` where a growth was refused; then a part may have been added.
 fn object_class_line(text: &mut Text, number: ClassNo, class: &ObjectClass) -> Result<(), Fault>
     ensures ok { OnOk result (text.new ≡ text.old ++ object_line number class.now) }
     ensures err { IfErr result (λ e. e ≡ Fault.OutOfMemory) }
@@ -164,7 +169,7 @@ fn object_class_line(text: &mut Text, number: ClassNo, class: &ObjectClass) -> R
     text.word("\n")
 }
 
-/// Adds the line of an interaction class.
+/// Adds the line of an interaction class. `OutOfMemory` where a growth was refused; then a part may have been added.
 fn interaction_class_line(
     text: &mut Text,
     number: ClassNo,
@@ -179,7 +184,8 @@ fn interaction_class_line(
     text.word("\n")
 }
 
-/// Adds object classes with their own attributes.
+/// Adds object classes with their own attributes. `OutOfMemory` where a growth was refused; then a part may have been
+/// added.
 fn object_classes(
     alloc: Global,
     text: &mut Text,
@@ -199,7 +205,8 @@ fn object_classes(
     Ok(())
 }
 
-/// Adds interaction classes with their own parameters.
+/// Adds interaction classes with their own parameters. `OutOfMemory` where a growth was refused; then a part may have been
+/// added.
 fn interaction_classes(
     alloc: Global,
     text: &mut Text,
@@ -220,7 +227,7 @@ fn interaction_classes(
 }
 
 /// The list of a catalogue: the object classes with their own attributes, and the interaction classes with their own
-/// parameters, each with its number, in the order of the numbers.
+/// parameters, each with its number, in the order of the numbers. `OutOfMemory` where a growth was refused.
 fn listing_text(alloc: Global, catalogue: &Catalogue) -> Result<Text, Fault>
     ensures ok { IfOk result (λ text. text ≡ listing catalogue.now) }
     ensures err { IfErr result (λ e. e ≡ Fault.OutOfMemory) }

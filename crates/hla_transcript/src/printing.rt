@@ -11,7 +11,7 @@ use hla_callbacks::{Callback, Delivery};
 use hla_catalogue::Catalogue;
 use hla_machine::{Answer, Carried, Outcome};
 
-/// Adds attributes with their values.
+/// Adds attributes with their values. `OutOfMemory` where a growth was refused; then a part may have been added.
 fn attributes(
     text: &mut Text,
     catalogue: &Catalogue,
@@ -28,7 +28,7 @@ fn attributes(
     Ok(())
 }
 
-/// Adds parameters with their values.
+/// Adds parameters with their values. `OutOfMemory` where a growth was refused; then a part may have been added.
 fn parameters(
     text: &mut Text,
     catalogue: &Catalogue,
@@ -45,7 +45,7 @@ fn parameters(
     Ok(())
 }
 
-/// Adds the order in which a message is given.
+/// Adds the order in which a message is given. `OutOfMemory` where a growth was refused; then a part may have been added.
 fn delivery(text: &mut Text, event: EventHandle, delivery: Delivery) -> Result<(), Fault>
     ensures ok { OnOk result (text.new ≡ text.old ++ delivery_text event delivery) }
     ensures err { IfErr result (λ e. e ≡ Fault.OutOfMemory) }
@@ -135,7 +135,7 @@ pub fn callback(text: &mut Text, catalogue: &Catalogue, callback: &Callback) -> 
     }
 }
 
-/// Adds what a carry took from its wire.
+/// Adds what a carry took from its wire. `OutOfMemory` where a growth was refused; then a part may have been added.
 fn carried_message(text: &mut Text, carried: Carried) -> Result<(), Fault>
     ensures ok { OnOk result (text.new ≡ text.old ++ carried_text carried) }
     ensures err { IfErr result (λ e. e ≡ Fault.OutOfMemory) }
@@ -150,7 +150,8 @@ fn carried_message(text: &mut Text, carried: Carried) -> Result<(), Fault>
     }
 }
 
-/// Adds what a step answered, behind a space; nothing where it answered nothing.
+/// Adds what a step answered, behind a space; nothing where it answered nothing. `OutOfMemory` where a growth was refused;
+/// then a part may have been added.
 fn answer(text: &mut Text, catalogue: &Catalogue, answer: &Answer) -> Result<(), Fault>
     ensures ok { OnOk result (text.new ≡ text.old ++ answer_text catalogue.now answer.now) }
     ensures err { IfErr result (λ e. e ≡ Fault.OutOfMemory) }
@@ -175,7 +176,7 @@ fn answer(text: &mut Text, catalogue: &Catalogue, answer: &Answer) -> Result<(),
     }
 }
 
-/// Adds a fault, by its number and its name.
+/// Adds a fault, by its number and its name. `OutOfMemory` where a growth was refused; then a part may have been added.
 fn fault(text: &mut Text, fault: Fault) -> Result<(), Fault>
     ensures ok { OnOk result (text.new ≡ text.old ++ fault_text fault) }
     ensures err { IfErr result (λ e. e ≡ Fault.OutOfMemory) }

@@ -25,7 +25,7 @@ use std::sync::ledger::Blank;
 use std::thread::Threads;
 use std::{env, io};
 
-/// The words that the system gives, kept: all of them, in their order.
+/// The words that the system gives, kept: all of them, in their order. `AllocError` where memory was refused.
 fn kept_words(alloc: Global, words: Args) -> Result<Vec<String>, AllocError>
     ensures { IfOk result (λ kept. kept.items ≡ into_iter_items words) }
 {
@@ -36,7 +36,7 @@ fn kept_words(alloc: Global, words: Args) -> Result<Vec<String>, AllocError>
     Ok(kept)
 }
 
-/// The words, lent: just these, in their order.
+/// The words, lent: just these, in their order. `AllocError` where memory was refused.
 fn texts_of(alloc: Global, words: &[String]) -> Result<Vec<&str>, AllocError>
     ensures { IfOk result (λ lent. texts lent.items ≡ map string_bytes words.now) }
 {
