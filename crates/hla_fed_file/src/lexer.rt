@@ -114,7 +114,8 @@ fn skip(text: &[u8], line: usize) -> (&[u8], usize)
 /// The quoted name whose first quote stands before the text.
 #[tactic(auto, using(crate::proofs::Lexical::Lexing::fronts))]
 fn quoted_name_at(text: &[u8]) -> (Token<'_>, &[u8])
-    ensures stream { (line : ℕ) → stream line (view result.0) result.1.now ≡ tokens_from Between line
+    ensures stream { (line : ℕ)
+        → stream line (view result.0) result.1.now ≡ tokens_from Between line
         (34 ∷ text.now) }
     ensures shorter { length result.1.now ≤ length text.now }
 {
@@ -140,8 +141,8 @@ fn has_bad_front(text: &[u8]) -> bool
 #[tactic(auto, using(crate::proofs::Lexical::Lexing::fronts))]
 fn word_at(text: &[u8]) -> (Token<'_>, &[u8])
     requires { StartsWord text.now }
-    ensures stream { (line : ℕ) → stream line (view result.0) result.1.now ≡ tokens_from Between line
-        text.now }
+    ensures stream { (line : ℕ)
+        → stream line (view result.0) result.1.now ≡ tokens_from Between line text.now }
     ensures shorter { length result.1.now < length text.now }
 {
     let (name, rest) = split_word(text);
@@ -185,7 +186,8 @@ pub fn next(text: &[u8], line: usize) -> Lexed<'_>
     ensures stream { tokens_from Between line text.now ≡ stream result.line (view result.token)
         result.rest.now }
     ensures within { result.line + length result.rest.now ≤ line + length text.now }
-    ensures shorter { is_end (view result.token) ≡ false → length result.rest.now < length text.now }
+    ensures shorter { is_end (view result.token) ≡ false
+        → length result.rest.now < length text.now }
 {
     let (front, line) = skip(text, line);
     let (token, rest) = token_at(front, line);

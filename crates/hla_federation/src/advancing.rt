@@ -24,7 +24,8 @@ impl Parts {
     ) -> Result<Answer, Fault>
         requires { MayCall self.old federate }
         ensures whole { IsWhole self.new }
-        ensures done { Ends self.old (step.Call federate (request_service kind time)) result self.new }
+        ensures done { Ends self.old
+            (step.Call federate (request_service kind time)) result self.new }
     {
         if let Some(fault) = self.members.local(federate).state().request_fault(time) {
             return Err(fault);
@@ -40,7 +41,8 @@ impl Parts {
     pub fn enable_time_constrained(&mut self, federate: FederateNo) -> Result<Answer, Fault>
         requires { MayCall self.old federate }
         ensures whole { IsWhole self.new }
-        ensures done { Ends self.old (step.Call federate service.EnableTimeConstrained) result self.new }
+        ensures done { Ends self.old
+            (step.Call federate service.EnableTimeConstrained) result self.new }
     {
         if let Some(fault) = self.members.local(federate).state().constrain_fault() {
             return Err(fault);
@@ -96,7 +98,8 @@ impl Parts {
     pub fn enable_asynchronous_delivery(&mut self, federate: FederateNo) -> Result<Answer, Fault>
         requires { MayCall self.old federate }
         ensures whole { IsWhole self.new }
-        ensures done { Ends self.old (step.Call federate service.EnableAsynchronousDelivery) result self.new }
+        ensures done { Ends self.old
+            (step.Call federate service.EnableAsynchronousDelivery) result self.new }
     {
         if let Some(fault) = self.members.local(federate).state().asynchronous_on_fault() {
             return Err(fault);

@@ -34,7 +34,8 @@ impl Parts {
         bound: Ticks,
     ) -> Result<(), Fault>
         requires { IsWhole self.now }
-        ensures ok { OnOk result (HasAdded (null_to (state_of self.now).directory sender epoch bound)
+        ensures ok { OnOk result
+            (HasAdded (null_to (state_of self.now).directory sender epoch bound)
             outbox.old outbox.new) }
         ensures err { IfErr result (λ e. e ≡ Fault.OutOfMemory) }
     {
@@ -89,7 +90,8 @@ impl Parts {
     pub fn announce(&mut self, federate: FederateNo) -> Result<Option<Ticks>, Fault>
         requires { IsSound self.old }
         ensures whole { IsWhole self.new }
-        ensures done { Ends self.old (step.Announce federate) (answered_as answer.Announced result) self.new }
+        ensures done { Ends self.old (step.Announce federate)
+            (answered_as answer.Announced result) self.new }
     {
         if let Some(fault) = self.caller_fault(federate) {
             return Err(fault);

@@ -73,7 +73,8 @@ impl Parts {
         requires { IsSound self.now }
         ensures ok { IfOk result (λ c. c ≡ (next (state_of self.now) (step.Tick federate)).choice) }
         ensures err { IfErr result (λ e. e ≡ Fault.OutOfMemory) }
-        ensures memory { OnErr result (takes_memory (state_of self.now) (step.Tick federate) ≡ true) }
+        ensures memory { OnErr result
+            (takes_memory (state_of self.now) (step.Tick federate) ≡ true) }
     {
         if !self.members.is_joined(federate) {
             return Ok(Choice::None);

@@ -21,8 +21,8 @@ impl Parts {
     ) -> Result<Answer, Fault>
         requires { MayCall self.old federate }
         ensures whole { IsWhole self.new }
-        ensures done { Ends self.old (step.Call federate (service.PublishObjectClass class attributes.now))
-            result self.new }
+        ensures done { Ends self.old
+            (step.Call federate (service.PublishObjectClass class attributes.now)) result self.new }
     {
         if let Some(fault) = self.attributes_fault(class, attributes.as_slice()) {
             return Err(fault);
@@ -139,8 +139,8 @@ impl Parts {
     ) -> Result<Answer, Fault>
         requires { MayCall self.old federate }
         ensures whole { IsWhole self.new }
-        ensures done { Ends self.old (step.Call federate (service.UnsubscribeInteractionClass class))
-            result self.new }
+        ensures done { Ends self.old
+            (step.Call federate (service.UnsubscribeInteractionClass class)) result self.new }
     {
         if let Some(fault) = self.unsubscribe_interaction_fault(federate, class) {
             return Err(fault);

@@ -36,7 +36,8 @@ impl Parts {
     pub fn carry(&mut self, from: FederateNo, to: FederateNo) -> Result<Carried, Fault>
         requires { IsSound self.old }
         ensures whole { IsWhole self.new }
-        ensures done { Ends self.old (step.Carry from to) (answered_as answer.Carried result) self.new }
+        ensures done { Ends self.old (step.Carry from to)
+            (answered_as answer.Carried result) self.new }
     {
         if let Some(fault) = self.carry_fault(from, to) {
             return Err(fault);
@@ -52,7 +53,8 @@ impl Parts {
     pub fn tick(&mut self, federate: FederateNo) -> Result<Option<Callback>, Fault>
         requires { IsSound self.old }
         ensures whole { IsWhole self.new }
-        ensures done { EndsChosen self.old (step.Tick federate) (answered_as answer.Ticked result) self.new }
+        ensures done { EndsChosen self.old (step.Tick federate)
+            (answered_as answer.Ticked result) self.new }
     {
         if let Some(fault) = self.caller_fault(federate) {
             return Err(fault);

@@ -74,10 +74,13 @@ impl Federation {
     /// central machine. Refused, it changes nothing: with the fault that the definitions give, or with `OutOfMemory` where
     /// they give none, the step is one that takes memory, and a growth was refused.
     pub fn step(&mut self, step: &Step) -> Result<Answer, Fault>
-        ensures outcome { IfOk result (λ a. (next (state_of self.old) step.now).outcome ≡ outcome.Done a) }
-        ensures state { OnOk result (state_of self.new ≡ (next (state_of self.old) step.now).state) }
+        ensures outcome { IfOk result
+            (λ a. (next (state_of self.old) step.now).outcome ≡ outcome.Done a) }
+        ensures state { OnOk result
+            (state_of self.new ≡ (next (state_of self.old) step.now).state) }
         ensures machine { OnOk result (IsMachineStep (central (state_of self.old))
-            (happening step.now (next (state_of self.old) step.now)) (central (state_of self.new))) }
+            (happening step.now (next (state_of self.old) step.now))
+            (central (state_of self.new))) }
         ensures refused { IfErr result (IsRefusedWith (state_of self.old) step.now) }
         ensures unchanged { OnErr result (self.new ≡ self.old) }
     {
@@ -87,7 +90,8 @@ impl Federation {
     /// Join Federation Execution (HLA 1.3, federation management): the number of the federate that joins under this name. It is
     /// `step` of `Step::Join`, answered in its own form, as are the four below.
     pub fn join(&mut self, name: &[u8]) -> Result<FederateNo, Fault>
-        ensures { DoesStep self.old (step.Join name.now) (answered_as answer.Federate result) self.new }
+        ensures { DoesStep self.old (step.Join name.now)
+            (answered_as answer.Federate result) self.new }
     {
         self.parts.join(name)
     }
@@ -102,14 +106,16 @@ impl Federation {
     /// The first message on the wire from one federate to another comes to its receiver: what that was, and `Nothing` where the
     /// wire is empty. `step` of `Step::Carry`.
     pub fn carry(&mut self, from: FederateNo, to: FederateNo) -> Result<Carried, Fault>
-        ensures { DoesStep self.old (step.Carry from to) (answered_as answer.Carried result) self.new }
+        ensures { DoesStep self.old (step.Carry from to)
+            (answered_as answer.Carried result) self.new }
     {
         self.parts.carry(from, to)
     }
 
     /// A federate ticks: its callback, if there is one. `step` of `Step::Tick`.
     pub fn tick(&mut self, federate: FederateNo) -> Result<Option<Callback>, Fault>
-        ensures { DoesStep self.old (step.Tick federate) (answered_as answer.Ticked result) self.new }
+        ensures { DoesStep self.old (step.Tick federate)
+            (answered_as answer.Ticked result) self.new }
     {
         self.parts.tick(federate)
     }
@@ -117,7 +123,8 @@ impl Federation {
     /// A federate announces its promise, in ticks, if that is more than it announced last: what it announces. `step` of
     /// `Step::Announce`.
     pub fn announce(&mut self, federate: FederateNo) -> Result<Option<Ticks>, Fault>
-        ensures { DoesStep self.old (step.Announce federate) (answered_as answer.Announced result) self.new }
+        ensures { DoesStep self.old (step.Announce federate)
+            (answered_as answer.Announced result) self.new }
     {
         self.parts.announce(federate)
     }
@@ -137,7 +144,8 @@ impl Federation {
     /// growth was refused: it happens to no step but those that take memory themselves, and a tick that would give a message,
     /// a discovery or a notice, of which the answer has a copy.
     pub fn foresee(&self, step: &Step) -> Result<Foreseen, Fault>
-        ensures outcome { IfOk result (λ x. x.outcome ≡ (next (state_of self.now) step.now).outcome) }
+        ensures outcome { IfOk result
+            (λ x. x.outcome ≡ (next (state_of self.now) step.now).outcome) }
         ensures choice { IfOk result (λ x. x.choice ≡ (next (state_of self.now) step.now).choice) }
         ensures err { IfErr result (λ e. e ≡ Fault.OutOfMemory) }
         ensures memory { OnErr result (foresight_takes_memory (state_of self.now) step.now ≡ true) }
@@ -158,7 +166,8 @@ impl Federation {
             (central (state_of self.new))) }
         ensures laws { IfOk result (λ answers. IsLawful (central (state_of self.old))
             (happenings (state_of self.old) (remembered_steps steps.now answers.items))) }
-        ensures discoveries { IfOk result (λ answers. IsDiscoveredInTurn (central (state_of self.old))
+        ensures discoveries { IfOk result
+            (λ answers. IsDiscoveredInTurn (central (state_of self.old))
             (happenings (state_of self.old) (remembered_steps steps.now answers.items))) }
         ensures err { IfErr result (λ e. e ≡ Fault.OutOfMemory) }
         ensures unchanged { OnErr result (self.new ≡ self.old) }

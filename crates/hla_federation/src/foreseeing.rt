@@ -295,7 +295,8 @@ impl Parts {
     /// What would be said of the first message on a wire.
     fn next_carried(&self, from: FederateNo, to: FederateNo) -> Carried
         requires sound { IsSound self.now }
-        requires allowed { refusal (components_seen (state_of self.now)) (step.Carry from to) ≡ None }
+        requires allowed { refusal (components_seen (state_of self.now)) (step.Carry from to)
+            ≡ None }
         ensures { result ≡ carried_of from ((state_of self.now).wire from to) }
     {
         self.members.next_carried(from, to)
@@ -328,7 +329,8 @@ impl Parts {
     fn next_answer(&self, step: &Step) -> Result<Answer, Fault>
         requires sound { IsSound self.now }
         requires allowed { refusal (components_seen (state_of self.now)) step.now ≡ None }
-        ensures ok { IfOk result (λ a. (step_outcome (state_of self.now) step.now).outcome ≡ outcome.Done a) }
+        ensures ok { IfOk result
+            (λ a. (step_outcome (state_of self.now) step.now).outcome ≡ outcome.Done a) }
         ensures err { IfErr result (λ e. e ≡ Fault.OutOfMemory) }
         ensures memory { OnErr result (foresight_takes_memory (state_of self.now) step.now ≡ true) }
     {
@@ -349,7 +351,8 @@ impl Parts {
     /// notice, of which the answer has a copy.
     pub fn foresee(&self, step: &Step) -> Result<Foreseen, Fault>
         requires { IsSound self.now }
-        ensures outcome { IfOk result (λ x. x.outcome ≡ (next (state_of self.now) step.now).outcome) }
+        ensures outcome { IfOk result
+            (λ x. x.outcome ≡ (next (state_of self.now) step.now).outcome) }
         ensures choice { IfOk result (λ x. x.choice ≡ (next (state_of self.now) step.now).choice) }
         ensures err { IfErr result (λ e. e ≡ Fault.OutOfMemory) }
         ensures memory { OnErr result (foresight_takes_memory (state_of self.now) step.now ≡ true) }

@@ -66,7 +66,8 @@ impl Parts {
     pub fn join(&mut self, name: &[u8]) -> Result<FederateNo, Fault>
         requires { IsSound self.old }
         ensures whole { IsWhole self.new }
-        ensures done { Ends self.old (step.Join name.now) (answered_as answer.Federate result) self.new }
+        ensures done { Ends self.old (step.Join name.now)
+            (answered_as answer.Federate result) self.new }
     {
         if let Some(fault) = self.join_fault(name) {
             return Err(fault);
@@ -96,7 +97,8 @@ impl Parts {
         requires whole { IsWhole self.now }
         requires serials { serial + length objects.now ≤ largest_number }
         ensures ok { OnOk result (HasAdded (messages_to (state_of self.now).directory sender serial
-            ((state_of self.now).row sender) None (deletions_sent objects.now)) outbox.old outbox.new) }
+            ((state_of self.now).row sender) None
+            (deletions_sent objects.now)) outbox.old outbox.new) }
         ensures err { IfErr result (λ e. e ≡ Fault.OutOfMemory) }
     {
         let mut next = serial;

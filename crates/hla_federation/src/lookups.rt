@@ -18,7 +18,8 @@ impl Parts {
         name: &[u8],
     ) -> Result<Answer, Fault>
         requires { MayCall self.now federate }
-        ensures { Answers self.now (step.Call federate (service.GetObjectClassHandle name.now)) result }
+        ensures { Answers self.now
+            (step.Call federate (service.GetObjectClassHandle name.now)) result }
     {
         Ok(Answer::Handle(self.object_class_handle(federate, name)?))
     }
@@ -30,7 +31,8 @@ impl Parts {
         name: &[u8],
     ) -> Result<Answer, Fault>
         requires { MayCall self.now federate }
-        ensures { Answers self.now (step.Call federate (service.GetInteractionClassHandle name.now)) result }
+        ensures { Answers self.now
+            (step.Call federate (service.GetInteractionClassHandle name.now)) result }
     {
         Ok(Answer::Handle(self.interaction_class_handle(federate, name)?))
     }
@@ -44,7 +46,8 @@ impl Parts {
         class: ClassNo,
     ) -> Result<Answer, Fault>
         requires { MayCall self.now federate }
-        ensures { Answers self.now (step.Call federate (service.GetAttributeHandle name.now class)) result }
+        ensures { Answers self.now
+            (step.Call federate (service.GetAttributeHandle name.now class)) result }
     {
         Ok(Answer::Handle(self.attribute_handle(federate, name, class)?))
     }
@@ -58,7 +61,8 @@ impl Parts {
         class: ClassNo,
     ) -> Result<Answer, Fault>
         requires { MayCall self.now federate }
-        ensures { Answers self.now (step.Call federate (service.GetParameterHandle name.now class)) result }
+        ensures { Answers self.now
+            (step.Call federate (service.GetParameterHandle name.now class)) result }
     {
         Ok(Answer::Handle(self.parameter_handle(federate, name, class)?))
     }
@@ -71,7 +75,8 @@ impl Parts {
         name: &[u8],
     ) -> Result<Answer, Fault>
         requires { MayCall self.now federate }
-        ensures { Answers self.now (step.Call federate (service.GetObjectInstanceHandle name.now)) result }
+        ensures { Answers self.now
+            (step.Call federate (service.GetObjectInstanceHandle name.now)) result }
     {
         Ok(Answer::Handle(self.object_handle(federate, name)?))
     }
@@ -84,7 +89,8 @@ impl Parts {
         object: ObjectNo,
     ) -> Result<Answer, Fault>
         requires { MayCall self.now federate }
-        ensures { Answers self.now (step.Call federate (service.GetObjectInstanceName object)) result }
+        ensures { Answers self.now
+            (step.Call federate (service.GetObjectInstanceName object)) result }
     {
         if let Some(fault) = self.object_name_fault(federate, object) {
             return Err(fault);

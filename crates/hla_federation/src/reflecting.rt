@@ -124,7 +124,8 @@ impl Parts {
         requires { position
             (λ (v : HandleValuePair). not (contains_number v.handle subscribed.now)) values.now
             ≡ Some hidden }
-        ensures ok { IfOk result (λ e. event_messages e ≡ said_messages heading (reflection_of object (filter
+        ensures ok { IfOk result
+            (λ e. event_messages e ≡ said_messages heading (reflection_of object (filter
             (λ (v : HandleValuePair). contains_number v.handle subscribed.now) values.now))) }
         ensures err { IfErr result (λ e. e ≡ Fault.OutOfMemory) }
     {
@@ -154,7 +155,8 @@ impl Parts {
             (λ (v : HandleValuePair). not (contains_number v.handle subscribed.now)) values.now
             ≡ Some hidden }
         ensures made { OnOk result (IfSome made.new (IsMade heading object values.now)) }
-        ensures ok { IfOk result (λ e. event_messages e ≡ said_messages heading (reflection_of object (filter
+        ensures ok { IfOk result
+            (λ e. event_messages e ≡ said_messages heading (reflection_of object (filter
             (λ (v : HandleValuePair). contains_number v.handle subscribed.now) values.now))) }
         ensures err { IfErr result (λ e. e ≡ Fault.OutOfMemory) }
     {
@@ -189,7 +191,8 @@ impl Parts {
         requires whole { whole.now ≡ said_under heading (content.Reflection object values.now) }
         requires made { IfSome made.old (IsMade heading object values.now) }
         ensures made { OnOk result (IfSome made.new (IsMade heading object values.now)) }
-        ensures ok { IfOk result (λ e. event_messages e ≡ said_messages heading (reflection_of object (filter
+        ensures ok { IfOk result
+            (λ e. event_messages e ≡ said_messages heading (reflection_of object (filter
             (λ (v : HandleValuePair). contains_number v.handle subscribed.now) values.now))) }
         ensures err { IfErr result (λ e. e ≡ Fault.OutOfMemory) }
     {
@@ -223,8 +226,10 @@ impl Parts {
         requires whole { whole.now ≡ said_under heading (content.Reflection object values.now) }
         requires made { IfSome made.old (IsMade heading object values.now) }
         ensures made { OnOk result (IfSome made.new (IsMade heading object values.now)) }
-        ensures ok { IfOk result (λ e. event_messages e ≡ said_messages heading (reflection_of object
-            (subscribed_values (state_of self.now).directory receiver.federate receiver.class values.now))) }
+        ensures ok { IfOk result
+            (λ e. event_messages e ≡ said_messages heading (reflection_of object
+            (subscribed_values
+            (state_of self.now).directory receiver.federate receiver.class values.now))) }
         ensures err { IfErr result (λ e. e ≡ Fault.OutOfMemory) }
     {
         let subscribed = self

@@ -33,7 +33,8 @@ fn fits_name(name: &[u8], most: usize) -> bool
 impl Parts {
     /// Whether a class lacks one of these attributes.
     fn lacks_attribute(&self, class: ClassNo, attributes: &[AttributeNo]) -> bool
-        ensures { result ≡ list_any (λ a. not (has_attribute self.now.catalogue class a)) attributes.now }
+        ensures { result
+            ≡ list_any (λ a. not (has_attribute self.now.catalogue class a)) attributes.now }
     {
         attributes
             .iter()
@@ -128,7 +129,8 @@ impl Parts {
 
     /// Why a number is of no interaction class, if it is of none.
     pub fn interaction_class_fault(&self, class: ClassNo) -> Option<Fault>
-        ensures { result ≡ first_fault (no_interaction_class (state_of self.now).directory class ∷ []) }
+        ensures { result
+            ≡ first_fault (no_interaction_class (state_of self.now).directory class ∷ []) }
     {
         if self.catalogue.is_interaction_class(class) {
             None
@@ -153,7 +155,8 @@ impl Parts {
     /// The object class of this name. `NameNotFound` where there is none.
     pub fn object_class_handle(&self, federate: FederateNo, name: &[u8]) -> Result<ClassNo, Fault>
         requires { MayCall self.now federate }
-        ensures { GivesHandle self.now (step.Call federate (service.GetObjectClassHandle name.now)) result }
+        ensures { GivesHandle self.now
+            (step.Call federate (service.GetObjectClassHandle name.now)) result }
     {
         match self.catalogue.object_class(name) {
             Some(number) => Ok(number),
@@ -168,8 +171,8 @@ impl Parts {
         name: &[u8],
     ) -> Result<ClassNo, Fault>
         requires { MayCall self.now federate }
-        ensures { GivesHandle self.now (step.Call federate (service.GetInteractionClassHandle name.now))
-            result }
+        ensures { GivesHandle self.now
+            (step.Call federate (service.GetInteractionClassHandle name.now)) result }
     {
         match self.catalogue.interaction_class(name) {
             Some(number) => Ok(number),
@@ -186,8 +189,8 @@ impl Parts {
         class: ClassNo,
     ) -> Result<AttributeNo, Fault>
         requires { MayCall self.now federate }
-        ensures { GivesHandle self.now (step.Call federate (service.GetAttributeHandle name.now class))
-            result }
+        ensures { GivesHandle self.now
+            (step.Call federate (service.GetAttributeHandle name.now class)) result }
     {
         if let Some(fault) = self.object_class_fault(class) {
             return Err(fault);
@@ -207,8 +210,8 @@ impl Parts {
         class: ClassNo,
     ) -> Result<ParameterNo, Fault>
         requires { MayCall self.now federate }
-        ensures { GivesHandle self.now (step.Call federate (service.GetParameterHandle name.now class))
-            result }
+        ensures { GivesHandle self.now
+            (step.Call federate (service.GetParameterHandle name.now class)) result }
     {
         if let Some(fault) = self.interaction_class_fault(class) {
             return Err(fault);
@@ -222,8 +225,8 @@ impl Parts {
     /// The object of this name that a federate knows. `ObjectNotKnown` where it knows none.
     pub fn object_handle(&self, federate: FederateNo, name: &[u8]) -> Result<ObjectNo, Fault>
         requires { MayCall self.now federate }
-        ensures { GivesHandle self.now (step.Call federate (service.GetObjectInstanceHandle name.now))
-            result }
+        ensures { GivesHandle self.now
+            (step.Call federate (service.GetObjectInstanceHandle name.now)) result }
     {
         match self.registry.object_named(federate, name) {
             Some(number) => Ok(number),
@@ -234,7 +237,8 @@ impl Parts {
     /// Why an object class may not be published or subscribed with these attributes, if it may not.
     pub fn attributes_fault(&self, class: ClassNo, attributes: &[AttributeNo]) -> Option<Fault>
         ensures { let d = (state_of self.now).directory in
-            result ≡ first_fault (no_object_class d class ∷ no_attribute d class attributes.now ∷ []) }
+            result
+            ≡ first_fault (no_object_class d class ∷ no_attribute d class attributes.now ∷ []) }
     {
         if !self.catalogue.is_object_class(class) {
             Some(Fault::ObjectClassNotDefined)

@@ -54,7 +54,8 @@ impl Parts {
         name: &SharedList<u8>,
     ) -> Result<(), Fault>
         requires { AreFederates receivers.now }
-        ensures ok { OnOk result (HasAdded (messages_among (discovery_to object name.now) receivers.now)
+        ensures ok { OnOk result
+            (HasAdded (messages_among (discovery_to object name.now) receivers.now)
             outbox.old outbox.new) }
         ensures err { IfErr result (λ e. e ≡ Fault.OutOfMemory) }
     {
@@ -96,8 +97,8 @@ impl Parts {
     ) -> Result<Answer, Fault>
         requires { MayCall self.old federate }
         ensures whole { IsWhole self.new }
-        ensures done { Ends self.old (step.Call federate (service.RegisterObjectInstance class name.now))
-            result self.new }
+        ensures done { Ends self.old
+            (step.Call federate (service.RegisterObjectInstance class name.now)) result self.new }
     {
         if let Some(fault) = self.register_fault(federate, class, name) {
             return Err(fault);
@@ -152,7 +153,8 @@ impl Parts {
         object: ObjectNo,
     ) -> Option<ClassNo>
         ensures { (attributes : List ℕ) → result ≡ option_map (λ (d : Discovery). d.class)
-            (discovery_of (with_subscribed (state_of self.now).directory federate class (Some attributes))
+            (discovery_of
+            (with_subscribed (state_of self.now).directory federate class (Some attributes))
             federate object) }
     {
         if !self.registry.has_object(object)
@@ -174,7 +176,8 @@ impl Parts {
     ) -> Result<(), Fault>
         requires { IsSound self.now }
         ensures ok { OnOk result ((attributes : List ℕ) → HasAdded
-            (λ g. map message.Discovery (discoveries_of (with_subscribed (state_of self.now).directory
+            (λ g. map message.Discovery
+            (discoveries_of (with_subscribed (state_of self.now).directory
             federate class (Some attributes)) g federate)) outbox.old outbox.new) }
         ensures err { IfErr result (λ e. e ≡ Fault.OutOfMemory) }
     {

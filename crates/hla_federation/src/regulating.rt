@@ -47,8 +47,8 @@ impl Parts {
     ) -> Result<Answer, Fault>
         requires { MayCall self.old federate }
         ensures whole { IsWhole self.new }
-        ensures done { EndsChosen self.old (step.Call federate (service.EnableTimeRegulation time lookahead))
-            result self.new }
+        ensures done { EndsChosen self.old
+            (step.Call federate (service.EnableTimeRegulation time lookahead)) result self.new }
     {
         if let Some(fault) = self.regulation_fault(federate, time, lookahead) {
             return Err(fault);
@@ -67,7 +67,8 @@ impl Parts {
     pub fn disable_time_regulation(&mut self, federate: FederateNo) -> Result<Answer, Fault>
         requires { MayCall self.old federate }
         ensures whole { IsWhole self.new }
-        ensures done { Ends self.old (step.Call federate service.DisableTimeRegulation) result self.new }
+        ensures done { Ends self.old
+            (step.Call federate service.DisableTimeRegulation) result self.new }
     {
         let local = self.members.local(federate);
         if let Some(fault) = local.state().unregulate_fault() {

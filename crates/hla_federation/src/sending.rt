@@ -67,7 +67,8 @@ impl Parts {
 
     /// Whether a class has all the parameters of these values.
     fn shows_parameters(&self, class: ClassNo, values: &[HandleValuePair]) -> bool
-        ensures { result ≡ list_all (λ (v : HandleValuePair). has_parameter self.now.catalogue class v.handle)
+        ensures { result
+            ≡ list_all (λ (v : HandleValuePair). has_parameter self.now.catalogue class v.handle)
             values.now }
     {
         values
@@ -104,7 +105,8 @@ impl Parts {
         values: &SharedList<HandleValuePair>,
     ) -> Result<SharedEvent, Fault>
         ensures ok { IfOk result (λ e. e ≡ said_under heading (content.Interaction class (filter
-            (λ (v : HandleValuePair). has_parameter self.now.catalogue class v.handle) values.now))) }
+            (λ (v : HandleValuePair). has_parameter self.now.catalogue class v.handle)
+            values.now))) }
         ensures err { IfErr result (λ e. e ≡ Fault.OutOfMemory) }
     {
         let values = self.parameters_for(class, values)?;
@@ -122,9 +124,11 @@ impl Parts {
         values: &SharedList<HandleValuePair>,
     ) -> Result<SharedEvent, Fault>
         requires { whole.now ≡ said_under heading (content.Interaction whole_class (filter
-            (λ (v : HandleValuePair). has_parameter self.now.catalogue whole_class v.handle) values.now)) }
+            (λ (v : HandleValuePair). has_parameter self.now.catalogue whole_class v.handle)
+            values.now)) }
         ensures ok { IfOk result (λ e. e ≡ said_under heading (content.Interaction class (filter
-            (λ (v : HandleValuePair). has_parameter self.now.catalogue class v.handle) values.now))) }
+            (λ (v : HandleValuePair). has_parameter self.now.catalogue class v.handle)
+            values.now))) }
         ensures err { IfErr result (λ e. e ≡ Fault.OutOfMemory) }
     {
         if class == whole_class {
@@ -151,8 +155,8 @@ impl Parts {
         order: Order,
         values: &[HandleValuePair],
     ) -> Result<List<HandleValuePair>, Fault>
-        ensures ok { IfOk result (λ part. part ≡ values_of_order (state_of self.now).directory object order
-            values.now) }
+        ensures ok { IfOk result
+            (λ part. part ≡ values_of_order (state_of self.now).directory object order values.now) }
         ensures err { IfErr result (λ e. e ≡ Fault.OutOfMemory) }
     {
         let mut part = List::with_room(self.alloc, values.len())?;
@@ -172,8 +176,8 @@ impl Parts {
         order: Order,
         values: &SharedList<HandleValuePair>,
     ) -> Result<SharedList<HandleValuePair>, Fault>
-        ensures ok { IfOk result (λ part. part ≡ values_of_order (state_of self.now).directory object order
-            values.now) }
+        ensures ok { IfOk result
+            (λ part. part ≡ values_of_order (state_of self.now).directory object order values.now) }
         ensures err { IfErr result (λ e. e ≡ Fault.OutOfMemory) }
     {
         if self.are_of_order(object, order, values.as_slice()) {
@@ -221,7 +225,8 @@ impl Parts {
         values: &SharedList<HandleValuePair>,
     ) -> Result<FederateSet, Fault>
         requires { IsWhole self.now }
-        ensures receivers { IfOk result (λ rs. federate_set rs ≡ is_receiver (state_of self.now).directory
+        ensures receivers { IfOk result
+            (λ rs. federate_set rs ≡ is_receiver (state_of self.now).directory
             heading.sender (AnInteraction class values.now)) }
         ensures ok { OnOk result (HasAdded (message_to (state_of self.now).directory heading
             (AnInteraction class values.now)) outbox.old outbox.new) }
@@ -250,7 +255,8 @@ impl Parts {
         values: &SharedList<HandleValuePair>,
     ) -> Result<FederateSet, Fault>
         requires { IsWhole self.now }
-        ensures receivers { IfOk result (λ rs. federate_set rs ≡ is_receiver (state_of self.now).directory
+        ensures receivers { IfOk result
+            (λ rs. federate_set rs ≡ is_receiver (state_of self.now).directory
             heading.sender (AnUpdate object values.now)) }
         ensures ok { OnOk result (HasAdded (message_to (state_of self.now).directory heading
             (AnUpdate object values.now)) outbox.old outbox.new) }
@@ -281,8 +287,8 @@ impl Parts {
 
     /// Whether the removal of an object goes to a federate: to each other to which it is known.
     fn receives_removal(&self, sender: FederateNo, object: ObjectNo, federate: FederateNo) -> bool
-        ensures { let d = (state_of self.now).directory in result ≡ is_other d.joined sender federate &&
-            d.known object federate }
+        ensures { let d = (state_of self.now).directory in result
+            ≡ is_other d.joined sender federate && d.known object federate }
     {
         federate != sender
             && self.members.is_joined(federate)
@@ -328,7 +334,8 @@ impl Parts {
             (λ told. one_if (is_some told) ≡ length (part_sent Receive object values.now)) }
         ensures receivers { IfOk result (λ told. IfSome told (λ rs. federate_set rs ≡ is_receiver
             (state_of self.now).directory heading.sender (AnUpdate object values.now))) }
-        ensures ok { OnOk result (HasAdded (part_to (state_of self.now).directory heading object values.now)
+        ensures ok { OnOk result
+            (HasAdded (part_to (state_of self.now).directory heading object values.now)
             outbox.old outbox.new) }
         ensures err { IfErr result (λ e. e ≡ Fault.OutOfMemory) }
     {
@@ -350,7 +357,8 @@ impl Parts {
         values: &SharedList<HandleValuePair>,
     ) -> Result<Option<FederateSet>, Fault>
         requires { IsWhole self.now }
-        ensures count { IfOk result (λ told. one_if (is_some told) ≡ length (part_sent Receive object
+        ensures count { IfOk result
+            (λ told. one_if (is_some told) ≡ length (part_sent Receive object
             (values_of_order (state_of self.now).directory object order values.now))) }
         ensures receivers { IfOk result (λ told. IfSome told (λ rs. federate_set rs ≡ is_receiver
             (state_of self.now).directory heading.sender (AnUpdate object
@@ -382,8 +390,8 @@ impl Parts {
     ) -> Result<Answer, Fault>
         requires { MayCall self.old federate }
         ensures whole { IsWhole self.new }
-        ensures done { Ends self.old (step.Call federate (service.SendInteraction class values.now stamp))
-            result self.new }
+        ensures done { Ends self.old
+            (step.Call federate (service.SendInteraction class values.now stamp)) result self.new }
     {
         if let Some(fault) = self.send_fault(federate, class, values, stamp) {
             return Err(fault);
@@ -458,8 +466,8 @@ impl Parts {
     ) -> Result<Answer, Fault>
         requires { MayCall self.old federate }
         ensures whole { IsWhole self.new }
-        ensures done { Ends self.old (step.Call federate (service.DeleteObjectInstance object stamp))
-            result self.new }
+        ensures done { Ends self.old
+            (step.Call federate (service.DeleteObjectInstance object stamp)) result self.new }
     {
         if let Some(fault) = self.delete_fault(federate, object, stamp) {
             return Err(fault);

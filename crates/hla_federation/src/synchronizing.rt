@@ -21,7 +21,8 @@ impl Parts {
         requires may { MayCall self.old federate }
         requires taken { is_open label (points_of self.old.points) ≡ true }
         ensures whole { IsWhole self.new }
-        ensures ok { OnOk result (state_of self.new ≡ with_point_opened (state_of self.old) federate label) }
+        ensures ok { OnOk result
+            (state_of self.new ≡ with_point_opened (state_of self.old) federate label) }
         ensures err { IfErr result (λ e. e ≡ Fault.OutOfMemory) }
         ensures unchanged { OnErr result (self.new ≡ self.old) }
     {
@@ -38,7 +39,8 @@ impl Parts {
         requires may { MayCall self.old federate }
         requires free { is_open label (points_of self.old.points) ≡ false }
         ensures whole { IsWhole self.new }
-        ensures ok { OnOk result (state_of self.new ≡ with_point_opened (state_of self.old) federate label) }
+        ensures ok { OnOk result
+            (state_of self.new ≡ with_point_opened (state_of self.old) federate label) }
         ensures err { IfErr result (λ e. e ≡ Fault.OutOfMemory) }
         ensures unchanged { OnErr result (self.new ≡ self.old) }
     {
@@ -64,7 +66,8 @@ impl Parts {
     fn register_point(&mut self, federate: FederateNo, label: SharedList<u8>) -> Result<(), Fault>
         requires { MayCall self.old federate }
         ensures whole { IsWhole self.new }
-        ensures ok { OnOk result (state_of self.new ≡ with_point_opened (state_of self.old) federate label) }
+        ensures ok { OnOk result
+            (state_of self.new ≡ with_point_opened (state_of self.old) federate label) }
         ensures err { IfErr result (λ e. e ≡ Fault.OutOfMemory) }
         ensures unchanged { OnErr result (self.new ≡ self.old) }
     {

@@ -66,7 +66,8 @@ fn refuse_into(
         ≡ history.old.items ++ step_record actor execution.now step out choice.None ∷ []) }
     ensures copied { IfOk result (λ out. transcript.new.items
         ≡ transcript.old.items ++ step_record actor execution.now step out choice.None ∷ []) }
-    ensures refused { IfOk result (λ out. out ≡ outcome.Refused fault.FederationExecutionDoesNotExist) }
+    ensures refused { IfOk result
+        (λ out. out ≡ outcome.Refused fault.FederationExecutionDoesNotExist) }
     ensures len { vec_len history.new
         ≡ (if is_ok result then vec_len history.old + 1 else vec_len history.old) }
     ensures capacity { vec_capacity history.new ≡ vec_capacity history.old }

@@ -57,7 +57,8 @@ impl<'a> Unmatched<'a> {
 
     /// Matches the first record with the caller's next one in the history.
     fn match_next(&mut self, next: &Record)
-        ensures { (more : List Record) → (self.new ≡ Some more) ↔ (self.old ≡ Some (next.now ∷ more)) }
+        ensures { (more : List Record)
+            → (self.new ≡ Some more) ↔ (self.old ≡ Some (next.now ∷ more)) }
     {
         let Some(records) = self.records else {
             return;

@@ -145,11 +145,13 @@ pub(crate) fn create_among<B: FederateAmbassador>(
       choice = choice.None;
     }) }
     ensures ends { IfOk result (λ p. EndsAs
-        (creation_fault (hosts_of counts.old.creates counts.old.present executions.old.items) name catalogue)
+        (creation_fault
+        (hosts_of counts.old.creates counts.old.present executions.old.items) name catalogue)
         p.0.outcome) }
     ensures own { IfOk result (λ p. p.1.own ≡ p.0) }
     ensures answer { IfOk result (λ p. p.1.answer ≡ p.0.outcome) }
-    ensures hosts { IfOk result (λ p. hosts_of counts.new.creates counts.new.present executions.new.items
+    ensures hosts { IfOk result
+        (λ p. hosts_of counts.new.creates counts.new.present executions.new.items
         ≡ hosts_after (hosts_of counts.old.creates counts.old.present executions.old.items)
         name (act.Create catalogue) p.0.outcome) }
     ensures tags { tags_among executions.new.items ≡ tags_among executions.old.items }
@@ -227,7 +229,8 @@ pub(crate) fn destroy_among<B: FederateAmbassador>(
     ensures hosts { IfOk result
         (λ p. hosts_of counts.new.creates counts.new.present executions.new.items
         ≡ hosts_after
-        (hosts_of counts.old.creates counts.old.present executions.old.items) name act.Destroy p.0.outcome) }
+        (hosts_of counts.old.creates counts.old.present executions.old.items)
+        name act.Destroy p.0.outcome) }
     ensures tags { IfOk result (λ p. tags_among executions.new.items
         ≡ tags_after_act (tags_among executions.old.items) name act.Destroy p.0.outcome None) }
     ensures err { IfErr result (λ e. e ≡ Fault.OutOfMemory) }

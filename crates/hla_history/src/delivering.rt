@@ -61,7 +61,8 @@ fn give_at<B: FederateAmbassador>(
     federate: FederateNo,
     callback: Callback,
 ) -> Result<(), FederateFault>
-    requires { (e : Hearing) × (slice_get ears.old.items federate ≡ Some (Some e)) × (e.room ≡ true) }
+    requires { (e : Hearing) × (slice_get ears.old.items federate ≡ Some (Some e))
+        × (e.room ≡ true) }
     ensures heard { heard_table (heard_of ears.new.items)
         ≡ with_callback (heard_table (heard_of ears.old.items)) federate (Some callback) }
     ensures tags { tags_of ears.new.items ≡ tags_of ears.old.items }

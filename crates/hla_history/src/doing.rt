@@ -77,7 +77,8 @@ pub(crate) fn carry_out<B: FederateAmbassador>(
         ≡ components_after (components_hosted federation.old) made.now.act) }
     ensures copied { OnOk result (transcript.new.items ≡ transcript.old.items ++ made.now ∷ []) }
     ensures heard { OnOk result (heard_table (heard_of ears.new.items)
-        ≡ heard_then_of (heard_table (heard_of ears.old.items)) made.now.act (callback_in made.now.outcome)) }
+        ≡ heard_then_of (heard_table (heard_of ears.old.items)) made.now.act
+        (callback_in made.now.outcome)) }
     ensures tags { tags_of ears.new.items ≡ tags_of ears.old.items }
     ensures len { vec_len ears.new ≡ vec_len ears.old }
     ensures err { IfErr result (λ e. e ≡ Fault.OutOfMemory) }

@@ -51,7 +51,8 @@ impl<B: FederateAmbassador> Model for Hosted<B> {
       tags = tags_of h.ears.items;
     } };
 
-    ghost invariant = { λ h. vec_len h.ears ≡ (components_hosted h.federation).directory.next_federate };
+    ghost invariant = { λ h. vec_len h.ears
+        ≡ (components_hosted h.federation).directory.next_federate };
 }
 
 impl<B: FederateAmbassador> Hosted<B> {
@@ -119,7 +120,8 @@ impl<B: FederateAmbassador> Hosted<B> {
             (λ out. given_outcome out
             ≡ (next (components_hosted self.old.federation) step).outcome) }
         ensures name { self.new.name ≡ self.old.name }
-        ensures host { IfOk result (λ out. host_of self.new ≡ host_after (host_of self.old) step out) }
+        ensures host { IfOk result
+            (λ out. host_of self.new ≡ host_after (host_of self.old) step out) }
         ensures tags { self.new.tags ≡ self.old.tags }
         ensures len { vec_len history.new
             ≡ (if is_ok result then vec_len history.old + 1 else vec_len history.old) }
@@ -162,7 +164,8 @@ impl<B: FederateAmbassador> Hosted<B> {
         }) }
         ensures own { IfOk result (λ p. p.1.own ≡ p.0) }
         ensures answer { IfOk result (λ p. p.1.answer ≡ p.0.outcome) }
-        ensures back { IfOk result (λ p. p.2 ≡ (if is_accepted p.1.answer then None else Some inner)) }
+        ensures back { IfOk result
+            (λ p. p.2 ≡ (if is_accepted p.1.answer then None else Some inner)) }
         ensures name { self.new.name ≡ self.old.name }
         ensures host { IfOk result
             (λ p. host_of self.new ≡ host_after (host_of self.old) (step.Join name) p.0.outcome) }
@@ -218,7 +221,8 @@ impl<B: FederateAmbassador> Hosted<B> {
             (λ p. IfSome p.2 (λ b. tag_table self.old.tags federate ≡ Some (B.tag b))) }
         ensures name { self.new.name ≡ self.old.name }
         ensures host { IfOk result (λ p. host_of self.new
-            ≡ host_after (host_of self.old) (step.Call federate (service.Resign action)) p.0.outcome) }
+            ≡ host_after (host_of self.old)
+            (step.Call federate (service.Resign action)) p.0.outcome) }
         ensures tags { IfOk result
             (λ p. tag_table self.new.tags
             ≡ tag_table_after (tag_table self.old.tags)

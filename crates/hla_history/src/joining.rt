@@ -74,7 +74,8 @@ pub(crate) fn resign_among<B: FederateAmbassador>(
     federate: FederateNo,
     action: ResignAction,
 ) -> Result<(Record, Stepped, Option<B>), Fault>
-    requires { (name : List ℕ) (h : Host) → table_of executions.old.items name ≡ Some h → HasAmbassadors h }
+    requires { (name : List ℕ) (h : Host) → table_of executions.old.items name ≡ Some h
+        → HasAmbassadors h }
     ensures record { IfOk result (λ p. p.0 ≡ record {
       actor = actor;
       execution = execution;
@@ -95,7 +96,8 @@ pub(crate) fn resign_among<B: FederateAmbassador>(
         (λ b. tags_among executions.old.items execution federate ≡ Some (B.tag b))) }
     ensures hosts { IfOk result (λ p. table_of executions.new.items
         ≡ hosts_after_step (table_of executions.old.items) execution
-        (table_of executions.old.items execution) (step.Call federate (service.Resign action)) p.0.outcome) }
+        (table_of executions.old.items execution)
+        (step.Call federate (service.Resign action)) p.0.outcome) }
     ensures tags { IfOk result (λ p. tags_among executions.new.items
         ≡ tags_after_act (tags_among executions.old.items) execution
         (act.Step (step.Call federate (service.Resign action))) p.0.outcome None) }

@@ -52,7 +52,8 @@ pub(crate) fn unseat<B: FederateAmbassador>(
     requires { is_accepted answer.now ≡ true
         → (e : Hearing) × (slice_get ears.old.items federate ≡ Some (Some e)) }
     ensures back { is_some result ≡ is_accepted answer.now }
-    ensures at { IfSome result (λ b. get_or (heard_of ears.old.items) federate None ≡ Some (B.heard b)) }
+    ensures at { IfSome result
+        (λ b. get_or (heard_of ears.old.items) federate None ≡ Some (B.heard b)) }
     ensures tag { IfSome result
         (λ b. get_or (tags_of ears.old.items) federate None ≡ Some (B.tag b)) }
     ensures heard { heard_of ears.new.items

@@ -91,7 +91,8 @@ impl<L: Ledger, B: FederateAmbassador> Shared<L, B> {
     /// What the value under the lock keeps, for a caller's own proofs: the history replays to the executions, and each joined
     /// federate's ambassador has heard just the callbacks of its ticks since it joined. It does nothing.
     pub fn kept(&self)
-        ensures { IsLockKept self.now.history (hosts_of self.now.creates self.now.present self.now.executions)
+        ensures { IsLockKept self.now.history
+            (hosts_of self.now.creates self.now.present self.now.executions)
             (length self.now.history) }
     {
         let _history = &self.history;
@@ -117,7 +118,8 @@ impl<L: Ledger, B: FederateAmbassador> Shared<L, B> {
           choice = s.own.choice;
         }) }
         ensures form { IfOk result (λ s. EndsInForm (step_form step) s.answer) }
-        ensures recorded { IfOk result (λ s. held_of self.new ≡ with_record (held_of self.old) s.own) }
+        ensures recorded { IfOk result
+            (λ s. held_of self.new ≡ with_record (held_of self.old) s.own) }
         ensures tags { tags_held self.new ≡ tags_held self.old }
         ensures full { result ≡ Err Fault.HistoryFull ↔ (length self.old.history ≡ self.old.limit) }
         ensures refused { IfErr result (λ e. (e ≡ Fault.HistoryFull) ⊎ (e ≡ Fault.OutOfMemory)) }
@@ -211,7 +213,8 @@ impl<L: Ledger, B: FederateAmbassador> Shared<L, B> {
           choice = choice.None;
         }) }
         ensures form { IfOk result (λ s. EndsInForm NoAnswer s.answer) }
-        ensures recorded { IfOk result (λ s. held_of self.new ≡ with_record (held_of self.old) s.own) }
+        ensures recorded { IfOk result
+            (λ s. held_of self.new ≡ with_record (held_of self.old) s.own) }
         ensures tags { tags_held self.new ≡ tags_held self.old }
         ensures full { result ≡ Err Fault.HistoryFull ↔ (length self.old.history ≡ self.old.limit) }
         ensures refused { IfErr result (λ e. (e ≡ Fault.HistoryFull) ⊎ (e ≡ Fault.OutOfMemory)) }
@@ -254,7 +257,8 @@ impl<L: Ledger, B: FederateAmbassador> Shared<L, B> {
           choice = choice.None;
         }) }
         ensures form { IfOk result (λ s. EndsInForm NoAnswer s.answer) }
-        ensures recorded { IfOk result (λ s. held_of self.new ≡ with_record (held_of self.old) s.own) }
+        ensures recorded { IfOk result
+            (λ s. held_of self.new ≡ with_record (held_of self.old) s.own) }
         ensures tags { IfOk result
             (λ s. tags_held self.new ≡ tags_after (tags_held self.old) s.own None) }
         ensures full { result ≡ Err Fault.HistoryFull ↔ (length self.old.history ≡ self.old.limit) }
@@ -294,13 +298,17 @@ impl<L: Ledger, B: FederateAmbassador> Shared<L, B> {
           outcome = p.0.answer;
           choice = p.0.own.choice;
         }) }
-        ensures recorded { IfOk result (λ p. held_of self.new ≡ with_record (held_of self.old) p.0.own) }
+        ensures recorded { IfOk result
+            (λ p. held_of self.new ≡ with_record (held_of self.old) p.0.own) }
         ensures tags { IfOk result (λ p. tags_held self.new
             ≡ tags_after (tags_held self.old) p.0.own (Some (B.tag inner))) }
         ensures form { IfOk result (λ p. EndsInForm AFederate p.0.answer) }
-        ensures back { IfOk result (λ p. p.1 ≡ (if is_accepted p.0.answer then None else Some inner)) }
-        ensures full { result ≡ Err (Fault.HistoryFull, inner) ↔ (length self.old.history ≡ self.old.limit) }
-        ensures refused { IfErr result (λ e. (e.0 ≡ Fault.HistoryFull) ⊎ (e.0 ≡ Fault.OutOfMemory)) }
+        ensures back { IfOk result
+            (λ p. p.1 ≡ (if is_accepted p.0.answer then None else Some inner)) }
+        ensures full { result ≡ Err (Fault.HistoryFull, inner)
+            ↔ (length self.old.history ≡ self.old.limit) }
+        ensures refused { IfErr result
+            (λ e. (e.0 ≡ Fault.HistoryFull) ⊎ (e.0 ≡ Fault.OutOfMemory)) }
         ensures returned { IfErr result (λ e. e.1 ≡ inner) }
         ensures unchanged { OnErr result (self.new ≡ self.old) }
         ensures share { MatchResult result (λ _. mine.new.amount ≡ mine.old.amount + 1)
@@ -346,7 +354,8 @@ impl<L: Ledger, B: FederateAmbassador> Shared<L, B> {
             heard_from ((held_of self.old).hosts.host execution) federate ≡ Some (B.heard b))) }
         ensures tag { IfOk result (λ p. IfSome p.1 (λ b.
             tags_held self.old execution federate ≡ Some (B.tag b))) }
-        ensures recorded { IfOk result (λ p. held_of self.new ≡ with_record (held_of self.old) p.0.own) }
+        ensures recorded { IfOk result
+            (λ p. held_of self.new ≡ with_record (held_of self.old) p.0.own) }
         ensures tags { IfOk result (λ p. tags_held self.new
             ≡ tags_after (tags_held self.old) p.0.own None) }
         ensures full { result ≡ Err Fault.HistoryFull ↔ (length self.old.history ≡ self.old.limit) }

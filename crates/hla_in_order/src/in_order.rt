@@ -82,7 +82,8 @@ impl<L: Ledger + Naming, B: FederateAmbassador, P: Publisher<L>> Cast<L, B, P> {
         ensures ambassadors { self.new.ambassadors ≡ drop 1 self.old.ambassadors }
         ensures members { self.new.members ≡ self.old.members }
         ensures led { IfOk result (λ out. (fed : List ℕ) →
-            RequestLeads fed (request.Step (step.Join name)) out rti.old self.old rti.new self.new) }
+            RequestLeads fed
+            (request.Step (step.Join name)) out rti.old self.old rti.new self.new) }
     {
         let ambassador = self.ambassadors.take_first();
         match rti.join(rt, name, self.execution, ambassador) {
@@ -102,7 +103,8 @@ impl<L: Ledger + Naming, B: FederateAmbassador, P: Publisher<L>> Cast<L, B, P> {
         ensures ambassadors { self.new.ambassadors ≡ self.old.ambassadors }
         ensures members { self.new.members ≡ self.old.members }
         ensures led { (fed : List ℕ) (office : Office) →
-            RequestLeads fed (request.Step (step.Carry from to)) result office self.old office self.new }
+            RequestLeads fed
+            (request.Step (step.Carry from to)) result office self.old office self.new }
     {
         outcome_of_carried(self.courier.carry(rt, self.execution, from, to))
     }
@@ -112,7 +114,8 @@ impl<L: Ledger + Naming, B: FederateAmbassador, P: Publisher<L>> Cast<L, B, P> {
         ensures ambassadors { self.new.ambassadors ≡ self.old.ambassadors }
         ensures members { self.new.members ≡ self.old.members }
         ensures led { (fed : List ℕ) (office : Office) →
-            RequestLeads fed (request.Step (step.Announce federate)) result office self.old office self.new }
+            RequestLeads fed
+            (request.Step (step.Announce federate)) result office self.old office self.new }
     {
         outcome_of_announced(self.courier.announce(rt, self.execution, federate))
     }
@@ -122,7 +125,8 @@ impl<L: Ledger + Naming, B: FederateAmbassador, P: Publisher<L>> Cast<L, B, P> {
         ensures ambassadors { self.new.ambassadors ≡ self.old.ambassadors }
         ensures members { self.new.members ≡ self.old.members }
         ensures led { (fed : List ℕ) (office : Office) →
-            RequestLeads fed (request.Step (step.Call federate service)) result office self.old office self.new }
+            RequestLeads fed
+            (request.Step (step.Call federate service)) result office self.old office self.new }
     {
         act(rt, &mut self.players, federate, Deed::Serve(service))
     }
@@ -132,7 +136,8 @@ impl<L: Ledger + Naming, B: FederateAmbassador, P: Publisher<L>> Cast<L, B, P> {
         ensures ambassadors { self.new.ambassadors ≡ self.old.ambassadors }
         ensures members { self.new.members ≡ self.old.members }
         ensures led { (fed : List ℕ) (office : Office) →
-            RequestLeads fed (request.Step (step.Tick federate)) result office self.old office self.new }
+            RequestLeads fed
+            (request.Step (step.Tick federate)) result office self.old office self.new }
     {
         act(rt, &mut self.players, federate, Deed::Tick)
     }
@@ -210,7 +215,8 @@ impl<L: Ledger + Naming, B: FederateAmbassador, P: Publisher<L>> Cast<L, B, P> {
     /// Lets the ambassador go of a line that joins, and makes no step.
     fn pass_over(&mut self, command: &Command<'_>)
         requires { joins_by command.now ≤ length self.old.ambassadors }
-        ensures ambassadors { self.new.ambassadors ≡ drop (joins_by command.now) self.old.ambassadors }
+        ensures ambassadors { self.new.ambassadors
+            ≡ drop (joins_by command.now) self.old.ambassadors }
         ensures members { self.new.members.items ≡ self.old.members.items }
         ensures courier { self.new.courier ≡ self.old.courier }
         ensures execution { self.new.execution ≡ self.old.execution }

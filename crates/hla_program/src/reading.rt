@@ -54,7 +54,8 @@ pub(crate) fn read_texts<'a, O: Opener>(
 ) -> Result<Texts, Unread<'a>>
     ensures read { IfOk result (λ t. AreRead (O.bytes_of opener.now) fed_name.now script_name.now
         (fed_in t) (script_in t)) }
-    ensures unread { IfErr result (λ u. IsFirstUnread (O.bytes_of opener.now) fed_name.now script_name.now
+    ensures unread { IfErr result
+        (λ u. IsFirstUnread (O.bytes_of opener.now) fed_name.now script_name.now
         u.name.now u.fault) }
 {
     if share_input(fed_name, script_name) {

@@ -51,7 +51,8 @@ fn unread_line(alloc: Global, name: &str) -> Result<String, AllocError>
 
 /// Writes a line, or any text. Where a write fails, the rest of it is left out.
 pub fn tell<E: Write>(errors: &mut Watched<E>, line: &str)
-    ensures { WritesLine (stream_of E.contents errors.old) (stream_of E.contents errors.new) line.now }
+    ensures { WritesLine (stream_of E.contents errors.old)
+        (stream_of E.contents errors.new) line.now }
 {
     let _ = write_whole(errors, line.as_bytes());
 }

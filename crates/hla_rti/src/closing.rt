@@ -161,7 +161,8 @@ impl<L: Ledger + Naming, B: FederateAmbassador, W: Publisher<L>> Rti<L, B, W> {
         ensures here { OnOk result (AllHere self.handed lefts.items) }
         ensures missing { IfErr result
             (λ n. n.fault ≡ CloseFault.Missing → AllHere self.handed lefts.items → ⊥) }
-        ensures present { IfErr result (λ n. n.fault ≢ CloseFault.Missing → AllHere self.handed lefts.items) }
+        ensures present { IfErr result
+            (λ n. n.fault ≢ CloseFault.Missing → AllHere self.handed lefts.items) }
         ensures back { IfErr result (λ n. (n.rti ≡ self) × (n.lefts ≡ lefts)) }
     {
         if !all_here(self.handed, lefts.as_slice()) {

@@ -38,7 +38,8 @@ impl<L: Ledger + Naming, B: FederateAmbassador, W: Publisher<L>> Model for Feder
 
     ghost Value = { FederateCaller };
 
-    ghost view = { λ f. record { execution = f.execution; federate = f.federate; caller = f.seat } };
+    ghost view = { λ f.
+        record { execution = f.execution; federate = f.federate; caller = f.seat } };
 }
 
 impl<L: Ledger + Naming, B: FederateAmbassador, W: Publisher<L>> Federate<L, B, W> {
@@ -77,7 +78,8 @@ impl<L: Ledger + Naming, B: FederateAmbassador, W: Publisher<L>> Federate<L, B, 
     ) -> Result<Registration, Fault>
         requires plain { IsPlain (step.Call self.old.federate service) }
         requires form { service_form service ≡ ARegistration }
-        ensures { IsServed self.old service (said (λ r. answer.Registered r.object r.name) result) self.new }
+        ensures { IsServed self.old service
+            (said (λ r. answer.Registered r.object r.name) result) self.new }
     {
         registration_in(self.serve(rt, service))
     }

@@ -153,7 +153,8 @@ impl<L: Ledger + Naming, B: FederateAmbassador, W: Publisher<L>> Locked<L, B, W>
         mine: &mut Share<L>,
     ) -> Result<Stepped, Fault>
         requires { 0 < mine.old.parts }
-        ensures asked { IfOk result (λ s. s.own ≡ choiceless_record actor name act.Destroy s.answer) }
+        ensures asked { IfOk result
+            (λ s. s.own ≡ choiceless_record actor name act.Destroy s.answer) }
         ensures form { IfOk result (λ s. EndsInForm NoAnswer s.answer) }
         ensures recorded { IfOk result (λ s. IsRecorded self.old s.own self.new) }
         ensures full { result ≡ Err Fault.HistoryFull ↔ IsFull self.old }
@@ -184,7 +185,8 @@ impl<L: Ledger + Naming, B: FederateAmbassador, W: Publisher<L>> Locked<L, B, W>
             ≡ step_record actor execution (step.Join name) p.0.answer p.0.own.choice) }
         ensures recorded { IfOk result (λ p. IsRecorded self.old p.0.own self.new) }
         ensures form { IfOk result (λ p. EndsInForm AFederate p.0.answer) }
-        ensures back { IfOk result (λ p. p.1 ≡ (if is_accepted p.0.answer then None else Some inner)) }
+        ensures back { IfOk result
+            (λ p. p.1 ≡ (if is_accepted p.0.answer then None else Some inner)) }
         ensures full { result ≡ Err (Fault.HistoryFull, inner) ↔ IsFull self.old }
         ensures refused { IfErr result (λ e. IsNotRecorded self.old e.0 self.new) }
         ensures returned { IfErr result (λ e. e.1 ≡ inner) }
@@ -218,7 +220,8 @@ impl<L: Ledger + Naming, B: FederateAmbassador, W: Publisher<L>> Locked<L, B, W>
         ensures form { IfOk result (λ p. EndsInForm NoAnswer p.0.answer) }
         ensures back { IfOk result (λ p. is_some p.1 ≡ is_accepted p.0.answer) }
         ensures heard { IfOk result (λ p. IfSome p.1 (λ b.
-            heard_from ((held_of self.old.held).hosts.host execution) federate ≡ Some (B.heard b))) }
+            heard_from ((held_of self.old.held).hosts.host execution) federate
+            ≡ Some (B.heard b))) }
         ensures recorded { IfOk result (λ p. IsRecorded self.old p.0.own self.new) }
         ensures full { result ≡ Err Fault.HistoryFull ↔ IsFull self.old }
         ensures refused { IfErr result (λ e. IsNotRecorded self.old e self.new) }
@@ -249,7 +252,8 @@ impl<L: Ledger + Naming, B: FederateAmbassador, W: Publisher<L>> Locked<L, B, W>
         ensures knows { IfOk result (λ m. m ≡ self.new.posted.published) }
         ensures below { OnOk result (self.old.posted.monitors < max_monitors) }
         ensures err { IfErr result (λ e. e ≡ Fault.LimitReached) }
-        ensures counted { MatchResult result (λ _. self.new.posted.monitors ≡ self.old.posted.monitors + 1)
+        ensures counted { MatchResult result
+            (λ _. self.new.posted.monitors ≡ self.old.posted.monitors + 1)
             (λ _. self.new.posted.monitors ≡ self.old.posted.monitors) }
         ensures held { self.new.held ≡ self.old.held }
         ensures ended { self.new.ended ≡ self.old.ended }
@@ -273,7 +277,8 @@ impl<L: Ledger + Naming, B: FederateAmbassador, W: Publisher<L>> Locked<L, B, W>
         ensures records { IfOk result (λ c. c ≡ self.old.held.history) }
         ensures agree { OnOk result (AllAgree self.old.held.history lefts.items seat) }
         ensures theirs { rest.amount ≡ 0 → seat.number ≡ 0 → IfOk result (AreOfCallers handed) }
-        ensures differs { IfErr result (λ u. DiffersFirst self.old.held.history lefts.items seat u.place) }
+        ensures differs { IfErr result
+            (λ u. DiffersFirst self.old.held.history lefts.items seat u.place) }
         ensures back { IfErr result (λ u. (u.seat ≡ seat) × (u.rest ≡ rest) × (u.lefts ≡ lefts)) }
         ensures same { OnErr result (self.new ≡ self.old) }
         ensures ended { OnOk result (self.new.ended ≡ true) }

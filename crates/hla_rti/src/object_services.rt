@@ -35,7 +35,8 @@ impl<L: Ledger + Naming, B: FederateAmbassador, W: Publisher<L>> Federate<L, B, 
 
     /// Unpublish Object Class (HLA 1.3, declaration management). `ObjectClassNotDefined`; `ObjectClassNotPublished`.
     pub fn unpublish_object_class(&mut self, rt: &impl Wait, class: ClassNo) -> Result<(), Fault>
-        ensures { IsServed self.old (service.UnpublishObjectClass class) (said nothing result) self.new }
+        ensures { IsServed self.old (service.UnpublishObjectClass class)
+            (said nothing result) self.new }
     {
         self.serve_done(rt, Service::UnpublishObjectClass { class })
     }
@@ -60,7 +61,8 @@ impl<L: Ledger + Naming, B: FederateAmbassador, W: Publisher<L>> Federate<L, B, 
 
     /// Unsubscribe Object Class (HLA 1.3, declaration management). `ObjectClassNotDefined`; `ObjectClassNotSubscribed`.
     pub fn unsubscribe_object_class(&mut self, rt: &impl Wait, class: ClassNo) -> Result<(), Fault>
-        ensures { IsServed self.old (service.UnsubscribeObjectClass class) (said nothing result) self.new }
+        ensures { IsServed self.old (service.UnsubscribeObjectClass class)
+            (said nothing result) self.new }
     {
         self.serve_done(rt, Service::UnsubscribeObjectClass { class })
     }
@@ -68,7 +70,8 @@ impl<L: Ledger + Naming, B: FederateAmbassador, W: Publisher<L>> Federate<L, B, 
     /// Publish Interaction Class (HLA 1.3, declaration management): from now on the federate may send interactions of this
     /// class. `InteractionClassNotDefined`.
     pub fn publish_interaction_class(&mut self, rt: &impl Wait, class: ClassNo) -> Result<(), Fault>
-        ensures { IsServed self.old (service.PublishInteractionClass class) (said nothing result) self.new }
+        ensures { IsServed self.old (service.PublishInteractionClass class)
+            (said nothing result) self.new }
     {
         self.serve_done(rt, Service::PublishInteractionClass { class })
     }
@@ -80,7 +83,8 @@ impl<L: Ledger + Naming, B: FederateAmbassador, W: Publisher<L>> Federate<L, B, 
         rt: &impl Wait,
         class: ClassNo,
     ) -> Result<(), Fault>
-        ensures { IsServed self.old (service.UnpublishInteractionClass class) (said nothing result) self.new }
+        ensures { IsServed self.old (service.UnpublishInteractionClass class)
+            (said nothing result) self.new }
     {
         self.serve_done(rt, Service::UnpublishInteractionClass { class })
     }
@@ -92,7 +96,8 @@ impl<L: Ledger + Naming, B: FederateAmbassador, W: Publisher<L>> Federate<L, B, 
         rt: &impl Wait,
         class: ClassNo,
     ) -> Result<(), Fault>
-        ensures { IsServed self.old (service.SubscribeInteractionClass class) (said nothing result) self.new }
+        ensures { IsServed self.old (service.SubscribeInteractionClass class)
+            (said nothing result) self.new }
     {
         self.serve_done(rt, Service::SubscribeInteractionClass { class })
     }

@@ -63,9 +63,11 @@ impl<L: Ledger + Naming, B: FederateAmbassador, W: Publisher<L>> Rti<L, B, W> {
         requires parts { blank.parts ≡ L.parts }
         requires all { blank.parts ≡ ledger_parts }
         requires board { board ≡ record { whole = true; shown = []; published = []; monitors = 0 } }
-        ensures ok { IfOk result (λ r. r ≡ record { handed = 0; couriers = 0; own = new_caller 0 }) }
+        ensures ok { IfOk result
+            (λ r. r ≡ record { handed = 0; couriers = 0; own = new_caller 0 }) }
         ensures limit { OnOk result (history_limit ≤ max_history_limit) }
-        ensures err { IfErr result (λ e. ((e ≡ Fault.LimitReached) × (max_history_limit < history_limit))
+        ensures err { IfErr result
+            (λ e. ((e ≡ Fault.LimitReached) × (max_history_limit < history_limit))
             ⊎ ((e ≡ Fault.OutOfMemory) × (history_limit ≤ max_history_limit))) }
     {
         if history_limit > MAX_HISTORY_LIMIT {
@@ -113,7 +115,8 @@ impl<L: Ledger + Naming, B: FederateAmbassador, W: Publisher<L>> Rti<L, B, W> {
     /// `FederatesCurrentlyJoined`. `HistoryFull` and `OutOfMemory` without a record, and then nothing has changed; of any
     /// other fault there is a record, and nothing else has changed.
     pub fn destroy(&mut self, rt: &impl Wait, name: ExecutionName) -> Result<(), Fault>
-        ensures answered { HasAnswered self.old.own name act.Destroy (said nothing result) self.new.own }
+        ensures answered { HasAnswered self.old.own name act.Destroy
+            (said nothing result) self.new.own }
         ensures handed { self.new.handed ≡ self.old.handed }
         ensures couriers { self.new.couriers ≡ self.old.couriers }
     {
@@ -182,7 +185,8 @@ impl<L: Ledger + Naming, B: FederateAmbassador, W: Publisher<L>> Rti<L, B, W> {
         ambassador: B,
     ) -> Result<Federate<L, B, W>, (Fault, B)>
         requires { B.heard ambassador ≡ [] }
-        ensures joined { IfOk result (λ f. HasActed self.old.own execution (act.Step (step.Join name))
+        ensures joined { IfOk result
+            (λ f. HasActed self.old.own execution (act.Step (step.Join name))
             (outcome.Done (answer.Federate f.federate)) self.new.own) }
         ensures federate { IfOk result (λ f. f ≡ record {
           execution = execution;
@@ -193,7 +197,8 @@ impl<L: Ledger + Naming, B: FederateAmbassador, W: Publisher<L>> Rti<L, B, W> {
             (λ _. self.new.handed ≡ self.old.handed) }
         ensures couriers { self.new.couriers ≡ self.old.couriers }
         ensures refused { IfErr result (λ e.
-            (HasActed self.old.own execution (act.Step (step.Join name)) (outcome.Refused e.0) self.new.own
+            (HasActed self.old.own execution (act.Step (step.Join name))
+            (outcome.Refused e.0) self.new.own
             ⊎ HasNotActed self.old.own e.0 self.new.own)
             ⊎ ((e.0 ≡ Fault.LimitReached) × (max_callers ≤ self.old.handed)
             × (self.new.own ≡ self.old.own))) }

@@ -60,7 +60,8 @@ impl<L: Ledger, B: FederateAmbassador> Model for Left<L, B> {
 
     ghost Value = { Leaver };
 
-    ghost view = { λ l. record { caller = l.seat; heard = option_map (λ b. B.heard b) l.ambassador } };
+    ghost view = { λ l.
+        record { caller = l.seat; heard = option_map (λ b. B.heard b) l.ambassador } };
 }
 
 impl<L: Ledger, B: FederateAmbassador> Left<L, B> {
@@ -207,7 +208,8 @@ impl<L: Ledger + Naming> Seat<L> {
         name: ExecutionName,
         fed: &[u8],
     ) -> Result<Answer, Fault>
-        ensures answered { HasAnswered self.old name (act.Create (catalogue_from fed.now)) result self.new }
+        ensures answered { HasAnswered self.old name
+            (act.Create (catalogue_from fed.now)) result self.new }
         ensures form { IfOk result (λ a. IsOfForm NoAnswer a) }
     {
         if self.transcript.reserve(1).is_err() {

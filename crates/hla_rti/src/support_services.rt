@@ -23,7 +23,8 @@ impl<L: Ledger + Naming, B: FederateAmbassador, W: Publisher<L>> Federate<L, B, 
         rt: &impl Wait,
         name: List<u8>,
     ) -> Result<ClassNo, Fault>
-        ensures { IsServed self.old (service.GetObjectClassHandle name) (said answer.Handle result) self.new }
+        ensures { IsServed self.old (service.GetObjectClassHandle name)
+            (said answer.Handle result) self.new }
     {
         self.serve_handle(rt, Service::GetObjectClassHandle { name })
     }

@@ -61,7 +61,8 @@ impl<L: Ledger + Naming, B: FederateAmbassador, W: Publisher<L>> Federate<L, B, 
     /// `EnableTimeConstrainedPending`; `InvalidFederationTime` where the time is above 10^18; `FederationTimeAlreadyPassed`
     /// where it is below the federate's time.
     pub fn time_advance_request(&mut self, rt: &impl Wait, time: Ticks) -> Result<(), Fault>
-        ensures { IsServed self.old (service.TimeAdvanceRequest time) (said nothing result) self.new }
+        ensures { IsServed self.old (service.TimeAdvanceRequest time)
+            (said nothing result) self.new }
     {
         self.serve_done(rt, Service::TimeAdvanceRequest { time })
     }
@@ -96,7 +97,8 @@ impl<L: Ledger + Naming, B: FederateAmbassador, W: Publisher<L>> Federate<L, B, 
     /// `EnableTimeConstrainedPending`; `InvalidFederationTime` where the time is above 10^18; `FederationTimeAlreadyPassed`
     /// where it is below the federate's time.
     pub fn next_event_request_available(&mut self, rt: &impl Wait, time: Ticks) -> Result<(), Fault>
-        ensures { IsServed self.old (service.NextEventRequestAvailable time) (said nothing result) self.new }
+        ensures { IsServed self.old (service.NextEventRequestAvailable time)
+            (said nothing result) self.new }
     {
         self.serve_done(rt, Service::NextEventRequestAvailable { time })
     }
@@ -106,7 +108,8 @@ impl<L: Ledger + Naming, B: FederateAmbassador, W: Publisher<L>> Federate<L, B, 
     /// `EnableTimeConstrainedPending`; `InvalidFederationTime` where the time is above 10^18; `FederationTimeAlreadyPassed`
     /// where it is below the federate's time.
     pub fn flush_queue_request(&mut self, rt: &impl Wait, time: Ticks) -> Result<(), Fault>
-        ensures { IsServed self.old (service.FlushQueueRequest time) (said nothing result) self.new }
+        ensures { IsServed self.old (service.FlushQueueRequest time)
+            (said nothing result) self.new }
     {
         self.serve_done(rt, Service::FlushQueueRequest { time })
     }
@@ -114,7 +117,8 @@ impl<L: Ledger + Naming, B: FederateAmbassador, W: Publisher<L>> Federate<L, B, 
     /// Modify Lookahead (HLA 1.3, time management), in ticks; a smaller one takes effect as the federate's time advances.
     /// `TimeRegulationWasNotEnabled`; `TimeAdvanceAlreadyInProgress`; `InvalidLookahead` where it is above 10^18.
     pub fn modify_lookahead(&mut self, rt: &impl Wait, lookahead: Ticks) -> Result<(), Fault>
-        ensures { IsServed self.old (service.ModifyLookahead lookahead) (said nothing result) self.new }
+        ensures { IsServed self.old (service.ModifyLookahead lookahead)
+            (said nothing result) self.new }
     {
         self.serve_done(rt, Service::ModifyLookahead { lookahead })
     }
@@ -122,14 +126,16 @@ impl<L: Ledger + Naming, B: FederateAmbassador, W: Publisher<L>> Federate<L, B, 
     /// Enable Asynchronous Delivery (HLA 1.3, time management): messages in receive order are given also while no advance
     /// is asked for. `AsynchronousDeliveryAlreadyEnabled`.
     pub fn enable_asynchronous_delivery(&mut self, rt: &impl Wait) -> Result<(), Fault>
-        ensures { IsServed self.old service.EnableAsynchronousDelivery (said nothing result) self.new }
+        ensures { IsServed self.old service.EnableAsynchronousDelivery
+            (said nothing result) self.new }
     {
         self.serve_done(rt, Service::EnableAsynchronousDelivery)
     }
 
     /// Disable Asynchronous Delivery (HLA 1.3, time management). `AsynchronousDeliveryAlreadyDisabled`.
     pub fn disable_asynchronous_delivery(&mut self, rt: &impl Wait) -> Result<(), Fault>
-        ensures { IsServed self.old service.DisableAsynchronousDelivery (said nothing result) self.new }
+        ensures { IsServed self.old service.DisableAsynchronousDelivery
+            (said nothing result) self.new }
     {
         self.serve_done(rt, Service::DisableAsynchronousDelivery)
     }
@@ -154,7 +160,8 @@ impl<L: Ledger + Naming, B: FederateAmbassador, W: Publisher<L>> Federate<L, B, 
     /// Query Minimum Next Event Time (HLA 1.3, time management). Answers it in ticks, or `FOREVER`. No fault but
     /// `FederationExecutionDoesNotExist`, `FederateNotExecutionMember`, `HistoryFull` and `OutOfMemory`, as of each call.
     pub fn query_min_next_event_time(&mut self, rt: &impl Wait) -> Result<Ticks, Fault>
-        ensures { IsServed self.old service.QueryMinNextEventTime (said answer.Time result) self.new }
+        ensures { IsServed self.old service.QueryMinNextEventTime
+            (said answer.Time result) self.new }
     {
         self.serve_time(rt, Service::QueryMinNextEventTime)
     }

@@ -36,7 +36,8 @@ struct Ending {
 
 /// Does a step, and answers how it ended; where memory ran out it is not done.
 fn do_step(federation: &mut Option<Federation>, step: &Step) -> Result<Ending, Fault>
-    ensures ok { IfOk result (λ e. IsStepped (option_map components_of federation.old) step.now e.outcome
+    ensures ok { IfOk result
+        (λ e. IsStepped (option_map components_of federation.old) step.now e.outcome
         e.choice (option_map components_of federation.new)) }
     ensures err { OnErr result (federation.new ≡ federation.old) }
 {
@@ -146,7 +147,8 @@ impl Execution {
     /// other fault is in the record.
     fn create(&mut self, name: SharedList<u8>) -> Result<Record, Fault>
         requires { name ≡ codes "play" }
-        ensures ok { IfOk result (λ r. IsActed (act.Create (created_catalogue self.old.catalogue r.outcome))
+        ensures ok { IfOk result
+            (λ r. IsActed (act.Create (created_catalogue self.old.catalogue r.outcome))
             (standing self.old.creates self.old.federation) self.old.members.items r
             (standing self.new.creates self.new.federation) self.new.members.items) }
         ensures err { OnErr result (self.new.federation ≡ self.old.federation) }

@@ -72,9 +72,11 @@ fn request_with_room(
     command: &Command<'_>,
 ) -> Result<Request, Fault>
     requires { execution.now.members.items ≡ members records.old.items }
-    ensures admitted { IfOk result (IsAdmitted execution.now.catalogue records.old.items command.now) }
+    ensures admitted { IfOk result
+        (IsAdmitted execution.now.catalogue records.old.items command.now) }
     ensures room { OnOk result (vec_len records.new + 1 ≤ vec_capacity records.new) }
-    ensures refused { IfErr result (λ e. LineEnds execution.now.catalogue records.old.items command.now
+    ensures refused { IfErr result
+        (λ e. LineEnds execution.now.catalogue records.old.items command.now
         (outcome.Refused e) []) }
     ensures records { records.new.items ≡ records.old.items }
 {
@@ -106,8 +108,8 @@ pub fn play_line(
     text: &mut Text,
 ) -> Result<bool, Fault>
     requires name { execution.old.name ≡ codes "play" }
-    requires kept { IsKept records.old.items (standing execution.old.creates execution.old.federation)
-        execution.old.members.items }
+    requires kept { IsKept records.old.items
+        (standing execution.old.creates execution.old.federation) execution.old.members.items }
     ensures name { execution.new.name ≡ execution.old.name }
     ensures catalogue { execution.new.catalogue ≡ execution.old.catalogue }
     ensures kept { OnOk result (IsKept records.new.items

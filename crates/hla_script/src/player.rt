@@ -81,10 +81,12 @@ fn play_lines<W: Write>(
     is_whole: bool,
     out: &mut Watched<W>,
 ) -> Result<List<Record>, StopFault>
-    ensures played { IfOk result (IsPlayedAs is_whole catalogue script.now (W.contents out.old.inner)
+    ensures played { IfOk result
+        (IsPlayedAs is_whole catalogue script.now (W.contents out.old.inner)
         (W.contents out.new.inner)) }
     ensures next { IfOk result (λ records. (x : Federations) × AreNext no_federations records x) }
-    ensures broken { IfErr result (BreaksOff is_whole catalogue script.now (W.contents out.old.inner)
+    ensures broken { IfErr result
+        (BreaksOff is_whole catalogue script.now (W.contents out.old.inner)
         (W.contents out.new.inner)) }
     ensures failure { out.new.has_failed ≡ (out.old.has_failed || is_cut_off result) }
 {
@@ -125,7 +127,8 @@ fn play_from<W: Write>(
     ensures played { IfOk result (IsPlayedAll is_whole fed.now script.now (W.contents out.old.inner)
         (W.contents out.new.inner)) }
     ensures next { IfOk result (λ records. (x : Federations) × AreNext no_federations records x) }
-    ensures run { IfOk result (λ records. (y : machine.Executions) × AreRun machine.no_executions records y) }
+    ensures run { IfOk result
+        (λ records. (y : machine.Executions) × AreRun machine.no_executions records y) }
     ensures laws { IfOk result AreLawful }
     ensures discoveries { IfOk result AreDiscoveredInTurn }
     ensures stopped { IfErr result (StopsBy is_whole fed.now script.now (W.contents out.old.inner)
@@ -169,7 +172,8 @@ pub fn play<W: Write>(
     ensures next { IfOk result (λ records. (x : Federations) × AreNext no_federations records x) }
 
     // So they are a run of the central machine from no executions.
-    ensures run { IfOk result (λ records. (y : machine.Executions) × AreRun machine.no_executions records y) }
+    ensures run { IfOk result
+        (λ records. (y : machine.Executions) × AreRun machine.no_executions records y) }
 
     // So behind each of them each law of the machine holds, of each execution that is there, from its creation on; and each
     // federate is given the discovery of an object before anything is said of it, and once.
@@ -204,7 +208,8 @@ pub fn play_whole<W: Write>(
     ensures played { IfOk result (IsPlayedWhole fed.now script.now (W.contents out.old.inner)
         (W.contents out.new.inner)) }
     ensures next { IfOk result (λ records. (x : Federations) × AreNext no_federations records x) }
-    ensures run { IfOk result (λ records. (y : machine.Executions) × AreRun machine.no_executions records y) }
+    ensures run { IfOk result
+        (λ records. (y : machine.Executions) × AreRun machine.no_executions records y) }
     ensures laws { IfOk result AreLawful }
     ensures discoveries { IfOk result AreDiscoveredInTurn }
 

@@ -60,7 +60,8 @@ impl Session {
     /// Calls a service that answers nothing. The faults are those of `serve`.
     pub(crate) fn serve_done(&mut self, federate: FederateNo, service: Service) -> Result<(), Fault>
         requires { service_form service ≡ NoAnswer }
-        ensures { IsServiceCalled self.old federate service (answered_as no_answer result) self.new }
+        ensures { IsServiceCalled self.old federate service
+            (answered_as no_answer result) self.new }
     {
         done_in(self.serve(federate, service))
     }

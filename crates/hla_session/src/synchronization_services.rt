@@ -24,8 +24,8 @@ impl Session {
         label: &[u8],
     ) -> Result<(), Fault>
         ensures { IsServiceCalled self.old federate
-            (service.RegisterFederationSynchronizationPoint label.now) (answered_as no_answer result)
-            self.new }
+            (service.RegisterFederationSynchronizationPoint label.now)
+            (answered_as no_answer result) self.new }
     {
         let label = list_of_bytes(alloc, label)?;
         self.serve_done(

@@ -153,8 +153,8 @@ impl Session {
     /// Query LBTS (HLA 1.3, time management). Answers, in ticks, the federate's bound, below which no message in
     /// time-stamp order will come, or `FOREVER`. No fault but `FederateNotExecutionMember`.
     pub fn query_lbts(&mut self, federate: FederateNo) -> Result<Ticks, Fault>
-        ensures { IsServiceCalled self.old federate service.QueryLbts (answered_as answer.Time result)
-            self.new }
+        ensures { IsServiceCalled self.old federate service.QueryLbts
+            (answered_as answer.Time result) self.new }
     {
         self.serve_time(federate, Service::QueryLbts)
     }

@@ -49,7 +49,8 @@ fn order_name(order: Order) -> &'static str
 /// Adds a transport and an order, each behind a space. `OutOfMemory` where a growth was refused; then a part may have been
 /// added.
 fn transport_and_order(text: &mut Text, transport: Transport, order: Order) -> Result<(), Fault>
-    ensures ok { OnOk result (text.new ≡ text.old ++ (codes " " ++ transport_text transport ++ codes " " ++
+    ensures ok { OnOk result
+        (text.new ≡ text.old ++ (codes " " ++ transport_text transport ++ codes " " ++
         order_text order)) }
     ensures err { IfErr result (λ e. e ≡ Fault.OutOfMemory) }
 {
@@ -96,7 +97,8 @@ fn empty_texts(alloc: Global, count: usize) -> Result<Vec<Text>, Fault>
 /// a part may have been added.
 fn note_attribute(texts: &mut Vec<Text>, number: u64, attribute: &Attribute) -> Result<(), Fault>
     ensures ok { OnOk result
-        (EachGrows (λ class. own_attribute_text class number attribute.now) texts.old.items texts.new.items) }
+        (EachGrows
+        (λ class. own_attribute_text class number attribute.now) texts.old.items texts.new.items) }
     ensures err { IfErr result (λ e. e ≡ Fault.OutOfMemory) }
 {
     let class = attribute.class as usize;
@@ -111,7 +113,8 @@ fn note_attribute(texts: &mut Vec<Text>, number: u64, attribute: &Attribute) -> 
 /// part may have been added.
 fn note_parameter(texts: &mut Vec<Text>, number: u64, parameter: &Parameter) -> Result<(), Fault>
     ensures ok { OnOk result
-        (EachGrows (λ class. own_parameter_text class number parameter.now) texts.old.items texts.new.items) }
+        (EachGrows
+        (λ class. own_parameter_text class number parameter.now) texts.old.items texts.new.items) }
     ensures err { IfErr result (λ e. e ≡ Fault.OutOfMemory) }
 {
     let class = parameter.class as usize;
@@ -131,7 +134,8 @@ fn attribute_texts(
     attributes: &[Attribute],
 ) -> Result<Vec<Text>, Fault>
     requires { classes ≤ max_classes }
-    ensures ok { IfOk result (λ texts. AreOwn own_attribute_text classes attributes.now texts.items) }
+    ensures ok { IfOk result
+        (λ texts. AreOwn own_attribute_text classes attributes.now texts.items) }
     ensures err { IfErr result (λ e. e ≡ Fault.OutOfMemory) }
 {
     let mut texts = empty_texts(alloc, classes + 1)?;
@@ -149,7 +153,8 @@ fn parameter_texts(
     parameters: &[Parameter],
 ) -> Result<Vec<Text>, Fault>
     requires { classes ≤ max_classes }
-    ensures ok { IfOk result (λ texts. AreOwn own_parameter_text classes parameters.now texts.items) }
+    ensures ok { IfOk result
+        (λ texts. AreOwn own_parameter_text classes parameters.now texts.items) }
     ensures err { IfErr result (λ e. e ≡ Fault.OutOfMemory) }
 {
     let mut texts = empty_texts(alloc, classes + 1)?;
@@ -214,8 +219,8 @@ fn interaction_classes(
     parameters: &[Parameter],
 ) -> Result<(), Fault>
     requires { length classes.now ≤ max_classes }
-    ensures ok { OnOk result (text.new ≡ text.old ++ numbered_texts (interaction_text parameters.now)
-        classes.now) }
+    ensures ok { OnOk result
+        (text.new ≡ text.old ++ numbered_texts (interaction_text parameters.now) classes.now) }
     ensures err { IfErr result (λ e. e ≡ Fault.OutOfMemory) }
 {
     let own = parameter_texts(alloc, classes.len(), parameters)?;
@@ -254,7 +259,8 @@ fn listing_text(alloc: Global, catalogue: &Catalogue) -> Result<Text, Fault>
 /// behind it, with nothing written; `Write` only where the writer has failed, with a beginning of the list written.
 pub fn list<W: Write>(alloc: Global, fed: &[u8], out: &mut Watched<W>) -> Result<(), ListFault>
     // What was written is the list of the catalogue that the FED file describes.
-    ensures listed { OnOk result (IsListed fed.now (W.contents out.old.inner) (W.contents out.new.inner)) }
+    ensures listed { OnOk result
+        (IsListed fed.now (W.contents out.old.inner) (W.contents out.new.inner)) }
 
     // The first fault of the FED file, with nothing written; or where a write failed, a beginning of the list.
     ensures stopped { IfErr result (StopsListing fed.now (W.contents out.old.inner)

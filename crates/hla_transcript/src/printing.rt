@@ -17,8 +17,8 @@ fn attributes(
     catalogue: &Catalogue,
     values: &[HandleValuePair],
 ) -> Result<(), Fault>
-    ensures ok { OnOk result (text.new ≡ text.old ++ flat_map (pair_text (attribute_name catalogue.now))
-        values.now) }
+    ensures ok { OnOk result
+        (text.new ≡ text.old ++ flat_map (pair_text (attribute_name catalogue.now)) values.now) }
     ensures err { IfErr result (λ e. e ≡ Fault.OutOfMemory) }
 {
     for pair in values {
@@ -34,8 +34,8 @@ fn parameters(
     catalogue: &Catalogue,
     values: &[HandleValuePair],
 ) -> Result<(), Fault>
-    ensures ok { OnOk result (text.new ≡ text.old ++ flat_map (pair_text (parameter_name catalogue.now))
-        values.now) }
+    ensures ok { OnOk result
+        (text.new ≡ text.old ++ flat_map (pair_text (parameter_name catalogue.now)) values.now) }
     ensures err { IfErr result (λ e. e ≡ Fault.OutOfMemory) }
 {
     for pair in values {

@@ -49,8 +49,8 @@ impl<R: Read> Read for Watched<R> {
     /// Reads once. An error is a failure.
     fn read(&mut self, buffer: &mut [u8]) -> io::Result<usize>
         ensures bound { ReadsAtMost result buffer.new }
-        ensures bytes { ReadConsumes (R.remaining self.old.inner) (R.remaining self.new.inner) result
-            buffer.new }
+        ensures bytes { ReadConsumes (R.remaining self.old.inner)
+            (R.remaining self.new.inner) result buffer.new }
         ensures failure { self.new.has_failed ≡ (self.old.has_failed || not (is_ok result)) }
     {
         let result = self.inner.read(buffer);
@@ -67,7 +67,8 @@ impl<W: Write> Write for Watched<W> {
         ensures bound { WritesAtMost result bytes.now }
         ensures bytes { WriteAppends (W.contents self.old.inner) (W.contents self.new.inner) result
             bytes.now }
-        ensures failure { self.new.has_failed ≡ (self.old.has_failed || is_failed_write result bytes.now) }
+        ensures failure { self.new.has_failed
+            ≡ (self.old.has_failed || is_failed_write result bytes.now) }
     {
         let result = self.inner.write(bytes);
         let fails = match &result {

@@ -13,8 +13,10 @@ pub struct WriteFailed;
 /// Writes all bytes, by as many writes as it takes. `WriteFailed` where one fails or takes nothing, and only then; what those
 /// before it took stays written.
 pub fn write_whole<W: Write>(out: &mut Watched<W>, bytes: &[u8]) -> Result<(), WriteFailed>
-    ensures ok { OnOk result (Appends (W.contents out.old.inner) (W.contents out.new.inner) bytes.now) }
-    ensures err { OnErr result ((n : ℕ) × Appends (W.contents out.old.inner) (W.contents out.new.inner)
+    ensures ok { OnOk result
+        (Appends (W.contents out.old.inner) (W.contents out.new.inner) bytes.now) }
+    ensures err { OnErr result
+        ((n : ℕ) × Appends (W.contents out.old.inner) (W.contents out.new.inner)
         (take n bytes.now)) }
     ensures failure { out.new.has_failed ≡ (out.old.has_failed || not (is_ok result)) }
 {

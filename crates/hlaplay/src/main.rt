@@ -74,7 +74,8 @@ fn run<R: Runtime + AllocGlobal + Threads + Wait + Sync, E: Write>(
 
 /// Says why there is no run, and answers the status: a word is not UTF-8, or memory ran out.
 fn tell_unstarted<E: Write>(errors: &mut Watched<E>, error: &io::Error) -> u8
-    ensures { EndsMisuse (stream_of E.contents errors.old) (stream_of E.contents errors.new) result }
+    ensures { EndsMisuse (stream_of E.contents errors.old)
+        (stream_of E.contents errors.new) result }
 {
     match error.kind() {
         io::ErrorKind::InvalidData => {

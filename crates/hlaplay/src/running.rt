@@ -22,7 +22,8 @@ pub const MISUSED: u8 = 2;
 
 /// Writes the text of a refusal, or else that there is no memory for it, and answers the status.
 fn tell_refusal<E: Write>(alloc: Global, errors: &mut Watched<E>, error: Error) -> u8
-    ensures { EndsMisuse (stream_of E.contents errors.old) (stream_of E.contents errors.new) result }
+    ensures { EndsMisuse (stream_of E.contents errors.old)
+        (stream_of E.contents errors.new) result }
 {
     match format!(in alloc; "{error}") {
         Ok(text) => {

@@ -78,7 +78,8 @@ impl Parts {
 
     /// How many messages an update of an object makes: one for each order that one of its attributes has.
     fn count_parts(&self, object: ObjectNo, values: &[HandleValuePair]) -> u64
-        ensures count { result ≡ length (update_sent (state_of self.now).directory object values.now) }
+        ensures count { result
+            ≡ length (update_sent (state_of self.now).directory object values.now) }
         ensures few { result ≤ 2 }
     {
         let received = self.has_order(Order::Receive, object, values);
