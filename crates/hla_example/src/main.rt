@@ -38,8 +38,9 @@ const FED: &[u8] = b"(FED
 /// How many records the history may hold.
 const HISTORY_LIMIT: usize = 262_144;
 
-/// Takes a federate out of the execution that lived to its end, and adds its place and that of its courier. Where it did not, or its
-/// resignation is refused, both are let go.
+/// Takes a federate out of the execution that lived to its end, and adds its place and that of its courier. Where it did not
+/// live to its end, its trouble, and both are let go; `Refused` where a growth was refused (`OutOfMemory`) or its resignation
+/// was, and then the federate is let go, and its courier's place may have been added.
 fn leave<L: Ledger + Naming, W: Publisher<L>>(
     rt: &impl Wait,
     lived: Lived<L, W>,

@@ -16,7 +16,8 @@ use hla_base::{ExecutionName, Fault, FederateNo, List};
 use hla_callbacks::FederateAmbassador;
 use hla_machine::{Record, ResignAction, Service, Step};
 
-/// Joins a federate with this ambassador to the execution of this name; the ambassador comes back where it is refused.
+/// Joins a federate with this ambassador to the execution of this name; the ambassador comes back where it is refused, and where
+/// it is a fault: `OutOfMemory` where a growth was refused, and then nothing has changed.
 pub(crate) fn join_among<B: FederateAmbassador>(
     executions: &mut Vec<Hosted<B>>,
     actor: u32,

@@ -14,7 +14,8 @@ use std::alloc::Global;
 use std::io;
 use std::io::Write;
 
-/// The records of a script that is played over a FED file, without its transcript; `Memory` where any line ran out of it.
+/// The records of a script that is played over a FED file, without its transcript. `Fed` or else `Script` with the first fault
+/// of the texts; `Memory` where there was none for them, or any line ran out of it.
 fn records_of(alloc: Global, fed: &[u8], script: &[u8]) -> Result<List<Record>, PlayFault>
     ensures ok { IfOk result (HasRecords fed.now script.now) }
     ensures run { IfOk result IsWholeRun }
