@@ -8,7 +8,7 @@ ghost use Rattle.std.specs.Prelude.{◌≡◌};
 ghost use Rattle.hla_base.specs.Limits.{ledger_parts};
 
 use crate::lives::{Job, Lived, live};
-use crate::start::{Trouble, joined, keep, ready};
+use crate::start::{Trouble, join, keep, ready};
 use hla_base::{ExecutionName, Fault, LEDGER_PARTS};
 use hla_callbacks::{Callback, Delivery, Recorder};
 use hla_machine::ResignAction;
@@ -63,7 +63,7 @@ fn leave<L: Ledger + Naming, W: Publisher<L>>(
 
 /// Takes the federates out of the execution and destroys it: nobody is left joined, and all places are there for `close`.
 /// The trouble of `leave`, or `Refused` with the fault of `Rti::destroy`.
-fn ended<L: Ledger + Naming, W: Publisher<L>>(
+fn end<L: Ledger + Naming, W: Publisher<L>>(
     rt: &impl Wait,
     alloc: Global,
     rti: &mut Rti<L, Recorder, W>,
@@ -87,13 +87,13 @@ fn run<L: Ledger + Naming + Send + Sync, W: Publisher<L> + Send, R: Threads + Wa
 ) -> Result<Vec<Left<L, Recorder>>, Trouble> {
     let tank = ExecutionName::new(b"tank")?;
     rti.create(rt, tank, FED)?;
-    let pump = joined(rt, alloc, rti, b"pump", tank)?;
-    let display = joined(rt, alloc, rti, b"display", tank)?;
+    let pump = join(rt, alloc, rti, b"pump", tank)?;
+    let display = join(rt, alloc, rti, b"display", tank)?;
     let jobs: Vec<Job<L, W>> = ready(rt, alloc, rti, pump, display)?;
     let Ok(lived) = thread::map_vec(rt, jobs, &|job| live(rt, alloc, tank, job)) else {
         return Err(Trouble::Refused(Fault::OutOfMemory));
     };
-    ended(rt, alloc, rti, tank, lived)
+    end(rt, alloc, rti, tank, lived)
 }
 
 /// Prints a level that was told in time-stamp order. `io::Error` where the write fails.

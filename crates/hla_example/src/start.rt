@@ -40,7 +40,7 @@ fn name(alloc: Global, text: &[u8]) -> Result<List<u8>, Fault> {
 
 /// Joins a federate, with an ambassador that writes down what it hears. `Refused` with the fault of `Rti::join`, or with
 /// `OutOfMemory` where a growth was refused for the name; the ambassador is let go then.
-pub fn joined<L: Ledger + Naming, W: Publisher<L>>(
+pub fn join<L: Ledger + Naming, W: Publisher<L>>(
     rt: &impl Wait,
     alloc: Global,
     rti: &mut Rti<L, Recorder, W>,

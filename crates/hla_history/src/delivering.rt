@@ -36,7 +36,7 @@ fn make_room_at<B: FederateAmbassador>(
 }
 
 /// Has the ear make the room that a tick may need. `OutOfMemory` where a growth was refused. Nothing is heard.
-pub(crate) fn ready<B: FederateAmbassador>(
+pub(crate) fn make_ready<B: FederateAmbassador>(
     ears: &mut Vec<Option<Ear<B>>>,
     step: &Step,
 ) -> Result<(), Fault>

@@ -15,9 +15,9 @@ ghost use Rattle.hla_history.specs.Hosts.{IsPlain, HasAmbassadors, host_after, n
 ghost use Rattle.hla_history.specs.Tags.{no_tags, tag_table, tag_table_after};
 ghost use Rattle.hla_history.specs.Writing.{step_record};
 
-use crate::delivering::ready;
+use crate::delivering::make_ready;
 use crate::doing::carry_out;
-use crate::preparing::{Stepped, taken};
+use crate::preparing::{Stepped, take_step};
 use crate::seating::{seat, unseat};
 use crate::writing::{answered, take_away, write_foreseen};
 use hla_base::{ExecutionName, Fault, FederateNo, List, MAX_JOINS, Plain, SharedList};
@@ -131,7 +131,7 @@ impl<B: FederateAmbassador> Hosted<B> {
         ensures unwritten { OnErr result (history.new.items ≡ history.old.items) }
         ensures uncopied { OnErr result (transcript.new.items ≡ transcript.old.items) }
     {
-        if let Err(fault) = ready(&mut self.ears, &step) {
+        if let Err(fault) = make_ready(&mut self.ears, &step) {
             drop(step);
             return Err(fault);
         }
@@ -183,7 +183,7 @@ impl<B: FederateAmbassador> Hosted<B> {
         let Ok(execution) = self.name.copy() else {
             return Err((Fault::OutOfMemory, inner));
         };
-        match taken(&mut self.federation, actor, execution, Step::Join { name }) {
+        match take_step(&mut self.federation, actor, execution, Step::Join { name }) {
             Ok(made) => {
                 let (record, stepped) = made;
                 let back = seat(&mut self.ears, &stepped.answer, inner);
@@ -232,7 +232,7 @@ impl<B: FederateAmbassador> Hosted<B> {
     {
         let execution = self.name.copy()?;
         let service = Service::Resign { action };
-        let (record, stepped) = taken(
+        let (record, stepped) = take_step(
             &mut self.federation,
             actor,
             execution,

@@ -150,12 +150,12 @@ pub(crate) fn advance(federation: &mut Federation, act: &Act) -> Result<(), Faul
     ensures unchanged { OnErr result (federation.new ≡ federation.old) }
 {
     let Act::Step(step) = act else { unreachable!() };
-    done(federation, step)
+    do_known(federation, step)
 }
 
 /// Does a step that gives no callback: its record, and the caller's copies. `OutOfMemory`, and nothing done, where a growth
 /// was refused.
-pub(crate) fn taken(
+pub(crate) fn take_step(
     federation: &mut Federation,
     actor: u32,
     execution: SharedList<u8>,
@@ -188,7 +188,7 @@ pub(crate) fn taken(
 
 /// Does a step whose answer is known. `OutOfMemory`, and nothing done, where a growth was refused; any other fault is that
 /// answer.
-fn done(federation: &mut Federation, step: &Step) -> Result<(), Fault>
+fn do_known(federation: &mut Federation, step: &Step) -> Result<(), Fault>
     ensures state { OnOk result (components_hosted federation.new
         ≡ (next (components_hosted federation.old) step.now).state) }
     ensures err { IfErr result (λ e. e ≡ Fault.OutOfMemory) }

@@ -160,7 +160,7 @@ impl<L: Ledger + Naming, B: FederateAmbassador, P: Publisher<L>> Cast<L, B, P> {
     }
 
     /// Does a step, and notes who has joined or resigned by it. An error is want of memory outside the step.
-    fn noted_step(
+    fn step_and_note(
         &mut self,
         rt: &impl Wait,
         rti: &mut Rti<L, B, P>,
@@ -246,7 +246,7 @@ impl<L: Ledger + Naming, B: FederateAmbassador, P: Publisher<L>> Cast<L, B, P> {
         match Request::of(self.alloc, catalogue, self.members.as_slice(), command) {
             Ok(Request::Create) => Ok(self.create(rt, rti, fed)),
             Ok(Request::Destroy) => Ok(self.destroy(rt, rti)),
-            Ok(Request::Step(step)) => self.noted_step(rt, rti, step),
+            Ok(Request::Step(step)) => self.step_and_note(rt, rti, step),
             Err(AskFault::Refused(fault)) => {
                 self.pass_over(command);
                 Ok(Outcome::Refused(fault))
@@ -310,7 +310,7 @@ impl<L: Ledger + Naming, B: FederateAmbassador, P: Publisher<L>> Cast<L, B, P> {
 }
 
 /// Does the lines of a script one after another. What all leave behind; an error is want of memory outside the steps.
-fn played<L: Ledger + Naming, B: FederateAmbassador, P: Publisher<L>>(
+fn play_lines<L: Ledger + Naming, B: FederateAmbassador, P: Publisher<L>>(
     rt: &impl Wait,
     alloc: Global,
     rti: &mut Rti<L, B, P>,
@@ -340,7 +340,7 @@ fn played<L: Ledger + Naming, B: FederateAmbassador, P: Publisher<L>>(
 /// Does the lines of a script one after another, writes how they came out, and closes. Where `is_watched`, a monitor is there from
 /// before the first step on, and reads the counts once all is done. `Memory`, and nothing written, where a growth was
 /// refused outside the steps or no monitor is to be had; else `Memory`, `Write`, `Close` or `Monitor` as of `close_seen`.
-fn told_in_order<L: Ledger + Naming, B: FederateAmbassador, P: Publisher<L>, W: Write>(
+fn tell_in_order<L: Ledger + Naming, B: FederateAmbassador, P: Publisher<L>, W: Write>(
     rt: &impl Wait,
     alloc: Global,
     mut rti: Rti<L, B, P>,
@@ -369,7 +369,7 @@ fn told_in_order<L: Ledger + Naming, B: FederateAmbassador, P: Publisher<L>, W: 
         drop(rti);
         return Err(RunFault::Memory);
     };
-    let played = played(
+    let played = play_lines(
         rt,
         alloc,
         &mut rti,
@@ -493,7 +493,7 @@ pub fn run_in_order_within<L: Ledger + Naming, B: FederateAmbassador, R: Wait, W
     let Ok(rti) = open_rti::<L, B, &R>(alloc, rt, blank, opened, history_limit) else {
         return Err(RunFault::Memory);
     };
-    told_in_order(
+    tell_in_order(
         rt,
         alloc,
         rti,

@@ -52,7 +52,7 @@ fn note_record<L: Naming, W: Publisher<L>>(board: &mut Board<L, W>, entry: &Reco
 }
 
 /// Keeps the last record of a transcript on the board.
-fn last_noted<L: Naming, W: Publisher<L>>(board: &mut Board<L, W>, transcript: &[Record])
+fn note_last<L: Naming, W: Publisher<L>>(board: &mut Board<L, W>, transcript: &[Record])
     ensures { (h ts : List Entry) (r : Entry) → transcript.now ≡ ts ++ r ∷ [] → IsPosted h board.old
         → IsPosted (h ++ r ∷ []) board.new }
 {
@@ -114,7 +114,7 @@ impl<L: Ledger + Naming, B: FederateAmbassador, W: Publisher<L>> Locked<L, B, W>
         let answer = self
             .shared
             .step_into(actor, execution, step, mine, transcript)?;
-        last_noted(&mut self.board, transcript.as_slice());
+        note_last(&mut self.board, transcript.as_slice());
         Ok(answer)
     }
 

@@ -204,7 +204,7 @@ impl Execution {
     }
 
     /// Does a step, and notes who has joined or resigned by it. Where memory runs out, nothing has changed.
-    fn noted_step(&mut self, step: &Step) -> Result<Ending, Fault>
+    fn step_and_note(&mut self, step: &Step) -> Result<Ending, Fault>
         ensures ok { IfOk result
             (λ e. IsStepped
             (option_map components_of self.old.federation) step.now e.outcome e.choice
@@ -239,7 +239,7 @@ impl Execution {
         ensures catalogue { self.new.catalogue ≡ self.old.catalogue }
         ensures name { self.new.name ≡ self.old.name }
     {
-        match self.noted_step(&step) {
+        match self.step_and_note(&step) {
             Ok(Ending { outcome, choice }) => {
                 Ok(script_record(name, Act::Step(step), outcome, choice))
             }

@@ -17,8 +17,8 @@ carry_out-requires-clause-ready g c =
     let made : c.index-made.result.now ≡ foreseen =
     last_is c.write_foreseen.new.history.items c.args.history.now.items foreseen c.index-made.result.now c.len.result c.in_ok-write_foreseen.ensures.written
     (omega (arith, c.len.ensures, c.write_foreseen.new.history.ok.0)) c.index-made.ensures in
-    delivers c.ready.new.ears.items (components_hosted c.self.inside.federation) c.args.step c.index-made.result.now.act (callback_in c.index-made.result.now.outcome)
-    (ambassadors_ready _ _ c.ready.new.ears.items c.self.view_is c.requires.ambassadors c.in_default.ensures.heard)
+    delivers c.make_ready.new.ears.items (components_hosted c.self.inside.federation) c.args.step c.index-made.result.now.act (callback_in c.index-made.result.now.outcome)
+    (ambassadors_ready _ _ c.make_ready.new.ears.items c.self.view_is c.requires.ambassadors c.in_default.ensures.heard)
     c.in_default.ensures.ready (ap (λ (r : Record). r.act) made) (ap (λ (r : Record). callback_in r.outcome) made)
 
 pub invariant_of-self-2 : goal.invariant_of-self-2
@@ -73,7 +73,7 @@ returns-clause-host g c =
     (omega (arith, c.len.ensures, c.write_foreseen.new.history.ok.0)) c.index-made.ensures in
     elim c.match-carry_out.branch [
       | in-Ok w ↦ rw w.result-is
-          (host_steps _ _ (components_hosted c.carry_out.new.federation) (heard_of c.ready.new.ears.items) (heard_of c.carry_out.new.ears.items) c.args.step c.index-made.result.now.act
+          (host_steps _ _ (components_hosted c.carry_out.new.federation) (heard_of c.make_ready.new.ears.items) (heard_of c.carry_out.new.ears.items) c.args.step c.index-made.result.now.act
           w.answered.result (callback_in c.index-made.result.now.outcome) c.self.view_is c.requires.plain (ap (λ (r : Record). r.act) made) w.in-Ok.ensures.state
           c.in_default.ensures.heard w.in-Ok.ensures.heard (w.answered.ensures.callback ∙ ap callback_in w.in-Ok.ensures.answer))
       | in-Err-carry_out w ↦ rw w.result-is tt

@@ -31,7 +31,7 @@ returns-in-Ok-Step-clause-led g c =
     let same = c.in-Ok-Step.field-0-is in
     let given : c.of.result ≡ Ok (request.Step c.in-Ok-Step.step) = cc in
     let asks = subst (λ (ms : List NamedFederate). request_of c.args.catalogue.now ms c.args.command.now ≡ Ok (request.Step c.in-Ok-Step.step)) c.as_slice.ensures.value (asks_ok c.of.result _ (request.Step c.in-Ok-Step.step) c.of.ensures given) in
-    line_stepped c.args.catalogue.now c.args.fed.now c.args.command.now c.in-Ok-Step.step c.args.rti.now c.noted_step.new.rti c.args.self.now c.noted_step.new.self c.noted_step.result asks c.noted_step.ensures.led c.noted_step.ensures.members
+    line_stepped c.args.catalogue.now c.args.fed.now c.args.command.now c.in-Ok-Step.step c.args.rti.now c.step_and_note.new.rti c.args.self.now c.step_and_note.new.self c.step_and_note.result asks c.step_and_note.ensures.led c.step_and_note.ensures.members
 
 pub returns-in-Err-Refused-clause-led : goal.returns-in-Err-Refused-clause-led
 returns-in-Err-Refused-clause-led g c =

@@ -1,8 +1,8 @@
 use Rattle.std.proofs.Common.{ap, arith}
 use Rattle.hla_base.specs.Fault.{number_of}
 use Rattle.hla_history.proofs.Steps.Foreseen.{does_step, refused_stays}
-use Rattle.hla_history.proofs.preparing.done.Goals as goal
-use Rattle.hla_history.proofs.preparing.done.Goals.{in-Ok, in-Err+then-number-eq38, in-Err+else-number-eq38}
+use Rattle.hla_history.proofs.preparing.do_known.Goals as goal
+use Rattle.hla_history.proofs.preparing.do_known.Goals.{in-Ok, in-Err+then-number-eq38, in-Err+else-number-eq38}
 
 pub returns-clause-state : goal.returns-clause-state
 returns-clause-state c = elim c.match-step.branch [

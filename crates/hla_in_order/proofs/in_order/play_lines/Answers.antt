@@ -1,5 +1,5 @@
 use Rattle.hla_in_order.proofs.LeadLemmas.{leave_ended}
-use Rattle.hla_in_order.proofs.in_order.played.Goals as goal
+use Rattle.hla_in_order.proofs.in_order.play_lines.Goals as goal
 
 pub returns-in-Ok : goal.returns-in-Ok
 returns-in-Ok g c =

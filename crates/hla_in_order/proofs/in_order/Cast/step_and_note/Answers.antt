@@ -1,4 +1,4 @@
-use Rattle.hla_in_order.proofs.in_order.Cast.noted_step.Goals as goal
+use Rattle.hla_in_order.proofs.in_order.Cast.step_and_note.Goals as goal
 
 pub returns-clause-led : goal.returns-clause-led
 returns-clause-led g c fed rs set =
