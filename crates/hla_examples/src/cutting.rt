@@ -1,7 +1,7 @@
 //! Scripts whose text is cut off behind each of its bytes: what is left is played or refused as a script, and nothing else.
 
-use crate::texts::Listed;
 use hla_script::{PlayFault, Watched, play};
+use hla_trials::Listed;
 use std::alloc::{AllocError, Global};
 
 /// How many ends of lines a text has.

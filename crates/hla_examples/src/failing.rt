@@ -1,11 +1,9 @@
 //! Ambassadors that give trouble: one that fails in a callback, and one that refuses to make room for it.
 
-use crate::facts::{callback_of, ticking};
-use crate::listening::Trouble;
 use crate::playing::{ROOM, run_printing, whole_run};
-use crate::texts::{Listed, add_line, add_lines, rest};
 use hla_base::FederateNo;
 use hla_machine::{Outcome, Record};
+use hla_trials::{Listed, Trouble, add_line, add_lines, callback_of, rest, ticking};
 use std::alloc::{AllocError, Global};
 use std::sync::Wait;
 

@@ -1,8 +1,7 @@
 //! Histories that are full before their script ends: each line behind that is refused with `HistoryFull` and changes nothing.
 
-use crate::listening::Trouble;
 use crate::playing::{Played, ROOM, played_within, run_printing};
-use crate::texts::{Listed, add_line};
+use hla_trials::{Listed, Trouble, add_line};
 use std::alloc::{AllocError, Global};
 use std::sync::Wait;
 

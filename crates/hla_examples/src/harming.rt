@@ -5,7 +5,7 @@ use crate::cutting::cuts;
 use crate::failing::troubles;
 use crate::filling::fillings;
 use crate::stopping::stops;
-use crate::texts::Listed;
+use hla_trials::Listed;
 use std::alloc::Global;
 use std::io;
 use std::rt::Runtime;

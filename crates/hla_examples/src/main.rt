@@ -12,30 +12,23 @@
 #![tactic(auto)]
 
 mod cutting;
-mod facts;
 mod failing;
 mod filling;
-mod forging;
 mod harming;
 mod layers;
-mod listening;
 mod locking;
-mod ordering;
 mod playing;
 mod stopping;
-mod texts;
 
-use crate::forging::tells_forgeries;
 use crate::harming::harm_some;
 use crate::layers::{Layer, printed};
 use crate::locking::{Example, is_run_on_threads, is_same_behind_the_lock};
-use crate::ordering::tells_order;
-use crate::texts::Listed;
 use hla_base::Fault;
 use hla_checker::check_run;
 use hla_machine::Record;
 use hla_script::{Watched, play};
 use hla_transcript::write_whole;
+use hla_trials::{Listed, tells_forgeries, tells_order};
 use std::alloc::{AllocError, Global};
 use std::env::Args;
 use std::process::ExitCode;

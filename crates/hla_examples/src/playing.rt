@@ -3,8 +3,6 @@
 ghost use Rattle.std.specs.Prelude.{◌≡◌, ◌≤◌};
 ghost use Rattle.hla_base.specs.Limits.{ledger_parts, max_history_limit};
 
-use crate::listening::{Diary, Heard, Listener, Trouble, are_of, listeners};
-use crate::texts::Listed;
 use hla_base::LEDGER_PARTS;
 use hla_checker::check_run;
 use hla_in_order::run_in_order_within;
@@ -12,6 +10,7 @@ use hla_machine::Record;
 use hla_monitor::{Naming, Opened};
 use hla_run::Ran;
 use hla_script::Watched;
+use hla_trials::{Diary, Heard, Listed, Listener, Trouble, are_of, listeners};
 use std::alloc::Global;
 use std::marker::Brand;
 use std::sync::Wait;

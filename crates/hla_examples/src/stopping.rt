@@ -1,12 +1,10 @@
 //! Scripts that stop: each is played up to each of its lines, all that was handed out leaves, and it closes with records that the
 //! checker takes; and the checker tells of each record whose outcome is exchanged for `HistoryFull`, at its place.
 
-use crate::forging::tells_full;
-use crate::listening::Trouble;
 use crate::playing::{Played, ROOM, run_printing, whole_run};
-use crate::texts::Listed;
 use hla_base::{Fault, Plain};
 use hla_machine::Record;
+use hla_trials::{Listed, Trouble, tells_full};
 use std::alloc::{AllocError, Global};
 use std::sync::Wait;
 

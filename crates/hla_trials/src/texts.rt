@@ -5,13 +5,16 @@ use std::alloc::{AllocError, Global};
 /// An example with the lines of its script, each of which makes a record, and of what it must print.
 #[derive(Drop)]
 pub struct Listed<'a> {
+    /// The FED file.
     pub fed: &'a [u8],
+    /// The lines of its script.
     pub script: Vec<&'a str>,
+    /// The lines of what it must print.
     pub expected: Vec<&'a str>,
 }
 
 impl<'a> Listed<'a> {
-    /// An example, of its FED file, its script and what it must print.
+    /// An example, of its FED file, its script and what it must print. `AllocError` where a growth was refused.
     pub fn new(
         alloc: Global,
         fed: &'a [u8],
@@ -25,35 +28,38 @@ impl<'a> Listed<'a> {
         })
     }
 
-    /// The text of the script's first lines, so many.
+    /// The text of the script's first lines, so many; of all, where it has fewer. `AllocError` where a growth was refused.
     pub fn begun(&self, alloc: Global, count: usize) -> Result<Vec<u8>, AllocError> {
         text_of(alloc, first(self.script.as_slice(), count))
     }
 
-    /// What the script's first lines must print, so many.
+    /// What the script's first lines must print, so many; what all must, where it has fewer. `AllocError` where a growth was
+    /// refused.
     pub fn printed(&self, alloc: Global, count: usize) -> Result<Vec<u8>, AllocError> {
         text_of(alloc, first(self.expected.as_slice(), count))
     }
 }
 
 /// The first of some lines, so many.
-pub fn first<'a>(lines: &'a [&'a str], count: usize) -> &'a [&'a str] {
+fn first<'a>(lines: &'a [&'a str], count: usize) -> &'a [&'a str] {
     &lines[..count.min(lines.len())]
 }
 
-/// Those from a place on.
+/// Those of some lines from a place on, counted from 0; none, where there are fewer.
 pub fn rest<'a>(lines: &'a [&'a str], place: usize) -> &'a [&'a str] {
     &lines[place.min(lines.len())..]
 }
 
-/// Adds a line to a text, with its end.
+/// Adds a line to a text, with its end. `AllocError` where a growth was refused; the line may stand in the text then, without
+/// its end.
 pub fn add_line(text: &mut Vec<u8>, line: &str) -> Result<(), AllocError> {
     text.extend_from_slice(line.as_bytes())?;
     text.push(b'\n')?;
     Ok(())
 }
 
-/// Adds lines to a text.
+/// Adds lines to a text. `AllocError` where a growth was refused; some of them may stand in the text then, the last without its
+/// end.
 pub fn add_lines(text: &mut Vec<u8>, lines: &[&str]) -> Result<(), AllocError> {
     for line in lines {
         add_line(text, line)?;
@@ -62,7 +68,7 @@ pub fn add_lines(text: &mut Vec<u8>, lines: &[&str]) -> Result<(), AllocError> {
 }
 
 /// The text of some lines.
-pub fn text_of(alloc: Global, lines: &[&str]) -> Result<Vec<u8>, AllocError> {
+fn text_of(alloc: Global, lines: &[&str]) -> Result<Vec<u8>, AllocError> {
     let mut text = Vec::new(alloc);
     add_lines(&mut text, lines)?;
     Ok(text)

@@ -11,6 +11,7 @@ use hla_callbacks::{Callback, Delivery, Ear, FederateAmbassador, FederateFault, 
 use hla_machine::Record;
 use std::alloc::{AllocError, Global};
 use std::cell::RefCell;
+use std::marker::Model;
 
 /// How many ambassadors there are: no script of those that are played with them joins more federates.
 const AMBASSADORS: u32 = 4;
@@ -18,7 +19,9 @@ const AMBASSADORS: u32 = 4;
 /// That a federate's ambassador heard a callback.
 #[derive(PartialEq, Eq, Drop)]
 pub struct Heard {
+    /// The federate.
     pub federate: FederateNo,
+    /// The callback.
     pub callback: Callback,
 }
 
@@ -29,7 +32,7 @@ pub struct Diary {
 }
 
 impl Diary {
-    /// Nothing.
+    /// One in which nothing stands; it takes no memory.
     pub fn new(alloc: Global) -> Diary {
         Diary {
             heard: RefCell::new(Vec::new(alloc)),
@@ -46,7 +49,7 @@ impl Diary {
         }
     }
 
-    /// The list of them.
+    /// The list of what they have heard.
     pub fn into_list(self) -> Vec<Heard> {
         self.heard.into_inner()
     }
@@ -69,7 +72,8 @@ pub enum Trouble {
     },
 }
 
-/// The ambassador of a federate.
+/// The ambassador of a federate, which writes into a diary what it hears, and gives trouble where it is to. Contracts see what
+/// it has heard, whether it has room for one callback more, and its tag.
 #[derive(Drop)]
 pub struct Listener<'a> {
     federate: FederateNo,
@@ -81,10 +85,18 @@ pub struct Listener<'a> {
     diary: &'a Diary,
 }
 
+impl<'a> Model for Listener<'a> {
+    ghost use Rattle.hla_callbacks.specs.Hearing.{Hearing};
+
+    ghost Value = { Hearing };
+
+    ghost view = { λ l. l.ear };
+}
+
 impl<'a> Listener<'a> {
     /// The ambassador of a federate, which has heard nothing.
     fn new(alloc: Global, federate: FederateNo, trouble: Trouble, diary: &'a Diary) -> Listener<'a>
-        ensures { result.ear.heard ≡ [] }
+        ensures { result.heard ≡ [] }
     {
         let recorder = match trouble {
             Trouble::Fails {
@@ -111,9 +123,9 @@ impl<'a> Listener<'a> {
 
     /// Hears a callback, for which there is room.
     fn hear(&mut self, callback: Callback) -> Result<(), FederateFault>
-        requires { self.old.ear.room ≡ true }
-        ensures heard { self.new.ear.heard ≡ self.old.ear.heard ++ callback ∷ [] }
-        ensures tag { self.new.ear.tag ≡ self.old.ear.tag }
+        requires { self.old.room ≡ true }
+        ensures heard { self.new.heard ≡ self.old.heard ++ callback ∷ [] }
+        ensures tag { self.new.tag ≡ self.old.tag }
     {
         self.diary.write(self.federate, &callback);
         self.ear.give(callback)
@@ -121,11 +133,11 @@ impl<'a> Listener<'a> {
 }
 
 impl FederateAmbassador for Listener<'_> {
-    ghost heard = { λ l. l.ear.heard };
+    ghost heard = { λ l. l.heard };
 
-    ghost room = { λ l. l.ear.room };
+    ghost room = { λ l. l.room };
 
-    ghost tag = { λ l. l.ear.tag };
+    ghost tag = { λ l. l.tag };
 
     fn make_room(&mut self) -> Result<(), Fault> {
         let refuses = self.refuses_after == Some(self.ticks);
@@ -234,13 +246,14 @@ impl FederateAmbassador for Listener<'_> {
     }
 }
 
-/// The ambassadors of a run, in the order in which their federates join.
+/// The ambassadors of a run, in the order in which their federates join; none has heard anything. `AllocError` where a growth was
+/// refused.
 pub fn listeners<'a>(
     alloc: Global,
     trouble: Trouble,
     diary: &'a Diary,
 ) -> Result<Vec<Listener<'a>>, AllocError>
-    ensures { IfOk result (λ ls. All (λ l. l.ear.heard ≡ []) ls.items) }
+    ensures { IfOk result (λ ls. All (λ l. l.heard ≡ []) ls.items) }
 {
     let mut listeners = Vec::new(alloc);
     for before in 0..AMBASSADORS {

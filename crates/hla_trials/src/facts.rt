@@ -68,7 +68,7 @@ pub fn given(record: &Record) -> Option<&Callback> {
     }
 }
 
-/// The callback that a tick gave, also where the ambassador failed in it.
+/// The callback that a record's tick gave, also where the ambassador failed in it.
 pub fn callback_of(record: &Record) -> Option<&Callback> {
     match &record.outcome {
         Outcome::Failed(callback) => Some(callback),
