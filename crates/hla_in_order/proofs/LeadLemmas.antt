@@ -1,5 +1,5 @@
 -- What the functions that do the lines one after another lead to.
-use Rattle.hla_run.specs.Deeds.{caller_of, HasTold}
+use Rattle.hla_players.specs.Deeds.{caller_of, HasTold}
 use Rattle.std.proofs.Common.{◌≡◌, ◌+◌, ◌<◌, ◌≤◌, suc, arith, ℕ, List, [], ◌∷◌, ◌++◌, ◌⊎◌, inl, inr, Option, None, Some, Result, Ok, Err, length, take, get_or, refl, sym, ap, subst, ◌∙◌, codes}
 use Rattle.std.specs.Prelude.{slice_get, slice_set, zero, IfOk, OnOk}
 use Rattle.std.proofs.lemmas.List.{length-append}
@@ -29,7 +29,7 @@ use Rattle.hla_requests.specs.declared.lookups.AskFault.{AskFault}
 use Rattle.hla_requests.specs.declared.lookups.AskFault.TheVariants as stop
 use Rattle.hla_rti.specs.Callers.{Caller, FederateCaller, Leaver, Office, HasActed, HasNotActed, HasAnswered, answer_given, new_caller}
 use Rattle.hla_in_order.specs.InOrder.{WithoutStep, Asked, Unrecorded, IsCaller, Does, IsRunInOrder, act_asked, number_joined, entrants, callers}
-use Rattle.hla_run.specs.Running.{told_text}
+use Rattle.hla_players.specs.Running.{told_text}
 use Rattle.hla_rti.specs.Close.{AllAgree}
 use Rattle.hla_in_order.specs.Players.{Stand, IsBook}
 use Rattle.std.specs.Io.KnownBytes.{Appends}
@@ -37,13 +37,13 @@ use Rattle.std.proofs.lemmas.Bool.{cases_order}
 use Rattle.std.proofs.lemmas.List.{take_more, take_all, map-append}
 use Rattle.hla_in_order.specs.Turns.{DoesAt, IsSet, RequestLeads, LineLeads, HaveLed, HaveEnded, AreDone, HasLeft, HaveLeft, members_noted}
 use Rattle.hla_in_order.specs.declared.in_order.Cast.{Cast}
-use Rattle.hla_run.specs.declared.player.Player.{Player}
-use Rattle.hla_run.specs.declared.player.Player.TheVariants as player
-use Rattle.hla_run.specs.declared.watching.Ran.{Ran}
-use Rattle.hla_run.specs.declared.player.Deed.{Deed}
-use Rattle.hla_run.specs.declared.player.Deed.TheVariants as deed
+use Rattle.hla_players.specs.declared.player.Player.{Player}
+use Rattle.hla_players.specs.declared.player.Player.TheVariants as player
+use Rattle.hla_players.specs.declared.watching.Ran.{Ran}
+use Rattle.hla_players.specs.declared.player.Deed.{Deed}
+use Rattle.hla_players.specs.declared.player.Deed.TheVariants as deed
 use Rattle.hla_in_order.proofs.TurnLemmas.{itself_led, courier_led, call_led, tick_led, join_led, unjoined_led, members_ended, append_nil, not_acted, does_more, left_front, left_last, has_just}
-use Rattle.hla_run.proofs.DeedLemmas.{answer_told}
+use Rattle.hla_players.proofs.DeedLemmas.{answer_told}
 use Rattle.hla_in_order.proofs.StandLemmas.{player_at, players_count}
 
 -- ---- what a line asks for

@@ -1,5 +1,5 @@
 -- What one more record makes of the callers of a script.
-use Rattle.hla_run.specs.Deeds.{caller_of}
+use Rattle.hla_players.specs.Deeds.{caller_of}
 use Rattle.std.proofs.Common.{◌≡◌, ◌==◌, ◌+◌, ◌<◌, ◌≤◌, suc, arith, ℕ, true, false, List, [], ◌∷◌, ◌++◌, Option, None, Some, length, refl, sym, ap, subst, ◌∙◌}
 use Rattle.std.specs.Prelude.{slice_get, slice_set, zero}
 use Rattle.std.proofs.lemmas.List.Elements.{filter-append}
@@ -12,7 +12,7 @@ use Rattle.hla_history.specs.Closing.{records_by}
 use Rattle.hla_rti.specs.Callers.{Caller, with_own, new_caller}
 use Rattle.hla_in_order.specs.InOrder.{entrants, callers, number_joined}
 use Rattle.hla_in_order.specs.Players.{IsAs, IsBook, IsPlayer, ArePlayers, Stand}
-use Rattle.hla_run.specs.declared.player.Player.{Player}
+use Rattle.hla_players.specs.declared.player.Player.{Player}
 
 -- ---- one caller's part of the records
 by_more : (rs : List Record) (r : Record) (n : ℕ) → records_by n (rs ++ r ∷ []) ≡ records_by n rs ++ records_by n (r ∷ [])

@@ -28,11 +28,11 @@ use Rattle.hla_rti.specs.Close.{AllAgree}
 use Rattle.hla_in_order.specs.InOrder.{RequestEnds, Unrecorded, Recorded, LineComesOut, Does, IsUnrecorded, IsCaller, IsStepper, IsEntrant, act_asked, number_joined, entrants, callers, HasJust}
 use Rattle.hla_in_order.specs.Players.{IsAs, IsBook, Stand}
 use Rattle.hla_in_order.specs.Turns.{DoesIn, IsJoinedAs, IsJoinedAt, DoesAt, Led, members_noted, HasLeft, HaveLeft}
-use Rattle.hla_run.specs.Deeds.{caller_of, HasTold, StaysAs}
-use Rattle.hla_run.specs.declared.player.Player.{Player}
-use Rattle.hla_run.specs.declared.player.Player.TheVariants as player
-use Rattle.hla_run.specs.declared.player.Deed.{Deed}
-use Rattle.hla_run.specs.declared.player.Deed.TheVariants as deed
+use Rattle.hla_players.specs.Deeds.{caller_of, HasTold, StaysAs}
+use Rattle.hla_players.specs.declared.player.Player.{Player}
+use Rattle.hla_players.specs.declared.player.Player.TheVariants as player
+use Rattle.hla_players.specs.declared.player.Deed.{Deed}
+use Rattle.hla_players.specs.declared.player.Deed.TheVariants as deed
 use Rattle.hla_in_order.proofs.StandLemmas.{itself_acted, courier_acted, player_acted, federate_joined, nothing_added, player_at, players_kept}
 
 pub not_acted : (asked : Request) (e : Fault) → (e ≡ fault.HistoryFull) ⊎ (e ≡ fault.OutOfMemory) → IsUnrecorded asked e

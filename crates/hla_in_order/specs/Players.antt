@@ -4,9 +4,9 @@ use Rattle.hla_machine.specs.declared.step.Record.{Record}
 use Rattle.hla_history.specs.Closing.{records_by}
 use Rattle.hla_rti.specs.Callers.{Caller}
 use Rattle.hla_in_order.specs.InOrder.{entrants, callers}
-use Rattle.hla_run.specs.Deeds.{caller_of}
-use Rattle.hla_run.specs.declared.player.Player.{Player}
-use Rattle.hla_run.specs.declared.player.Player.TheVariants as player
+use Rattle.hla_players.specs.Deeds.{caller_of}
+use Rattle.hla_players.specs.declared.player.Player.{Player}
+use Rattle.hla_players.specs.declared.player.Player.TheVariants as player
 
 -- while it is joined it is the federate of this number in the execution
 abbrev pub IsAs : {L B P : Type 0} → ℕ → Player L B P → Type 0

@@ -7,7 +7,7 @@ use hla_base::{Fault, FederateNo};
 use hla_callbacks::FederateAmbassador;
 use hla_machine::Outcome;
 use hla_monitor::{Naming, Publisher};
-use hla_run::{Acted, Deed, Player, do_deed};
+use hla_players::{Acted, Deed, Player, do_deed};
 use std::sync::Wait;
 use std::sync::ledger::Ledger;
 

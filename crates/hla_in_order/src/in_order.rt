@@ -6,14 +6,14 @@
 ghost use Rattle.std.specs.Prelude.{◌≡◌, ◌||◌, ◌<◌, ◌≤◌, ℕ, List, [], drop, length, OnOk, IfOk, IfErr, codes, vec_len, vec_capacity};
 ghost use Rattle.std.specs.List.{All};
 ghost use Rattle.hla_base.specs.Limits.{ledger_parts, max_history_limit};
-ghost use Rattle.hla_run.specs.Joining.{joins, joins_by, script_joins, step_joins};
+ghost use Rattle.hla_players.specs.Joining.{joins, joins_by, script_joins, step_joins};
 ghost use Rattle.hla_machine.specs.declared.step.Record.{Record};
 ghost use Rattle.hla_machine.specs.declared.step.Step.TheVariants as step;
 ghost use Rattle.hla_requests.specs.Members.{change_of, with_change, with_create};
 ghost use Rattle.hla_requests.specs.declared.steps.Request.TheVariants as request;
 ghost use Rattle.hla_rti.specs.Callers.{Office, new_caller};
 ghost use Rattle.hla_in_order.specs.InOrder.{IsRunInOrder, StopsInOrder, callers};
-ghost use Rattle.hla_run.specs.Running.{IsSeen, is_unwritten_run};
+ghost use Rattle.hla_players.specs.Running.{IsSeen, is_unwritten_run};
 ghost use Rattle.hla_in_order.specs.Turns.{AreDone, StopsDoing, HaveEnded, HaveLed, HaveLeft, IsSet, RequestLeads, LineLeads};
 
 use crate::acting::act;
@@ -23,12 +23,12 @@ use hla_catalogue::Catalogue;
 use hla_commands::{Command, Line};
 use hla_machine::{Answer, Outcome, Service, Step};
 use hla_monitor::{Naming, Opened, Publisher};
-use hla_requests::{AskFault, MemberChange, NamedFederate, Request, note};
-use hla_rti::{Closed, Courier, Left, Rti, open_rti};
-use hla_run::{
+use hla_players::{
     Ambassadors, Deed, Outcomes, Player, Ran, RunFault, Texts, close_seen, last_read,
     outcome_of_announced, outcome_of_carried, outcome_of_done, read_texts, watcher,
 };
+use hla_requests::{AskFault, MemberChange, NamedFederate, Request, note};
+use hla_rti::{Closed, Courier, Left, Rti, open_rti};
 use hla_transcript::Watched;
 use std::alloc::Global;
 use std::io::Write;

@@ -1,12 +1,13 @@
 -- What is told of the lines of federates is what records answer.
-use Rattle.std.proofs.Common.{◌≡◌, ℕ, zero, suc, ◌<◌, List, [], ◌∷◌, ◌++◌, length, get_or, filter, replicate, Bool, true, false, Option, None, Some, Result, Ok, Err, ◌⊎◌, inl, inr, refl, sym, ap, subst, ◌∙◌, arith, ⊎_elim}
+use Rattle.std.proofs.Common.{◌≡◌, ℕ, zero, suc, ◌<◌, List, [], ◌∷◌, ◌++◌, length, get_or, filter, replicate, Bool, Option, None, Some, Result, Ok, Err, ◌⊎◌, inl, inr, refl, sym, ap, subst, ◌∙◌, arith}
 use Rattle.std.specs.Prelude.{slice_get, slice_index_or, slice_set, IfOk, OnOk}
 use Rattle.std.specs.Io.KnownBytes.{Appends}
 use Rattle.std.specs.List.{All, Contains}
-use Rattle.std.proofs.lemmas.Bool.{cases_Bool}
 use Rattle.std.proofs.lemmas.List.{append-nil, append_assoc}
-use Rattle.std.proofs.lemmas.List.Elements.{All-contains, All-push, Contains-append_left, Contains-push, Contains-get_or}
+use Rattle.std.proofs.lemmas.List.Elements.{All-contains, All-contains_itself, All-filter, All-push, Contains-append_left, Contains-push, Contains-get_or}
+use Rattle.std.proofs.lemmas.Option.{slice_get-get_or, slice_get_read}
 use Rattle.hla_base.specs.declared.fault.Fault.{Fault}
+use Rattle.hla_base.specs.declared.fault.Fault.TheVariants as fault
 use Rattle.hla_catalogue.specs.CatalogueValue.{CatalogueValue}
 use Rattle.hla_commands.specs.declared.lines.Call.{Call}
 use Rattle.hla_commands.specs.declared.lines.Command.{Command}
@@ -14,58 +15,68 @@ use Rattle.hla_commands.specs.declared.lines.Command.TheVariants as command
 use Rattle.hla_commands.specs.declared.lines.Line.{Line}
 use Rattle.hla_commands.specs.Script.{script_of}
 use Rattle.hla_fed_file.specs.Grammar.{Describes}
-use Rattle.hla_history.specs.Closing.{records_by}
 use Rattle.hla_machine.specs.declared.service.Service.{Service}
 use Rattle.hla_machine.specs.declared.step.Act.{Act}
 use Rattle.hla_machine.specs.declared.step.Act.TheVariants as act
 use Rattle.hla_machine.specs.declared.step.Answer.{Answer}
+use Rattle.hla_machine.specs.declared.step.Answer.TheVariants as answer
 use Rattle.hla_machine.specs.declared.step.Outcome.{Outcome}
 use Rattle.hla_machine.specs.declared.step.Outcome.TheVariants as outcome
 use Rattle.hla_machine.specs.declared.step.Record.{Record}
 use Rattle.hla_machine.specs.declared.step.Step.TheVariants as step
 use Rattle.hla_requests.specs.Requests.{service_of}
-use Rattle.hla_rti.specs.Callers.{Caller, FederateCaller, Leaver, HasAnswered, answer_given}
-use Rattle.hla_rti.specs.Close.{AllAgree}
-use Rattle.hla_run.specs.Deeds.{HasTold, DoesDeed, caller_of}
-use Rattle.hla_run.specs.Recorded.{IsDeedOf, act_of_call, HasAnswerOf, IsActRecorded, IsCallRecorded, IsLineRecorded, IsTellingRecorded, AreTellingsRecorded, AreOutcomesRecorded, HasExtended, IsTranscriptIn, AreTranscriptsIn, IsCallAt, IsFresh, IsLifeRecorded, NeedsNoRecord, KeepsRecorded, LeavesBehind, GathersRecorded, IsToldRecorded, IsRunRecorded}
-use Rattle.hla_run.specs.Running.{AreAllDone, told_text, with_line_noted, with_lines_noted}
-use Rattle.hla_run.specs.declared.fault.RunFault.{RunFault}
+use Rattle.hla_rti.specs.Callers.{Caller, FederateCaller, Leaver, HasActed, HasAnswered, HasNotActed, answer_given, nothing, said}
+use Rattle.hla_rti.specs.Close.{Agrees, AllAgree}
+use Rattle.hla_players.specs.Deeds.{HasTold, DoesDeed, IsDeedOf, StaysAs, caller_of}
+use Rattle.hla_run.specs.Recorded.{act_of_call, HasAnswerOf, HasJoined, IsOfficeRecorded, IsJoiningRecorded, IsActRecorded, IsCallRecorded, IsNamedCallRecorded, IsUnmade, IsLineRecorded, IsTellingRecorded, AreTellingsRecorded, IsOwnTelling, AreOwnTellings, AreOutcomesRecorded, HasExtended, IsTranscriptIn, AreTranscriptsIn, IsCallAt, IsFresh, AreFresh, AreJoined, IsLifeOf, IsLifeRecorded, IsPlayerAs, NeedsNoRecord, KeepsRecorded, KeepsOffice, IsOfficeLine, LeavesBehind, GathersRecorded, RecordsTold, IsToldRecorded, IsRunRecorded}
+use Rattle.hla_players.specs.Running.{AreAllDone, told_text, with_line_noted, with_lines_noted}
+use Rattle.hla_players.specs.declared.fault.RunFault.{RunFault}
 use Rattle.hla_run.specs.declared.life.Life.{Life}
-use Rattle.hla_run.specs.declared.outcomes.LineOutcome.{LineOutcome}
-use Rattle.hla_run.specs.declared.player.Deed.{Deed}
-use Rattle.hla_run.specs.declared.player.Deed.TheVariants as deed
-use Rattle.hla_run.specs.declared.player.Player.{Player}
-use Rattle.hla_run.specs.declared.watching.Ran.{Ran}
-use Rattle.hla_run.proofs.DeedLemmas.{answer_told}
+use Rattle.hla_players.specs.declared.outcomes.LineOutcome.{LineOutcome}
+use Rattle.hla_players.specs.declared.player.Deed.{Deed}
+use Rattle.hla_players.specs.declared.player.Deed.TheVariants as deed
+use Rattle.hla_players.specs.declared.player.Player.{Player}
+use Rattle.hla_players.specs.declared.player.Player.TheVariants as player
+use Rattle.hla_players.specs.declared.watching.Ran.{Ran}
+use Rattle.hla_players.proofs.DeedLemmas.{answer_told}
 
 -- ---- among more records
-answer_in : (history records : List Record) (a : Act) (given : Answer) → IsTranscriptIn history records → HasAnswerOf records a given → HasAnswerOf history a given
-answer_in history records a given within h = record { found = h.found; there = within h.found h.there; acts = h.acts; answers = h.answers }
+answer_in : (history records : List Record) (execution : List ℕ) (a : Act) (given : Result Answer Fault) → IsTranscriptIn history records → HasAnswerOf records execution a given → HasAnswerOf history execution a given
+answer_in history records execution a given within h = record { found = h.found; there = within h.found h.there; inside = h.inside; acts = h.acts; answers = h.answers }
 
-pub act_in : (history records : List Record) (a : Act) (out : Outcome) → IsTranscriptIn history records → IsActRecorded records a out → IsActRecorded history a out
-act_in history records a (outcome.Done given) within h = answer_in history records a given within h
-act_in history records a (outcome.Refused e) within h = tt
-act_in history records a (outcome.Failed k) within h = tt
+pub call_in : (c : CatalogueValue) (history records : List Record) (execution : List ℕ) (f : ℕ) (call : Call) (out : Outcome) → IsTranscriptIn history records → IsCallRecorded c records execution f call out → IsCallRecorded c history execution f call out
+call_in c history records execution f call out within h = elim h [
+  | inl made ↦ inl (record { asked = made.asked; asks = made.asks; answered = answer_in history records execution (act_of_call made.asked f) (answer_given out) within made.answered })
+  | inr none ↦ inr none
+]
 
-pub call_in : (c : CatalogueValue) (history records : List Record) (call : Call) (out : Outcome) → IsTranscriptIn history records → IsCallRecorded c records call out → IsCallRecorded c history call out
-call_in c history records call (outcome.Done given) within h =
-    record { federate = h.federate; asked = h.asked; asks = h.asks; answered = answer_in history records (act_of_call h.asked h.federate) given within h.answered }
-call_in c history records call (outcome.Refused e) within h = tt
-call_in c history records call (outcome.Failed k) within h = tt
+own_telling_in : (c : CatalogueValue) (lines : List Line) (history records : List Record) (execution : List ℕ) (f : ℕ) (name : List ℕ) (t : LineOutcome) → IsTranscriptIn history records → IsOwnTelling c lines records execution f name t
+    → IsOwnTelling c lines history execution f name t
+own_telling_in c lines history records execution f name t within h = (h.0, h.1, call_in c history records execution f h.0 t.outcome within h.2)
 
-line_in : (c : CatalogueValue) (history records : List Record) (l : Command) (out : Outcome) → IsTranscriptIn history records → IsLineRecorded c records l out → IsLineRecorded c history l out
-line_in c history records command.Create out within h = tt
-line_in c history records command.Destroy out within h = tt
-line_in c history records (command.Join name) out within h = tt
-line_in c history records (command.Carry from to) out within h = tt
-line_in c history records (command.Announce name) out within h = tt
-line_in c history records (command.Federate name call) out within h = call_in c history records call out within h
+pub own_tellings_in : (c : CatalogueValue) (lines : List Line) (history records : List Record) (execution : List ℕ) (f : ℕ) (name : List ℕ) (told : List LineOutcome) → IsTranscriptIn history records → AreOwnTellings c lines records execution f name told
+    → AreOwnTellings c lines history execution f name told
+own_tellings_in c lines history records execution f name told within h = λ k d below. own_telling_in c lines history records execution f name (get_or told k d) within (h k d below)
 
-pub telling_in : (c : CatalogueValue) (lines : List Line) (history records : List Record) (t : LineOutcome) → IsTranscriptIn history records → IsTellingRecorded c lines records t → IsTellingRecorded c lines history t
-telling_in c lines history records t within h = λ l at. line_in c history records l.command t.outcome within (h l at)
+-- who is not joined makes no call
+pub unjoined : (c : CatalogueValue) (call : Call) → IsUnmade c call (outcome.Refused fault.FederateNotExecutionMember)
+unjoined c call = (fault.FederateNotExecutionMember, refl, inr (inr (inr refl)))
 
-pub tellings_in : (c : CatalogueValue) (lines : List Line) (history records : List Record) (told : List LineOutcome) → IsTranscriptIn history records → AreTellingsRecorded c lines records told → AreTellingsRecorded c lines history told
-tellings_in c lines history records told within h = λ k d below. telling_in c lines history records (get_or told k d) within (h k d below)
+-- ---- a federate that has joined under a name
+named_recorded : (c : CatalogueValue) (records : List Record) (execution : List ℕ) (f : ℕ) (name : List ℕ) (call : Call) (out : Outcome) → HasJoined records execution name f → IsCallRecorded c records execution f call out
+    → IsNamedCallRecorded c records name call out
+named_recorded c records execution f name call out joined h = elim h [ inl made ↦ inl (record { execution = execution; federate = f; joined = joined; called = made }) | inr none ↦ inr none ]
+
+telling_named : (c : CatalogueValue) (lines : List Line) (history : List Record) (execution : List ℕ) (f : ℕ) (name : List ℕ) (t : LineOutcome) → HasJoined history execution name f → IsOwnTelling c lines history execution f name t
+    → IsTellingRecorded c lines history t
+telling_named c lines history execution f name t joined h = λ l at.
+    subst (λ (x : Command). IsLineRecorded c history x t.outcome) (sym (h.1 l at)) (named_recorded c history execution f name h.0 t.outcome joined h.2)
+
+-- what a federate tells of its lines is in the history, where that has its joining and its transcript
+pub tellings_named : (c : CatalogueValue) (lines : List Line) (history records : List Record) (execution : List ℕ) (f : ℕ) (name : List ℕ) (told : List LineOutcome) → HasJoined history execution name f → IsTranscriptIn history records
+    → AreOwnTellings c lines records execution f name told → AreTellingsRecorded c lines history told
+tellings_named c lines history records execution f name told joined within h = λ k d below.
+    telling_named c lines history execution f name (get_or told k d) joined (own_tellings_in c lines history records execution f name told within h k d below)
 
 -- a transcript that has grown has what it had
 pub grown_within : (old new : Caller) → HasExtended old new → IsTranscriptIn new.transcript old.transcript
@@ -78,20 +89,38 @@ pub grown_twice : (old mid new : Caller) → HasExtended old mid → HasExtended
 grown_twice old mid new first second =
     (first.0 ++ second.0, second.1 ∙ ap (λ (rs : List Record). rs ++ second.0) first.1 ∙ append_assoc old.transcript first.0 second.0)
 
--- what a line says of a federate needs a record; of others it needs none, nor where a call was refused
-pub refused_aside : (l : Command) (e : Fault) → NeedsNoRecord l (outcome.Refused e)
-refused_aside command.Create e = λ c records. tt
-refused_aside command.Destroy e = λ c records. tt
-refused_aside (command.Join name) e = λ c records. tt
-refused_aside (command.Carry from to) e = λ c records. tt
-refused_aside (command.Announce name) e = λ c records. tt
-refused_aside (command.Federate name call) e = λ c records. tt
+-- ---- other lines
+office_in : (history records : List Record) (a : Act) (out : Outcome) → IsTranscriptIn history records → IsOfficeRecorded records a out → IsOfficeRecorded history a out
+office_in history records a out within h = (h.0, elim h.1 [ inl answered ↦ inl (answer_in history records h.0 a (answer_given out) within answered) | inr none ↦ inr none ])
+
+joining_in : (history records : List Record) (name : List ℕ) (out : Outcome) → IsTranscriptIn history records → IsJoiningRecorded records name out → IsJoiningRecorded history name out
+joining_in history records name out within h = elim h [ inl told ↦ inl (office_in history records (act.Step (step.Join name)) out within told) | inr none ↦ inr none ]
+
+named_in : (c : CatalogueValue) (history records : List Record) (name : List ℕ) (call : Call) (out : Outcome) → IsTranscriptIn history records → IsNamedCallRecorded c records name call out → IsNamedCallRecorded c history name call out
+named_in c history records name call out within h = elim h [
+  | inl made ↦
+      let asked = made.called in
+      let joined = answer_in history records made.execution (act.Step (step.Join name)) (Ok (answer.Federate made.federate)) within made.joined in
+      let answered = answer_in history records made.execution (act_of_call asked.asked made.federate) (answer_given out) within asked.answered in
+      inl (record { execution = made.execution; federate = made.federate; joined = joined; called = record { asked = asked.asked; asks = asked.asks; answered = answered } })
+  | inr none ↦ inr none
+]
+
+line_in : (c : CatalogueValue) (history records : List Record) (l : Command) (out : Outcome) → IsTranscriptIn history records → IsLineRecorded c records l out → IsLineRecorded c history l out
+line_in c history records command.Create out within h = (h.0, office_in history records (act.Create h.0) out within h.1)
+line_in c history records command.Destroy out within h = office_in history records act.Destroy out within h
+line_in c history records (command.Join name) out within h = joining_in history records name out within h
+line_in c history records (command.Carry from to) out within h = tt
+line_in c history records (command.Announce name) out within h = tt
+line_in c history records (command.Federate name call) out within h = named_in c history records name call out within h
+
+-- what is told of one who has not joined needs no record
+pub stranger_aside : (l : Command) (name : List ℕ) (call : Call) → l ≡ command.Federate name call → NeedsNoRecord l (outcome.Refused fault.FederateNotExecutionMember)
+stranger_aside l name call is = λ c records. subst (λ (x : Command). IsLineRecorded c records x (outcome.Refused fault.FederateNotExecutionMember)) (sym is) (inr (unjoined c call))
 
 -- the line at a place
 pub line_at : (lines : List Line) (k : ℕ) (l : Line) → k < length lines → l ≡ get_or lines k l → slice_get lines k ≡ Some l
-line_at [] k l below is = absurd (omega arith)
-line_at (x ∷ xs) zero l below is = ap (λ (y : Line). Some y) (sym is)
-line_at (x ∷ xs) (suc k) l below is = line_at xs k l (omega (arith, below)) is
+line_at lines k l below is = slice_get_read lines (length lines) k l refl below is
 
 same_line : (lines : List Line) (k : ℕ) (l m : Line) → slice_get lines k ≡ Some l → slice_get lines k ≡ Some m → l ≡ m
 same_line lines k l m one other = let both : Some l ≡ Some m = sym one ∙ other in cc
@@ -100,55 +129,103 @@ pub telling_aside : (lines : List Line) (t : LineOutcome) (l : Line) → slice_g
 telling_aside lines t l at aside c history = λ m found. subst (λ (x : Line). IsLineRecorded c history x.command t.outcome) (same_line lines t.place l m at found) (aside c history)
 
 -- a call of a federate, at its place
-pub telling_called : (lines : List Line) (t : LineOutcome) (call : Call) (c : CatalogueValue) (history : List Record) → IsCallAt lines t.place call → IsCallRecorded c history call t.outcome → IsTellingRecorded c lines history t
-telling_called lines t call c history at h = λ l found. subst (λ (x : Command). IsLineRecorded c history x t.outcome) (sym (at l found).1) h
-
-pub call_at : (lines : List Line) (k : ℕ) (l : Line) (name : List ℕ) (call : Call) → slice_get lines k ≡ Some l → l.command ≡ command.Federate name call → IsCallAt lines k call
-call_at lines k l name call at is = λ m found. (name, subst (λ (x : Line). x.command ≡ command.Federate name call) (same_line lines k l m at found) is)
+pub call_at : (lines : List Line) (k : ℕ) (l : Line) (name own : List ℕ) (call : Call) → slice_get lines k ≡ Some l → l.command ≡ command.Federate name call → name ≡ own → IsCallAt lines k own call
+call_at lines k l name own call at is same = λ m found. subst (λ (x : Line). x.command ≡ command.Federate own call) (same_line lines k l m at found) (is ∙ ap (λ (n : List ℕ). command.Federate n call) same)
 
 -- ---- an act that is told
-told_answers : (out ended : Outcome) (r : Record) (a : Act) (rs : List Record) → answer_given out ≡ answer_given ended → r.act ≡ a → r.outcome ≡ ended → IsActRecorded (rs ++ r ∷ []) a out
-told_answers (outcome.Done given) ended r a rs told acts ends = record { found = r; there = Contains-push rs r; acts = acts; answers = ap (λ (o : Outcome). answer_given o) ends ∙ sym told }
-told_answers (outcome.Refused e) ended r a rs told acts ends = tt
-told_answers (outcome.Failed k) ended r a rs told acts ends = tt
+pub acted_extended : (old new : Caller) (execution : List ℕ) (a : Act) (out : Outcome) → HasActed old execution a out new → HasExtended old new
+acted_extended old new execution a out acted =
+    let own : Record = record { actor = old.number; execution = execution; act = a; outcome = out; choice = acted.0 } in
+    (own ∷ [], ap (λ (x : Caller). x.transcript) acted.1)
 
-pub told_recorded : (old new : Caller) (name : List ℕ) (a : Act) (out : Outcome) → HasTold old name a out new → HasExtended old new × IsActRecorded new.transcript a out
-told_recorded old new name a out told = elim told [
-  | inl acted ↦
-      let ended = acted.0 in
-      let own : Record = record { actor = old.number; execution = name; act = a; outcome = ended; choice = acted.2.0 } in
-      let more : new.transcript ≡ old.transcript ++ own ∷ [] = ap (λ (x : Caller). x.transcript) acted.2.1 in
-      ((own ∷ [], more), subst (λ (rs : List Record). IsActRecorded rs a out) (sym more) (told_answers out ended own a old.transcript acted.1 refl refl))
-  | inr none ↦ (grown_same old new none.2.1, subst (λ (o : Outcome). IsActRecorded new.transcript a o) (sym none.1) tt)
+pub acted_recorded : (old new : Caller) (execution : List ℕ) (a : Act) (ended : Outcome) (given : Result Answer Fault) → given ≡ answer_given ended → HasActed old execution a ended new → HasAnswerOf new.transcript execution a given
+acted_recorded old new execution a ended given told acted =
+    let own : Record = record { actor = old.number; execution = execution; act = a; outcome = ended; choice = acted.0 } in
+    let more : new.transcript ≡ old.transcript ++ own ∷ [] = ap (λ (x : Caller). x.transcript) acted.1 in
+    let last : HasAnswerOf (old.transcript ++ own ∷ []) execution a given = record { found = own; there = Contains-push old.transcript own; inside = refl; acts = refl; answers = sym told } in
+    subst (λ (rs : List Record). HasAnswerOf rs execution a given) (sym more) last
+
+pub told_recorded : (old new : Caller) (execution : List ℕ) (a : Act) (out : Outcome) → HasTold old execution a out new → HasExtended old new × IsActRecorded new.transcript execution a out
+told_recorded old new execution a out told = elim told [
+  | inl acted ↦ (acted_extended old new execution a acted.0 acted.2, inl (acted_recorded old new execution a acted.0 (answer_given out) acted.1 acted.2))
+  | inr none ↦ (grown_same old new none.2.1, inr (none.0, none.1, none.2.0))
 ]
 
-pub asked_recorded : (c : CatalogueValue) (records : List Record) (call : Call) (asked : Option Service) (f : ℕ) (out : Outcome) → service_of c call ≡ Ok asked → IsActRecorded records (act_of_call asked f) out → IsCallRecorded c records call out
-asked_recorded c records call asked f (outcome.Done given) asks h = record { federate = f; asked = asked; asks = asks; answered = h }
-asked_recorded c records call asked f (outcome.Refused e) asks h = tt
-asked_recorded c records call asked f (outcome.Failed k) asks h = tt
+pub answered_extended : (old new : Caller) (execution : List ℕ) (a : Act) (given : Result Answer Fault) → HasAnswered old execution a given new → HasExtended old new
+answered_extended old new execution a given answered = elim answered [ inl acted ↦ acted_extended old new execution a acted.0 acted.2 | inr none ↦ grown_same old new none.2.1 ]
 
--- what was refused needs no record
-pub refused_recorded : (c : CatalogueValue) (records : List Record) (call : Call) (out : Outcome) (e : Fault) → out ≡ outcome.Refused e → IsCallRecorded c records call out
-refused_recorded c records call out e is = subst (λ (o : Outcome). IsCallRecorded c records call o) (sym is) tt
+-- a joining that was refused, with a record or without
+pub refused_extended : (old new : Caller) (execution : List ℕ) (a : Act) (e f : Fault) (X : Type 0) → (HasActed old execution a (outcome.Refused e) new ⊎ HasNotActed old e new) ⊎ ((e ≡ f) × X × (new ≡ old)) → HasExtended old new
+refused_extended old new execution a e f X refused = elim refused [
+  | inl (inl acted) ↦ acted_extended old new execution a (outcome.Refused e) acted
+  | inl (inr none) ↦ grown_same old new none.1
+  | inr limit ↦ grown_same old new limit.2
+]
+
+pub asked_recorded : (c : CatalogueValue) (records : List Record) (execution : List ℕ) (f : ℕ) (call : Call) (asked : Option Service) (out : Outcome) → service_of c call ≡ Ok asked → IsActRecorded records execution (act_of_call asked f) out
+    → IsCallRecorded c records execution f call out
+asked_recorded c records execution f call asked out asks h = elim h [
+  | inl answered ↦ inl (record { asked = asked; asks = asks; answered = answered })
+  | inr none ↦ inr (none.0, none.1, elim none.2 [ inl full ↦ inr (inl full) | inr memory ↦ inr (inr (inl memory)) ])
+]
 
 pub ticked_recorded : (m new : FederateCaller) (given : Result Answer Fault) (out : Outcome) → HasAnswered m.caller m.execution (act.Step (step.Tick m.federate)) given new.caller → answer_given out ≡ given
-    → HasExtended m.caller new.caller × IsActRecorded new.caller.transcript (act.Step (step.Tick m.federate)) out
+    → HasExtended m.caller new.caller × IsActRecorded new.caller.transcript m.execution (act.Step (step.Tick m.federate)) out
 ticked_recorded m new given out answered told = told_recorded m.caller new.caller m.execution (act.Step (step.Tick m.federate)) out (answer_told m.caller new.caller m.execution (act.Step (step.Tick m.federate)) given out answered told)
 
-pub done_recorded : (records : List Record) (a b : Act) (out : Outcome) (given : Answer) → a ≡ b → out ≡ outcome.Done given → IsActRecorded records a out → HasAnswerOf records b given
-done_recorded records a b out given acts is h = subst (λ (x : Act). HasAnswerOf records x given) acts (subst (λ (o : Outcome). IsActRecorded records a o) is h)
+-- the same of this execution and this federate
+pub act_of : (records : List Record) (e execution : List ℕ) (f g : ℕ) (out : Outcome) → e ≡ execution → f ≡ g → IsActRecorded records e (act.Step (step.Tick f)) out → IsActRecorded records execution (act.Step (step.Tick g)) out
+act_of records e execution f g out same number h = subst (λ (n : ℕ). IsActRecorded records execution (act.Step (step.Tick n)) out) number (subst (λ (x : List ℕ). IsActRecorded records x (act.Step (step.Tick f)) out) same h)
+
+pub done_recorded : (records : List Record) (execution : List ℕ) (a : Act) (out : Outcome) (given : Answer) → out ≡ outcome.Done given → IsActRecorded records execution a out → HasAnswerOf records execution a (Ok given)
+done_recorded records execution a out given is h = elim h [
+  | inl answered ↦ subst (λ (o : Outcome). HasAnswerOf records execution a (answer_given o)) is answered
+  | inr none ↦ let clash : outcome.Done given ≡ outcome.Refused none.0 = sym is ∙ none.1 in cc
+]
+
+pub call_of : (c : CatalogueValue) (records : List Record) (e execution : List ℕ) (f g : ℕ) (call : Call) (out : Outcome) → e ≡ execution → f ≡ g → IsCallRecorded c records e f call out → IsCallRecorded c records execution g call out
+call_of c records e execution f g call out same number h = subst (λ (n : ℕ). IsCallRecorded c records execution n call out) number (subst (λ (x : List ℕ). IsCallRecorded c records x f call out) same h)
 
 module _ {L B P : Type 0} where
   pub deed_recorded : (c : CatalogueValue) (call : Call) (m : FederateCaller) (d : Deed) (out : Outcome) (p : Player L B P) → IsDeedOf c call d → DoesDeed m d out p
-      → HasExtended m.caller (caller_of p) × IsCallRecorded c (caller_of p).transcript call out
+      → HasExtended m.caller (caller_of p) × IsCallRecorded c (caller_of p).transcript m.execution m.federate call out
   deed_recorded c call m deed.Tick out p asks done =
       let both = told_recorded m.caller (caller_of p) m.execution _ out done.0 in
-      (both.0, asked_recorded c (caller_of p).transcript call None m.federate out asks both.1)
+      (both.0, asked_recorded c (caller_of p).transcript m.execution m.federate call None out asks both.1)
   deed_recorded c call m (deed.Serve s) out p asks done =
       let both = told_recorded m.caller (caller_of p) m.execution _ out done.0 in
-      (both.0, asked_recorded c (caller_of p).transcript call (Some s) m.federate out asks both.1)
+      (both.0, asked_recorded c (caller_of p).transcript m.execution m.federate call (Some s) out asks both.1)
   deed_recorded c call m (deed.Refused e) out p asks done =
-      (grown_same m.caller (caller_of p) done.0.1, refused_recorded c (caller_of p).transcript call out e done.0.0)
+      (grown_same m.caller (caller_of p) done.0.1, inr (e, done.0.0, elim asks [ inl unknown ↦ inl unknown | inr memory ↦ inr (inr (inl memory)) ]))
+
+  -- a federate stays the same while it is joined
+  pub player_stays : (execution : List ℕ) (f : ℕ) (m : FederateCaller) (p : Player L B P) → StaysAs m p → (m.execution ≡ execution) × (m.federate ≡ f) → IsPlayerAs execution f p
+  player_stays execution f m (player.Joined n) stays was = (stays.1 ∙ was.0, stays.0 ∙ was.1)
+  player_stays execution f m (player.Gone l) stays was = tt
+
+-- ---- what the infrastructure did itself
+pub destroyed_line : (old new : Caller) (l : Command) (execution : List ℕ) (given : Result (Unit {0}) Fault) (out : Outcome) → l ≡ command.Destroy → HasAnswered old execution act.Destroy (said nothing given) new → answer_given out ≡ said nothing given
+    → HasExtended old new × IsOfficeLine new l out
+destroyed_line old new l execution given out is answered told =
+    let both = told_recorded old new execution act.Destroy out (answer_told old new execution act.Destroy (said nothing given) out answered told) in
+    (both.0, λ c. subst (λ (x : Command). IsLineRecorded c new.transcript x out) (sym is) (execution, both.1))
+
+pub created_line : (old new : Caller) (l : Command) (execution : List ℕ) (read : Option CatalogueValue) (given : Result (Unit {0}) Fault) (out : Outcome) → l ≡ command.Create → HasAnswered old execution (act.Create read) (said nothing given) new
+    → answer_given out ≡ said nothing given → HasExtended old new × IsOfficeLine new l out
+created_line old new l execution read given out is answered told =
+    let both = told_recorded old new execution (act.Create read) out (answer_told old new execution (act.Create read) (said nothing given) out answered told) in
+    (both.0, λ c. subst (λ (x : Command). IsLineRecorded c new.transcript x out) (sym is) (read, (execution, both.1)))
+
+pub joined_line : (own : Caller) (l : Command) (name : List ℕ) (out : Outcome) → l ≡ command.Join name → IsJoiningRecorded own.transcript name out → IsOfficeLine own l out
+joined_line own l name out is told = λ c. subst (λ (x : Command). IsLineRecorded c own.transcript x out) (sym is) told
+
+pub refused_joining : (old new : Caller) (execution name : List ℕ) (e : Fault) (X : Type 0) → (HasActed old execution (act.Step (step.Join name)) (outcome.Refused e) new ⊎ HasNotActed old e new) ⊎ ((e ≡ fault.LimitReached) × X × (new ≡ old))
+    → IsJoiningRecorded new.transcript name (outcome.Refused e)
+refused_joining old new execution name e X refused = elim refused [
+  | inl (inl acted) ↦ inl (execution, inl (acted_recorded old new execution (act.Step (step.Join name)) (outcome.Refused e) (Err e) refl acted))
+  | inl (inr none) ↦ inl (execution, inr (e, refl, none.0))
+  | inr limit ↦ inr (ap (λ (x : Fault). outcome.Refused x) limit.0)
+]
 
 -- ---- outcomes by place
 noted_cases : (xs : List (Option Outcome)) (i j : ℕ) (v o : Outcome) → slice_index_or (slice_set xs i (Some v)) j None ≡ Some o → (slice_index_or xs j None ≡ Some o) ⊎ ((i ≡ j) × (v ≡ o))
@@ -174,9 +251,6 @@ module _ (c : CatalogueValue) (lines : List Line) (history : List Record) where
   abbrev untold : Option Outcome
   untold = None
 
-  pub all_recorded : (told : List LineOutcome) (t : LineOutcome) → AreTellingsRecorded c lines history told → IsTellingRecorded c lines history t → AreTellingsRecorded c lines history (told ++ t ∷ [])
-  all_recorded told t tellings telling = All-push (IsTellingRecorded c lines history) told t tellings telling
-
   none_at : (n place : ℕ) → slice_index_or (replicate n untold) place untold ≡ untold
   none_at zero place = refl
   none_at (suc n) zero = refl
@@ -190,6 +264,20 @@ pub kept_noted : (lines : List Line) (old mid new : List (Option Outcome)) (t : 
     → KeepsRecorded lines old new
 kept_noted lines old mid new t before noted telling = λ c history recorded.
     subst (λ (os : List (Option Outcome)). AreOutcomesRecorded c lines history os) (sym noted) (noted_recorded c lines history mid t (before c history recorded) (telling c history))
+
+-- the same, by what the infrastructure did itself
+module _ (lines : List Line) (own_old own_new : Caller) (grown : HasExtended own_old own_new) (old mid new : List (Option Outcome)) (before : KeepsOffice lines own_old old mid) where
+  pub office_noted : (t : LineOutcome) (l : Line) → slice_get lines t.place ≡ Some l → new ≡ with_line_noted mid t → IsOfficeLine own_new l.command t.outcome → KeepsOffice lines own_new old new
+  office_noted t l at noted told = λ c history within recorded.
+      let kept = before c history (λ r there. within r (grown_within own_old own_new grown r there)) recorded in
+      let telling : IsTellingRecorded c lines history t = λ m found.
+      subst (λ (x : Line). IsLineRecorded c history x.command t.outcome) (same_line lines t.place l m at found) (line_in c history own_new.transcript l.command t.outcome within (told c)) in
+      subst (λ (os : List (Option Outcome)). AreOutcomesRecorded c lines history os) (sym noted) (noted_recorded c lines history mid t kept telling)
+
+  pub office_same : new ≡ mid → KeepsOffice lines own_new old new
+  office_same same = λ c history within recorded.
+      let kept = before c history (λ r there. within r (grown_within own_old own_new grown r there)) recorded in
+      subst (λ (os : List (Option Outcome)). AreOutcomesRecorded c lines history os) (sym same) kept
 
 pub kept_same : (lines : List Line) (old mid new : List (Option Outcome)) → KeepsRecorded lines old mid → new ≡ mid → KeepsRecorded lines old new
 kept_same lines old mid new before same = λ c history recorded. subst (λ (os : List (Option Outcome)). AreOutcomesRecorded c lines history os) (sym same) (before c history recorded)
@@ -208,58 +296,62 @@ left_behind old mid new first second c one two own = λ history all.
 module _ {L B P : Type 0} where
   pub gathered_more : (lives : List (Life L B P)) (life : Life L B P) (some all : List Leaver) (old mid new : List (Option Outcome)) → GathersRecorded lives some old mid → new ≡ with_lines_noted mid life.told.items
       → LeavesBehind some (caller_of life.player) all → GathersRecorded (lives ++ life ∷ []) all old new
-  gathered_more lives life some all old mid new before noted behind = λ c lines history recorded lefts outcomes.
+  gathered_more lives life some all old mid new before noted behind = λ c lines execution history recorded joined lefts outcomes.
       let left = behind history lefts in
-      let others : All (IsLifeRecorded c lines) lives = λ k d below.
-      All-contains (IsLifeRecorded c lines) (lives ++ life ∷ []) (get_or lives k d) recorded (Contains-append_left lives (life ∷ []) (get_or lives k d) (Contains-get_or lives k d below)) in
-      let own : IsLifeRecorded c lines life = All-contains (IsLifeRecorded c lines) (lives ++ life ∷ []) life recorded (Contains-push lives life) in
-      let so_far = before c lines history others left.0 outcomes in
-      subst (λ (os : List (Option Outcome)). AreOutcomesRecorded c lines history os) (sym noted)
-      (all_noted_recorded c lines history life.told.items mid so_far (tellings_in c lines history (caller_of life.player).transcript life.told.items left.1 own))
+      let Recorded : Life L B P → Type 0 = IsLifeRecorded c lines execution in
+      let Joined : Life L B P → Type 0 = λ (x : Life L B P). HasJoined history execution x.name x.number in
+      let others : All Recorded lives = λ k d below. All-contains Recorded (lives ++ life ∷ []) (get_or lives k d) recorded (Contains-append_left lives (life ∷ []) (get_or lives k d) (Contains-get_or lives k d below)) in
+      let others_joined : All Joined lives = λ k d below. All-contains Joined (lives ++ life ∷ []) (get_or lives k d) joined (Contains-append_left lives (life ∷ []) (get_or lives k d) (Contains-get_or lives k d below)) in
+      let own : Recorded life = All-contains Recorded (lives ++ life ∷ []) life recorded (Contains-push lives life) in
+      let own_joined : Joined life = All-contains Joined (lives ++ life ∷ []) life joined (Contains-push lives life) in
+      let so_far = before c lines execution history others others_joined left.0 outcomes in
+      let tellings = tellings_named c lines history (caller_of life.player).transcript execution life.number life.name life.told.items own_joined left.1 own.1 in
+      subst (λ (os : List (Option Outcome)). AreOutcomesRecorded c lines history os) (sym noted) (all_noted_recorded c lines history life.told.items mid so_far tellings)
 
   pub gathered_all_of : (some all : List (Life L B P)) (lefts : List Leaver) (old new : List (Option Outcome)) → some ≡ all → GathersRecorded some lefts old new → GathersRecorded all lefts old new
   gathered_all_of some all lefts old new same h = subst (λ (ls : List (Life L B P)). GathersRecorded ls lefts old new) same h
 
   -- a life that tells nothing yet
-  pub fresh_recorded : (c : CatalogueValue) (lines : List Line) (life : Life L B P) → IsFresh life → IsLifeRecorded c lines life
-  fresh_recorded c lines life fresh = subst (λ (told : List LineOutcome). AreTellingsRecorded c lines (caller_of life.player).transcript told) (sym fresh) (λ k d below. absurd (omega (arith, below)))
+  pub fresh_recorded : (c : CatalogueValue) (lines : List Line) (execution : List ℕ) (life : Life L B P) → IsFresh execution life → IsLifeRecorded c lines execution life
+  fresh_recorded c lines execution life fresh = (
+    fresh.0,
+    subst (λ (told : List LineOutcome). AreOwnTellings c lines (caller_of life.player).transcript execution life.number life.name told) (sym fresh.1) (λ k d below. absurd (omega (arith, below))),
+  )
+
+  -- ---- who has joined
+  pub fresh_more : (execution : List ℕ) (lives : List (Life L B P)) (life : Life L B P) → AreFresh execution lives → IsFresh execution life → AreFresh execution (lives ++ life ∷ [])
+  fresh_more execution lives life before fresh = All-push (IsFresh execution) lives life before fresh
+
+  pub joined_in : (history records : List Record) (execution : List ℕ) (lives : List (Life L B P)) → IsTranscriptIn history records → AreJoined records execution lives → AreJoined history execution lives
+  joined_in history records execution lives within h = λ k d below.
+      let life = get_or lives k d in
+      answer_in history records execution (act.Step (step.Join life.name)) (Ok (answer.Federate life.number)) within (h k d below)
+
+  pub joined_more : (records : List Record) (execution : List ℕ) (lives : List (Life L B P)) (life : Life L B P) → AreJoined records execution lives → HasJoined records execution life.name life.number → AreJoined records execution (lives ++ life ∷ [])
+  joined_more records execution lives life before own = All-push (λ (x : Life L B P). HasJoined records execution x.name x.number) lives life before own
+
+  -- the lives of the same federates
+  pub joined_same : (records : List Record) (execution : List ℕ) (old new : Life L B P) → IsLifeOf old new → HasJoined records execution old.name old.number → HasJoined records execution new.name new.number
+  joined_same records execution old new same h =
+      subst (λ (n : ℕ). HasJoined records execution new.name n) (sym same.1) (subst (λ (name : List ℕ). HasJoined records execution name old.number) (sym same.0) h)
 
 -- ---- transcripts of the history
-behind : (xs : List Record) (x r : Record) → Contains xs r → Contains (x ∷ xs) r
-behind xs x r (k, below, is) = (suc k, omega (arith, below), is)
-
--- what is among those that pass, with one in front
-passed : (xs ys : List Record) (x r : Record) → (Contains ys r → Contains xs r) → Contains (x ∷ ys) r → Contains (x ∷ xs) r
-passed xs ys x r later (zero, below, is) = (zero, omega arith, is)
-passed xs ys x r later (suc k, below, is) = behind xs x r (later (k, omega (arith, below), is))
-
 filtered_in : (p : Record → Bool) (rs : List Record) (r : Record) → Contains (filter p rs) r → Contains rs r
-filtered_in p [] r there = there
-filtered_in p (x ∷ xs) r there =
-    let later : Contains (filter p xs) r → Contains xs r = filtered_in p xs r in
-    ⊎_elim
-    (λ (y : p x ≡ true). passed xs (filter p xs) x r later (rw y at there))
-    (λ (n : p x ≡ false). behind xs x r (later (rw n at there)))
-    (cases_Bool (p x))
+filtered_in p rs r there = All-contains (Contains rs) (filter p rs) r (All-filter p (Contains rs) rs (All-contains_itself rs)) there
 
-got : (ls : List Leaver) (k : ℕ) (d : Leaver) → k < length ls → slice_get ls k ≡ Some (get_or ls k d)
-got [] k d below = absurd (omega arith)
-got (l ∷ ls) zero d below = refl
-got (l ∷ ls) (suc k) d below = got ls k d (omega (arith, below))
+agreed_in : (history : List Record) (c : Caller) → Agrees history c → IsTranscriptIn history c.transcript
+agreed_in history c agrees = λ r there. filtered_in _ history r (subst (λ (rs : List Record). Contains rs r) agrees there)
 
 pub agreed_within : (history : List Record) (lefts : List Leaver) (own : Caller) → AllAgree history lefts own → AreTranscriptsIn history lefts
-agreed_within history lefts own agree = λ k d below r there.
-    let l = get_or lefts k d in
-    let same : l.caller.transcript ≡ records_by l.caller.number history = agree.0 k l below (got lefts k d below) in
-    filtered_in _ history r (subst (λ (rs : List Record). Contains rs r) same there)
+agreed_within history lefts own agree = λ k d below. agreed_in history (get_or lefts k d).caller (agree.0 k (get_or lefts k d) below (slice_get-get_or lefts k d below))
 
 -- ---- the end of a run
 -- what was written of lines that all were done, where the transcripts of all agree with the history
 pub told_run : (result : Result Ran RunFault) (c : CatalogueValue) (lines : List Line) (outcomes : List (Option Outcome)) (lefts : List Leaver) (own : Caller) (old new : Option (List ℕ)) → length outcomes ≡ length lines → AreAllDone lines outcomes
-    → ((history : List Record) → AreTranscriptsIn history lefts → AreOutcomesRecorded c lines history outcomes) → OnOk result (Appends old new (told_text c lines outcomes)) → IfOk result (λ r. AllAgree r.closed lefts own)
+    → RecordsTold c lines outcomes lefts own → OnOk result (Appends old new (told_text c lines outcomes)) → IfOk result (λ r. AllAgree r.closed lefts own)
     → IfOk result (λ r. IsToldRecorded r.closed c lines old new)
 told_run (Ok r) c lines outcomes lefts own old new each done recorded told agree =
-    (record { outcomes = outcomes; each = each; done = done; writes = told }, recorded r.closed (agreed_within r.closed lefts own agree))
+    (record { outcomes = outcomes; each = each; done = done; writes = told }, recorded r.closed (agreed_within r.closed lefts own agree) (agreed_in r.closed own agree.1))
 told_run (Err e) c lines outcomes lefts own old new each done recorded told agree = tt
 
 pub run_recorded : (result : Result Ran RunFault) (fed script : List ℕ) (c : CatalogueValue) (lines : List Line) (old new : Option (List ℕ)) → Describes fed c → script_of script ≡ Ok lines → IfOk result (λ r. IsToldRecorded r.closed c lines old new)

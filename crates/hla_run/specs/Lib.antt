@@ -1,8 +1,2 @@
--- Who joins by the lines of a script
-pub mod Joining
--- What a run of a script writes
-pub mod Running
--- What a line has a federate of a script do
-pub mod Deeds
 -- What is told of the lines of federates, by the records of the history
 pub mod Recorded

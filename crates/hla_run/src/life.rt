@@ -1,14 +1,12 @@
 //! A federate's life on its thread.
 
-ghost use Rattle.std.specs.Prelude.{◌≡◌};
+ghost use Rattle.std.specs.Prelude.{◌≡◌, ℕ, List};
 ghost use Rattle.hla_machine.specs.declared.step.Act.TheVariants as act;
 ghost use Rattle.hla_machine.specs.declared.step.Step.TheVariants as step;
-ghost use Rattle.hla_run.specs.Deeds.{caller_of};
-ghost use Rattle.hla_run.specs.Recorded.{HasExtended, IsActRecorded, IsCallAt, IsCallRecorded, IsLifeRecorded};
+ghost use Rattle.hla_players.specs.Deeds.{caller_of};
+ghost use Rattle.hla_run.specs.Recorded.{HasExtended, IsActRecorded, IsCallAt, IsCallRecorded, IsLifeOf, IsLifeRecorded, IsPlayerAs};
 
 use crate::gate::Gate;
-use crate::outcomes::{LineOutcome, outcome_of_tick};
-use crate::player::{Acted, Deed, Player, do_deed};
 use crate::resting::{LineWait, Rested, RestingRoom};
 use hla_base::{ExecutionName, Fault, FederateNo, List};
 use hla_callbacks::FederateAmbassador;
@@ -16,6 +14,7 @@ use hla_catalogue::Catalogue;
 use hla_commands::{Call, Command, Line};
 use hla_machine::{Answer, Carried, Outcome};
 use hla_monitor::{Naming, Publisher};
+use hla_players::{Acted, Deed, LineOutcome, Player, do_deed, outcome_of_tick};
 use hla_rti::{Courier, Federate};
 use std::alloc::Global;
 use std::sync::Wait;
@@ -123,7 +122,7 @@ fn after_nothing<L: Ledger + Naming, B: FederateAmbassador, P: Publisher<L>, G: 
 }
 
 /// Ticks until a callback comes or a tick is refused, at most `MAX_TICKS` times, once a bout.
-fn called_back<L: Ledger + Naming, B: FederateAmbassador, P: Publisher<L>, G: Gate>(
+fn tick_until_called<L: Ledger + Naming, B: FederateAmbassador, P: Publisher<L>, G: Gate>(
     rt: &impl Wait,
     stage: &Stage<G>,
     federate: &mut Federate<L, B, P>,
@@ -132,7 +131,7 @@ fn called_back<L: Ledger + Naming, B: FederateAmbassador, P: Publisher<L>, G: Ga
     ensures execution { federate.new.execution ≡ federate.old.execution }
     ensures federate { federate.new.federate ≡ federate.old.federate }
     ensures extended { HasExtended federate.old.caller federate.new.caller }
-    ensures recorded { IsActRecorded federate.new.caller.transcript
+    ensures recorded { IsActRecorded federate.new.caller.transcript federate.old.execution
         (act.Step (step.Tick federate.old.federate)) result }
 {
     let mut wait = LineWait::new();
@@ -149,7 +148,7 @@ fn called_back<L: Ledger + Naming, B: FederateAmbassador, P: Publisher<L>, G: Ga
 }
 
 /// Does what a line asks of the federate; one that has resigned does nothing any more.
-fn done<L: Ledger + Naming, B: FederateAmbassador, P: Publisher<L>, G: Gate>(
+fn do_call<L: Ledger + Naming, B: FederateAmbassador, P: Publisher<L>, G: Gate>(
     rt: &impl Wait,
     stage: &Stage<G>,
     player: Player<L, B, P>,
@@ -157,7 +156,10 @@ fn done<L: Ledger + Naming, B: FederateAmbassador, P: Publisher<L>, G: Gate>(
     call: &Call<'_>,
 ) -> Acted<L, B, P>
     ensures extended { HasExtended (caller_of player) (caller_of result.player) }
-    ensures recorded { IsCallRecorded stage.now.catalogue.now (caller_of result.player).transcript call.now
+    ensures same { (execution : List ℕ) (f : ℕ) → IsPlayerAs execution f player
+        → IsPlayerAs execution f result.player }
+    ensures recorded { (execution : List ℕ) (f : ℕ) → IsPlayerAs execution f player
+        → IsCallRecorded stage.now.catalogue.now (caller_of result.player).transcript execution f call.now
         result.outcome }
 {
     let mut federate = match player {
@@ -171,7 +173,7 @@ fn done<L: Ledger + Naming, B: FederateAmbassador, P: Publisher<L>, G: Gate>(
     };
     match Deed::of(stage.alloc, stage.catalogue, call) {
         Deed::Tick => {
-            let outcome = called_back(rt, stage, &mut federate, courier);
+            let outcome = tick_until_called(rt, stage, &mut federate, courier);
             Acted {
                 player: Player::Joined(federate),
                 outcome,
@@ -192,9 +194,11 @@ impl<L: Ledger + Naming, B: FederateAmbassador, P: Publisher<L>> Life<L, B, P> {
         line: usize,
         call: &Call<'_>,
     ) -> Life<L, B, P>
-        requires { IsCallAt stage.now.lines.now place call.now }
-        ensures { IsLifeRecorded stage.now.catalogue.now stage.now.lines.now self
-            → IsLifeRecorded stage.now.catalogue.now stage.now.lines.now result }
+        requires { IsCallAt stage.now.lines.now place self.name call.now }
+        ensures same { IsLifeOf self result }
+        ensures recorded { (execution : List ℕ)
+            → IsLifeRecorded stage.now.catalogue.now stage.now.lines.now execution self
+            → IsLifeRecorded stage.now.catalogue.now stage.now.lines.now execution result }
     {
         let Life {
             name,
@@ -206,7 +210,7 @@ impl<L: Ledger + Naming, B: FederateAmbassador, P: Publisher<L>> Life<L, B, P> {
         } = self;
         stage.gate.before(number, line);
         stage.room.let_go(rt);
-        let Acted { player, outcome } = done(rt, stage, player, &mut courier, call);
+        let Acted { player, outcome } = do_call(rt, stage, player, &mut courier, call);
         stage.room.hold(rt);
         stage.gate.after(number, line);
         let is_kept = told.push(LineOutcome { place, outcome }).is_ok();
@@ -227,8 +231,10 @@ pub fn live<L: Ledger + Naming, B: FederateAmbassador, P: Publisher<L>, G: Gate>
     stage: &Stage<G>,
     mut life: Life<L, B, P>,
 ) -> Life<L, B, P>
-    ensures { IsLifeRecorded stage.now.catalogue.now stage.now.lines.now life
-        → IsLifeRecorded stage.now.catalogue.now stage.now.lines.now result }
+    ensures same { IsLifeOf life result }
+    ensures recorded { (execution : List ℕ)
+        → IsLifeRecorded stage.now.catalogue.now stage.now.lines.now execution life
+        → IsLifeRecorded stage.now.catalogue.now stage.now.lines.now execution result }
 {
     for (place, line) in stage.lines.iter().enumerate() {
         if let Command::Federate { name, call } = &line.command {

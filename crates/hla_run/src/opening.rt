@@ -1,24 +1,22 @@
 //! What is done before the federates' threads begin, and after they have ended.
 
 ghost use Rattle.std.specs.Prelude.{◌≡◌, ◌<◌, ◌≤◌, drop, length, IfOk, IfSome, OnOk};
-ghost use Rattle.hla_run.specs.Joining.{joins, joins_by};
-ghost use Rattle.hla_run.specs.Recorded.{AreFresh, KeepsRecorded, NeedsNoRecord};
+ghost use Rattle.hla_players.specs.Joining.{joins, joins_by};
+ghost use Rattle.hla_run.specs.Recorded.{AreFresh, AreJoined, HasExtended, IsJoiningRecorded, IsOfficeLine, KeepsOffice, KeepsRecorded};
 
-use crate::joining::Ambassadors;
 use crate::life::Life;
-use crate::outcomes::{LineOutcome, Outcomes, outcome_of_done};
-use crate::player::Player;
 use hla_base::{ExecutionName, Fault, List};
 use hla_callbacks::FederateAmbassador;
 use hla_commands::{Command, Line};
 use hla_machine::{Answer, Outcome};
 use hla_monitor::{Naming, Publisher};
+use hla_players::{Ambassadors, LineOutcome, Outcomes, Player, outcome_of_done};
 use hla_rti::Rti;
 use std::alloc::Global;
 use std::sync::Wait;
 use std::sync::ledger::Ledger;
 
-/// A copy of a name.
+/// A copy of a name. `OutOfMemory` where a growth was refused.
 fn copied(alloc: Global, name: &[u8]) -> Result<List<u8>, Fault>
     ensures { IfOk result (λ copy. copy ≡ name.now) }
 {
@@ -29,7 +27,7 @@ fn copied(alloc: Global, name: &[u8]) -> Result<List<u8>, Fault>
 }
 
 /// Joins a federate with the next ambassador, and gives it a courier. An error is want of memory outside the steps.
-fn joined<L: Ledger + Naming, B: FederateAmbassador, P: Publisher<L>>(
+fn join_next<L: Ledger + Naming, B: FederateAmbassador, P: Publisher<L>>(
     rt: &impl Wait,
     alloc: Global,
     rti: &mut Rti<L, B, P>,
@@ -40,7 +38,11 @@ fn joined<L: Ledger + Naming, B: FederateAmbassador, P: Publisher<L>>(
 ) -> Result<Outcome, Fault>
     requires { 0 < length ambassadors.old }
     ensures taken { OnOk result (ambassadors.new ≡ drop 1 ambassadors.old) }
-    ensures fresh { OnOk result (AreFresh lives.old.items → AreFresh lives.new.items) }
+    ensures own { OnOk result (HasExtended rti.old.own rti.new.own) }
+    ensures recorded { IfOk result (IsJoiningRecorded rti.new.own.transcript name.now) }
+    ensures fresh { OnOk result (AreFresh execution lives.old.items → AreFresh execution lives.new.items) }
+    ensures joined { OnOk result (AreJoined rti.old.own.transcript execution lives.old.items
+        → AreJoined rti.new.own.transcript execution lives.new.items) }
 {
     let own = copied(alloc, name)?;
     let name = copied(alloc, name)?;
@@ -70,7 +72,7 @@ fn joined<L: Ledger + Naming, B: FederateAmbassador, P: Publisher<L>>(
 }
 
 /// Does a line that creates the execution or joins a federate. An error is want of memory outside the steps.
-fn opened<L: Ledger + Naming, B: FederateAmbassador, P: Publisher<L>>(
+fn open_by<L: Ledger + Naming, B: FederateAmbassador, P: Publisher<L>>(
     rt: &impl Wait,
     alloc: Global,
     rti: &mut Rti<L, B, P>,
@@ -82,14 +84,17 @@ fn opened<L: Ledger + Naming, B: FederateAmbassador, P: Publisher<L>>(
 ) -> Result<Option<Outcome>, Fault>
     requires { joins_by command.now ≤ length ambassadors.old }
     ensures taken { OnOk result (ambassadors.new ≡ drop (joins_by command.now) ambassadors.old) }
-    ensures fresh { OnOk result (AreFresh lives.old.items → AreFresh lives.new.items) }
-    ensures aside { IfOk result (λ out. IfSome out (NeedsNoRecord command.now)) }
+    ensures own { OnOk result (HasExtended rti.old.own rti.new.own) }
+    ensures fresh { OnOk result (AreFresh execution lives.old.items → AreFresh execution lives.new.items) }
+    ensures joined { OnOk result (AreJoined rti.old.own.transcript execution lives.old.items
+        → AreJoined rti.new.own.transcript execution lives.new.items) }
+    ensures recorded { IfOk result (λ out. IfSome out (IsOfficeLine rti.new.own command.now)) }
 {
     match command {
         Command::Create => Ok(Some(outcome_of_done(rti.create(rt, execution, fed)))),
         Command::Join { name } => {
             let name = name.as_slice();
-            match joined(rt, alloc, rti, execution, name, ambassadors, lives) {
+            match join_next(rt, alloc, rti, execution, name, ambassadors, lives) {
                 Ok(outcome) => Ok(Some(outcome)),
                 Err(fault) => Err(fault),
             }
@@ -112,12 +117,13 @@ pub fn open<L: Ledger + Naming, B: FederateAmbassador, P: Publisher<L>>(
 ) -> Result<Vec<Life<L, B, P>>, Fault>
     requires { joins lines.now ≤ length ambassadors }
     ensures each { OnOk result (length outcomes.new ≡ length outcomes.old) }
-    ensures fresh { IfOk result (λ lives. AreFresh lives.items) }
-    ensures recorded { OnOk result (KeepsRecorded lines.now outcomes.old outcomes.new) }
+    ensures fresh { IfOk result (λ lives. AreFresh execution lives.items) }
+    ensures joined { IfOk result (λ lives. AreJoined rti.new.own.transcript execution lives.items) }
+    ensures recorded { OnOk result (KeepsOffice lines.now rti.new.own outcomes.old outcomes.new) }
 {
     let mut lives = Vec::new(alloc);
     for (place, line) in lines.iter().enumerate() {
-        let opened = opened(
+        let opened = open_by(
             rt,
             alloc,
             rti,
@@ -143,7 +149,8 @@ pub fn destroy<L: Ledger + Naming, B: FederateAmbassador, P: Publisher<L>>(
     outcomes: &mut Outcomes,
 )
     ensures each { length outcomes.new ≡ length outcomes.old }
-    ensures recorded { KeepsRecorded lines.now outcomes.old outcomes.new }
+    ensures own { HasExtended rti.old.own rti.new.own }
+    ensures recorded { KeepsOffice lines.now rti.new.own outcomes.old outcomes.new }
 {
     for (place, line) in lines.iter().enumerate() {
         if let Command::Destroy = &line.command {

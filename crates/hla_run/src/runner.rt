@@ -3,30 +3,26 @@
 //! Here and in the modules beside it what is large goes to `drop` by name: such a call is proved once, and what goes out of
 //! scope is taken apart, variant by variant, in the proof of each function that lets it.
 
-ghost use Rattle.std.specs.Prelude.{◌≡◌, ◌||◌, ◌≤◌, [], IfOk, OnOk, IfErr, length, vec_len, List, None, replicate};
+ghost use Rattle.std.specs.Prelude.{◌≡◌, ◌||◌, ◌≤◌, ℕ, [], IfOk, OnOk, IfErr, length, vec_len, List, None, replicate};
 ghost use Rattle.std.specs.List.{All};
 ghost use Rattle.hla_base.specs.Limits.{ledger_parts};
-ghost use Rattle.hla_machine.specs.declared.step.Record.{Record};
-ghost use Rattle.hla_run.specs.Deeds.{caller_of};
-ghost use Rattle.hla_run.specs.Joining.{joins, script_joins};
-ghost use Rattle.hla_run.specs.Recorded.{AreOutcomesRecorded, AreTranscriptsIn, GathersRecorded, IsLifeRecorded, IsRunRecorded, IsToldRecorded, LeavesBehind};
-ghost use Rattle.hla_run.specs.Running.{AreAllDone, AreTold, IsRunFrom, IsSeen, StopsRun, StopsTelling, is_unwritten_run, with_lines_noted};
+ghost use Rattle.hla_players.specs.Deeds.{caller_of};
+ghost use Rattle.hla_players.specs.Joining.{joins, script_joins};
+ghost use Rattle.hla_run.specs.Recorded.{GathersRecorded, IsLifeOf, IsLifeRecorded, IsRunRecorded, IsToldRecorded, LeavesBehind, RecordsTold};
+ghost use Rattle.hla_players.specs.Running.{AreAllDone, AreTold, IsRunFrom, IsSeen, StopsRun, StopsTelling, is_unwritten_run, with_lines_noted};
 
-use crate::closing::close_seen;
-use crate::fault::RunFault;
 use crate::gate::Gate;
-use crate::joining::Ambassadors;
 use crate::life::{Life, Stage, live};
 use crate::opening::{destroy, open, refuse_strangers};
-use crate::outcomes::Outcomes;
 use crate::resting::RestingRoom;
-use crate::texts::{Texts, read_texts};
-use crate::watching::{Ran, last_read, watcher};
 use hla_base::{ExecutionName, Fault, MAX_HISTORY};
 use hla_callbacks::FederateAmbassador;
 use hla_catalogue::Catalogue;
 use hla_commands::Line;
 use hla_monitor::{Naming, Opened, Publisher};
+use hla_players::{
+    Ambassadors, Outcomes, Ran, RunFault, Texts, close_seen, last_read, read_texts, watcher,
+};
 use hla_rti::{Left, Rti, open_rti};
 use hla_transcript::Watched;
 use std::alloc::Global;
@@ -36,15 +32,17 @@ use std::sync::ledger::{Blank, Ledger};
 use std::thread;
 use std::thread::Threads;
 
-/// Puts what a federate and its courier leave behind at the end of a list, and notes how its lines came out.
-fn gathered<L: Ledger + Naming, B: FederateAmbassador, P: Publisher<L>>(
+/// Puts what a federate and its courier leave behind at the end of a list, and notes how its lines came out. `OutOfMemory` where a
+/// growth was refused, or was for the federate while it did its lines; then what of it was put stays.
+fn gather<L: Ledger + Naming, B: FederateAmbassador, P: Publisher<L>>(
     life: Life<L, B, P>,
     lefts: &mut Vec<Left<L, B>>,
     outcomes: &mut Outcomes,
 ) -> Result<(), Fault>
     ensures each { length outcomes.new ≡ length outcomes.old }
     ensures told { outcomes.new ≡ with_lines_noted outcomes.old life.told.items }
-    ensures left { OnOk result (LeavesBehind lefts.old.items (caller_of life.player) lefts.new.items) }
+    ensures left { OnOk result (LeavesBehind lefts.old.items (caller_of life.player)
+        lefts.new.items) }
 {
     let Life {
         player,
@@ -63,8 +61,8 @@ fn gathered<L: Ledger + Naming, B: FederateAmbassador, P: Publisher<L>>(
     }
 }
 
-/// What all leave behind.
-fn gathered_all<L: Ledger + Naming, B: FederateAmbassador, P: Publisher<L>>(
+/// What all leave behind. `OutOfMemory` where a growth was refused, or was for one of them.
+fn gather_all<L: Ledger + Naming, B: FederateAmbassador, P: Publisher<L>>(
     alloc: Global,
     lives: Vec<Life<L, B, P>>,
     outcomes: &mut Outcomes,
@@ -75,7 +73,7 @@ fn gathered_all<L: Ledger + Naming, B: FederateAmbassador, P: Publisher<L>>(
 {
     let mut lefts = Vec::new(alloc);
     for life in lives {
-        gathered(life, &mut lefts, outcomes)?;
+        gather(life, &mut lefts, outcomes)?;
     }
     Ok(lefts)
 }
@@ -92,7 +90,7 @@ fn number_of<L: Ledger + Naming, B: FederateAmbassador, P: Publisher<L>>(
 
 /// Does the lines of a script: those that create and join in their order, then those of the federates, each on a thread of
 /// its own, and then those that destroy. What all leave behind; an error is want of memory outside the steps.
-fn ran<
+fn run_lines<
     L: Ledger + Naming + Send + Sync,
     B: FederateAmbassador + Send,
     P: Publisher<L> + Send,
@@ -113,8 +111,8 @@ fn ran<
     requires blank { outcomes.old ≡ replicate (length lines.now) None }
     ensures each { OnOk result (length outcomes.new ≡ length outcomes.old) }
     ensures done { OnOk result (AreAllDone lines.now outcomes.new) }
-    ensures recorded { IfOk result (λ lefts. (history : List Record) → AreTranscriptsIn history lefts.items
-        → AreOutcomesRecorded catalogue.now lines.now history outcomes.new) }
+    ensures recorded { IfOk result (λ lefts. RecordsTold catalogue.now lines.now outcomes.new
+        lefts.items rti.new.own) }
 {
     let execution = ExecutionName::new(b"play")?;
     let lives = open(rt, alloc, rti, execution, fed, lines, ambassadors, outcomes)?;
@@ -129,13 +127,15 @@ fn ran<
         room: RestingRoom::new(lives.len()),
     };
     let lived = |life: Life<L, B, P>| -> Life<L, B, P>
-        ensures { IsLifeRecorded stage.entry.catalogue.now stage.entry.lines.now life
-            → IsLifeRecorded stage.entry.catalogue.now stage.entry.lines.now result }
+        ensures same { IsLifeOf life result }
+        ensures recorded { (execution : List ℕ)
+            → IsLifeRecorded stage.entry.catalogue.now stage.entry.lines.now execution life
+            → IsLifeRecorded stage.entry.catalogue.now stage.entry.lines.now execution result }
     { live(rt, &stage, life) };
     let Ok(lives) = thread::map_vec(rt, lives, &lived) else {
         return Err(Fault::OutOfMemory);
     };
-    let lefts = gathered_all(alloc, lives, outcomes)?;
+    let lefts = gather_all(alloc, lives, outcomes)?;
     destroy(rt, rti, execution, lines, outcomes);
     if outcomes.are_of_all(lines) {
         Ok(lefts)
@@ -146,8 +146,9 @@ fn ran<
 }
 
 /// Does the lines of a script, each federate's on a thread of its own, writes how they came out, and closes. Where `is_watched`, a
-/// monitor is there from before the first step on, and reads the counts once all is done.
-fn told_on_threads<
+/// monitor is there from before the first step on, and reads the counts once all is done. `Memory` where a growth was refused
+/// outside the steps, or the monitor; `Write`, `Close` and `Monitor` as of `close_seen`.
+fn tell_on_threads<
     L: Ledger + Naming + Send + Sync,
     B: FederateAmbassador + Send,
     P: Publisher<L> + Send,
@@ -185,7 +186,7 @@ fn told_on_threads<
         drop(rti);
         return Err(RunFault::Memory);
     };
-    let ran = ran(
+    let ran = run_lines(
         rt,
         alloc,
         &mut rti,
@@ -253,8 +254,9 @@ pub fn run_scripts<
     ensures written { OnOk result (IsRunFrom fed.now script.now (W.contents out.old.inner)
         (W.contents out.new.inner)) }
 
-    // Where that says of a federate's line that it was done, a record of the history is of the act that the line asks for, and
-    // answers so.
+    // What was written of a line is what a record of the history answers: of a federate's line, the record of the act that it
+    // asks the federate for which has joined under its name, by another record of the same execution; of a line that creates,
+    // destroys or joins, the record of that. Or it is refused without a record, for one of the reasons that `IsLineRecorded` names.
     ensures recorded { IfOk result (λ r. IsRunRecorded r.closed fed.now script.now
         (W.contents out.old.inner) (W.contents out.new.inner)) }
 
@@ -276,7 +278,7 @@ pub fn run_scripts<
     let Ok(rti) = open_rti::<L, B, &R>(alloc, rt, blank, opened, MAX_HISTORY) else {
         return Err(RunFault::Memory);
     };
-    told_on_threads(
+    tell_on_threads(
         rt,
         alloc,
         rti,

@@ -1,7 +1,7 @@
 use Rattle.std.proofs.Common.{List, Option, length, refl, subst}
 use Rattle.std.proofs.lemmas.Option.{slice_get_within, slice_get_read}
 use Rattle.hla_in_order.specs.Turns.{IsJoinedAt}
-use Rattle.hla_run.specs.declared.player.Player.{Player}
+use Rattle.hla_players.specs.declared.player.Player.{Player}
 use Rattle.hla_in_order.proofs.TurnLemmas.{does_at}
 use Rattle.hla_in_order.proofs.acting.act.Goals as goal
 

@@ -1,18 +1,18 @@
 use Rattle.std.specs.Prelude.{IfSome}
 use Rattle.std.proofs.Common.{◌≡◌, ◌-◌, List, Option, length, ap, subst, ◌∙◌, arith, length-drop}
 use Rattle.hla_machine.specs.declared.step.Outcome.{Outcome}
-use Rattle.hla_run.specs.Joining.{joins_by}
-use Rattle.hla_run.specs.Recorded.{NeedsNoRecord}
-use Rattle.hla_run.specs.declared.outcomes.LineOutcome.{LineOutcome}
-use Rattle.hla_run.proofs.JoinLemmas.{joins_more}
-use Rattle.hla_run.proofs.RecordLemmas.{kept_noted, kept_same, line_at, telling_aside}
+use Rattle.hla_players.specs.Joining.{joins_by}
+use Rattle.hla_run.specs.Recorded.{IsOfficeLine}
+use Rattle.hla_players.specs.declared.outcomes.LineOutcome.{LineOutcome}
+use Rattle.hla_players.proofs.JoinLemmas.{joins_more}
+use Rattle.hla_run.proofs.RecordLemmas.{line_at, office_noted, office_same}
 use Rattle.hla_run.proofs.opening.open.Goals.{in-Some, in_default}
 use Rattle.hla_run.proofs.opening.open.Goals as goal
 
 pub loop-place-preserved : goal.loop-place-preserved
 loop-place-preserved g c =
     let taken = joins_by c.index-lines-place.result.command in
-    let left : length c.opened.new.ambassadors ≡ length c.loop-place.ambassadors - taken =
+    let left : length c.open_by.new.ambassadors ≡ length c.loop-place.ambassadors - taken =
     ap (λ (bs : List g.row.B.Denot). length bs) c.in_ok-opened.ensures.taken ∙ length-drop taken c.loop-place.ambassadors in
     let more = joins_more c.args.lines.now c.loop-place.place c.index-lines-place.result c.loop-place-test.true c.index-lines-place.is in
     let lines = c.args.lines.now in
@@ -26,11 +26,12 @@ loop-place-preserved g c =
       ];
       enough = omega (arith, more, left, c.loop-place.invariant.enough);
       fresh = c.in_ok-opened.ensures.fresh c.loop-place.invariant.fresh;
+      joined = c.in_ok-opened.ensures.joined c.loop-place.invariant.joined;
       recorded = elim c.match-opened.branch [
         | in-Some w ↦
             let told : LineOutcome = record { place = c.loop-place.place; outcome = w.in-Some.outcome } in
-            let aside = subst (λ (o : Option Outcome). IfSome o (NeedsNoRecord l.command)) w.in-Some.is c.in_ok-opened.ensures.aside in
-            kept_noted lines c.args.outcomes.now before c.match-opened.outcomes told c.loop-place.invariant.recorded (w.outcomes-is ∙ w.note.ensures.noted) (telling_aside lines told l at aside)
-        | in_default w ↦ kept_same lines c.args.outcomes.now before c.match-opened.outcomes c.loop-place.invariant.recorded w.outcomes-is
+            let office = subst (λ (o : Option Outcome). IfSome o (IsOfficeLine c.open_by.new.rti.own l.command)) w.in-Some.is c.in_ok-opened.ensures.recorded in
+            office_noted lines c.loop-place.rti.own c.open_by.new.rti.own c.in_ok-opened.ensures.own c.args.outcomes.now before c.match-opened.outcomes c.loop-place.invariant.recorded told l at (w.outcomes-is ∙ w.note.ensures.noted) office
+        | in_default w ↦ office_same lines c.loop-place.rti.own c.open_by.new.rti.own c.in_ok-opened.ensures.own c.args.outcomes.now before c.match-opened.outcomes c.loop-place.invariant.recorded w.outcomes-is
       ];
     }

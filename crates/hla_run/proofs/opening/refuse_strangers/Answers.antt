@@ -2,8 +2,8 @@ use Rattle.std.proofs.Common.{List, Option, length, ap, ◌∙◌}
 use Rattle.hla_base.specs.declared.fault.Fault.TheVariants.{FederateNotExecutionMember}
 use Rattle.hla_machine.specs.declared.step.Outcome.{Outcome}
 use Rattle.hla_machine.specs.declared.step.Outcome.TheVariants as outcome
-use Rattle.hla_run.specs.declared.outcomes.LineOutcome.{LineOutcome}
-use Rattle.hla_run.proofs.RecordLemmas.{kept_noted, kept_same, line_at, refused_aside, telling_aside}
+use Rattle.hla_players.specs.declared.outcomes.LineOutcome.{LineOutcome}
+use Rattle.hla_run.proofs.RecordLemmas.{kept_noted, kept_same, line_at, stranger_aside, telling_aside}
 use Rattle.hla_run.proofs.opening.refuse_strangers.Goals.{in-Federate+then-not-has_joined, in-Federate+else-not-has_joined, in_default}
 use Rattle.hla_run.proofs.opening.refuse_strangers.Goals as goal
 
@@ -14,7 +14,7 @@ loop-place-preserved g c =
     let kept = c.loop-place.invariant in
     let l = c.index-lines-place.result in
     let told : LineOutcome = record { place = c.loop-place.place; outcome = outcome.Refused FederateNotExecutionMember } in
-    let aside = telling_aside lines told l (line_at lines c.loop-place.place l c.loop-place-test.true c.index-lines-place.is) (refused_aside l.command FederateNotExecutionMember) in
+    let at = line_at lines c.loop-place.place l c.loop-place-test.true c.index-lines-place.is in
     record {
       each = elim c.match-line.branch [
         | in-Federate+then-not-has_joined w ↦ ap (λ (os : List (Option Outcome)). length os) w.outcomes-is ∙ w.note.ensures.length ∙ kept.each
@@ -22,7 +22,7 @@ loop-place-preserved g c =
         | in_default w ↦ ap (λ (os : List (Option Outcome)). length os) w.outcomes-is ∙ kept.each
       ];
       recorded = elim c.match-line.branch [
-        | in-Federate+then-not-has_joined w ↦ kept_noted lines c.args.outcomes.now before c.match-line.outcomes told kept.recorded (w.outcomes-is ∙ w.note.ensures.noted) aside
+        | in-Federate+then-not-has_joined w ↦ kept_noted lines c.args.outcomes.now before c.match-line.outcomes told kept.recorded (w.outcomes-is ∙ w.note.ensures.noted) (telling_aside lines told l at (stranger_aside l.command _ _ w.in-Federate.is))
         | in-Federate+else-not-has_joined w ↦ kept_same lines c.args.outcomes.now before c.match-line.outcomes kept.recorded w.outcomes-is
         | in_default w ↦ kept_same lines c.args.outcomes.now before c.match-line.outcomes kept.recorded w.outcomes-is
       ];

@@ -5,7 +5,7 @@ use Rattle.std.proofs.lemmas.List.{length_push}
 use Rattle.std.proofs.lemmas.Option.{slice_get_read}
 use Rattle.hla_rti.specs.Callers.{Leaver}
 use Rattle.hla_in_order.specs.Turns.{HaveLeft}
-use Rattle.hla_run.specs.declared.player.Player.{Player}
+use Rattle.hla_players.specs.declared.player.Player.{Player}
 use Rattle.hla_in_order.proofs.LeadLemmas.{courier_left, player_left, slot_there, all_left}
 use Rattle.hla_in_order.proofs.in_order.Cast.leave.Goals as goal
 

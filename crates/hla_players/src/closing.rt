@@ -1,0 +1,86 @@
+//! The end of a run: how the lines came out is written, and the infrastructure closes.
+
+ghost use Rattle.std.specs.Prelude.{◌≡◌, ◌||◌, IfOk, OnOk, IfErr, is_some};
+ghost use Rattle.hla_base.specs.Limits.{ledger_parts};
+ghost use Rattle.std.specs.Io.KnownBytes.{Appends};
+ghost use Rattle.hla_rti.specs.Close.{AllAgree};
+ghost use Rattle.hla_players.specs.Running.{IsSeen, StopsText, told_text, is_unwritten_run};
+
+use crate::fault::{RunFault, close_fault};
+use crate::outcomes::Outcomes;
+use crate::texts::write_outcomes;
+use crate::watching::{Ran, is_seen};
+use hla_callbacks::FederateAmbassador;
+use hla_catalogue::Catalogue;
+use hla_commands::Line;
+use hla_monitor::{Naming, Publisher, Status};
+use hla_rti::{Closed, Left, Rti};
+use hla_transcript::Watched;
+use std::alloc::Global;
+use std::io::Write;
+use std::sync::Wait;
+use std::sync::ledger::Ledger;
+
+/// Writes how those lines came out that were done, and closes. `Memory` where a growth was refused for the text; `Write` only
+/// where the writer has failed, and then a beginning of the text is written; `Close` where the infrastructure does not close.
+/// After a fault the infrastructure is let go.
+pub fn close_told<L: Ledger + Naming, B: FederateAmbassador, P: Publisher<L>, W: Write>(
+    rt: &impl Wait,
+    alloc: Global,
+    rti: Rti<L, B, P>,
+    lefts: Vec<Left<L, B>>,
+    catalogue: &Catalogue,
+    lines: &[Line<'_>],
+    outcomes: &Outcomes,
+    out: &mut Watched<W>,
+) -> Result<Closed, RunFault>
+    requires { L.parts ≡ ledger_parts }
+    ensures told { OnOk result (Appends (W.contents out.old.inner) (W.contents out.new.inner)
+        (told_text catalogue.now lines.now outcomes.now)) }
+    ensures agree { IfOk result (λ history. AllAgree history lefts.items rti.own) }
+    ensures stopped { IfErr result (StopsText (told_text catalogue.now lines.now outcomes.now)
+        (W.contents out.old.inner) (W.contents out.new.inner)) }
+    ensures failure { out.new.has_failed ≡ (out.old.has_failed || is_unwritten_run result) }
+{
+    if let Err(fault) = write_outcomes(alloc, catalogue, lines, outcomes, out) {
+        drop(lefts);
+        drop(rti);
+        return Err(fault);
+    }
+    match rti.close(rt, lefts) {
+        Ok(closed) => Ok(closed),
+        Err(not_closed) => Err(close_fault(not_closed)),
+    }
+}
+
+/// Writes and closes as `close_told` does, beside a monitor that has read this last, if one has watched; and `Monitor` where that
+/// are not the counts of a beginning of the history.
+pub fn close_seen<L: Ledger + Naming, B: FederateAmbassador, P: Publisher<L>, W: Write>(
+    rt: &impl Wait,
+    alloc: Global,
+    rti: Rti<L, B, P>,
+    lefts: Vec<Left<L, B>>,
+    catalogue: &Catalogue,
+    lines: &[Line<'_>],
+    outcomes: &Outcomes,
+    seen: Option<Status>,
+    out: &mut Watched<W>,
+) -> Result<Ran, RunFault>
+    requires { L.parts ≡ ledger_parts }
+    ensures told { OnOk result (Appends (W.contents out.old.inner) (W.contents out.new.inner)
+        (told_text catalogue.now lines.now outcomes.now)) }
+    ensures agree { IfOk result (λ r. AllAgree r.closed lefts.items rti.own) }
+    ensures seen { IfOk result (λ r. IsSeen (is_some seen) r.closed r.seen) }
+    ensures stopped { IfErr result (StopsText (told_text catalogue.now lines.now outcomes.now)
+        (W.contents out.old.inner) (W.contents out.new.inner)) }
+    ensures failure { out.new.has_failed ≡ (out.old.has_failed || is_unwritten_run result) }
+{
+    match close_told(rt, alloc, rti, lefts, catalogue, lines, outcomes, out) {
+        Ok(closed) if !is_seen(seen, closed.records()) => {
+            drop(closed);
+            Err(RunFault::Monitor)
+        }
+        Ok(closed) => Ok(Ran { closed, seen }),
+        Err(fault) => Err(fault),
+    }
+}

@@ -1,0 +1,15 @@
+use Rattle.std.proofs.Common.{◌≡◌, ◌<◌, None, Ok}
+use Rattle.hla_machine.specs.declared.step.Act.TheVariants as act
+use Rattle.hla_machine.specs.declared.step.Answer.TheVariants as answer
+use Rattle.hla_machine.specs.declared.step.Step.TheVariants as step
+use Rattle.hla_run.specs.Recorded.{HasAnswerOf, HasExtended}
+use Rattle.hla_run.proofs.life.tick_until_called.Given as goal
+
+-- the federate is the same, and each tick that gave nothing is in its transcript
+abbrev pub invariant-loop-tick : goal.invariant-loop-tick
+invariant-loop-tick g l = record {
+  execution : l.federate.execution ≡ l.initial.federate.execution;
+  federate : l.federate.federate ≡ l.initial.federate.federate;
+  extended : HasExtended l.initial.federate.caller l.federate.caller;
+  vain : 0 < l._tick → HasAnswerOf l.federate.caller.transcript l.initial.federate.execution (act.Step (step.Tick l.initial.federate.federate)) (Ok (answer.Ticked None));
+}

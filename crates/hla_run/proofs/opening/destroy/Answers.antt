@@ -1,0 +1,34 @@
+use Rattle.std.proofs.Common.{List, Option, length, ap, subst, sym, refl, ◌∙◌}
+use Rattle.hla_machine.specs.declared.step.Outcome.{Outcome}
+use Rattle.hla_players.specs.declared.outcomes.LineOutcome.{LineOutcome}
+use Rattle.hla_rti.specs.Callers.{Office}
+use Rattle.hla_run.specs.Recorded.{HasExtended, KeepsOffice}
+use Rattle.hla_run.proofs.RecordLemmas.{destroyed_line, grown_same, grown_twice, line_at, office_noted, office_same}
+use Rattle.hla_run.proofs.opening.destroy.Goals.{in-Destroy, in_default}
+use Rattle.hla_run.proofs.opening.destroy.Goals as goal
+
+pub loop-place-preserved : goal.loop-place-preserved
+loop-place-preserved g c =
+    let lines = c.args.lines.now in
+    let before = c.loop-place.outcomes in
+    let kept = c.loop-place.invariant in
+    let l = c.index-lines-place.result in
+    let at = line_at lines c.loop-place.place l c.loop-place-test.true c.index-lines-place.is in
+    let first = c.args.rti.now.own in
+    let old = c.loop-place.rti.own in
+    elim c.match-line.branch [
+      | in-Destroy w ↦
+          let both = destroyed_line old w.destroy.new.self.own l.command _ w.destroy.result w.outcome_of_done-outcome.result w.in-Destroy.is w.destroy.ensures.answered w.outcome_of_done-outcome.ensures in
+          let told : LineOutcome = record { place = c.loop-place.place; outcome = w.outcome_of_done-outcome.result } in
+          let noted = office_noted lines old w.destroy.new.self.own both.0 c.args.outcomes.now before c.match-line.outcomes kept.recorded told l at (w.outcomes-is ∙ w.note.ensures.noted) both.1 in
+          record {
+            each = ap (λ (os : List (Option Outcome)). length os) w.outcomes-is ∙ w.note.ensures.length ∙ kept.each;
+            own = subst (λ (x : Office). HasExtended first x.own) (sym w.rti-is) (grown_twice first old w.destroy.new.self.own kept.own both.0);
+            recorded = subst (λ (x : Office). KeepsOffice lines x.own c.args.outcomes.now c.match-line.outcomes) (sym w.rti-is) noted;
+          }
+      | in_default w ↦ record {
+        each = ap (λ (os : List (Option Outcome)). length os) w.outcomes-is ∙ kept.each;
+        own = subst (λ (x : Office). HasExtended first x.own) (sym w.rti-is) kept.own;
+        recorded = subst (λ (x : Office). KeepsOffice lines x.own c.args.outcomes.now c.match-line.outcomes) (sym w.rti-is) (office_same lines old old (grown_same old old refl) c.args.outcomes.now before c.match-line.outcomes kept.recorded w.outcomes-is);
+      }
+    ]

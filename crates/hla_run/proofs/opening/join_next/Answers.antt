@@ -1,0 +1,52 @@
+use Rattle.std.proofs.Common.{◌≡◌, ◌∙◌, List, ℕ, Ok, ap, inl, refl, subst, sym}
+use Rattle.std.specs.Result.{is_ok}
+use Rattle.std.proofs.lemmas.Bool.{cond-true}
+use Rattle.hla_machine.specs.declared.step.Act.TheVariants as act
+use Rattle.hla_machine.specs.declared.step.Answer.TheVariants as answer
+use Rattle.hla_machine.specs.declared.step.Outcome.TheVariants as outcome
+use Rattle.hla_machine.specs.declared.step.Step.TheVariants as step
+use Rattle.hla_rti.specs.Callers.{Caller, FederateCaller}
+use Rattle.hla_run.specs.Recorded.{AreFresh, AreJoined, HasJoined, IsJoiningRecorded}
+use Rattle.hla_run.specs.declared.life.Life.{Life}
+use Rattle.hla_run.proofs.RecordLemmas.{acted_extended, acted_recorded, fresh_more, grown_within, joined_in, joined_more, refused_joining}
+use Rattle.hla_run.proofs.opening.join_next.Goals as goal
+
+pub returns-in-Err-clause-recorded : goal.returns-in-Err-clause-recorded
+returns-in-Err-clause-recorded g c =
+    let own = c.join.new.self.own in
+    let told = refused_joining c.args.rti.now.own own c.args.execution c.in_ok-name.name _ _ c.in-Err.ensures.refused in
+    subst (λ (n : List ℕ). IsJoiningRecorded own.transcript n (outcome.Refused c.in-Err.fault)) c.in_ok-name.ensures told
+
+pub returns-clause-recorded : goal.returns-clause-recorded
+returns-clause-recorded g c =
+    let own = c.join.new.self.own in
+    let execution = c.args.execution in
+    let f = c.in-Ok.federate.federate in
+    let told = acted_recorded c.args.rti.now.own own execution (act.Step (step.Join c.in_ok-name.name)) (outcome.Done (answer.Federate f)) (Ok (answer.Federate f)) refl c.in-Ok.ensures.joined in
+    let named = subst (λ (n : List ℕ). HasJoined own.transcript execution n f) c.in_ok-name.ensures told in
+    let numbered = subst (λ (k : ℕ). HasJoined own.transcript execution c.args.name.now k) (sym c.number-number.ensures) named in
+    let last = subst (λ (x : Caller). HasJoined x.transcript execution c.args.name.now c.number-number.result) (sym c.courier.ensures.own) numbered in
+    inl (execution, inl last)
+
+pub returns-clause-fresh : goal.returns-clause-fresh
+returns-clause-fresh g c = λ before.
+    let pushed = c.push.ensures.items ∙ cond-true _ _ _ (ap is_ok c.in-Ok-push.is) in
+    let execution = c.args.execution in
+    let stands : (c.in-Ok.federate.execution ≡ execution) × (c.in-Ok.federate.federate ≡ c.number-number.result) = (ap (λ (f : FederateCaller). f.execution) c.in-Ok.ensures.federate, sym c.number-number.ensures) in
+    subst (λ (ls : List (Life g.row.L.Denot g.row.B.Denot g.row.P.Denot)). AreFresh execution ls) (sym pushed) (fresh_more execution c.args.lives.now.items _ before (stands, c.new.ensures.items))
+
+pub returns-clause-joined : goal.returns-clause-joined
+returns-clause-joined g c = λ before.
+    let pushed = c.push.ensures.items ∙ cond-true _ _ _ (ap is_ok c.in-Ok-push.is) in
+    let own = c.join.new.self.own in
+    let old = c.args.rti.now.own in
+    let execution = c.args.execution in
+    let f = c.in-Ok.federate.federate in
+    let told = acted_recorded old own execution (act.Step (step.Join c.in_ok-name.name)) (outcome.Done (answer.Federate f)) (Ok (answer.Federate f)) refl c.in-Ok.ensures.joined in
+    let named = subst (λ (n : List ℕ). HasJoined own.transcript execution n f) (c.in_ok-name.ensures ∙ sym c.in_ok-own.ensures) told in
+    let numbered = subst (λ (k : ℕ). HasJoined own.transcript execution c.in_ok-own.own k) (sym c.number-number.ensures) named in
+    let grown = acted_extended old own execution _ _ c.in-Ok.ensures.joined in
+    let others = joined_in own.transcript old.transcript execution c.args.lives.now.items (grown_within old own grown) before in
+    let all = joined_more own.transcript execution c.args.lives.now.items _ others numbered in
+    let kept = subst (λ (ls : List (Life g.row.L.Denot g.row.B.Denot g.row.P.Denot)). AreJoined own.transcript execution ls) (sym pushed) all in
+    subst (λ (x : Caller). AreJoined x.transcript execution c.push.new.self.items) (sym c.courier.ensures.own) kept

@@ -1,0 +1,33 @@
+use Rattle.std.proofs.Common.{◌<◌, List, Option, length, get_or, sym, subst, arith}
+use Rattle.std.specs.List.{All}
+use Rattle.hla_machine.specs.declared.step.Outcome.{Outcome}
+use Rattle.hla_run.specs.Recorded.{AreJoined, AreOutcomesRecorded, HasJoined, IsFresh, IsLifeOf, IsLifeRecorded, IsTranscriptIn}
+use Rattle.hla_run.specs.declared.life.Life.{Life}
+use Rattle.hla_run.proofs.RecordLemmas.{blank_recorded, fresh_recorded, grown_within, joined_in, joined_same}
+use Rattle.hla_run.proofs.runner.run_lines.Goals as goal
+
+pub returns-then-are_of_all-clause-recorded : goal.returns-then-are_of_all-clause-recorded
+returns-then-are_of_all-clause-recorded g c = λ history lefts own.
+    let catalogue = c.args.catalogue.now in
+    let lines = c.args.lines.now in
+    let execution = c.in_ok-execution.execution in
+    let lives = c.in_ok-lives.lives.items in
+    let blank = subst (λ (os : List (Option Outcome)). AreOutcomesRecorded catalogue lines history os) (sym c.requires.blank) (blank_recorded catalogue lines history (length lines)) in
+    let before : IsTranscriptIn history c.«open».new.rti.own.transcript = λ r there. own r (grown_within c.«open».new.rti.own c.destroy.new.rti.own c.destroy.ensures.own r there) in
+    let opened = c.in_ok-lives.ensures.recorded catalogue history before blank in
+    let refused = c.refuse_strangers.ensures.recorded catalogue history opened in
+    let joined : AreJoined history execution lives = joined_in history c.«open».new.rti.own.transcript execution lives before c.in_ok-lives.ensures.joined in
+    let lived : All (IsLifeRecorded catalogue lines execution) c.in-Ok.lives.items = λ k d below.
+    let within : k < length lives = omega (arith, below, c.in-Ok.ensures.len) in
+    let job = (c.in-Ok.ensures.each k d within).1 in
+    let fresh = subst (λ (life : Life g.row.L.Denot g.row.B.Denot g.row.P.Denot). IsFresh execution life) (job.job_is job.job) (c.in_ok-lives.ensures.fresh k job.job within) in
+    let called : IsLifeRecorded catalogue lines execution job.job → IsLifeRecorded catalogue lines execution (get_or c.in-Ok.lives.items k d) = job.call.met.1 execution in
+    called (fresh_recorded catalogue lines execution job.job fresh) in
+    let named : AreJoined history execution c.in-Ok.lives.items = λ k d below.
+    let within : k < length lives = omega (arith, below, c.in-Ok.ensures.len) in
+    let job = (c.in-Ok.ensures.each k d within).1 in
+    let first = subst (λ (life : Life g.row.L.Denot g.row.B.Denot g.row.P.Denot). HasJoined history execution life.name life.number) (job.job_is job.job) (joined k job.job within) in
+    let same : IsLifeOf job.job (get_or c.in-Ok.lives.items k d) = job.call.met.0 in
+    joined_same history execution job.job (get_or c.in-Ok.lives.items k d) same first in
+    let told = c.in_ok-lefts.ensures.recorded catalogue lines execution history lived named lefts refused in
+    c.destroy.ensures.recorded catalogue history own told
