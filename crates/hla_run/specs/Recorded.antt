@@ -41,12 +41,12 @@ pub record HasAnswerOf (records : List Record) (execution : List ℕ) (a : Act) 
   pub answers : answer_given found.outcome ≡ given
 
 -- an act without a record: the history was full, or memory ran out
-abbrev pub IsUnrecorded : Outcome → Type 0
-IsUnrecorded out = (e : Fault) × (out ≡ outcome.Refused e) × ((e ≡ fault.HistoryFull) ⊎ (e ≡ fault.OutOfMemory))
+abbrev pub LacksRecord : Outcome → Type 0
+LacksRecord out = (e : Fault) × (out ≡ outcome.Refused e) × ((e ≡ fault.HistoryFull) ⊎ (e ≡ fault.OutOfMemory))
 
 -- an act is told as a record answers, or has none
 abbrev pub IsActRecorded : List Record → List ℕ → Act → Outcome → Type 0
-IsActRecorded records execution a out = HasAnswerOf records execution a (answer_given out) ⊎ IsUnrecorded out
+IsActRecorded records execution a out = HasAnswerOf records execution a (answer_given out) ⊎ LacksRecord out
 
 -- one of the records is of what the call asks this federate for, and answers this
 pub record HasCallOf (c : CatalogueValue) (records : List Record) (execution : List ℕ) (f : ℕ) (call : Call) (given : Result Answer Fault) : Type 0 where

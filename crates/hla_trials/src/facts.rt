@@ -136,7 +136,7 @@ pub fn receipt(record: &Record, event: EventHandle) -> Result<Option<Callback>, 
     }
 }
 
-/// The callback told as that all have reached the label that it announces.
+/// The callback told as that all have reached the label that it announces. `OutOfMemory` where a growth was refused.
 pub fn synchronized_of(callback: &Callback) -> Result<Option<Callback>, Fault> {
     match callback {
         Callback::AnnounceSynchronizationPoint { label } => {

@@ -24,14 +24,14 @@ fn tells(alloc: Global, records: &mut [Record], place: usize, forged: Record) ->
     told == Err(CheckFault::Place(place))
 }
 
-/// The record with another outcome.
+/// The record with another outcome. `OutOfMemory` where a growth was refused.
 fn ending(record: &Record, outcome: Outcome) -> Result<Record, Fault> {
     let mut forged = record.copy()?;
     forged.outcome = outcome;
     Ok(forged)
 }
 
-/// The record of a tick that gave another callback.
+/// The record of a tick that gave another callback. `OutOfMemory` where a growth was refused.
 fn giving(record: &Record, callback: Callback) -> Result<Record, Fault> {
     ending(record, Outcome::Done(Answer::Ticked(Some(callback))))
 }
@@ -61,7 +61,7 @@ fn other_choice(record: &Record) -> Result<Option<Record>, Fault> {
     Ok(Some(forged))
 }
 
-/// The record with an entry one tick below what was asked for.
+/// The record with an entry one tick below what was asked for. `OutOfMemory` where a growth was refused.
 fn low_entry(record: &Record) -> Result<Option<Record>, Fault> {
     let Some(asked) = asked_entry(record) else {
         return Ok(None);
@@ -74,7 +74,7 @@ fn low_entry(record: &Record) -> Result<Option<Record>, Fault> {
     Ok(Some(forged))
 }
 
-/// The record of a callback with a stamp that is a tick greater.
+/// The record of a callback with a stamp that is a tick greater. `OutOfMemory` where a growth was refused.
 fn other_stamp(record: &Record) -> Result<Option<Record>, Fault> {
     let Some(callback) = given(record) else {
         return Ok(None);
@@ -89,7 +89,7 @@ fn other_stamp(record: &Record) -> Result<Option<Record>, Fault> {
 }
 
 /// The record of a grant one tick earlier, where nobody flushed before its place: a flush is granted any time from the caller's
-/// own up to what it gave.
+/// own up to what it gave. `OutOfMemory` where a growth was refused.
 fn early_grant(records: &[Record], place: usize, record: &Record) -> Result<Option<Record>, Fault> {
     if has_flushed(records, place) {
         return Ok(None);
@@ -118,6 +118,7 @@ fn retracted_before(records: &[Record], place: usize) -> Option<EventHandle> {
 }
 
 /// What a receiver would be given of an event that was sent before a place, where it is an interaction.
+/// `OutOfMemory` where a growth was refused.
 fn receipt_before(
     records: &[Record],
     place: usize,
@@ -131,7 +132,7 @@ fn receipt_before(
     Ok(None)
 }
 
-/// The tick at a place, which gives an interaction that was retracted before.
+/// The tick at a place, which gives an interaction that was retracted before. `OutOfMemory` where a growth was refused.
 fn retracted_pick(records: &[Record], place: usize) -> Result<Option<Record>, Fault> {
     let Some(record) = records.get(place) else {
         return Ok(None);
@@ -148,7 +149,7 @@ fn retracted_pick(records: &[Record], place: usize) -> Result<Option<Record>, Fa
     }
 }
 
-/// The last resignation before a place, once more.
+/// The last resignation before a place, once more. `OutOfMemory` where a growth was refused.
 fn second_resignation(records: &[Record], place: usize) -> Result<Option<Record>, Fault> {
     let mut last = None;
     for record in records.iter().take(place) {
@@ -160,6 +161,7 @@ fn second_resignation(records: &[Record], place: usize) -> Result<Option<Record>
 }
 
 /// The record of an announcement, which tells instead that all have reached its label.
+/// `OutOfMemory` where a growth was refused.
 fn early_synchronized(record: &Record) -> Result<Option<Record>, Fault> {
     let Some(callback) = given(record) else {
         return Ok(None);
@@ -182,7 +184,7 @@ fn other_achievement(record: &Record) -> Result<Option<Record>, Fault> {
     Ok(Some(ending(record, other)?))
 }
 
-/// The forgeries of the record at a place, one of each kind that it has.
+/// The forgeries of the record at a place, one of each kind that it has. `OutOfMemory` where a growth was refused.
 fn forgeries(records: &[Record], place: usize) -> Result<[Option<Record>; 9], Fault> {
     let Some(record) = records.get(place) else {
         return Ok([None, None, None, None, None, None, None, None, None]);

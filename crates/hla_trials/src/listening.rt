@@ -121,7 +121,7 @@ impl<'a> Listener<'a> {
         }
     }
 
-    /// Hears a callback, for which there is room.
+    /// Hears a callback, for which there is room. An error is the ear's.
     fn hear(&mut self, callback: Callback) -> Result<(), FederateFault>
         requires { self.old.room ≡ true }
         ensures heard { self.new.heard ≡ self.old.heard ++ callback ∷ [] }

@@ -67,7 +67,7 @@ pub fn add_lines(text: &mut Vec<u8>, lines: &[&str]) -> Result<(), AllocError> {
     Ok(())
 }
 
-/// The text of some lines.
+/// The text of some lines. `AllocError` where a growth was refused.
 fn text_of(alloc: Global, lines: &[&str]) -> Result<Vec<u8>, AllocError> {
     let mut text = Vec::new(alloc);
     add_lines(&mut text, lines)?;
