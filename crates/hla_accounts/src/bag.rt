@@ -78,7 +78,8 @@ fn demoted(delivery: Delivery) -> Delivery
 
 /// Whether the message that an event handle names stands at a place.
 fn stands_at(waiting: &[Waiting], place: usize, event: EventHandle) -> bool
-    ensures { result ≡ option_map_or (is_of event.sender event.serial) (slice_get waiting.now place) false }
+    ensures { result
+        ≡ option_map_or (is_of event.sender event.serial) (slice_get waiting.now place) false }
 {
     match waiting.get(place) {
         Some(message) => message.event.sender == event.sender
@@ -210,7 +211,8 @@ impl Bag {
 
     /// Whether a message with this content waits, to be given so.
     pub fn holds(&self, event: EventHandle, delivery: Delivery, content: &Content) -> bool
-        ensures { IsTrue result ↔ (copy_at self.now event.sender event.serial ≡ Some (copy_given delivery
+        ensures { IsTrue result
+            ↔ (copy_at self.now event.sender event.serial ≡ Some (copy_given delivery
             content.now)) }
     {
         match self.find(event) {
@@ -225,7 +227,8 @@ impl Bag {
     /// time of one is constant.
     pub fn put(&mut self, waiting: Waiting) -> Result<(), Fault>
         requires { waiting_at self.old waiting.event.sender waiting.event.serial ≡ None }
-        ensures ok { OnOk result (waiting_at self.new ≡ upd2 (waiting_at self.old) waiting.event.sender
+        ensures ok { OnOk result
+            (waiting_at self.new ≡ upd2 (waiting_at self.old) waiting.event.sender
             waiting.event.serial (Some waiting)) }
         ensures apart { AreApart self.new }
         ensures err { IfErr result (λ e. e ≡ Fault.OutOfMemory) }
@@ -318,7 +321,8 @@ impl Bag {
     /// message once, and the time to find the message grows with the logarithm of what waits; else it looks at each message. The
     /// messages behind it move, or those in front of it where these are fewer.
     pub fn remove(&mut self, event: EventHandle)
-        ensures table { waiting_at self.new ≡ upd2 (waiting_at self.old) event.sender event.serial None }
+        ensures table { waiting_at self.new
+            ≡ upd2 (waiting_at self.old) event.sender event.serial None }
         ensures apart { AreApart self.new }
     {
         if !self.indexing.is_idle(self.waiting.len()) {
@@ -333,7 +337,8 @@ impl Bag {
     /// `remove` where much waits.
     #[cold]
     fn remove_from_many(&mut self, event: EventHandle)
-        ensures table { waiting_at self.new ≡ upd2 (waiting_at self.old) event.sender event.serial None }
+        ensures table { waiting_at self.new
+            ≡ upd2 (waiting_at self.old) event.sender event.serial None }
         ensures apart { AreApart self.new }
     {
         self.indexing.catch_up(&self.waiting);
@@ -350,7 +355,8 @@ impl Bag {
     /// The message that an event handle names, if it was sent in time-stamp order, is to be given in receive order. It finds it
     /// as `remove`.
     pub fn demote_one(&mut self, event: EventHandle)
-        ensures table { waiting_at self.new ≡ with_listed_demoted (event ∷ []) (waiting_at self.old) }
+        ensures table { waiting_at self.new
+            ≡ with_listed_demoted (event ∷ []) (waiting_at self.old) }
         ensures apart { AreApart self.new }
     {
         let waiting = self.waiting.as_slice();
@@ -370,7 +376,8 @@ impl Bag {
     /// `demote_one` where much waits.
     #[cold]
     fn demote_among_many(&mut self, event: EventHandle)
-        ensures table { waiting_at self.new ≡ with_listed_demoted (event ∷ []) (waiting_at self.old) }
+        ensures table { waiting_at self.new
+            ≡ with_listed_demoted (event ∷ []) (waiting_at self.old) }
         ensures apart { AreApart self.new }
     {
         self.look_at_tail();

@@ -133,7 +133,8 @@ impl Accounts {
 
     /// Whether an event waits for a federate in time-stamp order.
     fn waits_in_order(&self, federate: FederateNo, event: EventHandle) -> bool
-        ensures { result ≡ waits_in_order (waiting_at (account_at self.now federate).bag event.sender
+        ensures { result
+            ≡ waits_in_order (waiting_at (account_at self.now federate).bag event.sender
             event.serial) }
     {
         match self.find(federate, event) {
@@ -161,7 +162,8 @@ impl Accounts {
         event: EventHandle,
         removal: bool,
     ) -> bool
-        ensures { result ≡ (eqb event.sender from && is_carried removal (waiting_at (account_at self.now
+        ensures { result
+            ≡ (eqb event.sender from && is_carried removal (waiting_at (account_at self.now
             to).bag event.sender event.serial)) }
     {
         if event.sender != from {

@@ -20,7 +20,8 @@ impl Accounts {
         requires some { 0 < federate }
         requires within { federate ≤ length self.old }
         requires may { MayChangeRow change (account_at self.old federate).state }
-        ensures { (d : Directory) → central_with d self.new ≡ with_central_row (central_with d self.old)
+        ensures { (d : Directory)
+            → central_with d self.new ≡ with_central_row (central_with d self.old)
             federate (changed_row change (account_at self.old federate).state) }
     {
         change.make(&mut self.accounts[federate as usize - 1].state);
@@ -63,7 +64,8 @@ impl Accounts {
     pub fn arrive(&mut self, federate: FederateNo, event: EventHandle)
         requires some { 0 < federate }
         requires within { federate ≤ length self.old }
-        ensures { (d : Directory) → central_with d self.new ≡ after_arrival (central_with d self.old)
+        ensures { (d : Directory)
+            → central_with d self.new ≡ after_arrival (central_with d self.old)
             event.sender federate event.serial }
     {
         if !self.is_order_kept(federate) {
@@ -75,9 +77,11 @@ impl Accounts {
     pub fn take_due(&mut self, federate: FederateNo, event: EventHandle)
         requires some { 0 < federate }
         requires within { federate ≤ length self.old }
-        ensures { (d : Directory) → let c = central_with d self.old in central_with d self.new ≡ record c {
-          due = at3 c.due event.sender event.serial federate (c.due event.sender event.serial federate - 1);
-        } }
+        ensures { (d : Directory) → let c = central_with d self.old
+            in central_with d self.new ≡ record c {
+              due = at3 c.due event.sender event.serial federate
+                  (c.due event.sender event.serial federate - 1);
+            } }
     {
         self.accounts[federate as usize - 1].due.remove(event);
     }
@@ -131,7 +135,8 @@ impl Accounts {
 
     /// Whether a message waits for a federate.
     fn is_there(&self, federate: FederateNo, event: EventHandle) -> bool
-        ensures { result ≡ is_some (copy_at (account_at self.now federate).bag event.sender event.serial) }
+        ensures { result
+            ≡ is_some (copy_at (account_at self.now federate).bag event.sender event.serial) }
     {
         self.find(federate, event).is_some()
     }
@@ -142,7 +147,8 @@ impl Accounts {
     pub fn settle(&mut self, federate: FederateNo, event: EventHandle) -> Result<(), Fault>
         requires some { 0 < federate }
         requires within { federate ≤ length self.old }
-        ensures ok { OnOk result ((d : Directory) → central_with d self.new ≡ after_retraction_arrival
+        ensures ok { OnOk result
+            ((d : Directory) → central_with d self.new ≡ after_retraction_arrival
             (central_with d self.old) event.sender federate event.serial) }
         ensures err { IfErr result (λ e. e ≡ Fault.OutOfMemory) }
     {

@@ -52,7 +52,8 @@ impl Accounts {
         delivery: Delivery,
         content: &Content,
     ) -> bool
-        ensures { IsTrue result ↔ (copy_at (account_at self.now federate).bag event.sender event.serial
+        ensures { IsTrue result
+            ↔ (copy_at (account_at self.now federate).bag event.sender event.serial
             ≡ Some (copy_given delivery content.now)) }
     {
         match self.get(federate) {
@@ -101,7 +102,8 @@ impl Accounts {
         delivery: Delivery,
         content: &Content,
     ) -> bool
-        ensures { (d : Directory) → IsTrue result ↔ MayDeliver (central_with d self.now) federate content.now
+        ensures { (d : Directory)
+            → IsTrue result ↔ MayDeliver (central_with d self.now) federate content.now
             event delivery }
     {
         let _ = &self.accounts;
@@ -111,7 +113,8 @@ impl Accounts {
 
     /// Whether an event waits for a federate in time-stamp order, with a stamp below a time, in ticks.
     fn is_moved_below(&self, federate: FederateNo, time: Ticks, event: EventHandle) -> bool
-        ensures { result ≡ is_moved_below time (waiting_at (account_at self.now federate).bag event.sender
+        ensures { result
+            ≡ is_moved_below time (waiting_at (account_at self.now federate).bag event.sender
             event.serial) }
     {
         match self.find(federate, event) {
@@ -175,7 +178,8 @@ impl Accounts {
     /// and with what lies below the time there, as `are_indexed_among` says; and where the bounds do not answer, with what was
     /// put since a message was taken out, and for what of it lies below the time with the events.
     fn are_all_among(&self, federate: FederateNo, time: Ticks, events: &[EventHandle]) -> bool
-        ensures { result ≡ list_all (is_among_if_below self.now time events.now) (account_at self.now
+        ensures { result
+            ≡ list_all (is_among_if_below self.now time events.now) (account_at self.now
             federate).bag }
     {
         let Some(account) = self.get(federate) else {
@@ -189,7 +193,8 @@ impl Accounts {
 
     /// Whether each of these events waits for a federate in time-stamp order, with a stamp below a time, in ticks.
     fn are_moved_below(&self, federate: FederateNo, time: Ticks, events: &[EventHandle]) -> bool
-        ensures { result ≡ list_all (λ (e : EventHandle). is_moved_below time (waiting_at (account_at self.now
+        ensures { result
+            ≡ list_all (λ (e : EventHandle). is_moved_below time (waiting_at (account_at self.now
             federate).bag e.sender e.serial)) events.now }
     {
         events

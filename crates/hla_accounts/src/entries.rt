@@ -113,7 +113,8 @@ impl Accounts {
         lookahead: Ticks,
         entry: Ticks,
     ) -> bool
-        requires { (d : Directory) → first_fault (call_tests (central_seen (central_with d self.now)) federate
+        requires { (d : Directory)
+            → first_fault (call_tests (central_seen (central_with d self.now)) federate
             (service.EnableTimeRegulation time lookahead)) ≡ None }
         ensures value { result ≡ may_enter self.now federate (time + lookahead) entry }
         ensures within { IsTrue result

@@ -47,7 +47,8 @@ impl Handles {
 
     /// Adds an event once more; `OutOfMemory`, and all as it was, where a growth was refused.
     pub fn add(&mut self, event: EventHandle) -> Result<(), Fault>
-        ensures ok { OnOk result ((g m : ℕ) → times_listed self.new g m ≡ times_listed self.old g m + one_if
+        ensures ok { OnOk result
+            ((g m : ℕ) → times_listed self.new g m ≡ times_listed self.old g m + one_if
             (is_key event.sender event.serial g m)) }
         ensures err { IfErr result (λ e. e ≡ Fault.OutOfMemory) }
         ensures unchanged { OnErr result (self.new ≡ self.old) }
@@ -60,7 +61,8 @@ impl Handles {
 
     /// Takes an event out once, if it is there. It looks at each.
     pub fn remove(&mut self, event: EventHandle)
-        ensures { (g m : ℕ) → times_listed self.new g m ≡ cond (is_key event.sender event.serial g m)
+        ensures { (g m : ℕ)
+            → times_listed self.new g m ≡ cond (is_key event.sender event.serial g m)
             (times_listed self.old g m - 1) (times_listed self.old g m) }
     {
         match self.place_of(event) {

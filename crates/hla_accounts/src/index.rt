@@ -170,7 +170,8 @@ impl Index {
     /// A message waits behind the others. `AllocError` where a growth was refused; the index is of no use any more then.
     /// The time grows with the logarithm of what waits.
     pub fn add(&mut self, event: EventHandle, delivery: Delivery) -> Result<(), AllocError>
-        ensures { (t : ℕ → ℕ → Option Delivery) → IsIndexOf self.old t → t event.sender event.serial ≡ None →
+        ensures { (t : ℕ → ℕ → Option Delivery) → IsIndexOf self.old t
+            → t event.sender event.serial ≡ None →
             OnOk result (IsIndexOf self.new (upd2 t event.sender event.serial (Some delivery))) }
     {
         let number = self.next;
@@ -263,7 +264,8 @@ impl Index {
 
     /// Whether much is to be given in time-stamp order with a stamp below a time, in ticks.
     fn has_many_ordered_below(&self, time: Ticks) -> bool
-        ensures { result ≡ ltb COMPARED (length (filter (is_ordered_below time) self.now.keys.keys)) }
+        ensures { result
+            ≡ ltb COMPARED (length (filter (is_ordered_below time) self.now.keys.keys)) }
     {
         self.ordered_below(time).take(COMPARED + 1).count() > COMPARED
     }
@@ -311,7 +313,8 @@ impl Index {
 
     /// The keys of what the sender of an event sent before it in receive order.
     pub fn received_before(&self, event: EventHandle) -> Range<'_, Key>
-        ensures keys { result ≡ filter (is_received_before event.sender event.serial) self.now.keys.keys }
+        ensures keys { result
+            ≡ filter (is_received_before event.sender event.serial) self.now.keys.keys }
         ensures runs { ShowsInOrder (deref {X = Key}) }
     {
         let first = EventHandle {

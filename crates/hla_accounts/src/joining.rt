@@ -36,7 +36,8 @@ impl Accounts {
     pub fn leave(&mut self, federate: FederateNo)
         requires some { 0 < federate }
         requires within { federate ≤ length self.old }
-        ensures { (d : Directory) → central_with (without_member d federate) self.new ≡ without_federate
+        ensures { (d : Directory)
+            → central_with (without_member d federate) self.new ≡ without_federate
             (central_with d self.old) federate }
     {
         self.accounts[federate as usize - 1].leave();

@@ -90,7 +90,8 @@ fn vacate(waiting: &mut Vec<Waiting>, place: usize)
 fn take_out(waiting: &mut Vec<Waiting>, start: usize, place: usize) -> usize
     requires some { start ≤ place }
     requires within { place < length waiting.old.items }
-    ensures rest { drop result waiting.new.items ≡ remove (drop start waiting.old.items) (place - start) }
+    ensures rest { drop result waiting.new.items
+        ≡ remove (drop start waiting.old.items) (place - start) }
     ensures within { result ≤ length waiting.new.items }
 {
     if moves_front(start, place, waiting.len()) {

@@ -92,7 +92,8 @@ impl Accounts {
 
     /// To whom a message of a federate goes.
     fn receivers_of(&self, sender: FederateNo, contents: &[Option<Content>]) -> FederateSet
-        ensures { federate_set result ≡ (λ f. is_other (λ k. (account_at self.now k).is_joined) sender f
+        ensures { federate_set result
+            ≡ (λ f. is_other (λ k. (account_at self.now k).is_joined) sender f
             && is_some (item_for contents.now f)) }
     {
         let mut receivers = FederateSet::new();
@@ -150,7 +151,8 @@ impl Accounts {
         content: Option<Content>,
     ) -> Result<(), Fault>
         requires some { 0 < federate }
-        requires free { copy_at (account_at self.old federate).bag event.sender event.serial ≡ None }
+        requires free { copy_at (account_at self.old federate).bag event.sender event.serial
+            ≡ None }
         requires used { event.serial < (account_at self.old event.sender).next_serial }
         ensures ok { OnOk result
             ((d : Directory)
@@ -186,7 +188,8 @@ impl Accounts {
         contents: Vec<Option<Content>>,
     ) -> Result<(), Fault>
         requires few { length contents.items ≤ max_joins }
-        requires free { (f : ℕ) → copy_at (account_at self.old f).bag event.sender event.serial ≡ None }
+        requires free { (f : ℕ)
+            → copy_at (account_at self.old f).bag event.sender event.serial ≡ None }
         requires used { event.serial < (account_at self.old event.sender).next_serial }
         ensures ok { OnOk result
             ((d : Directory)

@@ -90,9 +90,10 @@ impl Accounts {
     pub fn take_notice(&mut self, federate: FederateNo)
         requires some { 0 < federate }
         requires within { federate ≤ length self.old }
-        ensures { (d : Directory) → let c = central_with d self.old in central_with d self.new ≡ record c {
-          notices = upd c.notices federate (drop 1 (c.notices federate));
-        } }
+        ensures { (d : Directory) → let c = central_with d self.old
+            in central_with d self.new ≡ record c {
+              notices = upd c.notices federate (drop 1 (c.notices federate));
+            } }
     {
         self.accounts[federate as usize - 1].notices.take_first();
     }

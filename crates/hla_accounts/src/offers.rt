@@ -81,7 +81,8 @@ impl Offers {
 
     /// Takes the first out that is of a federate's object, if there is one. It looks at each.
     pub fn take_first(&mut self, from: FederateNo)
-        ensures { (g : ℕ) → offers_from g self.new ≡ cond (eqb from g) (drop 1 (offers_from g self.old))
+        ensures { (g : ℕ)
+            → offers_from g self.new ≡ cond (eqb from g) (drop 1 (offers_from g self.old))
             (offers_from g self.old) }
     {
         match self.place_of(from) {
@@ -132,7 +133,8 @@ impl Accounts {
         from: FederateNo,
         discovery: &Discovery,
     ) -> bool
-        ensures { IsTrue result ↔ IsNextDiscovery (offers_from from (account_at self.now federate).offers)
+        ensures { IsTrue result
+            ↔ IsNextDiscovery (offers_from from (account_at self.now federate).offers)
             discovery.now }
     {
         match self.get(federate) {
@@ -156,9 +158,10 @@ impl Accounts {
     pub fn take_offer(&mut self, federate: FederateNo, from: FederateNo)
         requires some { 0 < federate }
         requires within { federate ≤ length self.old }
-        ensures { (d : Directory) → let c = central_with d self.old in central_with d self.new ≡ record c {
-          discoveries = upd2 c.discoveries from federate (drop 1 (c.discoveries from federate));
-        } }
+        ensures { (d : Directory) → let c = central_with d self.old
+            in central_with d self.new ≡ record c {
+              discoveries = upd2 c.discoveries from federate (drop 1 (c.discoveries from federate));
+            } }
     {
         self.accounts[federate as usize - 1].offers.take_first(from);
     }

@@ -26,7 +26,8 @@ fn is_one_joined(accounts: &[Account]) -> bool
 
 /// Whether one of these is joined under a name.
 fn is_one_joined_as(accounts: &[Account], name: &[u8]) -> bool
-    ensures { result ≡ list_any (λ (a : Account). a.is_joined && bytes_eq a.name name.now) accounts.now }
+    ensures { result
+        ≡ list_any (λ (a : Account). a.is_joined && bytes_eq a.name name.now) accounts.now }
 {
     accounts.iter().any(|account| account.is_joined && account.name.as_slice() == name)
 }
@@ -73,7 +74,8 @@ impl Accounts {
 
     /// Whether a joined federate has this name.
     fn is_named(&self, name: &[u8]) -> bool
-        ensures { (d : Directory) → result ≡ is_name_joined (central_with d self.now).directory name.now }
+        ensures { (d : Directory)
+            → result ≡ is_name_joined (central_with d self.now).directory name.now }
     {
         is_one_joined_as(&self.accounts, name)
     }

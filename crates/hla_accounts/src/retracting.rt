@@ -48,7 +48,8 @@ impl Accounts {
 
     /// Whether a message that may be retracted was sent to a federate.
     fn was_sent_to(&self, event: EventHandle, federate: FederateNo) -> bool
-        ensures { result ≡ (sent_of (account_at self.now event.sender).sent event.serial).receivers federate }
+        ensures { result
+            ≡ (sent_of (account_at self.now event.sender).sent event.serial).receivers federate }
     {
         match self.get(event.sender) {
             Some(account) => account.sent.is_receiver(event.serial, federate),
@@ -89,7 +90,8 @@ impl Accounts {
     pub fn take_back(&mut self, event: EventHandle) -> Result<(), Fault>
         requires some { 0 < event.sender }
         requires within { event.sender ≤ length self.old }
-        requires may { (sent_of (account_at self.old event.sender).sent event.serial).retractable ≡ true }
+        requires may { (sent_of (account_at self.old event.sender).sent event.serial).retractable
+            ≡ true }
         ensures ok { OnOk result
             ((d : Directory)
             → central_with d self.new

@@ -35,7 +35,8 @@ impl Accounts {
         is_some_timestamp: bool,
     ) -> bool
         ensures { (outs : List Outgoing) →
-            list_any (λ (out : Outgoing). is_of_order Timestamp out.order) outs ≡ is_some_timestamp →
+            list_any (λ (out : Outgoing). is_of_order Timestamp out.order) outs
+            ≡ is_some_timestamp →
             result ≡ is_bad_stamp (account_at self.now sender).state stamp outs }
     {
         match stamp {

@@ -21,9 +21,10 @@ impl Accounts {
         requires some { 0 < federate }
         requires within { federate ≤ length self.old }
         requires room { (account_at self.old federate).next_serial ≤ max_serial }
-        ensures { (d : Directory) → let c = central_with d self.old in central_with d self.new ≡ record c {
-          serial = upd c.serial federate (c.serial federate + 1);
-        } }
+        ensures { (d : Directory) → let c = central_with d self.old
+            in central_with d self.new ≡ record c {
+              serial = upd c.serial federate (c.serial federate + 1);
+            } }
     {
         self.accounts[federate as usize - 1].take_serial();
     }
@@ -40,7 +41,8 @@ impl Accounts {
         requires within { federate ≤ length self.old }
         requires room { (account_at self.old federate).next_serial ≤ max_serial }
         ensures ok { OnOk result
-            ((d : Directory) → let c = central_with d self.old in central_with d self.new ≡ record c {
+            ((d : Directory) → let c = central_with d self.old
+            in central_with d self.new ≡ record c {
               serial = upd c.serial federate (c.serial federate + 1);
               sent = upd2 c.sent federate (c.serial federate) (record {
                 stamp = stamp;
@@ -61,7 +63,8 @@ impl Accounts {
         requires within { federate ≤ length self.old }
         requires free { waiting_at
             (account_at self.old federate).bag waiting.event.sender waiting.event.serial ≡ None }
-        requires used { waiting.event.serial < (account_at self.old waiting.event.sender).next_serial }
+        requires used { waiting.event.serial
+            < (account_at self.old waiting.event.sender).next_serial }
         ensures ok { OnOk result
             ((d : Directory)
             → let c = central_with d self.old in central_with d self.new
@@ -79,9 +82,11 @@ impl Accounts {
         requires some { 0 < federate }
         requires within { federate ≤ length self.old }
         requires may { (sent_of (account_at self.old federate).sent serial).retractable ≡ true }
-        ensures { (d : Directory) → let c = central_with d self.old in central_with d self.new ≡ record c {
-          sent = upd2 c.sent federate serial (record (c.sent federate serial) { retracted = true });
-        } }
+        ensures { (d : Directory) → let c = central_with d self.old
+            in central_with d self.new ≡ record c {
+              sent = upd2 c.sent federate serial
+                  (record (c.sent federate serial) { retracted = true });
+            } }
     {
         self.accounts[federate as usize - 1].sent.retract(serial);
     }

@@ -136,7 +136,8 @@ impl Accounts {
         requires row { row.now ≡ (account_at self.now federate).state }
         requires numbers { RowNumbers row.now }
         requires waits { row.now.advance ≡ Some request }
-        ensures { result ≡ is_granted_as (is_constrained row.now) (is_flush request.kind) self.now federate
+        ensures { result
+            ≡ is_granted_as (is_constrained row.now) (is_flush request.kind) self.now federate
             request time }
     {
         if !is_constrained(row) {
@@ -180,7 +181,8 @@ impl Accounts {
 
     /// Whether none of these messages goes before another with this stamp, in ticks. It looks at each.
     fn are_not_before(&self, event: EventHandle, stamp: Ticks, waiting: &[Waiting]) -> bool
-        ensures { result ≡ list_all (is_not_before self.now event.sender event.serial stamp) waiting.now }
+        ensures { result
+            ≡ list_all (is_not_before self.now event.sender event.serial stamp) waiting.now }
     {
         waiting
             .iter()

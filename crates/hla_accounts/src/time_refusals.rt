@@ -51,7 +51,8 @@ impl Accounts {
 
     /// Why a federate may not have another lookahead, in ticks, if it may not (Modify Lookahead).
     pub fn lookahead_fault(&self, federate: FederateNo, lookahead: Ticks) -> Option<Fault>
-        ensures { result ≡ first_fault (lookahead_tests (account_at self.now federate).state lookahead) }
+        ensures { result
+            ≡ first_fault (lookahead_tests (account_at self.now federate).state lookahead) }
     {
         match self.get(federate) {
             Some(account) => account.state.lookahead_fault(lookahead),
@@ -61,7 +62,8 @@ impl Accounts {
 
     /// Why a federate may not enable asynchronous delivery, if it may not.
     pub fn asynchronous_on_fault(&self, federate: FederateNo) -> Option<Fault>
-        ensures { result ≡ first_fault (asynchronous_on_tests (account_at self.now federate).state) }
+        ensures { result
+            ≡ first_fault (asynchronous_on_tests (account_at self.now federate).state) }
     {
         match self.get(federate) {
             Some(account) => account.state.asynchronous_on_fault(),
@@ -71,7 +73,8 @@ impl Accounts {
 
     /// Why a federate may not disable asynchronous delivery, if it may not.
     pub fn asynchronous_off_fault(&self, federate: FederateNo) -> Option<Fault>
-        ensures { result ≡ first_fault (asynchronous_off_tests (account_at self.now federate).state) }
+        ensures { result
+            ≡ first_fault (asynchronous_off_tests (account_at self.now federate).state) }
     {
         match self.get(federate) {
             Some(account) => account.state.asynchronous_off_fault(),

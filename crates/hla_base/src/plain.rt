@@ -15,9 +15,11 @@ pub trait Plain: Clone + Eq {
     ghost exact: { (x y : Self) → (Self.eq x y ≡ false) ⊎ (x ≡ y) };
 
     // So does `==` of lists and options of them.
-    ghost lists: { (xs ys : List Self) → (pointwise Self.eq xs ys ≡ false) ⊎ (xs ≡ ys) } = { lists_exact exact };
+    ghost lists: { (xs ys : List Self)
+        → (pointwise Self.eq xs ys ≡ false) ⊎ (xs ≡ ys) } = { lists_exact exact };
 
-    ghost options: { (x y : Option Self) → (option_eq Self.eq x y ≡ false) ⊎ (x ≡ y) } = { options_exact exact };
+    ghost options: { (x y : Option Self)
+        → (option_eq Self.eq x y ≡ false) ⊎ (x ≡ y) } = { options_exact exact };
 
     // A clone is equal.
     ghost cloned: { (x y : Self) → Self.is_clone x y → y ≡ x };

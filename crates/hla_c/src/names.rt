@@ -43,7 +43,8 @@ pub extern "C" fn hla_interaction_class_name(
     bytes: &mut [u8],
     used: &mut usize,
 ) -> u32
-    ensures { IsTextGiven handle.old.sealed.content (λ c. interaction_path c.session.catalogue class)
+    ensures { IsTextGiven handle.old.sealed.content
+        (λ c. interaction_path c.session.catalogue class)
         bytes.old bytes.new used.old used.new result handle.new.sealed.content }
 {
     let Some(content) = handle.take(alloc) else {
@@ -68,7 +69,8 @@ pub extern "C" fn hla_attribute_name(
     bytes: &mut [u8],
     used: &mut usize,
 ) -> u32
-    ensures { IsTextGiven handle.old.sealed.content (λ c. attribute_name c.session.catalogue attribute)
+    ensures { IsTextGiven handle.old.sealed.content
+        (λ c. attribute_name c.session.catalogue attribute)
         bytes.old bytes.new used.old used.new result handle.new.sealed.content }
 {
     let Some(content) = handle.take(alloc) else {
@@ -93,7 +95,8 @@ pub extern "C" fn hla_parameter_name(
     bytes: &mut [u8],
     used: &mut usize,
 ) -> u32
-    ensures { IsTextGiven handle.old.sealed.content (λ c. parameter_name c.session.catalogue parameter)
+    ensures { IsTextGiven handle.old.sealed.content
+        (λ c. parameter_name c.session.catalogue parameter)
         bytes.old bytes.new used.old used.new result handle.new.sealed.content }
 {
     let Some(content) = handle.take(alloc) else {

@@ -79,7 +79,8 @@ impl Recorder {
         self.callbacks.as_slice()
     }
 
-    /// Writes a callback down, for which there is room.
+    /// Writes a callback down, for which there is room. `FederateFault` where the recorder is made to fail at it, which is
+    /// written down all the same.
     fn hear(&mut self, callback: Callback) -> Result<(), FederateFault>
         requires { self.old.room ≡ true }
         ensures heard { self.new.heard ≡ self.old.heard ++ callback ∷ [] }

@@ -109,7 +109,8 @@ impl Catalogue {
 
     /// The first attribute of a name among those of some classes.
     pub(crate) fn attribute_among(&self, classes: &[ClassNo], name: &[u8]) -> Option<AttributeNo>
-        ensures { result ≡ number_at (position (λ (a : Attribute). contains_number a.class classes.now &&
+        ensures { result
+            ≡ number_at (position (λ (a : Attribute). contains_number a.class classes.now &&
             bytes_eq a.name name.now) self.now.attributes) }
     {
         self.draft.attribute_among(classes, name)
@@ -117,7 +118,8 @@ impl Catalogue {
 
     /// The first parameter of a name among those of some classes.
     pub(crate) fn parameter_among(&self, classes: &[ClassNo], name: &[u8]) -> Option<ParameterNo>
-        ensures { result ≡ number_at (position (λ (p : Parameter). contains_number p.class classes.now &&
+        ensures { result
+            ≡ number_at (position (λ (p : Parameter). contains_number p.class classes.now &&
             bytes_eq p.name name.now) self.now.parameters) }
     {
         self.draft.parameter_among(classes, name)

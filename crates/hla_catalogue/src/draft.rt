@@ -44,8 +44,8 @@ impl Model for Draft {
 
     ghost use Rattle.hla_catalogue.specs.Indexes.{AreIndexed};
 
-    ghost invariant = { λ c. AreIndexed c.object_classes c.interaction_classes c.attributes c.parameters
-        c.object_paths c.interaction_paths c.attribute_names c.parameter_names };
+    ghost invariant = { λ c. AreIndexed c.object_classes c.interaction_classes c.attributes
+        c.parameters c.object_paths c.interaction_paths c.attribute_names c.parameter_names };
 }
 
 impl Drop for Draft {
@@ -134,7 +134,8 @@ impl Draft {
 
     /// The first attribute of a name among those of some classes.
     pub fn attribute_among(&self, classes: &[ClassNo], name: &[u8]) -> Option<AttributeNo>
-        ensures { result ≡ number_at (position (λ (a : Attribute). contains_number a.class classes.now &&
+        ensures { result
+            ≡ number_at (position (λ (a : Attribute). contains_number a.class classes.now &&
             bytes_eq a.name name.now) self.now.attributes) }
     {
         self.attribute_names
@@ -143,7 +144,8 @@ impl Draft {
 
     /// The first parameter of a name among those of some classes.
     pub fn parameter_among(&self, classes: &[ClassNo], name: &[u8]) -> Option<ParameterNo>
-        ensures { result ≡ number_at (position (λ (p : Parameter). contains_number p.class classes.now &&
+        ensures { result
+            ≡ number_at (position (λ (p : Parameter). contains_number p.class classes.now &&
             bytes_eq p.name name.now) self.now.parameters) }
     {
         self.parameter_names

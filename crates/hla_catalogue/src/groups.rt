@@ -130,7 +130,8 @@ impl Group {
 
     /// The number of the first of the declarations that is of a name in some classes.
     fn first_number<X: Named>(&self, items: &[X], name: &[u8], classes: &[ClassNo]) -> Option<u32>
-        ensures { result ≡ option_map declared_number (find (is_declaration X.name_of items.now name.now
+        ensures { result
+            ≡ option_map declared_number (find (is_declaration X.name_of items.now name.now
             classes.now) self.now) }
     {
         if is_declaration(self.first, items, name, classes) {
@@ -178,7 +179,8 @@ impl Groups {
         name: &[u8],
         classes: &[ClassNo],
     ) -> Option<u32>
-        ensures { result ≡ option_map declared_number (find (is_declaration X.name_of items.now name.now
+        ensures { result
+            ≡ option_map declared_number (find (is_declaration X.name_of items.now name.now
             classes.now) (group_in self.now (name_hash name.now))) }
     {
         match self.groups.get(&name_hash(name)) {

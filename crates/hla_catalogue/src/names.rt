@@ -64,7 +64,7 @@ impl FirstNumbers {
         }
     }
 
-    /// Adds a name that has no number.
+    /// Adds a name that has no number; `OutOfMemory`, and all as it was, where a growth was refused.
     fn add(&mut self, name: Vec<u8>, number: u32) -> Result<(), Fault>
         requires { number_named self.old name.items ≡ None }
         ensures ok { OnOk result (self.new ≡ self.old ++ (name.items, number) ∷ []) }

@@ -91,7 +91,8 @@ fn cut_to_subscribed(
     requires count { first
         ≡ prefix_len (λ (v : HandleValuePair). contains_number v.handle subscribed.now) values.now }
     requires within { first < length values.now }
-    ensures ok { IfOk result (λ shown. shown ≡ filter (λ (v : HandleValuePair). contains_number v.handle
+    ensures ok { IfOk result
+        (λ shown. shown ≡ filter (λ (v : HandleValuePair). contains_number v.handle
         subscribed.now) values.now) }
     ensures err { IfErr result (λ e. e ≡ Fault.OutOfMemory) }
 {
@@ -182,8 +183,8 @@ impl KeptExecution {
         class: ClassNo,
         values: &mut Values,
     ) -> Result<SharedList<HandleValuePair>, Fault>
-        ensures ok { IfOk result (λ shown. shown ≡ subscribed_values (directory_of self.now) federate class
-            values.old) }
+        ensures ok { IfOk result
+            (λ shown. shown ≡ subscribed_values (directory_of self.now) federate class values.old) }
         ensures kept { OnOk result (values.new ≡ values.old) }
         ensures err { IfErr result (λ e. e ≡ Fault.OutOfMemory) }
     {
@@ -227,8 +228,8 @@ impl KeptExecution {
         object: ObjectNo,
         values: &mut Values,
     ) -> Result<Option<Content>, Fault>
-        ensures ok { IfOk result (λ x. x ≡ content_for (directory_of self.now) (AnUpdate object values.old)
-            federate) }
+        ensures ok { IfOk result
+            (λ x. x ≡ content_for (directory_of self.now) (AnUpdate object values.old) federate) }
         ensures kept { OnOk result (values.new ≡ values.old) }
         ensures err { IfErr result (λ e. e ≡ Fault.OutOfMemory) }
     {
@@ -279,7 +280,8 @@ impl KeptExecution {
     /// What a message says to each federate that has ever joined, by number, counted from 1. `OutOfMemory` where a growth
     /// was refused; nothing is said of the values then.
     pub(crate) fn contents_of(&self, body: &mut Body) -> Result<Vec<Option<Content>>, Fault>
-        ensures ok { IfOk result (λ contents. AreContents (directory_of self.now) (body_said body.old)
+        ensures ok { IfOk result
+            (λ contents. AreContents (directory_of self.now) (body_said body.old)
             (length self.now.accounts) contents.items) }
         ensures few { IfOk result (λ contents. length contents.items ≤ max_joins) }
         ensures err { IfErr result (λ e. e ≡ Fault.OutOfMemory) }

@@ -23,7 +23,8 @@ fn fault_unless(is_declared: bool, fault: Fault) -> Option<Fault>
 impl KeptExecution {
     /// Whether a class lacks one of these attributes.
     fn lacks_attribute(&self, class: ClassNo, attributes: &[AttributeNo]) -> bool
-        ensures { result ≡ list_any (λ a. not (has_attribute self.now.catalogue class a)) attributes.now }
+        ensures { result
+            ≡ list_any (λ a. not (has_attribute self.now.catalogue class a)) attributes.now }
     {
         attributes
             .iter()
@@ -37,7 +38,8 @@ impl KeptExecution {
         attributes: &[AttributeNo],
     ) -> Option<Fault>
         ensures { let d = directory_of self.now in
-            result ≡ first_fault (no_object_class d class ∷ no_attribute d class attributes.now ∷ []) }
+            result
+            ≡ first_fault (no_object_class d class ∷ no_attribute d class attributes.now ∷ []) }
     {
         if !self.catalogue.is_object_class(class) {
             Some(Fault::ObjectClassNotDefined)
@@ -150,7 +152,8 @@ impl KeptExecution {
         federate: FederateNo,
         declaration: ClassDeclaration,
     ) -> Option<Fault>
-        ensures { result ≡ first_fault (declaration_tests (directory_of self.now) federate declaration) }
+        ensures { result
+            ≡ first_fault (declaration_tests (directory_of self.now) federate declaration) }
     {
         match declaration {
             ClassDeclaration::UnpublishObject { class } => {

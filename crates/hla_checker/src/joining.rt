@@ -18,7 +18,8 @@ impl KeptExecution {
     fn admit(&mut self, name: &List<u8>) -> Result<(), Fault>
         requires consistent { IsConsistent self.old }
         requires room { length self.old.accounts < max_joins }
-        ensures joined { OnOk result (central_of self.new ≡ after_join (central_of self.old) name.now) }
+        ensures joined { OnOk result
+            (central_of self.new ≡ after_join (central_of self.old) name.now) }
         ensures consistent { OnOk result (IsConsistent self.new) }
         ensures err { IfErr result (λ e. e ≡ Fault.OutOfMemory) }
     {
@@ -39,7 +40,8 @@ impl KeptExecution {
         choice: &Choice,
     ) -> Result<Verdict, Fault>
         requires { IsConsistent self.old }
-        ensures ok { IfOk result (JudgedStep self.old (steps.Join name.now) outcome.now choice.now self.new) }
+        ensures ok { IfOk result
+            (JudgedStep self.old (steps.Join name.now) outcome.now choice.now self.new) }
         ensures err { IfErr result (λ e. e ≡ Fault.OutOfMemory) }
     {
         let fault = self.accounts.join_fault(name.as_slice());

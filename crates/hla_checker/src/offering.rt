@@ -169,7 +169,8 @@ pub(crate) fn make_new_known(
     ensures { registry_of registry.new
         ≡ record (registry_of registry.old) {
           known = known_to_joined
-              (directory_kept catalogue.now (declarations_of declarations.now) (registry_of registry.old))
+              (directory_kept catalogue.now (declarations_of declarations.now)
+              (registry_of registry.old))
               (λ f. (account_at accounts.now f).is_joined) object;
         } }
 {

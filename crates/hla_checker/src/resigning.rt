@@ -24,7 +24,8 @@ impl KeptExecution {
     fn remove_member(&mut self, federate: FederateNo) -> Result<(), Fault>
         requires consistent { IsConsistent self.old }
         requires joined { (account_at self.old.accounts federate).is_joined ≡ true }
-        ensures left { OnOk result (central_of self.new ≡ after_leaving (central_of self.old) federate) }
+        ensures left { OnOk result
+            (central_of self.new ≡ after_leaving (central_of self.old) federate) }
         ensures consistent { OnOk result (IsConsistent self.new) }
         ensures err { IfErr result (λ e. e ≡ Fault.OutOfMemory) }
     {
@@ -41,7 +42,8 @@ impl KeptExecution {
         requires joined { (account_at self.old.accounts federate).is_joined ≡ true }
         requires room { (k : ℕ) → k < length objects.now →
             (account_at self.old.accounts federate).next_serial + k ≤ max_serial }
-        ensures sent { OnOk result (central_of self.new ≡ after_messages (central_of self.old) federate None
+        ensures sent { OnOk result
+            (central_of self.new ≡ after_messages (central_of self.old) federate None
             (deletions_sent objects.now)) }
         ensures consistent { OnOk result (IsConsistent self.new) }
         ensures err { IfErr result (λ e. e ≡ Fault.OutOfMemory) }

@@ -47,7 +47,8 @@ impl KeptExecution {
         requires consistent { IsConsistent self.old }
         requires joined { (account_at self.old.accounts federate).is_joined ≡ true }
         requires room { (account_at self.old.accounts federate).next_serial ≤ max_serial }
-        ensures sent { OnOk result (central_of self.new ≡ after_message (central_of self.old) federate stamp
+        ensures sent { OnOk result
+            (central_of self.new ≡ after_message (central_of self.old) federate stamp
             (outgoing message.old)) }
         ensures consistent { OnOk result (IsConsistent self.new) }
         ensures err { IfErr result (λ e. e ≡ Fault.OutOfMemory) }
@@ -86,7 +87,8 @@ impl KeptExecution {
         class: ClassNo,
         stamp: Option<Ticks>,
     ) -> Option<EventHandle>
-        ensures { (values : List HandleValuePair) → result ≡ send_answer (central_of self.now) federate stamp
+        ensures { (values : List HandleValuePair)
+            → result ≡ send_answer (central_of self.now) federate stamp
             (interaction_sent (directory_of self.now) federate class values) }
     {
         let order = self.order_of_interaction(federate, class);
@@ -104,7 +106,8 @@ impl KeptExecution {
         requires consistent { IsConsistent self.old }
         requires joined { (account_at self.old.accounts federate).is_joined ≡ true }
         requires room { (account_at self.old.accounts federate).next_serial ≤ max_serial }
-        ensures sent { OnOk result (central_of self.new ≡ after_messages (central_of self.old) federate stamp
+        ensures sent { OnOk result
+            (central_of self.new ≡ after_messages (central_of self.old) federate stamp
             (interaction_sent (directory_of self.old) federate class values.now)) }
         ensures consistent { OnOk result (IsConsistent self.new) }
         ensures err { IfErr result (λ e. e ≡ Fault.OutOfMemory) }

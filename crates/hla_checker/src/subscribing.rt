@@ -71,7 +71,8 @@ impl KeptExecution {
         requires consistent { IsConsistent self.old }
         requires joined { (account_at self.old.accounts federate).is_joined ≡ true }
         ensures ok { IfOk result (JudgedStep self.old (steps.Call federate
-            (services.SubscribeObjectClassAttributes class attributes.now)) outcome.now choice.now self.new) }
+            (services.SubscribeObjectClassAttributes class attributes.now)) outcome.now choice.now
+            self.new) }
         ensures err { IfErr result (λ e. e ≡ Fault.OutOfMemory) }
     {
         let fault = self.attributes_fault(class, attributes.as_slice());

@@ -136,7 +136,8 @@ impl KeptExecution {
         requires joined { (account_at self.old.accounts federate).is_joined ≡ true }
         requires room { (account_at self.old.accounts federate).next_serial
             + length (part_sent order object values) ≤ max_serial + 1 }
-        ensures sent { OnOk result (central_of self.new ≡ after_messages (central_of self.old) federate stamp
+        ensures sent { OnOk result
+            (central_of self.new ≡ after_messages (central_of self.old) federate stamp
             (part_sent order object values)) }
         ensures consistent { OnOk result (IsConsistent self.new) }
         ensures err { IfErr result (λ e. e ≡ Fault.OutOfMemory) }
@@ -162,7 +163,8 @@ impl KeptExecution {
         requires joined { (account_at self.old.accounts federate).is_joined ≡ true }
         requires room { (account_at self.old.accounts federate).next_serial
             + length (update_sent (directory_of self.old) object values.now) ≤ max_serial + 1 }
-        ensures sent { OnOk result (central_of self.new ≡ after_messages (central_of self.old) federate stamp
+        ensures sent { OnOk result
+            (central_of self.new ≡ after_messages (central_of self.old) federate stamp
             (update_sent (directory_of self.old) object values.now)) }
         ensures consistent { OnOk result (IsConsistent self.new) }
         ensures err { IfErr result (λ e. e ≡ Fault.OutOfMemory) }
@@ -187,7 +189,8 @@ impl KeptExecution {
         requires consistent { IsConsistent self.old }
         requires joined { (account_at self.old.accounts federate).is_joined ≡ true }
         ensures ok { IfOk result (JudgedStep self.old (steps.Call federate
-            (services.UpdateAttributeValues object values.now stamp)) outcome.now choice.now self.new) }
+            (services.UpdateAttributeValues object values.now stamp)) outcome.now choice.now
+            self.new) }
         ensures err { IfErr result (λ e. e ≡ Fault.OutOfMemory) }
     {
         let fault = self.update_fault(federate, object, values.as_slice(), stamp);

@@ -31,7 +31,8 @@ fn is_operand(word: &str) -> bool
 
 /// What a word asks for with a script over a FED file, without clap.
 fn plain_script_task<'a>(word: &str, fed: &'a str, script: &'a str) -> Option<Task<'a>>
-    ensures { option_map named_task result ≡ plain_script_task word.now fed.entry.now script.entry.now }
+    ensures { option_map named_task result
+        ≡ plain_script_task word.now fed.entry.now script.entry.now }
 {
     if word == "play" {
         return Some(Task::Play { fed, script });
@@ -199,7 +200,8 @@ fn fault_of_error(error: Error) -> WordsFault
     }
 }
 
-/// What words ask for as clap reads them.
+/// What words ask for as clap reads them. `Refused` with clap's error where they ask for no task, or for help, and `Memory`
+/// where a growth was refused.
 fn clap_task<'a>(alloc: Global, words: &'a [&'a str]) -> Result<Task<'a>, WordsFault>
     ensures ok { IfOk result (λ task. clap_task (texts words.entry.now) ≡ Some (named_task task)) }
     ensures err { IfErr result (IsFoundIn (texts words.entry.now)) }

@@ -43,8 +43,8 @@ impl Model for Declarations {
       members = d.members.items;
     } };
 
-    ghost invariant = { λ d. AreDeclarationsWhole d.object_classes d.interaction_classes d.members.items
-        d.object_subscribers d.interaction_subscribers };
+    ghost invariant = { λ d. AreDeclarationsWhole d.object_classes d.interaction_classes
+        d.members.items d.object_subscribers d.interaction_subscribers };
 }
 
 impl Declarations {
@@ -84,7 +84,8 @@ impl Declarations {
 
     /// The federates that subscribe each object class.
     pub(crate) fn object_subscribers(&self) -> &SubscriberSets
-        ensures { AreSubscribers result.now (λ f k. is_some ((declarations_of self.now).subscribed f k)) }
+        ensures { AreSubscribers result.now
+            (λ f k. is_some ((declarations_of self.now).subscribed f k)) }
     {
         &self.object_subscribers
     }
@@ -292,7 +293,8 @@ impl Declarations {
         requires numbered { 0 < class }
         requires defined { class ≤ (declarations_of self.old).interaction_classes }
         ensures { declarations_of self.new ≡ record (declarations_of self.old) {
-          published_interaction = upd2 (declarations_of self.old).published_interaction federate class true;
+          published_interaction = upd2 (declarations_of self.old).published_interaction federate
+              class true;
         } }
     {
         self.set_published_interaction(federate, class, true);
@@ -305,7 +307,8 @@ impl Declarations {
         requires numbered { 0 < class }
         requires defined { class ≤ (declarations_of self.old).interaction_classes }
         ensures { declarations_of self.new ≡ record (declarations_of self.old) {
-          published_interaction = upd2 (declarations_of self.old).published_interaction federate class false;
+          published_interaction = upd2 (declarations_of self.old).published_interaction federate
+              class false;
         } }
     {
         self.set_published_interaction(federate, class, false);
@@ -318,7 +321,8 @@ impl Declarations {
         requires numbered { 0 < class }
         requires defined { class ≤ (declarations_of self.old).interaction_classes }
         ensures { declarations_of self.new ≡ record (declarations_of self.old) {
-          subscribed_interaction = upd2 (declarations_of self.old).subscribed_interaction federate class true;
+          subscribed_interaction = upd2 (declarations_of self.old).subscribed_interaction federate
+              class true;
         } }
     {
         self.set_subscribed_interaction(federate, class, true);

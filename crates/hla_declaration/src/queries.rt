@@ -96,8 +96,8 @@ impl Declarations {
 
     /// The attributes that a federate subscribes of an object class, as it named them; none where it does not subscribe it.
     pub fn subscribed_attributes(&self, federate: FederateNo, class: ClassNo) -> &[AttributeNo]
-        ensures { result.now ≡ option_map_or (λ xs. xs) ((declarations_of self.now).subscribed federate
-            class) [] }
+        ensures { result.now
+            ≡ option_map_or (λ xs. xs) ((declarations_of self.now).subscribed federate class) [] }
     {
         match self.subscription(federate, class) {
             Some(subscribed) => subscribed.as_slice(),
@@ -107,8 +107,8 @@ impl Declarations {
 
     /// The attributes that a federate publishes of an object class, as it named them; none where it does not publish it.
     pub fn published_attributes(&self, federate: FederateNo, class: ClassNo) -> &[AttributeNo]
-        ensures { result.now ≡ option_map_or (λ xs. xs) ((declarations_of self.now).published federate
-            class) [] }
+        ensures { result.now
+            ≡ option_map_or (λ xs. xs) ((declarations_of self.now).published federate class) [] }
     {
         match self.publication(federate, class) {
             Some(attributes) => attributes.as_slice(),

@@ -37,7 +37,8 @@ impl Declarations {
         federate: FederateNo,
         class: ClassNo,
     ) -> Option<ClassNo>
-        ensures { result ≡ object_class_served catalogue.now (declarations_of self.now).subscribed federate
+        ensures { result
+            ≡ object_class_served catalogue.now (declarations_of self.now).subscribed federate
             class }
     {
         catalogue
@@ -109,7 +110,8 @@ impl Declarations {
         class: ClassNo,
     ) -> Result<List<Receiver>, Fault>
         ensures ok { IfOk result (λ rs. rs ≡ receivers_of
-            (λ g. interaction_class_served catalogue.now (declarations_of self.now).subscribed_interaction g
+            (λ g. interaction_class_served catalogue.now
+            (declarations_of self.now).subscribed_interaction g
             class) (declarations_of self.now).federates sender) }
         ensures err { IfErr result (λ e. e ≡ Fault.OutOfMemory) }
     {

@@ -134,8 +134,8 @@ impl SubscriberSets {
     /// A federate subscribes no class any more.
     pub fn withdraw(&mut self, federate: FederateNo)
         requires few { federate ≤ max_joins }
-        ensures listed { (f k : ℕ) → f ≤ max_joins → is_in_set_of self.new f k ≡ cond (eqb federate f) false
-            (is_in_set_of self.old f k) }
+        ensures listed { (f k : ℕ) → f ≤ max_joins
+            → is_in_set_of self.new f k ≡ cond (eqb federate f) false (is_in_set_of self.old f k) }
         ensures room { length self.new ≡ length self.old }
     {
         for set in self.sets.iter_mut() {

@@ -108,8 +108,8 @@ impl Peers {
     /// The lower bound on the time stamps that may still come: the least of the bounds. It is at hand, and no row is
     /// looked at.
     pub fn bound(&self) -> Ticks
-        ensures joined { (n : ℕ) → ((g : ℕ) → n ≤ g → (peers_of self.now).bound g ≡ forever) → result ≡
-            least n (peers_of self.now).bound }
+        ensures joined { (n : ℕ) → ((g : ℕ) → n ≤ g → (peers_of self.now).bound g ≡ forever)
+            → result ≡ least n (peers_of self.now).bound }
         ensures rows { result ≡ least (max_joins + 1) (peers_of self.now).bound }
     {
         self.least

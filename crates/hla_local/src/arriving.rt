@@ -65,7 +65,8 @@ impl Local {
 
     fn accept_retraction(&mut self, from: FederateNo, serial: Serial) -> Result<(), Message>
         requires { MayCome from (message.Retraction serial) self.old }
-        ensures ok { OnOk result (self.new ≡ local_accepting from (message.Retraction serial) self.old) }
+        ensures ok { OnOk result
+            (self.new ≡ local_accepting from (message.Retraction serial) self.old) }
         ensures err { IfErr result (λ m. m ≡ message.Retraction serial) }
         ensures unchanged { OnErr result (self.new ≡ self.old) }
     {
@@ -88,7 +89,8 @@ impl Local {
     }
 
     fn accept_discovery(&mut self, from: FederateNo, discovery: Discovery) -> Result<(), Message>
-        ensures ok { OnOk result (self.new ≡ local_accepting from (message.Discovery discovery) self.old) }
+        ensures ok { OnOk result
+            (self.new ≡ local_accepting from (message.Discovery discovery) self.old) }
         ensures err { IfErr result (λ m. m ≡ message.Discovery discovery) }
         ensures unchanged { OnErr result (self.new ≡ self.old) }
     {

@@ -53,7 +53,8 @@ impl Local {
     pub fn next_picked(&self) -> Result<Picked, Fault>
         ensures ok { IfOk result (λ p. p ≡ picked_by self.now.row (local_pick self.now)) }
         ensures err { IfErr result (λ e. e ≡ Fault.OutOfMemory) }
-        ensures memory { OnErr result (copies_content (picked_by self.now.row (local_pick self.now)) ≡ true) }
+        ensures memory { OnErr result
+            (copies_content (picked_by self.now.row (local_pick self.now)) ≡ true) }
     {
         match self.next_pick() {
             NextPick::Nothing => Ok(Picked::Nothing),
@@ -77,7 +78,8 @@ impl Local {
 
     /// Where no control and no message in receive order would be picked up.
     fn next_role(&self) -> NextPick
-        ensures { result ≡ next_pick_by (role_pick self.now.row self.now.tso (least_bound self.now)) }
+        ensures { result
+            ≡ next_pick_by (role_pick self.now.row self.now.tso (least_bound self.now)) }
     {
         if self.state().is_regulation_pending() {
             return NextPick::Regulation;

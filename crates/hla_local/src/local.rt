@@ -89,8 +89,8 @@ impl Local {
 
     /// Its lower bound on time stamp (Query LBTS), in ticks: the least of what it knows of its peers. It looks at no peer.
     pub fn bound(&self) -> Ticks
-        ensures joined { (n : ℕ) → ((g : ℕ) → n ≤ g → (peers_of self.now.peers).bound g ≡ forever) → result ≡
-            least n (peers_of self.now.peers).bound }
+        ensures joined { (n : ℕ) → ((g : ℕ) → n ≤ g → (peers_of self.now.peers).bound g ≡ forever)
+            → result ≡ least n (peers_of self.now.peers).bound }
         ensures all { result ≡ least_bound self.now }
     {
         self.peers.bound()
@@ -100,7 +100,8 @@ impl Local {
     /// time-stamp order and, where it is unconstrained, of what was sent in that order and waits in receive order. Only
     /// then does it look at all that waits in receive order.
     pub fn least_waiting(&self) -> Ticks
-        ensures { result ≡ least_waiting self.now.row self.now.tso self.now.ro (least_bound self.now) }
+        ensures { result
+            ≡ least_waiting self.now.row self.now.tso self.now.ro (least_bound self.now) }
     {
         let received = if self.state.is_constrained() {
             FOREVER
@@ -182,7 +183,8 @@ impl Local {
 
     /// Asks to be constrained (Enable Time Constrained), where `constrain_fault` of its state says nothing against it.
     pub fn ask_constraint(&mut self)
-        ensures { self.new ≡ record self.old { row = record self.old.row { constrained = Pending } } }
+        ensures { self.new
+            ≡ record self.old { row = record self.old.row { constrained = Pending } } }
     {
         self.state.ask_constraint();
     }
@@ -206,14 +208,16 @@ impl Local {
     /// Changes the lookahead (Modify Lookahead); a smaller one takes effect only as the time advances.
     pub fn set_lookahead(&mut self, lookahead: Ticks)
         requires { lookahead ≤ max_time }
-        ensures { self.new ≡ record self.old { row = record self.old.row { lookahead = lookahead } } }
+        ensures { self.new
+            ≡ record self.old { row = record self.old.row { lookahead = lookahead } } }
     {
         self.state.set_lookahead(lookahead);
     }
 
     /// Switches asynchronous delivery on or off (Enable and Disable Asynchronous Delivery).
     pub fn set_asynchronous_delivery(&mut self, is_on: bool)
-        ensures { self.new ≡ record self.old { row = record self.old.row { asynchronous = is_on } } }
+        ensures { self.new
+            ≡ record self.old { row = record self.old.row { asynchronous = is_on } } }
     {
         self.state.set_asynchronous_delivery(is_on);
     }
@@ -244,7 +248,8 @@ impl Local {
         requires within { peer ≤ max_joins }
         ensures same { self.new ≡ record self.old { peers = self.new.peers } }
         ensures peers { peers_of self.new.peers ≡ record {
-          bound = upd (peers_of self.old.peers).bound peer (min ((peers_of self.old.peers).bound peer) entry);
+          bound = upd (peers_of self.old.peers).bound peer
+              (min ((peers_of self.old.peers).bound peer) entry);
           known_epoch = upd (peers_of self.old.peers).known_epoch peer epoch;
         } }
     {

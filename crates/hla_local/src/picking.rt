@@ -43,7 +43,8 @@ impl Local {
             && !self.state.has_asynchronous_delivery()
     }
 
-    /// Where no control and no message in receive order is picked up.
+    /// Where no control and no message in receive order is picked up. `OutOfMemory`, and all as it was, where what was sent in
+    /// time-stamp order finds no room in receive order, as the federate becomes constrained.
     fn pick_role(&mut self) -> Result<Picked, Fault>
         ensures answer { IfOk result (λ p. p ≡ picked_by self.old.row
             (role_pick self.old.row self.old.tso (least_bound self.old))) }

@@ -112,7 +112,8 @@ impl Incoming {
         ensures answer { IfOk result (λ x. x ≡ carried_of from (item [] self.old.wires from)) }
         ensures wires { OnOk result (item [] self.new.wires ≡ upd (item [] self.old.wires) from
             (drop 1 (item [] self.old.wires from))) }
-        ensures local { OnOk result (HasAccepted from (item [] self.old.wires from) local.old local.new) }
+        ensures local { OnOk result
+            (HasAccepted from (item [] self.old.wires from) local.old local.new) }
         ensures err { IfErr result (λ e. e ≡ Fault.OutOfMemory) }
         ensures memory { OnErr result (arrival_takes_memory (item [] self.old.wires from) ≡ true) }
         ensures unchanged { OnErr result (self.new.wires ≡ self.old.wires) }

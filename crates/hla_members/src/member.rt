@@ -122,7 +122,8 @@ impl Member {
         ensures same { self.new ≡ record self.old {
           shown = record self.old.shown { sent = self.new.shown.sent };
         } }
-        ensures ok { OnOk result (sent_of self.new.shown.sent ≡ upd (sent_of self.old.shown.sent) note.serial
+        ensures ok { OnOk result
+            (sent_of self.new.shown.sent ≡ upd (sent_of self.old.shown.sent) note.serial
             (noted_event note)) }
         ensures err { IfErr result (λ e. e ≡ Fault.OutOfMemory) }
         ensures unchanged { OnErr result (self.new ≡ self.old) }
@@ -167,7 +168,8 @@ impl Member {
         requires some { 0 < from }
         requires within { from ≤ max_joins }
         requires room { 0 < item 0 self.old.rooms from }
-        ensures same { self.new.shown ≡ record self.old.shown { incoming = self.new.shown.incoming } }
+        ensures same { self.new.shown
+            ≡ record self.old.shown { incoming = self.new.shown.incoming } }
         ensures wires { item [] self.new.shown.incoming ≡ upd (item [] self.old.shown.incoming) from
             (put_behind message (item [] self.old.shown.incoming from)) }
         ensures less { item 0 self.old.rooms from ≤ item 0 self.new.rooms from + 1 }
@@ -205,18 +207,22 @@ impl Member {
     pub fn arrive(&mut self, from: FederateNo) -> Result<Carried, Fault>
         requires some { 0 < from }
         requires within { from ≤ max_joins }
-        requires may_arrive { MayArrive from (item [] self.old.shown.incoming from) self.old.shown.local }
-        ensures answer { IfOk result (λ x. x ≡ carried_of from (item [] self.old.shown.incoming from)) }
+        requires may_arrive { MayArrive from (item [] self.old.shown.incoming from)
+            self.old.shown.local }
+        ensures answer { IfOk result
+            (λ x. x ≡ carried_of from (item [] self.old.shown.incoming from)) }
         ensures same { OnOk result (self.new.shown ≡ record self.old.shown {
           local = self.new.shown.local;
           incoming = self.new.shown.incoming;
         }) }
-        ensures wires { OnOk result (item [] self.new.shown.incoming ≡ upd (item [] self.old.shown.incoming)
+        ensures wires { OnOk result
+            (item [] self.new.shown.incoming ≡ upd (item [] self.old.shown.incoming)
             from (drop 1 (item [] self.old.shown.incoming from))) }
         ensures local { OnOk result (HasAccepted from (item [] self.old.shown.incoming from)
             self.old.shown.local self.new.shown.local) }
         ensures err { IfErr result (λ e. e ≡ Fault.OutOfMemory) }
-        ensures memory { OnErr result (arrival_takes_memory (item [] self.old.shown.incoming from) ≡ true) }
+        ensures memory { OnErr result
+            (arrival_takes_memory (item [] self.old.shown.incoming from) ≡ true) }
         ensures unchanged { OnErr result (self.new.shown ≡ self.old.shown) }
     {
         self.incoming.hand_over(from, &mut self.local)

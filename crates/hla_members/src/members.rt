@@ -52,7 +52,8 @@ impl Model for Members {
 
     ghost Value = { RoomyMembers };
 
-    ghost view = { λ m. roomy_members m.members.items (vec_capacity m.members - vec_len m.members) };
+    ghost view = { λ m. roomy_members m.members.items
+        (vec_capacity m.members - vec_len m.members) };
 
     ghost invariant = { λ m. length m.members.items ≤ max_joins };
 }
@@ -66,7 +67,8 @@ fn any_joined(members: &[Member]) -> bool
 
 /// Whether one of these is joined under a name.
 fn any_joined_as(members: &[Member], name: &[u8]) -> bool
-    ensures { result ≡ list_any (λ (m : RoomyMember). m.shown.joined && bytes_eq m.shown.name name.now)
+    ensures { result
+        ≡ list_any (λ (m : RoomyMember). m.shown.joined && bytes_eq m.shown.name name.now)
         members.now }
 {
     members.iter().any(|m| m.is_joined() && m.name() == name)
@@ -183,7 +185,8 @@ impl Members {
     pub fn retract(&mut self, federate: FederateNo, serial: Serial)
         requires some { 0 < federate }
         requires within { federate < (members_of self.old.shown).next_federate }
-        requires retractable { ((members_of self.old.shown).sent federate serial).retractable ≡ true }
+        requires retractable { ((members_of self.old.shown).sent federate serial).retractable
+            ≡ true }
         ensures { members_of self.new.shown ≡ record (members_of self.old.shown) {
           sent = with_retracted (members_of self.old.shown).sent federate serial;
         } }
@@ -228,10 +231,11 @@ impl Members {
     pub fn admit(&mut self, member: Member)
         requires room { 0 < self.old.spare }
         requires few { (members_of self.old.shown).next_federate ≤ max_joins }
-        requires new { member.shown ≡ record (new_member member.shown.name [] member.shown.incoming) {
-          local = member.shown.local;
-          sent = member.shown.sent;
-        } }
+        requires new { member.shown
+            ≡ record (new_member member.shown.name [] member.shown.incoming) {
+              local = member.shown.local;
+              sent = member.shown.sent;
+            } }
         requires unsent { sent_of member.shown.sent ≡ (λ _. no_event) }
         requires quiet { AreQuiet member.shown.incoming }
         ensures { members_of self.new.shown ≡ with_member_admitted (members_of self.old.shown)
@@ -244,7 +248,8 @@ impl Members {
     pub fn resign(&mut self, federate: FederateNo)
         requires some { 0 < federate }
         requires within { federate < (members_of self.old.shown).next_federate }
-        ensures { members_of self.new.shown ≡ with_member_withdrawn (members_of self.old.shown) federate }
+        ensures { members_of self.new.shown
+            ≡ with_member_withdrawn (members_of self.old.shown) federate }
     {
         self.members[federate as usize - 1].resign();
     }
@@ -295,7 +300,8 @@ impl Members {
           wire = wires_posted_below along (λ h. messages_for h (addressed ∷ []))
               (members_of self.old.shown).next_federate (members_of self.old.shown).wire;
         } }
-        ensures room { IsLessRoom along (λ h. messages_for h (addressed ∷ [])) self.old.rooms self.new.rooms }
+        ensures room { IsLessRoom along (λ h. messages_for h (addressed ∷ [])) self.old.rooms
+            self.new.rooms }
     {
         let Addressed { peer, message } = addressed;
         if peer == 0 || peer >= end {
@@ -406,7 +412,8 @@ impl Members {
         requires within { sender < (members_of self.old.shown).next_federate }
         requires room { HasRoomForOthers (members_of self.old.shown).joined sender 1
             (members_of self.old.shown).next_federate self.old.rooms }
-        ensures { members_of self.new.shown ≡ with_null_sent (members_of self.old.shown) sender epoch bound }
+        ensures { members_of self.new.shown
+            ≡ with_null_sent (members_of self.old.shown) sender epoch bound }
     {
         let end = self.next_federate();
         for peer in 1..end {
@@ -439,7 +446,8 @@ impl Members {
         requires within { to < (members_of self.old.shown).next_federate }
         requires may_arrive { MayArrive from ((members_of self.old.shown).wire from to)
             ((members_of self.old.shown).local to) }
-        ensures answer { IfOk result (λ x. x ≡ carried_of from ((members_of self.old.shown).wire from to)) }
+        ensures answer { IfOk result
+            (λ x. x ≡ carried_of from ((members_of self.old.shown).wire from to)) }
         ensures state { OnOk result (members_of self.new.shown ≡ with_arrival from to
             ((members_of self.new.shown).local to) (members_of self.old.shown)) }
         ensures local { OnOk result (HasAccepted from ((members_of self.old.shown).wire from to)

@@ -121,7 +121,8 @@ pub fn open_board<J: Naming, R: Wait + Drop>(
     opened: Opened,
 ) -> Result<Board<J, Published<J, R>>, Fault>
     requires { opened.seen.book ≡ J.book }
-    ensures ok { IfOk result (λ b. b ≡ record { whole = true; shown = []; published = []; monitors = 0 }) }
+    ensures ok { IfOk result
+        (λ b. b ≡ record { whole = true; shown = []; published = []; monitors = 0 }) }
     ensures err { IfErr result (λ e. e ≡ Fault.OutOfMemory) }
 {
     let (end, shown) = opened.named::<J>();
@@ -173,8 +174,10 @@ impl<J: Naming, W: Publisher<J>> Board<J, W> {
     /// `LimitReached` as of `note`.
     pub fn keep(&mut self, entry: &Record) -> Result<(), Fault>
         ensures ok { OnOk result (self.new.shown ≡ self.old.shown ++ entry.now ∷ []) }
-        ensures published { 0 < self.old.monitors → OnOk result (self.new.published ≡ self.new.shown) }
-        ensures first { self.old.published ≡ [] → OnOk result (self.new.published ≡ self.new.shown) }
+        ensures published { 0 < self.old.monitors
+            → OnOk result (self.new.published ≡ self.new.shown) }
+        ensures first { self.old.published ≡ []
+            → OnOk result (self.new.published ≡ self.new.shown) }
         ensures waits { OnErr result (self.new.published ≡ self.old.published) }
         ensures either { OnOk result
             ((self.new.published ≡ self.new.shown) ⊎ (self.new.published ≡ self.old.published)) }

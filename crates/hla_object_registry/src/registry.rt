@@ -64,7 +64,8 @@ impl Registry {
 
     /// The name and the entry of an object, if it was registered.
     fn entry(&self, object: ObjectNo) -> Option<(&Vec<u8>, &Entry)>
-        ensures { option_map (λ e. registered_object (deref_pair e)) result ≡ item_numbered self.now object }
+        ensures { option_map (λ e. registered_object (deref_pair e)) result
+            ≡ item_numbered self.now object }
     {
         if object == 0 {
             None
@@ -217,7 +218,8 @@ impl Registry {
         requires within { owner ≤ max_joins }
         requires unused { is_name_used_in (registry_of self.old) name ≡ false }
         ensures answer { IfOk result (λ h. h ≡ (registry_of self.old).next_object) }
-        ensures registered { OnOk result (registry_of self.new ≡ with_registered (registry_of self.old)
+        ensures registered { OnOk result
+            (registry_of self.new ≡ with_registered (registry_of self.old)
             class name owner attributes) }
         ensures err { IfErr result (λ e. e ≡ Fault.OutOfMemory) }
         ensures unchanged { OnErr result (self.new ≡ self.old) }
@@ -303,7 +305,8 @@ impl Registry {
         alloc: Global,
         federate: FederateNo,
     ) -> Result<List<ObjectNo>, Fault>
-        ensures ok { IfOk result (λ objects. objects ≡ objects_owned (registry_of self.now) federate) }
+        ensures ok { IfOk result
+            (λ objects. objects ≡ objects_owned (registry_of self.now) federate) }
         ensures err { IfErr result (λ e. e ≡ Fault.OutOfMemory) }
     {
         let mut objects = List::new(alloc);

@@ -166,7 +166,8 @@ impl Block {
         requires { 2 ≤ length self.old }
         ensures ok { IfOk result (λ b. self.new ++ b ≡ self.old) }
         ensures kept { OnOk result (0 < length self.new) }
-        ensures middle { IfOk result (λ b. slice_get b 0 ≡ slice_get self.old (length self.old / 2)) }
+        ensures middle { IfOk result
+            (λ b. slice_get b 0 ≡ slice_get self.old (length self.old / 2)) }
         ensures err { OnErr result (self.new ≡ self.old) }
     {
         let half = self.events.len() / 2;

@@ -94,7 +94,8 @@ impl Blocks {
         ensures ok { OnOk result (events_of self.new ≡ insert_event event (events_of self.old)) }
         ensures err { IfErr result (λ e. e ≡ event) }
         ensures unchanged { OnErr result (events_of self.new ≡ events_of self.old) }
-        ensures below { (xs : List EventValue) → AreBelowBlocks xs self.old → AreBelowBlocks xs self.new }
+        ensures below { (xs : List EventValue) → AreBelowBlocks xs self.old
+            → AreBelowBlocks xs self.new }
     {
         let Some(separator) = roomy_separator(
             &mut self.separators,
@@ -112,8 +113,10 @@ impl Blocks {
         requires there { stamp_of (name_of_key key) (events_of self.old) ≡ Some key.stamp }
         requires within { separator_after key self.old ≡ false }
         ensures found { result ≡ find_event key.sender key.serial (events_of self.old) }
-        ensures rest { events_of self.new ≡ remove_event key.sender key.serial (events_of self.old) }
-        ensures below { (xs : List EventValue) → AreBelowBlocks xs self.old → AreBelowBlocks xs self.new }
+        ensures rest { events_of self.new
+            ≡ remove_event key.sender key.serial (events_of self.old) }
+        ensures below { (xs : List EventValue) → AreBelowBlocks xs self.old
+            → AreBelowBlocks xs self.new }
     {
         let separator = self.separators.separator_of(key)?;
         let event = self.separators.take_event(separator, key);
@@ -179,7 +182,8 @@ fn roomy_separator(separators: &mut Separators, key: EventKey, alloc: Global) ->
 
 /// How many events are in the block under this separator.
 fn len_at(separators: &Separators, separator: EventKey) -> usize
-    ensures { MatchOption (block_at separator separators.now) (result ≡ 0) (λ b. result ≡ length b) }
+    ensures { MatchOption (block_at separator separators.now) (result ≡ 0)
+        (λ b. result ≡ length b) }
 {
     match separators.get(separator) {
         Some(block) => block.len(),
@@ -260,7 +264,8 @@ fn middle_of(separators: &Separators, separator: EventKey) -> Option<EventKey>
 fn drop_empty(separators: &mut Separators, separator: EventKey)
     requires at { At separator separators.old }
     requires separatored { AreSeparatored separators.old }
-    requires filled { AllByRecursion (λ e. 0 < length e.1) (without_block separator separators.old) }
+    requires filled { AllByRecursion (λ e. 0 < length e.1)
+        (without_block separator separators.old) }
     ensures events { events_of separators.new ≡ events_of separators.old }
     ensures separatored { AreSeparatored separators.new }
     ensures filled { AllByRecursion (λ e. 0 < length e.1) separators.new }

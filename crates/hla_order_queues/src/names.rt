@@ -61,7 +61,8 @@ impl Names {
         requires { stamp_at self.old (record { sender = key.sender; serial = key.serial }) ≡ None }
         ensures put { OnTrue result (SetsAt (stamp_at self.old) (stamp_at self.new)
             (record { sender = key.sender; serial = key.serial }) (Some key.stamp)) }
-        ensures refused { OnFalse result ((n : EventName) → stamp_at self.new n ≡ stamp_at self.old n) }
+        ensures refused { OnFalse result
+            ((n : EventName) → stamp_at self.new n ≡ stamp_at self.old n) }
     {
         if !reach(&mut self.rising, key.sender, self.alloc) {
             return false;
@@ -168,7 +169,8 @@ fn take_noted(rising: &mut Vec<Rising>, name: EventName) -> Option<Ticks>
 /// The event with this key goes, before which none comes.
 fn pass_noted(rising: &mut Vec<Rising>, key: EventKey)
     requires { IsLeastAt key rising.old.items }
-    ensures { SetsAt (noted_at rising.old.items) (noted_at rising.new.items) (name_of_key key) None }
+    ensures { SetsAt (noted_at rising.old.items) (noted_at rising.new.items) (name_of_key key)
+        None }
 {
     if let Some(events) = rising.get_mut(key.sender as usize) {
         events.pass(key.serial, key.stamp);

@@ -170,9 +170,11 @@ fn put(first: &mut Block, later: &mut Blocks, event: Event) -> Result<(), Event>
     ensures ok { OnOk result
         (first.new ++ events_of later.new ≡ insert_event event (first.old ++ events_of later.old)) }
     ensures err { IfErr result (λ e. e ≡ event) }
-    ensures unchanged { OnErr result (first.new ++ events_of later.new ≡ first.old ++ events_of later.old) }
+    ensures unchanged { OnErr result
+        (first.new ++ events_of later.new ≡ first.old ++ events_of later.old) }
     ensures below { AreBelowBlocks first.new later.new }
-    ensures filled { (first.old ≡ [] → events_of later.old ≡ []) → first.new ≡ [] → events_of later.new ≡ [] }
+    ensures filled { (first.old ≡ [] → events_of later.old ≡ []) → first.new ≡ []
+        → events_of later.new ≡ [] }
 {
     let key = EventKey::of(&event);
     if !has_room(first, later, key) {
@@ -193,7 +195,8 @@ fn has_room(first: &mut Block, later: &mut Blocks, key: EventKey) -> bool
     requires below { AreBelowBlocks first.old later.old }
     ensures same { first.new ++ events_of later.new ≡ first.old ++ events_of later.old }
     ensures below { AreBelowBlocks first.new later.new }
-    ensures filled { (first.old ≡ [] → events_of later.old ≡ []) → first.new ≡ [] → events_of later.new ≡ [] }
+    ensures filled { (first.old ≡ [] → events_of later.old ≡ []) → first.new ≡ []
+        → events_of later.new ≡ [] }
 {
     if first.len() < FULL || !later.is_after(key) {
         return true;
@@ -205,7 +208,8 @@ fn has_room(first: &mut Block, later: &mut Blocks, key: EventKey) -> bool
 fn take_key(first: &mut Block, later: &mut Blocks, key: EventKey) -> Option<Event>
     requires ordered { IsInOrder (first.old ++ events_of later.old) }
     requires below { AreBelowBlocks first.old later.old }
-    requires there { stamp_of (name_of_key key) (first.old ++ events_of later.old) ≡ Some key.stamp }
+    requires there { stamp_of (name_of_key key) (first.old ++ events_of later.old)
+        ≡ Some key.stamp }
     ensures found { result ≡ find_event key.sender key.serial (first.old ++ events_of later.old) }
     ensures rest { first.new ++ events_of later.new
         ≡ remove_event key.sender key.serial (first.old ++ events_of later.old) }

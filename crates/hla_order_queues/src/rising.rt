@@ -185,7 +185,8 @@ fn passed_to(passed: Option<Passed>, serial: Serial, stamp: Ticks) -> Option<Pas
 /// Whether all serials that are noted are less than this one.
 fn is_below(notes: &VecDeque<StampNote>, serial: Serial) -> bool
     requires { AreRisingNotes notes.now.items }
-    ensures { MatchBool result (AreLess serial notes.now.items) (AreLess serial notes.now.items → ⊥) }
+    ensures { MatchBool result (AreLess serial notes.now.items)
+        (AreLess serial notes.now.items → ⊥) }
 {
     match notes.back() {
         Some(last) => last.serial < serial,
@@ -291,7 +292,8 @@ fn tidy(
     passed: Option<Passed>,
 )
     requires { AreRisingNotes notes.old.items }
-    ensures { Keeps (without_passed passed notes.old.items) (without_passed passed notes.new.items) }
+    ensures { Keeps (without_passed passed notes.old.items)
+        (without_passed passed notes.new.items) }
 {
     if *gone > 0 {
         drop_first(notes, gone, passed);
@@ -303,7 +305,8 @@ fn tidy(
 /// Takes the notes before the first event out.
 fn drop_first(notes: &mut VecDeque<StampNote>, gone: &mut usize, passed: Option<Passed>)
     requires { AreRisingNotes notes.old.items }
-    ensures { Keeps (without_passed passed notes.old.items) (without_passed passed notes.new.items) }
+    ensures { Keeps (without_passed passed notes.old.items)
+        (without_passed passed notes.new.items) }
 {
     while is_first_gone(notes, passed) {
         let _ = notes.pop_front();
@@ -315,7 +318,8 @@ fn drop_first(notes: &mut VecDeque<StampNote>, gone: &mut usize, passed: Option<
 /// that is gone has paid for.
 fn drop_many(notes: &mut VecDeque<StampNote>, gone: &mut usize, passed: Option<Passed>)
     requires { AreRisingNotes (without_passed passed notes.old.items) }
-    ensures { Keeps (without_passed passed notes.old.items) (without_passed passed notes.new.items) }
+    ensures { Keeps (without_passed passed notes.old.items)
+        (without_passed passed notes.new.items) }
 {
     if gone.saturating_sub(SPARE_NOTES) > notes.len().saturating_sub(*gone) {
         notes.retain(|note| unpassed(passed, note.serial, note.stamp).is_some());
@@ -337,7 +341,8 @@ fn is_first_gone(notes: &VecDeque<StampNote>, passed: Option<Passed>) -> bool
 /// is due again.
 fn give_back(notes: &mut VecDeque<StampNote>, tried: &mut usize)
     ensures same { notes.new.items ≡ notes.old.items }
-    ensures tried { tried.new ≡ tried_after (deque_capacity notes.old) (deque_len notes.old) tried.old }
+    ensures tried { tried.new
+        ≡ tried_after (deque_capacity notes.old) (deque_len notes.old) tried.old }
 {
     let room = notes.capacity();
     let len = notes.len();

@@ -152,7 +152,8 @@ impl Separators {
 
     /// Takes the event with this key out of the block under this separator, if it is there; the block may be empty then.
     pub fn take_event(&mut self, separator: EventKey, key: EventKey) -> Option<Event>
-        ensures { MatchOption (block_at separator self.old) ((result ≡ None) × (self.new ≡ self.old))
+        ensures { MatchOption (block_at separator self.old)
+            ((result ≡ None) × (self.new ≡ self.old))
             (λ b. (result ≡ find_event key.sender key.serial b)
             × (self.new ≡ set_block separator self.old (remove_event key.sender key.serial b))) }
     {

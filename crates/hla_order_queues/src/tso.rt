@@ -141,9 +141,10 @@ impl TsoQueue {
     /// all. `OutOfMemory` where room for them was refused there; the events of both queues then stay as they are. It
     /// goes through the events that move.
     pub fn move_below(&mut self, bound: Ticks, received: &mut RoQueue) -> Result<(), Fault>
-        ensures left { bound < FOREVER → OnOk result (self.new ≡ filter (λ e. not (nat_lt e.stamp bound))
-            self.old) }
-        ensures moved { bound < FOREVER → OnOk result (received.new.events ≡ received.old.events ++ filter
+        ensures left { bound < FOREVER
+            → OnOk result (self.new ≡ filter (λ e. not (nat_lt e.stamp bound)) self.old) }
+        ensures moved { bound < FOREVER
+            → OnOk result (received.new.events ≡ received.old.events ++ filter
             (λ e. nat_lt e.stamp bound) self.old) }
         ensures none_left { bound ≡ FOREVER → OnOk result (self.new ≡ []) }
         ensures all_moved { bound ≡ FOREVER → OnOk result

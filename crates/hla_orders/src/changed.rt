@@ -50,7 +50,8 @@ fn make_room(orders: &mut Vec<Option<Order>>, count: usize) -> Result<(), Fault>
 fn put(orders: &mut Vec<Option<Order>>, number: u32, order: Order)
     requires some { 0 < number }
     requires within { number ≤ length orders.old.items }
-    ensures given { order_at orders.new.items ≡ upd (order_at orders.old.items) number (Some order) }
+    ensures given { order_at orders.new.items
+        ≡ upd (order_at orders.old.items) number (Some order) }
     ensures room { length orders.new.items ≡ length orders.old.items }
 {
     orders[number as usize - 1] = Some(order);
@@ -143,7 +144,8 @@ impl ChangedOrders {
         order: Order,
     ) -> Result<(), Fault>
         requires { AreUpTo count numbers.now }
-        ensures ok { OnOk result (order_at self.new ≡ orders_given (order_at self.old) numbers.now order) }
+        ensures ok { OnOk result
+            (order_at self.new ≡ orders_given (order_at self.old) numbers.now order) }
         ensures err { IfErr result (λ e. e ≡ Fault.OutOfMemory) }
         ensures unchanged { OnErr result (self.new ≡ self.old) }
     {

@@ -95,7 +95,8 @@ fn print_told(
     place: usize,
     line: &Line<'_>,
 ) -> Result<(), Fault>
-    ensures { OnOk result (text.new ≡ text.old ++ told_at catalogue.now outcomes.now place line.now) }
+    ensures { OnOk result
+        (text.new ≡ text.old ++ told_at catalogue.now outcomes.now place line.now) }
 {
     match outcomes.get(place) {
         Some(Some(outcome)) => print_line(text, catalogue, line.number as u64, outcome),

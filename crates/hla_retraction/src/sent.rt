@@ -90,8 +90,8 @@ impl Sent {
     /// retracted before, and its stamp is above `least`, the least stamp that the sender may now send, in ticks (HLA 1.3,
     /// Retract; the bound is this profile's). The time grows with the logarithm of the messages.
     pub fn may_retract(&self, is_regulating: bool, least: Ticks, serial: Serial) -> bool
-        ensures { (r : TimeRow) → is_enabled r.regulating ≡ is_regulating → least_stamp r ≡ least → result ≡
-            may_retract r (sent_of self.now serial) }
+        ensures { (r : TimeRow) → is_enabled r.regulating ≡ is_regulating → least_stamp r ≡ least
+            → result ≡ may_retract r (sent_of self.now serial) }
     {
         match self.row(serial) {
             Some(row) => is_regulating && !row.retracted && least < row.stamp,
@@ -142,7 +142,8 @@ impl Sent {
     }
 
     fn place_of(&self, serial: Serial) -> Option<usize>
-        ensures { MatchOption result (sent_of self.now serial ≡ no_event) (IsRowAt self.now serial) }
+        ensures { MatchOption result (sent_of self.now serial ≡ no_event)
+            (IsRowAt self.now serial) }
     {
         self.rows
             .binary_search_by_key(&serial, |row| row.serial)

@@ -159,8 +159,8 @@ fn do_call<L: Ledger + Naming, B: FederateAmbassador, P: Publisher<L>, G: Gate>(
     ensures same { (execution : List ℕ) (f : ℕ) → IsPlayerAs execution f player
         → IsPlayerAs execution f result.player }
     ensures recorded { (execution : List ℕ) (f : ℕ) → IsPlayerAs execution f player
-        → IsCallRecorded stage.now.catalogue.now (caller_of result.player).transcript execution f call.now
-        result.outcome }
+        → IsCallRecorded stage.now.catalogue.now (caller_of result.player).transcript execution f
+        call.now result.outcome }
 {
     let mut federate = match player {
         Player::Joined(federate) => federate,

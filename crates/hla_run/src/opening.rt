@@ -40,7 +40,8 @@ fn join_next<L: Ledger + Naming, B: FederateAmbassador, P: Publisher<L>>(
     ensures taken { OnOk result (ambassadors.new ≡ drop 1 ambassadors.old) }
     ensures own { OnOk result (HasExtended rti.old.own rti.new.own) }
     ensures recorded { IfOk result (IsJoiningRecorded rti.new.own.transcript name.now) }
-    ensures fresh { OnOk result (AreFresh execution lives.old.items → AreFresh execution lives.new.items) }
+    ensures fresh { OnOk result
+        (AreFresh execution lives.old.items → AreFresh execution lives.new.items) }
     ensures joined { OnOk result (AreJoined rti.old.own.transcript execution lives.old.items
         → AreJoined rti.new.own.transcript execution lives.new.items) }
 {
@@ -85,7 +86,8 @@ fn open_by<L: Ledger + Naming, B: FederateAmbassador, P: Publisher<L>>(
     requires { joins_by command.now ≤ length ambassadors.old }
     ensures taken { OnOk result (ambassadors.new ≡ drop (joins_by command.now) ambassadors.old) }
     ensures own { OnOk result (HasExtended rti.old.own rti.new.own) }
-    ensures fresh { OnOk result (AreFresh execution lives.old.items → AreFresh execution lives.new.items) }
+    ensures fresh { OnOk result
+        (AreFresh execution lives.old.items → AreFresh execution lives.new.items) }
     ensures joined { OnOk result (AreJoined rti.old.own.transcript execution lives.old.items
         → AreJoined rti.new.own.transcript execution lives.new.items) }
     ensures recorded { IfOk result (λ out. IfSome out (IsOfficeLine rti.new.own command.now)) }

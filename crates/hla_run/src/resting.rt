@@ -72,7 +72,8 @@ impl LineWait {
     fn patience(&self) -> u32
         ensures first { self.now.ticks ≤ 1 → result ≡ FIRST_MOMENTS }
         ensures second { self.now.ticks ≡ 2 → result ≡ SECOND_MOMENTS }
-        ensures further { 2 < self.now.ticks → self.now.ticks ≤ PATIENT_TICKS → result ≡ FURTHER_MOMENTS }
+        ensures further { 2 < self.now.ticks → self.now.ticks ≤ PATIENT_TICKS
+            → result ≡ FURTHER_MOMENTS }
         ensures last { PATIENT_TICKS < self.now.ticks → result ≡ LAST_MOMENTS }
     {
         match self.ticks {
@@ -88,7 +89,8 @@ impl LineWait {
     fn lacks(&mut self, effort: Effort) -> u64
         ensures since { self.new.since ≡ Some (unwrap_or self.old.since effort) }
         ensures patient { self.old.ticks < PATIENT_TICKS → result ≡ 1 }
-        ensures long { let since = unwrap_or self.old.since effort in PATIENT_TICKS ≤ self.old.ticks →
+        ensures long { let since = unwrap_or self.old.since effort
+            in PATIENT_TICKS ≤ self.old.ticks →
             (effort.ticks - since.ticks) - (effort.exchanges - since.exchanges) ≤ result }
     {
         self.ticks = self.ticks.saturating_add(1);

@@ -45,7 +45,8 @@ impl Model for OpenPoints {
 
 /// The point of a label among these, if there is one.
 fn point_labelled<'a>(points: &'a [OpenPoint], label: &[u8]) -> Option<&'a OpenPoint>
-    ensures { option_copied result ≡ find (λ (p : OpenPoint). bytes_eq p.label label.now) points.now }
+    ensures { option_copied result
+        ≡ find (λ (p : OpenPoint). bytes_eq p.label label.now) points.now }
 {
     points.iter().find(|point| point.label.as_slice() == label)
 }
@@ -98,7 +99,8 @@ fn achieve_among(points: &mut Vec<OpenPoint>, federate: FederateNo, label: &[u8]
 
 /// Those go that each of these members has achieved.
 fn close_among(points: &mut Vec<OpenPoint>, members: FederateSet)
-    ensures { points_of points.new.items ≡ left_open (members_in members) (points_of points.old.items) }
+    ensures { points_of points.new.items
+        ≡ left_open (members_in members) (points_of points.old.items) }
 {
     points.retain(|point| !is_achieved_by_all(point, &members));
 }
@@ -178,7 +180,7 @@ fn closings_of(
     Ok(notices)
 }
 
-/// One more point, in a table of its own.
+/// One more point, in a table of its own. `OutOfMemory` where the table was refused its memory.
 fn table_of(alloc: Global, point: OpenPoint) -> Result<Box<Vec<OpenPoint>>, Fault>
     ensures ok { IfOk result (λ t. t.value.items ≡ point ∷ []) }
     ensures err { IfErr result (λ e. e ≡ Fault.OutOfMemory) }

@@ -18,7 +18,8 @@ use hla_machine::{Answer, Choice, Outcome};
 
 /// Whether a federate may announce this promise, in ticks, if it announces one.
 fn may_promise(accounts: &Accounts, federate: FederateNo, promise: Option<Ticks>) -> bool
-    ensures { (d : Directory) → Decides result (MayAnnounce (central_with d accounts.now) federate promise) }
+    ensures { (d : Directory)
+        → Decides result (MayAnnounce (central_with d accounts.now) federate promise) }
 {
     // Those who have ever joined are kept in the order of their numbers.
     let _next = accounts.next_federate();
@@ -30,7 +31,8 @@ fn may_promise(accounts: &Accounts, federate: FederateNo, promise: Option<Ticks>
 
 /// Whether an announcement may answer so.
 fn may_answer_announcement(accounts: &Accounts, federate: FederateNo, answer: &Answer) -> bool
-    ensures { (d : Directory) → Decides result (MayDo (central_with d accounts.now) (steps.Announce federate)
+    ensures { (d : Directory)
+        → Decides result (MayDo (central_with d accounts.now) (steps.Announce federate)
         answer.now choices.None) }
 {
     match announced_in(answer) {
@@ -46,7 +48,8 @@ pub fn judge_announcement(
     outcome: &Outcome,
     choice: &Choice,
 ) -> Verdict
-    ensures { (d : Directory) → JudgedWith d accounts.now (steps.Announce federate) outcome.now choice.now
+    ensures { (d : Directory)
+        → JudgedWith d accounts.now (steps.Announce federate) outcome.now choice.now
         accounts.now result }
 {
     let fault = accounts.caller_fault(federate);

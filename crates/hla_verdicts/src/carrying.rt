@@ -20,7 +20,8 @@ use hla_machine::{Answer, Carried, Choice, Outcome};
 
 /// Whether a carry may take this from its wire.
 fn may_take(accounts: &Accounts, from: FederateNo, to: FederateNo, carried: Carried) -> bool
-    ensures { (d : Directory) → Decides result (MayCarry (central_with d accounts.now) from to carried) }
+    ensures { (d : Directory)
+        → Decides result (MayCarry (central_with d accounts.now) from to carried) }
 {
     let _next = accounts.next_federate();
     accounts.may_carry(from, to, carried)
@@ -71,7 +72,8 @@ fn judge_taking(
     requires { (account_at accounts.old to).is_joined ≡ true }
     ensures ok { IfOk result (λ v. (d : Directory) → let c = central_with d accounts.old in
         Judged (MayDo c (steps.Carry from to) answer.now choices.None)
-        (central_with d accounts.new ≡ after_done c (steps.Carry from to) answer.now choices.None) v) }
+        (central_with d accounts.new ≡ after_done c (steps.Carry from to) answer.now choices.None)
+        v) }
     ensures err { IfErr result (λ e. e ≡ Fault.OutOfMemory) }
 {
     match carried_in(answer) {

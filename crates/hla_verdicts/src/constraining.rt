@@ -44,7 +44,8 @@ fn may_be_constrained(
     time: Ticks,
     events: &[EventHandle],
 ) -> bool
-    ensures { (d : Directory) → Decides result (MayConstrain (central_with d accounts.now) federate time
+    ensures { (d : Directory)
+        → Decides result (MayConstrain (central_with d accounts.now) federate time
         (choices.Moved events.now)) }
 {
     let _next = accounts.next_federate();

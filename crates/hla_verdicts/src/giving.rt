@@ -26,8 +26,8 @@ use hla_machine::Choice;
 fn give(accounts: &mut Accounts, federate: FederateNo, event: EventHandle, delivery: Delivery)
     requires some { 0 < federate }
     requires within { federate ≤ length accounts.old }
-    requires may { (stamp : ℕ) → delivery ≡ deliveries.TimeStamp stamp → MayChangeRow (changes.Pick stamp)
-        (account_at accounts.old federate).state }
+    requires may { (stamp : ℕ) → delivery ≡ deliveries.TimeStamp stamp
+        → MayChangeRow (changes.Pick stamp) (account_at accounts.old federate).state }
     ensures { (d : Directory)
         → central_with d accounts.new
         ≡ after_delivery (central_with d accounts.old) federate event delivery }

@@ -69,7 +69,8 @@ fn is_lookahead(accounts: &Accounts, federate: FederateNo, time: Ticks) -> bool
 
 /// Whether a query may answer a federate this, in ticks.
 fn may_tell(accounts: &Accounts, federate: FederateNo, query: Query, time: Ticks) -> bool
-    ensures { (d : Directory) → Decides result (MayTell (central_with d accounts.now) federate query time) }
+    ensures { (d : Directory)
+        → Decides result (MayTell (central_with d accounts.now) federate query time) }
 {
     let _next = accounts.next_federate();
     match query {

@@ -28,7 +28,8 @@ fn may_send_from(
     lookahead: Ticks,
     entry: Ticks,
 ) -> bool
-    requires { (d : Directory) → first_fault (call_tests (central_seen (central_with d accounts.now)) federate
+    requires { (d : Directory)
+        → first_fault (call_tests (central_seen (central_with d accounts.now)) federate
         (services.EnableTimeRegulation time lookahead)) ≡ None }
     ensures may { (d : Directory)
         → Decides result
@@ -56,7 +57,8 @@ fn judge_sending_from(
         (services.EnableTimeRegulation time lookahead)) ≡ None }
     ensures judged { (d : Directory) → let c = central_with d accounts.old in
         Judged (MayEnter c federate (time + lookahead) (choices.Entry entry))
-        (central_with d accounts.new ≡ after_enter c federate lookahead (choices.Entry entry)) result }
+        (central_with d accounts.new ≡ after_enter c federate lookahead (choices.Entry entry))
+        result }
     ensures size { length accounts.new ≡ length accounts.old }
 {
     if !may_send_from(accounts, federate, time, lookahead, entry) {

@@ -48,7 +48,8 @@ fn row_numbers(accounts: &Accounts, federate: FederateNo)
 
 /// Whether a federate that has asked to regulate does so from this time on, in ticks.
 fn may_enter(accounts: &Accounts, federate: FederateNo, time: Ticks) -> bool
-    ensures { Decides result ((is_pending (account_at accounts.now federate).state.regulating ≡ true)
+    ensures { Decides result
+        ((is_pending (account_at accounts.now federate).state.regulating ≡ true)
         × (time ≡ (account_at accounts.now federate).state.regulation_time)) }
 {
     match accounts.get(federate) {
@@ -62,7 +63,8 @@ fn may_enter(accounts: &Accounts, federate: FederateNo, time: Ticks) -> bool
 
 /// Whether a federate may be granted a time, in ticks.
 fn may_be_granted(accounts: &Accounts, federate: FederateNo, time: Ticks) -> bool
-    ensures { (d : Directory) → Decides result (WhileAdvancing ((central_with d accounts.now).row federate)
+    ensures { (d : Directory)
+        → Decides result (WhileAdvancing ((central_with d accounts.now).row federate)
         (MayGrant (central_with d accounts.now) federate time)) }
 {
     let _next = accounts.next_federate();

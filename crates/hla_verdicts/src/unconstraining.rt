@@ -44,7 +44,8 @@ fn cease(accounts: &mut Accounts, federate: FederateNo, events: &[EventHandle])
 fn judge_ceasing(accounts: &mut Accounts, federate: FederateNo, events: &[EventHandle]) -> Verdict
     requires { (account_at accounts.old federate).is_joined ≡ true }
     ensures judged { (d : Directory) → let c = central_with d accounts.old in
-        Judged (MayCease c federate (choices.Moved events.now) × AreMoved (choices.Moved events.now))
+        Judged
+        (MayCease c federate (choices.Moved events.now) × AreMoved (choices.Moved events.now))
         (central_with d accounts.new ≡ after_cease c federate (choices.Moved events.now)) result }
     ensures size { length accounts.new ≡ length accounts.old }
 {
@@ -95,7 +96,8 @@ pub fn judge_unconstraining(
     requires { (account_at accounts.old federate).is_joined ≡ true }
     ensures judged { (d : Directory)
         → JudgedWith d accounts.old
-        (steps.Call federate services.DisableTimeConstrained) outcome.now choice.now accounts.new result }
+        (steps.Call federate services.DisableTimeConstrained) outcome.now choice.now accounts.new
+        result }
     ensures size { length accounts.new ≡ length accounts.old }
 {
     let fault = accounts.unconstrain_fault(federate);
