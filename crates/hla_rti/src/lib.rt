@@ -8,6 +8,7 @@ mod courier;
 mod federate;
 mod locked;
 mod object_services;
+mod patience;
 mod rti;
 mod seat;
 mod support_services;

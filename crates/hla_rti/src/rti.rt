@@ -13,6 +13,7 @@ use crate::answers::done_in;
 use crate::courier::Courier;
 use crate::federate::Federate;
 use crate::locked::Locked;
+use crate::patience::Patience;
 use crate::seat::Seat;
 use hla_base::{ExecutionName, Fault, List, MAX_CALLERS, MAX_COURIERS, MAX_HISTORY_LIMIT};
 use hla_callbacks::FederateAmbassador;
@@ -87,6 +88,7 @@ impl<L: Ledger + Naming, B: FederateAmbassador, W: Publisher<L>> Rti<L, B, W> {
             number: 0,
             transcript: Vec::new(alloc),
             share,
+            patience: Patience::new(),
         };
         Ok(Rti {
             seat,
@@ -150,6 +152,7 @@ impl<L: Ledger + Naming, B: FederateAmbassador, W: Publisher<L>> Rti<L, B, W> {
             number: self.handed,
             transcript: Vec::new(self.alloc),
             share,
+            patience: Patience::new(),
         };
         Ok(Courier { seat, shared })
     }
@@ -221,6 +224,7 @@ impl<L: Ledger + Naming, B: FederateAmbassador, W: Publisher<L>> Rti<L, B, W> {
                     number: self.handed,
                     transcript: Vec::new(self.alloc),
                     share,
+                    patience: Patience::new(),
                 };
                 Ok(Federate {
                     seat,

@@ -13,6 +13,7 @@ ghost use Rattle.hla_rti.specs.Callers.{Caller, answer_given, HasActed, HasNotAc
 ghost use Rattle.hla_rti.specs.Close.{Agrees, Stands};
 
 use crate::locked::Locked;
+use crate::patience::Patience;
 use hla_base::{ExecutionName, Fault, FederateNo, List};
 use hla_callbacks::FederateAmbassador;
 use hla_history::{Shared, Stepped, Unmatched};
@@ -29,6 +30,7 @@ pub struct Seat<L: Ledger> {
     pub(crate) number: u32,
     pub(crate) transcript: Vec<Record>,
     pub(crate) share: Share<L>,
+    pub(crate) patience: Patience,
 }
 
 impl<L: Ledger> Model for Seat<L> {
@@ -189,13 +191,14 @@ impl<L: Ledger + Naming> Seat<L> {
             return Err(Fault::OutOfMemory);
         }
         let number = self.number;
-        let answer = shared.lock(rt).step(
+        let answer = self.patience.lock(rt, shared).step(
             number,
             &execution,
             step,
             &mut self.share,
             &mut self.transcript,
         )?;
+        self.patience.learn(&answer);
         answered(answer)
     }
 

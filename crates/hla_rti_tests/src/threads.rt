@@ -25,6 +25,13 @@ const MAX_TURNS: u32 = 10_000;
 /// How often a thread lets others run after a tick that gave nothing: fewer records, and the history lasts.
 const PATIENCE: u32 = 32;
 
+/// Up to this time each federate queries its time once when that is granted, behind it often: then both find the lock taken
+/// so many times that they nap before they wait for it.
+const CALM: Ticks = 80;
+
+/// How often it queries it then.
+const QUERIES: u32 = 250;
+
 /// How many records the history may hold.
 const HISTORY_LIMIT: usize = 262_144;
 
@@ -126,6 +133,19 @@ fn expect(asked: Ticks, time: Ticks) -> Result<(), Stop> {
     }
 }
 
+/// Queries the federate's time so many times.
+fn query<L: Ledger + Naming, W: Publisher<L>>(
+    rt: &impl Wait,
+    federate: &mut Federate<L, Recorder, W>,
+    time: Ticks,
+    queries: u32,
+) -> Result<(), Stop> {
+    for _ in 0..queries {
+        expect(time, federate.query_federate_time(rt)?)?;
+    }
+    Ok(())
+}
+
 /// Asks for each time in turn, up to the last.
 fn advance<L: Ledger + Naming, W: Publisher<L>>(
     rt: &impl Wait,
@@ -135,7 +155,8 @@ fn advance<L: Ledger + Naming, W: Publisher<L>>(
     for time in 1..=LAST {
         pair.federate.time_advance_request(rt, time)?;
         expect(time, granted(rt, pair, play)?)?;
-        expect(time, pair.federate.query_federate_time(rt)?)?;
+        let queries = if time > CALM { QUERIES } else { 1 };
+        query(rt, &mut pair.federate, time, queries)?;
     }
     Ok(())
 }

@@ -44,7 +44,7 @@ use Rattle.hla_players.proofs.DeedLemmas.{answer_told}
 answer_in : (history records : List Record) (execution : List ℕ) (a : Act) (given : Result Answer Fault) → IsTranscriptIn history records → HasAnswerOf records execution a given → HasAnswerOf history execution a given
 answer_in history records execution a given within h = record { found = h.found; there = within h.found h.there; inside = h.inside; acts = h.acts; answers = h.answers }
 
-pub call_in : (c : CatalogueValue) (history records : List Record) (execution : List ℕ) (f : ℕ) (call : Call) (out : Outcome) → IsTranscriptIn history records → IsCallRecorded c records execution f call out → IsCallRecorded c history execution f call out
+call_in : (c : CatalogueValue) (history records : List Record) (execution : List ℕ) (f : ℕ) (call : Call) (out : Outcome) → IsTranscriptIn history records → IsCallRecorded c records execution f call out → IsCallRecorded c history execution f call out
 call_in c history records execution f call out within h = elim h [
   | inl made ↦ inl (record { asked = made.asked; asks = made.asks; answered = answer_in history records execution (act_of_call made.asked f) (answer_given out) within made.answered })
   | inr none ↦ inr none
@@ -151,17 +151,6 @@ told_recorded old new execution a out told = elim told [
   | inr none ↦ (grown_same old new none.2.1, inr (none.0, none.1, none.2.0))
 ]
 
-pub answered_extended : (old new : Caller) (execution : List ℕ) (a : Act) (given : Result Answer Fault) → HasAnswered old execution a given new → HasExtended old new
-answered_extended old new execution a given answered = elim answered [ inl acted ↦ acted_extended old new execution a acted.0 acted.2 | inr none ↦ grown_same old new none.2.1 ]
-
--- a joining that was refused, with a record or without
-pub refused_extended : (old new : Caller) (execution : List ℕ) (a : Act) (e f : Fault) (X : Type 0) → (HasActed old execution a (outcome.Refused e) new ⊎ HasNotActed old e new) ⊎ ((e ≡ f) × X × (new ≡ old)) → HasExtended old new
-refused_extended old new execution a e f X refused = elim refused [
-  | inl (inl acted) ↦ acted_extended old new execution a (outcome.Refused e) acted
-  | inl (inr none) ↦ grown_same old new none.1
-  | inr limit ↦ grown_same old new limit.2
-]
-
 pub asked_recorded : (c : CatalogueValue) (records : List Record) (execution : List ℕ) (f : ℕ) (call : Call) (asked : Option Service) (out : Outcome) → service_of c call ≡ Ok asked → IsActRecorded records execution (act_of_call asked f) out
     → IsCallRecorded c records execution f call out
 asked_recorded c records execution f call asked out asks h = elim h [
@@ -215,9 +204,6 @@ pub created_line : (old new : Caller) (l : Command) (execution : List ℕ) (read
 created_line old new l execution read given out is answered told =
     let both = told_recorded old new execution (act.Create read) out (answer_told old new execution (act.Create read) (said nothing given) out answered told) in
     (both.0, λ c. subst (λ (x : Command). IsLineRecorded c new.transcript x out) (sym is) (read, (execution, both.1)))
-
-pub joined_line : (own : Caller) (l : Command) (name : List ℕ) (out : Outcome) → l ≡ command.Join name → IsJoiningRecorded own.transcript name out → IsOfficeLine own l out
-joined_line own l name out is told = λ c. subst (λ (x : Command). IsLineRecorded c own.transcript x out) (sym is) told
 
 pub refused_joining : (old new : Caller) (execution name : List ℕ) (e : Fault) (X : Type 0) → (HasActed old execution (act.Step (step.Join name)) (outcome.Refused e) new ⊎ HasNotActed old e new) ⊎ ((e ≡ fault.LimitReached) × X × (new ≡ old))
     → IsJoiningRecorded new.transcript name (outcome.Refused e)
