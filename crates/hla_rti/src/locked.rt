@@ -16,6 +16,7 @@ ghost use Rattle.hla_rti.specs.Close.{AllHere, AllAgree, AreOfCallers, DiffersFi
 ghost use Rattle.hla_rti.specs.Locked.{choiceless_record, own_record, IsFull, IsPosted, IsRecorded, IsNotRecorded, CountsRecord};
 
 use crate::closing::{Closed, Unsettled, settle};
+use crate::patience::{Patience, vain_steps_after};
 use crate::seat::{Left, Seat};
 use hla_base::{ExecutionName, Fault, FederateNo, List};
 use hla_callbacks::FederateAmbassador;
@@ -32,6 +33,8 @@ pub struct Locked<L: Ledger + Naming, B: FederateAmbassador, W: Publisher<L>> {
     shared: Shared<L, B>,
     board: Board<L, W>,
     ended: bool,
+    /// How many steps were in vain: by these callers know whether anybody waits.
+    vain_steps: u64,
 }
 
 impl<L: Ledger + Naming, B: FederateAmbassador, W: Publisher<L>> Model for Locked<L, B, W> {
@@ -82,13 +85,14 @@ impl<L: Ledger + Naming, B: FederateAmbassador, W: Publisher<L>> Locked<L, B, W>
             shared,
             board,
             ended: false,
+            vain_steps: 0,
         }
     }
 
     /// Does a step that is no joining and no resigning, gives its callback to the ambassador of the federate that ticks, records
-    /// it, and writes the caller's copy of the record at the end of its transcript, which has room. `HistoryFull` where the
-    /// history holds its limit, and `OutOfMemory` where a growth was refused; then nothing has changed. Any other fault is the
-    /// step's answer, and is recorded.
+    /// it, and writes the caller's copy of the record at the end of its transcript, which has room. The caller's patience learns
+    /// how many steps have been in vain. `HistoryFull` where the history holds its limit, and `OutOfMemory` where a growth was
+    /// refused; then nothing has changed. Any other fault is the step's answer, and is recorded.
     pub(crate) fn step(
         &mut self,
         actor: u32,
@@ -96,6 +100,7 @@ impl<L: Ledger + Naming, B: FederateAmbassador, W: Publisher<L>> Locked<L, B, W>
         step: Step,
         mine: &mut Share<L>,
         transcript: &mut Vec<Record>,
+        patience: &mut Patience,
     ) -> Result<Outcome, Fault>
         requires part { 0 < mine.old.parts }
         requires plain { IsPlain step }
@@ -115,6 +120,8 @@ impl<L: Ledger + Naming, B: FederateAmbassador, W: Publisher<L>> Locked<L, B, W>
             .shared
             .step_into(actor, execution, step, mine, transcript)?;
         note_last(&mut self.board, transcript.as_slice());
+        self.vain_steps = vain_steps_after(self.vain_steps, &answer);
+        patience.learn(self.vain_steps);
         Ok(answer)
     }
 

@@ -1,6 +1,6 @@
 //! How a caller waits for the lock.
 
-ghost use Rattle.std.specs.Prelude.{◌≡◌, ◌⊎◌, ◌+◌};
+ghost use Rattle.std.specs.Prelude.{◌≡◌, ◌⊎◌, ◌+◌, ◌≤◌, true, false};
 ghost use Rattle.hla_rti.specs.Waiting.{is_vain, finds_after};
 
 use hla_machine::{Answer, Carried, Outcome};
@@ -8,7 +8,7 @@ use std::sync::atomic::AtomicU64;
 use std::sync::{Mutex, MutexGuard, Wait};
 use std::time::Duration;
 
-/// How often a caller finds the lock taken since its last step in vain before it naps.
+/// How often a caller finds the lock taken, while nobody's step is in vain, before it naps.
 const PATIENT_FINDS: u32 = 32;
 
 /// The naps that a caller takes at the most, in microseconds.
@@ -16,11 +16,14 @@ const NAPS: [u64; 5] = [50, 100, 200, 400, 800];
 
 /// How a caller waits for the lock. While callers take turns at each step, what lies behind the lock moves from core to core
 /// with it, and one of them sleeps and is woken for nearly each step: two make fewer steps than one alone. So a caller that
-/// finds the lock taken again and again naps, and leaves it to the others for some hundred steps. One whose step was in vain
-/// waits for others, and is as patient as at first: where all wait for each other, as in lock-step, nobody naps.
+/// finds the lock taken again and again naps, and leaves it to the others for some hundred steps. Where a step was in vain, its
+/// caller waits for others, and nobody naps: whom it waits for would be late, as in lock-step.
 #[derive(Drop)]
 pub(crate) struct Patience {
+    /// How often the lock was found taken since the number below last changed.
     finds: u32,
+    /// How many steps of all callers had been in vain when this caller had the lock last.
+    vain_steps: u64,
 }
 
 impl Patience {
@@ -28,7 +31,10 @@ impl Patience {
     pub(crate) fn new() -> Patience
         ensures { result.finds ≡ 0 }
     {
-        Patience { finds: 0 }
+        Patience {
+            finds: 0,
+            vain_steps: 0,
+        }
     }
 
     /// The lock, once it is free. It ends: each nap ends by itself, a few are taken at most, and then the caller waits in the
@@ -48,12 +54,15 @@ impl Patience {
         lock.lock(rt)
     }
 
-    /// Learns how the caller's step ended: after one in vain it is as at first.
-    pub(crate) fn learn(&mut self, outcome: &Outcome)
-        ensures { self.new.finds ≡ finds_after outcome.now self.old.finds }
+    /// Learns how many steps of all callers have been in vain: if another number than it knew, it is as patient as at first.
+    pub(crate) fn learn(&mut self, vain_steps: u64)
+        ensures finds { self.new.finds
+            ≡ finds_after self.old.vain_steps vain_steps self.old.finds }
+        ensures steps { self.new.vain_steps ≡ vain_steps }
     {
-        if is_vain(outcome) {
+        if self.vain_steps != vain_steps {
             self.finds = 0;
+            self.vain_steps = vain_steps;
         }
     }
 }
@@ -68,6 +77,18 @@ fn is_vain(outcome: &Outcome) -> bool
             Answer::Ticked(None) | Answer::Announced(None) | Answer::Carried(Carried::Nothing)
         )
     )
+}
+
+/// How many steps have been in vain, once another has ended so.
+pub(crate) fn vain_steps_after(vain_steps: u64, outcome: &Outcome) -> u64
+    ensures more { vain_steps ≤ result }
+    ensures same { is_vain outcome.now ≡ false → result ≡ vain_steps }
+{
+    if is_vain(outcome) {
+        vain_steps.saturating_add(1)
+    } else {
+        vain_steps
+    }
 }
 
 /// Naps until the lock is found free, or for the last time.

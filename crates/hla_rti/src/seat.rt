@@ -197,8 +197,8 @@ impl<L: Ledger + Naming> Seat<L> {
             step,
             &mut self.share,
             &mut self.transcript,
+            &mut self.patience,
         )?;
-        self.patience.learn(&answer);
         answered(answer)
     }
 
