@@ -35,17 +35,26 @@ ANSWER = re.compile(r"(?:\./)?proofs/\S+/(\w+)/\w+\.antt:\d+:\d+: error")
 
 
 def wrong_bodies(edit):
-    """The wrong bodies of an edit file: a name for each, and its (file, old, new) triples. A definition's edit is one, without a name."""
-    bodies, file, old = [("", [])], None, None
+    """The wrong bodies of an edit file: a name for each, and its (file, old, new) triples. A definition's edit is one, without a name. An old
+    text goes on to the new one, and that to an empty line or the next text's head."""
+    bodies, file, old, part = [("", [])], None, None, None
     for line in edit.read_text().splitlines():
+        pairs = bodies[-1][1]
         if line.startswith("# "):
             bodies.append((line[2:], []))
         elif line.startswith("file: "):
             file = line[len("file: "):].strip()
         elif line.startswith("old: "):
-            old = line[len("old: "):]
+            old, part = line[len("old: "):], "old"
         elif line.startswith("new:"):
-            bodies[-1][1].append((file, old, line[len("new:"):].removeprefix(" ")))
+            pairs.append((file, old, line[len("new:"):].removeprefix(" ")))
+            part = "new"
+        elif part == "old":
+            old += "\n" + line
+        elif line and part == "new":
+            pairs[-1] = *pairs[-1][:2], pairs[-1][2] + "\n" + line
+        if not line or line.startswith(("# ", "file: ")):
+            part = None
     return [(name or edit.stem, pairs) for name, pairs in bodies if pairs]
 
 
@@ -158,8 +167,7 @@ def main():
     missing = count = 0
     for name in names:
         if given.apply:
-            applied = [edited(CRATES / name, wrong_bodies(edit)) for edit in edits_of(name)]
-            count += sum(len(changed) for _, _, changed in applied)
+            count += len([edited(CRATES / name, [it]) for edit in edits_of(name) for it in wrong_bodies(edit)])
             continue
         results = [it for edit in edits_of(name) for it in tried(CRATES / name, edit, given.alone)]
         missing += sum(not is_refused for _, is_refused, _ in results)
