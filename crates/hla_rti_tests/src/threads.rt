@@ -27,10 +27,10 @@ const PATIENCE: u32 = 32;
 
 /// Up to this time each federate queries its time once when that is granted, behind it often: then both find the lock taken
 /// so many times that they nap before they wait for it.
-const CALM: Ticks = 80;
+const CALM: Ticks = 98;
 
 /// How often it queries it then.
-const QUERIES: u32 = 250;
+const QUERIES: u32 = 4_000;
 
 /// How many records the history may hold.
 const HISTORY_LIMIT: usize = 262_144;
