@@ -1,10 +1,10 @@
 //! A federation execution.
 
-use crate::foreseeing::Foreseen;
 use crate::parts::Parts;
 use hla_base::{Fault, FederateNo, Ticks};
 use hla_callbacks::Callback;
 use hla_catalogue::Catalogue;
+use hla_execution::{Execution, Foreseen};
 use hla_machine::{Answer, Carried, Choice, Service, Step};
 use std::alloc::Global;
 use std::marker::Model;
@@ -179,5 +179,26 @@ impl Federation {
             answers.push_reserved(self.step(step));
         }
         Ok(answers)
+    }
+}
+
+/// What whoever keeps it under a lock needs of it.
+impl Execution for Federation {
+    ghost value = { λ f. f };
+
+    fn new(alloc: Global, catalogue: Catalogue) -> Federation {
+        Federation::new(alloc, catalogue)
+    }
+
+    fn is_joined_by_any(&self) -> bool {
+        Federation::is_joined_by_any(self)
+    }
+
+    fn foresee(&self, step: &Step) -> Result<Foreseen, Fault> {
+        Federation::foresee(self, step)
+    }
+
+    fn step(&mut self, step: &Step) -> Result<Answer, Fault> {
+        Federation::step(self, step)
     }
 }

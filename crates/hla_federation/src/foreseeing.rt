@@ -24,16 +24,10 @@ use hla_base::{
 };
 use hla_callbacks::Callback;
 use hla_catalogue::Order;
+use hla_execution::Foreseen;
 use hla_machine::{Answer, Carried, Choice, Outcome, Service, Step};
 use hla_members::callback_of;
 use hla_time_roles::TimeState;
-
-/// How the next step would end and what it would choose, if it were this one.
-#[derive(Debug, Drop)]
-pub struct Foreseen {
-    pub outcome: Outcome,
-    pub choice: Choice,
-}
 
 impl Parts {
     /// The roles and the time of a federate.

@@ -25,4 +25,4 @@ mod sending;
 mod synchronizing;
 
 pub use federation::Federation;
-pub use foreseeing::Foreseen;
+pub use hla_execution::Foreseen;

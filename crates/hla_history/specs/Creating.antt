@@ -6,7 +6,6 @@ use Rattle.hla_callbacks.specs.declared.callback.Callback.{Callback}
 use Rattle.hla_catalogue.specs.CatalogueValue.{CatalogueValue}
 use Rattle.hla_fed_file.specs.Reading.{reading_of}
 use Rattle.hla_machine.specs.Runs.{create_fault, destroy_fault}
-use Rattle.hla_machine.specs.declared.step.Answer.TheVariants as answer
 use Rattle.hla_machine.specs.declared.step.Outcome.{Outcome}
 use Rattle.hla_machine.specs.declared.step.Outcome.TheVariants as outcome
 use Rattle.hla_components.specs.CentralOf.{central}

@@ -14,8 +14,8 @@ use Rattle.hla_machine.specs.declared.step.Choice.{Choice}
 use Rattle.hla_machine.specs.declared.step.Choice.TheVariants as choice
 use Rattle.hla_components.specs.Components.{Components}
 use Rattle.hla_components.specs.Next.{next}
-use Rattle.hla_federation.specs.FederationValue.{FederationValue}
-use Rattle.hla_federation.specs.Steps.State.{state_of}
+use Rattle.hla_execution.specs.FederationValue.{FederationValue}
+use Rattle.hla_execution.specs.StateOf.{state_of}
 use Rattle.hla_history.specs.Heard.{given_outcome}
 use Rattle.hla_machine.specs.declared.step.Record.{Record}
 use Rattle.hla_history.specs.Hosts.{Host, Hosts, Held, HostTable, HeardTable, with_callback}

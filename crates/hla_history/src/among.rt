@@ -16,12 +16,13 @@ use crate::host::Hosted;
 use crate::preparing::{Stepped, recorded};
 use hla_base::{ExecutionName, Fault};
 use hla_callbacks::FederateAmbassador;
+use hla_execution::Execution;
 use hla_machine::{Act, Outcome, Record, Step};
 use std::alloc::Global;
 
 /// Where an execution of this name is.
-pub(crate) fn place_of<B: FederateAmbassador>(
-    executions: &[Hosted<B>],
+pub(crate) fn place_of<B: FederateAmbassador, F: Execution>(
+    executions: &[Hosted<B, F>],
     name: &ExecutionName,
 ) -> Option<usize>
     ensures { result ≡ position (λ (h : HostedValue). bytes_eq name.now h.name) executions.now }
@@ -90,8 +91,8 @@ fn refuse_into(
 /// Does a step that is no joining and no resigning, of the execution of this name, and writes the record at the end of the
 /// history and its copy at the end of a transcript, which both have room. `OutOfMemory`, and nothing done or written, where
 /// a growth was refused.
-pub(crate) fn step_among_into<B: FederateAmbassador>(
-    executions: &mut Vec<Hosted<B>>,
+pub(crate) fn step_among_into<B: FederateAmbassador, F: Execution>(
+    executions: &mut Vec<Hosted<B, F>>,
     actor: u32,
     execution: &ExecutionName,
     step: Step,

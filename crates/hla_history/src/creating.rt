@@ -22,6 +22,7 @@ use crate::preparing::{Stepped, recorded};
 use hla_base::{ExecutionName, Fault, MAX_CREATES, MAX_EXECUTIONS, Plain};
 use hla_callbacks::FederateAmbassador;
 use hla_catalogue::Catalogue;
+use hla_execution::Execution;
 use hla_fed_file::{FedFaultKind, read};
 use hla_machine::{Act, Answer, Outcome, Record};
 use std::alloc::Global;
@@ -61,8 +62,8 @@ fn creation_refusal(is_there: bool, is_read: bool, counts: Counts) -> Option<Fau
 }
 
 /// Adds an execution that nobody has joined. `OutOfMemory`, and none added, where a growth was refused.
-fn add<B: FederateAmbassador>(
-    executions: &mut Vec<Hosted<B>>,
+fn add<B: FederateAmbassador, F: Execution>(
+    executions: &mut Vec<Hosted<B, F>>,
     name: &ExecutionName,
     catalogue: Catalogue,
 ) -> Result<(), Fault>
@@ -84,8 +85,8 @@ fn add<B: FederateAmbassador>(
 
 /// Adds an execution that nobody has joined, for what its FED file was read as, and makes the record of its creation.
 /// `OutOfMemory`, and none added, where a growth was refused.
-fn add_recorded<B: FederateAmbassador>(
-    executions: &mut Vec<Hosted<B>>,
+fn add_recorded<B: FederateAmbassador, F: Execution>(
+    executions: &mut Vec<Hosted<B, F>>,
     actor: u32,
     name: &ExecutionName,
     catalogue: Option<Catalogue>,
@@ -130,8 +131,8 @@ fn add_recorded<B: FederateAmbassador>(
 
 /// Creates an execution that nobody has joined, for what its FED file was read as. `OutOfMemory`, and none created, where a
 /// growth was refused; any other fault is in the record.
-pub(crate) fn create_among<B: FederateAmbassador>(
-    executions: &mut Vec<Hosted<B>>,
+pub(crate) fn create_among<B: FederateAmbassador, F: Execution>(
+    executions: &mut Vec<Hosted<B, F>>,
     counts: &mut Counts,
     actor: u32,
     name: ExecutionName,
@@ -181,8 +182,8 @@ pub(crate) fn create_among<B: FederateAmbassador>(
 }
 
 /// Why an execution is not destroyed.
-fn destruction_refusal<B: FederateAmbassador>(
-    executions: &[Hosted<B>],
+fn destruction_refusal<B: FederateAmbassador, F: Execution>(
+    executions: &[Hosted<B, F>],
     name: &ExecutionName,
 ) -> Option<Fault>
     ensures { result ≡ destruction_fault (table_of executions.now name.now) }
@@ -200,7 +201,10 @@ fn destruction_refusal<B: FederateAmbassador>(
 }
 
 /// Takes an execution out.
-fn remove_named<B: FederateAmbassador>(executions: &mut Vec<Hosted<B>>, name: &ExecutionName)
+fn remove_named<B: FederateAmbassador, F: Execution>(
+    executions: &mut Vec<Hosted<B, F>>,
+    name: &ExecutionName,
+)
     ensures { executions.new.items
         ≡ filter (λ (h : HostedValue). not (bytes_eq name.now h.name)) executions.old.items }
 {
@@ -209,8 +213,8 @@ fn remove_named<B: FederateAmbassador>(executions: &mut Vec<Hosted<B>>, name: &E
 
 /// Destroys an execution that no federate is joined to. `OutOfMemory`, and none destroyed, where a growth was refused; any
 /// other fault is in the record.
-pub(crate) fn destroy_among<B: FederateAmbassador>(
-    executions: &mut Vec<Hosted<B>>,
+pub(crate) fn destroy_among<B: FederateAmbassador, F: Execution>(
+    executions: &mut Vec<Hosted<B, F>>,
     counts: &mut Counts,
     actor: u32,
     name: ExecutionName,

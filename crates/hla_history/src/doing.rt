@@ -9,7 +9,7 @@ use crate::preparing::{advance, copied_callback};
 use crate::writing::{Ended, take_away, write_copy};
 use hla_base::{Fault, Plain};
 use hla_callbacks::{Callback, Ear, FederateAmbassador};
-use hla_federation::Federation;
+use hla_execution::Execution;
 use hla_machine::{Outcome, Record};
 
 /// What goes out of a record: the answer to the caller, and the callback to the ear.
@@ -37,18 +37,18 @@ fn copied_out(made: &Record) -> Result<Outgoing, Fault>
 
 /// Does the step of a record whose copy is to be written in the transcript, which has room. `OutOfMemory`, and nothing done
 /// or written, where a growth was refused.
-fn advance_copied(
-    federation: &mut Federation,
+fn advance_copied<F: Execution>(
+    federation: &mut F,
     made: &Record,
     transcript: &mut Vec<Record>,
 ) -> Result<(), Fault>
     requires act { IsStepAct made.now.act }
     requires room { vec_len transcript.old < vec_capacity transcript.old }
-    ensures state { OnOk result (components_hosted federation.new
-        ≡ components_after (components_hosted federation.old) made.now.act) }
+    ensures state { OnOk result (components_hosted (F.value federation.new)
+        ≡ components_after (components_hosted (F.value federation.old)) made.now.act) }
     ensures copied { OnOk result (transcript.new.items ≡ transcript.old.items ++ made.now ∷ []) }
     ensures err { IfErr result (λ e. e ≡ Fault.OutOfMemory) }
-    ensures unchanged { OnErr result (federation.new ≡ federation.old) }
+    ensures unchanged { OnErr result (F.value federation.new ≡ F.value federation.old) }
     ensures unwritten { OnErr result (transcript.new.items ≡ transcript.old.items) }
 {
     write_copy(made, transcript)?;
@@ -63,8 +63,8 @@ fn advance_copied(
 
 /// Does the step of a record, writes its copy in the transcript, which has room, and gives its callback to the ear of its
 /// federate, which has room, too. `OutOfMemory`, and nothing done or written, where a growth was refused.
-pub(crate) fn carry_out<B: FederateAmbassador>(
-    federation: &mut Federation,
+pub(crate) fn carry_out<B: FederateAmbassador, F: Execution>(
+    federation: &mut F,
     ears: &mut Vec<Option<Ear<B>>>,
     made: &Record,
     transcript: &mut Vec<Record>,
@@ -73,8 +73,8 @@ pub(crate) fn carry_out<B: FederateAmbassador>(
     requires ready { CanDeliver (callback_in made.now.outcome) made.now.act ears.old.items }
     requires room { vec_len transcript.old < vec_capacity transcript.old }
     ensures answer { IfOk result (λ x. x.answer ≡ made.now.outcome) }
-    ensures state { OnOk result (components_hosted federation.new
-        ≡ components_after (components_hosted federation.old) made.now.act) }
+    ensures state { OnOk result (components_hosted (F.value federation.new)
+        ≡ components_after (components_hosted (F.value federation.old)) made.now.act) }
     ensures copied { OnOk result (transcript.new.items ≡ transcript.old.items ++ made.now ∷ []) }
     ensures heard { OnOk result (heard_table (heard_of ears.new.items)
         ≡ heard_then_of (heard_table (heard_of ears.old.items)) made.now.act
@@ -82,7 +82,7 @@ pub(crate) fn carry_out<B: FederateAmbassador>(
     ensures tags { tags_of ears.new.items ≡ tags_of ears.old.items }
     ensures len { vec_len ears.new ≡ vec_len ears.old }
     ensures err { IfErr result (λ e. e ≡ Fault.OutOfMemory) }
-    ensures unchanged { OnErr result (federation.new ≡ federation.old) }
+    ensures unchanged { OnErr result (F.value federation.new ≡ F.value federation.old) }
     ensures unheard { OnErr result (ears.new.items ≡ ears.old.items) }
     ensures unwritten { OnErr result (transcript.new.items ≡ transcript.old.items) }
 {

@@ -23,7 +23,7 @@ use crate::writing::{answered, take_away, write_foreseen};
 use hla_base::{ExecutionName, Fault, FederateNo, List, MAX_JOINS, Plain, SharedList};
 use hla_callbacks::{Ear, FederateAmbassador};
 use hla_catalogue::Catalogue;
-use hla_federation::Federation;
+use hla_execution::Execution;
 use hla_machine::{Outcome, Record, ResignAction, Service, Step};
 use std::alloc::Global;
 use std::marker::Model;
@@ -31,14 +31,14 @@ use std::marker::Model;
 /// An execution by name, with an ear for each joined federate. Contracts see its components, what each ear has heard, and
 /// whose ambassador it has.
 #[derive(Drop)]
-pub(crate) struct Hosted<B: FederateAmbassador> {
+pub(crate) struct Hosted<B: FederateAmbassador, F: Execution> {
     name: SharedList<u8>,
-    federation: Federation,
+    federation: F,
     /// By the number of the federate; the place of no federate is empty.
     ears: Vec<Option<Ear<B>>>,
 }
 
-impl<B: FederateAmbassador> Model for Hosted<B> {
+impl<B: FederateAmbassador, F: Execution> Model for Hosted<B, F> {
     ghost use Rattle.std.specs.Prelude.{◌≡◌, vec_len};
     ghost use Rattle.hla_history.specs.Hosting.{HostedValue, components_hosted, heard_of, tags_of};
 
@@ -46,22 +46,22 @@ impl<B: FederateAmbassador> Model for Hosted<B> {
 
     ghost view = { λ h. record {
       name = h.name;
-      federation = h.federation;
+      federation = F.value h.federation;
       heard = heard_of h.ears.items;
       tags = tags_of h.ears.items;
     } };
 
     ghost invariant = { λ h. vec_len h.ears
-        ≡ (components_hosted h.federation).directory.next_federate };
+        ≡ (components_hosted (F.value h.federation)).directory.next_federate };
 }
 
-impl<B: FederateAmbassador> Hosted<B> {
+impl<B: FederateAmbassador, F: Execution> Hosted<B, F> {
     /// An execution that nobody has joined; `OutOfMemory` where a growth was refused.
     pub(crate) fn new(
         alloc: Global,
         name: &ExecutionName,
         catalogue: Catalogue,
-    ) -> Result<Hosted<B>, Fault>
+    ) -> Result<Hosted<B, F>, Fault>
         ensures name { IfOk result (λ h. h.name ≡ name.now) }
         ensures host { IfOk result (λ h. host_of h ≡ new_host catalogue) }
         ensures tags { IfOk result (λ h. tag_table h.tags ≡ no_tags) }
@@ -73,7 +73,7 @@ impl<B: FederateAmbassador> Hosted<B> {
         ears.push_reserved(None);
         Ok(Hosted {
             name: SharedList::from_slice(alloc, name.as_slice())?,
-            federation: Federation::new(alloc, catalogue),
+            federation: F::new(alloc, catalogue),
             ears,
         })
     }

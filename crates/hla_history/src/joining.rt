@@ -14,12 +14,13 @@ use crate::host::Hosted;
 use crate::preparing::Stepped;
 use hla_base::{ExecutionName, Fault, FederateNo, List};
 use hla_callbacks::FederateAmbassador;
+use hla_execution::Execution;
 use hla_machine::{Record, ResignAction, Service, Step};
 
 /// Joins a federate with this ambassador to the execution of this name; the ambassador comes back where it is refused, and where
 /// it is a fault: `OutOfMemory` where a growth was refused, and then nothing has changed.
-pub(crate) fn join_among<B: FederateAmbassador>(
-    executions: &mut Vec<Hosted<B>>,
+pub(crate) fn join_among<B: FederateAmbassador, F: Execution>(
+    executions: &mut Vec<Hosted<B, F>>,
     actor: u32,
     execution: ExecutionName,
     name: List<u8>,
@@ -68,8 +69,8 @@ pub(crate) fn join_among<B: FederateAmbassador>(
 
 /// Resigns a federate from the execution of this name, and hands out its ambassador where that was done. `OutOfMemory`, and
 /// nothing done, where a growth was refused; any other fault is in the record.
-pub(crate) fn resign_among<B: FederateAmbassador>(
-    executions: &mut Vec<Hosted<B>>,
+pub(crate) fn resign_among<B: FederateAmbassador, F: Execution>(
+    executions: &mut Vec<Hosted<B, F>>,
     actor: u32,
     execution: ExecutionName,
     federate: FederateNo,

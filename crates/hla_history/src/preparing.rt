@@ -12,7 +12,7 @@ ghost use Rattle.hla_machine.specs.declared.step.Choice.TheVariants as choice;
 
 use hla_base::{ExecutionName, Fault, Plain, SharedList};
 use hla_callbacks::Callback;
-use hla_federation::{Federation, Foreseen};
+use hla_execution::{Execution, Foreseen};
 use hla_machine::{Act, Answer, Choice, Outcome, Record, Step};
 use std::alloc::Global;
 
@@ -111,8 +111,8 @@ pub(crate) fn recorded(
 }
 
 /// The record of a step as it is foreseen. `OutOfMemory` where a growth was refused.
-fn foreseen(
-    federation: &Federation,
+fn foreseen<F: Execution>(
+    federation: &F,
     actor: u32,
     execution: SharedList<u8>,
     step: Step,
@@ -121,8 +121,8 @@ fn foreseen(
       actor = actor;
       execution = execution;
       act = act.Step step;
-      outcome = (next (components_hosted federation.now) step).outcome;
-      choice = (next (components_hosted federation.now) step).choice;
+      outcome = (next (components_hosted (F.value federation.now)) step).outcome;
+      choice = (next (components_hosted (F.value federation.now)) step).choice;
     }) }
     ensures err { IfErr result (λ e. e ≡ Fault.OutOfMemory) }
 {
@@ -142,12 +142,12 @@ fn foreseen(
 }
 
 /// Does the step of an act that was foreseen. `OutOfMemory`, and nothing done, where a growth was refused.
-pub(crate) fn advance(federation: &mut Federation, act: &Act) -> Result<(), Fault>
+pub(crate) fn advance<F: Execution>(federation: &mut F, act: &Act) -> Result<(), Fault>
     requires { IsStepAct act.now }
-    ensures state { OnOk result (components_hosted federation.new
-        ≡ components_after (components_hosted federation.old) act.now) }
+    ensures state { OnOk result (components_hosted (F.value federation.new)
+        ≡ components_after (components_hosted (F.value federation.old)) act.now) }
     ensures err { IfErr result (λ e. e ≡ Fault.OutOfMemory) }
-    ensures unchanged { OnErr result (federation.new ≡ federation.old) }
+    ensures unchanged { OnErr result (F.value federation.new ≡ F.value federation.old) }
 {
     let Act::Step(step) = act else { unreachable!() };
     do_known(federation, step)
@@ -155,8 +155,8 @@ pub(crate) fn advance(federation: &mut Federation, act: &Act) -> Result<(), Faul
 
 /// Does a step that gives no callback: its record, and the caller's copies. `OutOfMemory`, and nothing done, where a growth
 /// was refused.
-pub(crate) fn take_step(
-    federation: &mut Federation,
+pub(crate) fn take_step<F: Execution>(
+    federation: &mut F,
     actor: u32,
     execution: SharedList<u8>,
     step: Step,
@@ -165,15 +165,15 @@ pub(crate) fn take_step(
       actor = actor;
       execution = execution;
       act = act.Step step;
-      outcome = (next (components_hosted federation.old) step).outcome;
-      choice = (next (components_hosted federation.old) step).choice;
+      outcome = (next (components_hosted (F.value federation.old)) step).outcome;
+      choice = (next (components_hosted (F.value federation.old)) step).choice;
     }) }
     ensures own { IfOk result (λ p. p.1.own ≡ p.0) }
     ensures answer { IfOk result (λ p. p.1.answer ≡ p.0.outcome) }
-    ensures state { OnOk result (components_hosted federation.new
-        ≡ (next (components_hosted federation.old) step).state) }
+    ensures state { OnOk result (components_hosted (F.value federation.new)
+        ≡ (next (components_hosted (F.value federation.old)) step).state) }
     ensures err { IfErr result (λ e. e ≡ Fault.OutOfMemory) }
-    ensures unchanged { OnErr result (federation.new ≡ federation.old) }
+    ensures unchanged { OnErr result (F.value federation.new ≡ F.value federation.old) }
 {
     let (record, stepped) = with_copies(foreseen(federation, actor, execution, step)?)?;
     match advance(federation, &record.act) {
@@ -188,11 +188,11 @@ pub(crate) fn take_step(
 
 /// Does a step whose answer is known. `OutOfMemory`, and nothing done, where a growth was refused; any other fault is that
 /// answer.
-fn do_known(federation: &mut Federation, step: &Step) -> Result<(), Fault>
-    ensures state { OnOk result (components_hosted federation.new
-        ≡ (next (components_hosted federation.old) step.now).state) }
+fn do_known<F: Execution>(federation: &mut F, step: &Step) -> Result<(), Fault>
+    ensures state { OnOk result (components_hosted (F.value federation.new)
+        ≡ (next (components_hosted (F.value federation.old)) step.now).state) }
     ensures err { IfErr result (λ e. e ≡ Fault.OutOfMemory) }
-    ensures unchanged { OnErr result (federation.new ≡ federation.old) }
+    ensures unchanged { OnErr result (F.value federation.new ≡ F.value federation.old) }
 {
     match federation.step(step) {
         Ok(_) => Ok(()),

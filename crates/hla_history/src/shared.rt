@@ -22,6 +22,7 @@ use crate::joining::{join_among, resign_among};
 use crate::preparing::Stepped;
 use hla_base::{ExecutionName, Fault, FederateNo, List};
 use hla_callbacks::FederateAmbassador;
+use hla_execution::Execution;
 use hla_machine::{Outcome, Record, ResignAction, Step};
 use std::alloc::Global;
 use std::marker::Model;
@@ -32,15 +33,15 @@ use std::sync::ledger::{Book, Ledger, Share};
 /// kept under one lock. Contracts see the history, how many records it may hold, and the executions with what each
 /// ambassador has heard and whose it is; `held_of` and `tags_held` lead from there to tables by name.
 #[derive(Drop)]
-pub struct Shared<L: Ledger, B: FederateAmbassador> {
+pub struct Shared<L: Ledger, B: FederateAmbassador, F: Execution> {
     history: Vec<Record>,
     limit: usize,
     counts: Counts,
-    executions: Vec<Hosted<B>>,
+    executions: Vec<Hosted<B, F>>,
     book: Book<L>,
 }
 
-impl<L: Ledger, B: FederateAmbassador> Model for Shared<L, B> {
+impl<L: Ledger, B: FederateAmbassador, F: Execution> Model for Shared<L, B, F> {
     ghost use Rattle.std.specs.Prelude.{◌≤◌, vec_len, vec_capacity};
     ghost use Rattle.hla_history.specs.Hosts.{IsLockKept};
     ghost use Rattle.hla_history.specs.Hosting.{HeldValue, hosts_of};
@@ -60,7 +61,7 @@ impl<L: Ledger, B: FederateAmbassador> Model for Shared<L, B> {
         × (vec_len s.history ≤ s.limit) × (s.limit ≤ vec_capacity s.history) };
 }
 
-impl<L: Ledger, B: FederateAmbassador> Shared<L, B> {
+impl<L: Ledger, B: FederateAmbassador, F: Execution> Shared<L, B, F> {
     /// No execution, and a history that has room for `limit` records; `OutOfMemory` where that was refused.
     pub fn new(alloc: Global, book: Book<L>, limit: usize) -> Result<Self, Fault>
         requires { book.total ≡ 0 }

@@ -10,7 +10,7 @@ ghost use Rattle.hla_machine.specs.declared.step.Record.{Record as Entry};
 
 use crate::delivering::failed;
 use hla_base::{Fault, Plain, SharedList};
-use hla_federation::{Federation, Foreseen};
+use hla_execution::{Execution, Foreseen};
 use hla_machine::{Act, Outcome, Record, Step};
 
 /// How a step was done whose record was written as it was foreseen.
@@ -24,8 +24,8 @@ pub(crate) struct Ended {
 
 /// Writes the record of a step, as it is foreseen, at the end of the history, which has room. `OutOfMemory`, and nothing
 /// written, where a growth was refused.
-pub(crate) fn write_foreseen(
-    federation: &Federation,
+pub(crate) fn write_foreseen<F: Execution>(
+    federation: &F,
     actor: u32,
     name: &SharedList<u8>,
     step: Step,
@@ -35,8 +35,8 @@ pub(crate) fn write_foreseen(
     ensures written { OnOk result
         (history.new.items
         ≡ history.old.items
-        ++ step_record actor name.now step (next (components_hosted federation.now) step).outcome
-        (next (components_hosted federation.now) step).choice ∷ []) }
+        ++ step_record actor name.now step (next (components_hosted (F.value federation.now)) step).outcome
+        (next (components_hosted (F.value federation.now)) step).choice ∷ []) }
     ensures len { OnOk result (vec_len history.new ≡ vec_len history.old + 1) }
     ensures capacity { vec_capacity history.new ≡ vec_capacity history.old }
     ensures err { IfErr result (λ e. e ≡ Fault.OutOfMemory) }

@@ -13,6 +13,7 @@ use crate::comparing::first_differing;
 use crate::rti::Rti;
 use crate::seat::{Left, Seat};
 use hla_callbacks::FederateAmbassador;
+use hla_federation::Federation;
 use hla_history::Shared;
 use hla_machine::Record;
 use hla_monitor::{Naming, Publisher};
@@ -117,7 +118,7 @@ pub struct Unsettled<L: Ledger, B: FederateAmbassador> {
 /// Lent what is under the lock: compares all transcripts with the history, and takes the records out where they agree. Else
 /// `Unsettled` with the place of the first that differs; then all comes back, and nothing has changed.
 pub fn settle<L: Ledger, B: FederateAmbassador>(
-    shared: &mut Shared<L, B>,
+    shared: &mut Shared<L, B, Federation>,
     seat: Seat<L>,
     rest: Share<L>,
     lefts: Vec<Left<L, B>>,

@@ -5,6 +5,7 @@ ghost use Rattle.hla_rti.specs.Close.{AllAgree, AllStand, DiffersFirst};
 
 use crate::seat::{Left, Seat};
 use hla_callbacks::FederateAmbassador;
+use hla_federation::Federation;
 use hla_history::{Shared, Unmatched};
 use std::alloc::Global;
 use std::sync::ledger::Ledger;
@@ -53,7 +54,7 @@ fn transcript_table<'a, L: Ledger, B: FederateAmbassador>(
 
 /// The place of the first transcript that differs from the history, if one does, by one pass over the history for all.
 fn first_unmatched<L: Ledger, B: FederateAmbassador>(
-    shared: &Shared<L, B>,
+    shared: &Shared<L, B, Federation>,
     table: &mut [Unmatched],
     lefts: &[Left<L, B>],
     own: &Seat<L>,
@@ -77,7 +78,7 @@ fn first_unmatched<L: Ledger, B: FederateAmbassador>(
 /// The place of the first transcript that differs from the history, if one does, by a pass over the history for each; it
 /// takes no memory.
 fn first_in_turn<L: Ledger, B: FederateAmbassador>(
-    shared: &Shared<L, B>,
+    shared: &Shared<L, B, Federation>,
     lefts: &[Left<L, B>],
     own: &Seat<L>,
 ) -> Option<usize>
@@ -98,7 +99,7 @@ fn first_in_turn<L: Ledger, B: FederateAmbassador>(
 /// The place of the first transcript that differs from the history, if one does.
 pub(crate) fn first_differing<L: Ledger, B: FederateAmbassador>(
     alloc: Global,
-    shared: &Shared<L, B>,
+    shared: &Shared<L, B, Federation>,
     lefts: &[Left<L, B>],
     own: &Seat<L>,
 ) -> Option<usize>

@@ -20,6 +20,7 @@ use crate::patience::{Patience, vain_steps_after};
 use crate::seat::{Left, Seat};
 use hla_base::{ExecutionName, Fault, FederateNo, List};
 use hla_callbacks::FederateAmbassador;
+use hla_federation::Federation;
 use hla_history::{Shared, Stepped};
 use hla_machine::{Outcome, Record, ResignAction, Step};
 use hla_monitor::{Board, Monitor, Naming, Publisher, Told};
@@ -30,7 +31,7 @@ use std::sync::ledger::{Ledger, Share};
 /// given back. Contracts see both, and whether the records have gone out, as closing does.
 #[derive(Drop)]
 pub struct Locked<L: Ledger + Naming, B: FederateAmbassador, W: Publisher<L>> {
-    shared: Shared<L, B>,
+    shared: Shared<L, B, Federation>,
     board: Board<L, W>,
     ended: bool,
     /// How many steps were in vain: by these callers know whether anybody waits.
@@ -76,7 +77,7 @@ fn catch_up_board<L: Naming, W: Publisher<L>>(board: &mut Board<L, W>) -> Result
 
 impl<L: Ledger + Naming, B: FederateAmbassador, W: Publisher<L>> Locked<L, B, W> {
     /// A history that is empty, and its board.
-    pub(crate) fn new(shared: Shared<L, B>, board: Board<L, W>) -> Self
+    pub(crate) fn new(shared: Shared<L, B, Federation>, board: Board<L, W>) -> Self
         requires history { shared.history ≡ [] }
         requires board { board ≡ record { whole = true; shown = []; published = []; monitors = 0 } }
         ensures { result ≡ record { held = shared; posted = board; ended = false } }

@@ -16,6 +16,7 @@ use crate::locked::Locked;
 use crate::patience::Patience;
 use hla_base::{ExecutionName, Fault, FederateNo, List};
 use hla_callbacks::FederateAmbassador;
+use hla_federation::Federation;
 use hla_history::{Shared, Stepped, Unmatched};
 use hla_machine::{Answer, Outcome, Record, ResignAction, Step};
 use hla_monitor::{Naming, Publisher};
@@ -83,7 +84,7 @@ impl<L: Ledger, B: FederateAmbassador> Left<L, B> {
     }
 
     /// Whether the transcript is just the caller's records in the history, in order.
-    pub(crate) fn agrees_with(&self, shared: &Shared<L, B>) -> bool
+    pub(crate) fn agrees_with(&self, shared: &Shared<L, B, Federation>) -> bool
         ensures { IsTrue result ↔ Agrees shared.now.history self.now.caller }
     {
         self.seat.agrees_with(shared)
@@ -311,7 +312,10 @@ impl<L: Ledger + Naming> Seat<L> {
 
 impl<L: Ledger> Seat<L> {
     /// Whether the transcript is just this caller's records in the history, in order.
-    pub(crate) fn agrees_with<B: FederateAmbassador>(&self, shared: &Shared<L, B>) -> bool
+    pub(crate) fn agrees_with<B: FederateAmbassador>(
+        &self,
+        shared: &Shared<L, B, Federation>,
+    ) -> bool
         ensures { IsTrue result ↔ Agrees shared.now.history self.now }
     {
         shared.agrees(self.number, self.transcript.as_slice())

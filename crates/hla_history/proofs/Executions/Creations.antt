@@ -22,8 +22,8 @@ use Rattle.hla_machine.specs.declared.step.Record.{Record}
 use Rattle.hla_components.specs.CentralOf.{central}
 use Rattle.hla_components.specs.Components.{Components, new_components}
 use Rattle.hla_components.specs.Executions.{Federations, ending_unless, with_created, with_destroyed, central_executions, IsNext}
-use Rattle.hla_federation.specs.FederationValue.{FederationValue}
-use Rattle.hla_federation.specs.Steps.State.{state_of}
+use Rattle.hla_execution.specs.FederationValue.{FederationValue}
+use Rattle.hla_execution.specs.StateOf.{state_of}
 use Rattle.hla_history.specs.Creating.{creation_fault, destruction_fault}
 use Rattle.hla_history.specs.Heard.{given_outcome, given_record}
 use Rattle.hla_history.specs.Hosts.{Host, Hosts, new_host, set_host, hosts_after, federations_of, IsLockKept}

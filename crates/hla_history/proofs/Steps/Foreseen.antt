@@ -1,7 +1,6 @@
--- What the federation's contracts say of the components under the lock.
-use Rattle.std.proofs.Common.{◌≡◌, ℕ, List, sym, ◌∙◌, ap, inl, inr, Option, Some}
+-- What an execution's contracts say of the components under the lock.
+use Rattle.std.proofs.Common.{◌≡◌, ℕ, List, sym, ◌∙◌, ap, Option, Some}
 use Rattle.hla_base.specs.declared.fault.Fault.{Fault}
-use Rattle.hla_base.specs.declared.fault.Fault.TheVariants as fault
 use Rattle.hla_machine.specs.declared.step.Step.{Step}
 use Rattle.hla_machine.specs.declared.step.Act.TheVariants as act
 use Rattle.hla_machine.specs.declared.step.Outcome.{Outcome}
@@ -10,9 +9,8 @@ use Rattle.hla_machine.specs.declared.step.Record.{Record}
 use Rattle.hla_machine.specs.Refusals.{refusal}
 use Rattle.hla_components.specs.Components.{Components}
 use Rattle.hla_components.specs.Next.{next, components_seen, step_outcome, unless_refused}
-use Rattle.hla_federation.specs.FederationValue.{FederationValue}
-use Rattle.hla_federation.specs.Steps.Memory.{IsRefusedWith}
-use Rattle.hla_federation.specs.Steps.State.{state_of}
+use Rattle.hla_execution.specs.FederationValue.{FederationValue}
+use Rattle.hla_execution.specs.StateOf.{state_of}
 use Rattle.hla_history.specs.Hosting.{components_hosted}
 
 -- the record of a step that ends as foreseen
@@ -29,11 +27,10 @@ pub does_step : (old new : FederationValue) (step : Step) → state_of new ≡ (
 unfolding components_hosted
 does_step old new step is = is
 
-pub refused_stays : (old new : FederationValue) (step : Step) (e : Fault) → new ≡ old → IsRefusedWith (state_of old) step e → (e ≡ fault.OutOfMemory → ⊥)
+pub refused_stays : (old new : FederationValue) (step : Step) (e : Fault) → new ≡ old → refusal (components_seen (state_of old)) step ≡ Some e
     → components_hosted new ≡ (next (components_hosted old) step).state
 unfolding components_hosted
-refused_stays old new step e same h other =
-    let is : refusal (components_seen (state_of old)) step ≡ Some e = elim h [ inl r ↦ r | inr p ↦ absurd (other p.1) ] in
+refused_stays old new step e same is =
     ap (λ (f : FederationValue). state_of f) same
     ∙ sym (ap (λ (o : Option Fault). (unless_refused o (state_of old) (step_outcome (state_of old) step)).state) is)
 

@@ -7,5 +7,5 @@ use Rattle.hla_history.proofs.host.Hosted.is_joined_by_any.Goals as goal
 
 pub returns : goal.returns
 returns g c =
-    joined_there c.self.inside.federation c.is_joined_by_any.result c.is_joined_by_any.ensures
+    joined_there (g.F.Execution.value c.self.inside.federation) c.is_joined_by_any.result c.is_joined_by_any.ensures
     ∙ ap (λ (h : HostedValue). is_joined_by_any (central (components_hosted h.federation))) c.self.view_is

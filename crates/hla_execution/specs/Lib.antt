@@ -1,0 +1,4 @@
+-- What contracts see of a federation
+pub mod FederationValue
+-- The components and wires that this stands for
+pub mod StateOf
