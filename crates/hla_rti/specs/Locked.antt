@@ -17,6 +17,7 @@ pub record LockedValue : Type 0 where
   pub held : HeldValue
   pub posted : Posted
   pub ended : Bool  -- the records have gone out
+  pub vain_steps : ℕ  -- how many steps were in vain
 
 -- what is shown and what is published begin the history, and where no record was missed all of it is shown
 pub record IsPosted (history : List Record) (posted : Posted) : Type 0 where

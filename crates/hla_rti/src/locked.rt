@@ -13,6 +13,7 @@ ghost use Rattle.hla_history.specs.Hosts.{IsPlain};
 ghost use Rattle.hla_history.specs.Hosting.{held_of};
 ghost use Rattle.hla_history.specs.Writing.{step_record};
 ghost use Rattle.hla_rti.specs.Close.{AllHere, AllAgree, AreOfCallers, DiffersFirst};
+ghost use Rattle.hla_rti.specs.Waiting.{vain_steps_then, Learns};
 ghost use Rattle.hla_rti.specs.Locked.{choiceless_record, own_record, IsFull, IsPosted, IsRecorded, IsNotRecorded, CountsRecord};
 
 use crate::closing::{Closed, Unsettled, settle};
@@ -43,7 +44,12 @@ impl<L: Ledger + Naming, B: FederateAmbassador, W: Publisher<L>> Model for Locke
 
     ghost Value = { LockedValue };
 
-    ghost view = { λ l. record { held = l.shared; posted = l.board; ended = l.ended } };
+    ghost view = { λ l. record {
+      held = l.shared;
+      posted = l.board;
+      ended = l.ended;
+      vain_steps = l.vain_steps;
+    } };
 
     ghost invariant = { λ l. IsPostedWhile l.ended l.shared.history l.board };
 }
@@ -80,7 +86,7 @@ impl<L: Ledger + Naming, B: FederateAmbassador, W: Publisher<L>> Locked<L, B, W>
     pub(crate) fn new(shared: Shared<L, B, Federation>, board: Board<L, W>) -> Self
         requires history { shared.history ≡ [] }
         requires board { board ≡ record { whole = true; shown = []; published = []; monitors = 0 } }
-        ensures { result ≡ record { held = shared; posted = board; ended = false } }
+        ensures { result ≡ record { held = shared; posted = board; ended = false; vain_steps = 0 } }
     {
         Locked {
             shared,
@@ -115,6 +121,10 @@ impl<L: Ledger + Naming, B: FederateAmbassador, W: Publisher<L>> Locked<L, B, W>
         ensures refused { IfErr result (λ e. IsNotRecorded self.old e self.new) }
         ensures unwritten { OnErr result (transcript.new.items ≡ transcript.old.items) }
         ensures share { CountsRecord result mine.old.amount mine.new.amount }
+        ensures vain { IfOk result
+            (λ out. self.new.vain_steps ≡ vain_steps_then self.old.vain_steps out) }
+        ensures learnt { OnOk result (Learns patience.old self.new.vain_steps patience.new) }
+        ensures unlearnt { OnErr result (patience.new ≡ patience.old) }
         ensures parts { mine.new.parts ≡ mine.old.parts }
     {
         let answer = self

@@ -1,7 +1,7 @@
 //! How a caller waits for the lock.
 
-ghost use Rattle.std.specs.Prelude.{◌≡◌, ◌⊎◌, ◌+◌, ◌≤◌, true, false};
-ghost use Rattle.hla_rti.specs.Waiting.{is_vain, finds_after};
+ghost use Rattle.std.specs.Prelude.{◌≡◌, ◌⊎◌, ◌+◌};
+ghost use Rattle.hla_rti.specs.Waiting.{is_vain, vain_steps_then, Learns};
 
 use hla_machine::{Answer, Carried, Outcome};
 use std::sync::atomic::AtomicU64;
@@ -56,9 +56,7 @@ impl Patience {
 
     /// Learns how many steps of all callers have been in vain: if another number than it knew, it is as patient as at first.
     pub(crate) fn learn(&mut self, vain_steps: u64)
-        ensures finds { self.new.finds
-            ≡ finds_after self.old.vain_steps vain_steps self.old.finds }
-        ensures steps { self.new.vain_steps ≡ vain_steps }
+        ensures { Learns self.old vain_steps self.new }
     {
         if self.vain_steps != vain_steps {
             self.finds = 0;
@@ -81,8 +79,7 @@ fn is_vain(outcome: &Outcome) -> bool
 
 /// How many steps have been in vain, once another has ended so.
 pub(crate) fn vain_steps_after(vain_steps: u64, outcome: &Outcome) -> u64
-    ensures more { vain_steps ≤ result }
-    ensures same { is_vain outcome.now ≡ false → result ≡ vain_steps }
+    ensures { result ≡ vain_steps_then vain_steps outcome.now }
 {
     if is_vain(outcome) {
         vain_steps.saturating_add(1)
