@@ -10,6 +10,7 @@ use crate::random::Random;
 use crate::steps::made_step;
 use hla_base::{ExecutionName, Fault, LEDGER_PARTS, List, Plain};
 use hla_callbacks::Recorder;
+use hla_federation::Federation;
 use hla_history::Shared;
 use hla_machine::{Outcome, Record, Step};
 use std::alloc::Global;
@@ -57,7 +58,7 @@ struct Kept {
 
 /// One step of a caller.
 fn step_of<L: Ledger>(
-    shared: &mut Shared<L, Recorder>,
+    shared: &mut Shared<L, Recorder, Federation>,
     share: &mut Share<L>,
     execution: ExecutionName,
     way: Way,
@@ -85,7 +86,7 @@ fn step_of<L: Ledger>(
 
 /// One step of one of the two callers, sometimes of an execution that is not there.
 fn step_at_random<L: Ledger>(
-    shared: &mut Shared<L, Recorder>,
+    shared: &mut Shared<L, Recorder, Federation>,
     share: &mut Share<L>,
     way: Way,
     step: Step,
@@ -117,7 +118,7 @@ fn step_at_random<L: Ledger>(
 /// Joins a federate, whose ambassador fails in the callback after this many.
 fn join<L: Ledger>(
     alloc: Global,
-    shared: &mut Shared<L, Recorder>,
+    shared: &mut Shared<L, Recorder, Federation>,
     share: &mut Share<L>,
     letter: u8,
     fails_after: usize,
@@ -145,7 +146,7 @@ fn join<L: Ledger>(
 /// Creates the execution, and three federates join it.
 fn begin<L: Ledger>(
     alloc: Global,
-    shared: &mut Shared<L, Recorder>,
+    shared: &mut Shared<L, Recorder, Federation>,
     share: &mut Share<L>,
 ) -> Result<(), Fail>
     requires { 0 < share.old.parts }
@@ -160,7 +161,7 @@ fn begin<L: Ledger>(
 /// All steps of a run.
 fn step_all<L: Ledger>(
     alloc: Global,
-    shared: &mut Shared<L, Recorder>,
+    shared: &mut Shared<L, Recorder, Federation>,
     share: &mut Share<L>,
     way: Way,
     seed: u64,
@@ -178,7 +179,10 @@ fn step_all<L: Ledger>(
 }
 
 /// Whether the history agrees with a transcript while its first outcome is another.
-fn agrees_forged<L: Ledger>(shared: &Shared<L, Recorder>, transcript: &mut Vec<Record>) -> bool {
+fn agrees_forged<L: Ledger>(
+    shared: &Shared<L, Recorder, Federation>,
+    transcript: &mut Vec<Record>,
+) -> bool {
     let Some(first) = transcript.first_mut() else {
         return true;
     };
@@ -192,7 +196,10 @@ fn agrees_forged<L: Ledger>(shared: &Shared<L, Recorder>, transcript: &mut Vec<R
 
 /// Whether the history agrees with the transcripts, and whether it does with forged ones: that of the other caller, one that
 /// lacks its last record, and one whose first outcome is another.
-fn ask_all<L: Ledger>(shared: &Shared<L, Recorder>, kept: &mut Kept) -> Result<(), Fail> {
+fn ask_all<L: Ledger>(
+    shared: &Shared<L, Recorder, Federation>,
+    kept: &mut Kept,
+) -> Result<(), Fail> {
     kept.agrees.push(shared.agrees(1, &kept.first))?;
     kept.agrees.push(shared.agrees(2, &kept.second))?;
     kept.agrees.push(shared.agrees(2, &kept.first))?;
