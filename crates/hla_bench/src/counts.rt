@@ -22,16 +22,17 @@ pub struct Counts {
 }
 
 impl Counts {
-    /// Each count that is the same at each run, under its name.
-    pub fn fixed(&self) -> [(&'static str, u64); 7] {
+    /// Each count under its name, and whether it is the same at each run.
+    pub fn named(&self) -> [(&'static str, u64, bool); 8] {
         [
-            ("steps", self.steps),
-            ("sent", self.sent),
-            ("received", self.received),
-            ("grants", self.grants),
-            ("queued", self.queued),
-            ("bytes", self.bytes),
-            ("judged", self.judged),
+            ("steps", self.steps, true),
+            ("sent", self.sent, true),
+            ("received", self.received, true),
+            ("grants", self.grants, true),
+            ("queued", self.queued, true),
+            ("bytes", self.bytes, true),
+            ("judged", self.judged, true),
+            ("reads", self.reads, false),
         ]
     }
 }

@@ -11,51 +11,56 @@ const SPREAD: u64 = 1 << 20;
 /// How often the first event is taken and another is put in.
 const HOLDS: u64 = 1_000_000;
 
-fn event(serial: Serial, stamp: Ticks) -> Event {
-    Event {
-        sender: 1,
+/// Puts an event in, unless one of its serial is there.
+fn put(queue: &mut TsoQueue, serial: Serial, stamp: Ticks) -> Result<(), Fault> {
+    let sender = 1;
+    if queue.has_event(sender, serial) {
+        return Ok(());
+    }
+    let event = Event {
+        sender,
         serial,
         ordered: true,
         stamp,
         content: Content::Removal { object: 1 },
-    }
-}
-
-/// Puts an event in, unless one of its serial is there.
-fn put(queue: &mut TsoQueue, event: Event) -> Result<(), Fault> {
-    if queue.has_event(event.sender, event.serial) {
-        return Ok(());
-    }
+    };
     match queue.insert(event) {
         Ok(()) => Ok(()),
         Err(_) => Err(Fault::OutOfMemory),
     }
 }
 
-/// A queue of so many events.
-fn filled(alloc: Global, events: u32, random: &mut Random) -> Result<TsoQueue, Fault> {
-    let mut queue = TsoQueue::new(alloc);
+/// Puts so many events in.
+fn fill(queue: &mut TsoQueue, events: u32, random: &mut Random) -> Result<(), Fault> {
     for serial in 0..events {
-        put(&mut queue, event(u64::from(serial), random.next() % SPREAD))?;
+        put(queue, u64::from(serial), random.next() % SPREAD)?;
     }
-    Ok(queue)
+    Ok(())
+}
+
+/// Puts so many events in, then takes the first and puts one in behind it, again and again.
+fn hold(queue: &mut TsoQueue, events: u32) -> Result<(), Fault> {
+    let mut random = Random::new();
+    fill(queue, events, &mut random)?;
+    for hold in 0..HOLDS {
+        if let Some(least) = queue.take_least() {
+            let stamp = least.stamp.wrapping_add(random.next() % SPREAD);
+            put(queue, u64::from(events).wrapping_add(hold), stamp)?;
+        }
+    }
+    Ok(())
 }
 
 /// Takes the first event and puts one in behind it, again and again. `OutOfMemory` where a growth was refused.
 pub fn run(alloc: Global, events: u32) -> Result<Counts, Fault> {
-    let mut random = Random::new();
-    let mut queue = filled(alloc, events, &mut random)?;
-    for hold in 0..HOLDS {
-        if let Some(least) = queue.take_least() {
-            let stamp = least.stamp.wrapping_add(random.next() % SPREAD);
-            put(
-                &mut queue,
-                event(u64::from(events).wrapping_add(hold), stamp),
-            )?;
-        }
+    let mut queue = TsoQueue::new(alloc);
+    let held = hold(&mut queue, events);
+    drop(queue);
+    match held {
+        Ok(()) => Ok(Counts {
+            queued: u64::from(events).wrapping_add(HOLDS),
+            ..Counts::default()
+        }),
+        Err(fault) => Err(fault),
     }
-    Ok(Counts {
-        queued: u64::from(events).wrapping_add(HOLDS),
-        ..Counts::default()
-    })
 }

@@ -1,92 +1,85 @@
 //! Federates in step: in each round each sends to all others and advances by one.
 
-use crate::counts::Counts;
-use crate::meter::Meter;
-use crate::reading::catalogue;
-use hla_base::{Fault, FederateNo, Ticks};
+use crate::meter::{Meter, Play};
+use hla_base::{Fault, FederateNo, List, Ticks};
 use hla_machine::{Record, Service};
 use std::alloc::Global;
+use std::mem;
 
-const FED: &[u8] = b"(FED (interactions (class Hit reliable timestamp (parameter Force))))";
+/// The FED file.
+pub const FED: &[u8] = b"(FED (interactions (class Hit reliable timestamp (parameter Force))))";
 
-/// All federates join, are time regulating with lookahead 1 and time constrained, and send and receive class 1.
-fn begin(meter: &mut Meter, federates: u32) -> Result<(), Fault> {
-    for federate in 1..=federates {
-        meter.join(federate)?;
-        meter.call(federate, Service::PublishInteractionClass { class: 1 })?;
-        meter.call(federate, Service::SubscribeInteractionClass { class: 1 })?;
-        meter.enable_time(federate, 1)?;
+/// How many federates there are, how many events each sends in a round, and how many rounds they play.
+#[derive(Clone, Copy)]
+pub struct Lockstep {
+    pub federates: u32,
+    pub events: u32,
+    pub rounds: u64,
+}
+
+impl Lockstep {
+    /// All federates join, are time regulating with lookahead 1 and time constrained, and send and receive class 1.
+    fn begin(self, meter: &mut Meter) -> Result<(), Fault> {
+        for federate in 1..=self.federates {
+            meter.join(federate)?;
+            meter.call(federate, Service::PublishInteractionClass { class: 1 })?;
+            meter.call(federate, Service::SubscribeInteractionClass { class: 1 })?;
+            meter.enable_time(federate, 1)?;
+        }
+        Ok(())
     }
-    Ok(())
-}
 
-/// A federate sends its events of a round, asks for its time, and announces.
-fn send(meter: &mut Meter, federate: FederateNo, events: u32, time: Ticks) -> Result<(), Fault> {
-    for _ in 0..events {
-        meter.send(federate, 1, time)?;
+    /// A federate sends its events of a round, asks for its time, and announces.
+    fn send(self, meter: &mut Meter, federate: FederateNo, time: Ticks) -> Result<(), Fault> {
+        for _ in 0..self.events {
+            meter.send(federate, 1, time)?;
+        }
+        meter.call(federate, Service::TimeAdvanceRequest { time })?;
+        meter.announce(federate)
     }
-    meter.call(federate, Service::TimeAdvanceRequest { time })?;
-    meter.announce(federate)
-}
 
-/// Every wire is carried.
-fn carry(meter: &mut Meter, federates: u32) -> Result<(), Fault> {
-    for from in 1..=federates {
-        meter.carry_from(from, federates)?;
+    /// One round: all send, all wires are carried, all tick until their grant.
+    fn round(self, meter: &mut Meter, time: Ticks) -> Result<(), Fault> {
+        for federate in 1..=self.federates {
+            self.send(meter, federate, time)?;
+        }
+        for federate in 1..=self.federates {
+            meter.carry_from(federate, self.federates)?;
+        }
+        for federate in 1..=self.federates {
+            let _visit = meter.visit(federate)?;
+        }
+        Ok(())
     }
-    Ok(())
 }
 
-/// One round: all send, all wires are carried, all tick until their grant.
-fn round(meter: &mut Meter, federates: u32, events: u32, time: Ticks) -> Result<(), Fault> {
-    for federate in 1..=federates {
-        send(meter, federate, events, time)?;
+impl Play for Lockstep {
+    /// Plays all rounds.
+    fn play(&mut self, meter: &mut Meter) -> Result<(), Fault> {
+        self.begin(meter)?;
+        for time in 1..=self.rounds {
+            self.round(meter, time)?;
+        }
+        Ok(())
     }
-    carry(meter, federates)?;
-    for federate in 1..=federates {
-        let _visit = meter.visit(federate)?;
+}
+
+/// Plays all rounds, and takes their records out.
+fn play_records(meter: &mut Meter, mut lockstep: Lockstep) -> Result<Vec<Record>, Fault> {
+    meter.keep_records(FED)?;
+    lockstep.play(meter)?;
+    let none = List::new(meter.alloc);
+    match &mut meter.history {
+        Some(history) => Ok(mem::replace(&mut history.records, none).into_vec()),
+        None => Ok(none.into_vec()),
     }
-    Ok(())
 }
 
-/// Plays so many rounds.
-fn play(meter: &mut Meter, federates: u32, events: u32, rounds: u64) -> Result<(), Fault> {
-    begin(meter, federates)?;
-    for time in 1..=rounds {
-        round(meter, federates, events, time)?;
-    }
-    Ok(())
-}
-
-/// Plays so many rounds. `ErrorReadingFED` where the FED text was not read, `OutOfMemory` where a growth was refused, or else
-/// the fault of the first step that is refused.
-pub fn run(alloc: Global, federates: u32, events: u32, rounds: u64) -> Result<Counts, Fault> {
-    let mut meter = Meter::new(alloc, catalogue(alloc, FED)?);
-    let played = play(&mut meter, federates, events, rounds);
-    meter.end(played)
-}
-
-/// Plays so many rounds, and takes their records out.
-fn play_records(
-    meter: &mut Meter,
-    federates: u32,
-    events: u32,
-    rounds: u64,
-) -> Result<Vec<Record>, Fault> {
-    play(meter, federates, events, rounds)?;
-    Ok(meter.take_records())
-}
-
-/// The records of so many rounds. `ErrorReadingFED` where the FED text was not read, `OutOfMemory` where a growth was
-/// refused, or else the fault of the first step that is refused.
-pub fn records(
-    alloc: Global,
-    federates: u32,
-    events: u32,
-    rounds: u64,
-) -> Result<Vec<Record>, Fault> {
-    let mut meter = Meter::with_history(alloc, catalogue(alloc, FED)?)?;
-    let records = play_records(&mut meter, federates, events, rounds);
+/// The records of all rounds. `ErrorReadingFED` where the FED text was not read, `OutOfMemory` where a growth was refused, or
+/// else the fault of the first step that is refused.
+pub fn records(alloc: Global, lockstep: Lockstep) -> Result<Vec<Record>, Fault> {
+    let mut meter = Meter::new(alloc, FED)?;
+    let records = play_records(&mut meter, lockstep);
     drop(meter);
     records
 }

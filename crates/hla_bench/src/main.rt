@@ -25,7 +25,12 @@ mod reading;
 mod sharing;
 mod updating;
 
+use crate::advancing::{Bare, Race};
 use crate::counts::Counts;
+use crate::lockstep::Lockstep;
+use crate::phold::Hold;
+use crate::random::Random;
+use crate::updating::Updates;
 use hla_base::Fault;
 use hla_checker::check_run;
 use hla_machine::Record;
@@ -38,141 +43,43 @@ use std::thread::Threads;
 use std::time::{Duration, Instant};
 use std::{env, io};
 
-/// What is measured, with its numbers.
-#[derive(Clone, Copy)]
-enum Benchmark {
-    Lockstep {
-        federates: u32,
-        events: u32,
-        rounds: u64,
-    },
-    Phold {
-        federates: u32,
-        population: u32,
-        lookahead: u64,
-        delivered: u64,
-    },
-    Updates {
-        receivers: u32,
-        updates: u64,
-    },
-    Queue {
-        events: u32,
-    },
-    Fed {
-        bytes: usize,
-    },
-    Bare {
-        federates: u32,
-        rounds: u64,
-    },
-    Lent {
-        federates: u32,
-        rounds: u64,
-    },
-    Locked {
-        federates: u32,
-        rounds: u64,
-    },
-    Run {
-        threads: u32,
-        rounds: u64,
-        is_watched: bool,
-    },
-    Check {
-        federates: u32,
-        events: u32,
-        rounds: u64,
-    },
-}
-
 const USAGE: &str =
     "usage: hla_bench lockstep FEDERATES EVENTS ROUNDS | phold FEDERATES POPULATION LOOKAHEAD DELIVERED | \
     updates RECEIVERS UPDATES | queue EVENTS | fed BYTES | bare FEDERATES ROUNDS | lent FEDERATES ROUNDS | \
     locked FEDERATES ROUNDS | run THREADS ROUNDS | watch THREADS ROUNDS | check FEDERATES EVENTS ROUNDS";
 
-/// The words behind the first two, each as a number; none where one is no number of 32 bits.
-fn numbers_of(alloc: Global, words: &mut Args) -> Option<Vec<u32>> {
-    let mut numbers = Vec::new(alloc);
-    for word in words {
-        let number = word.parse::<u32>().ok()?;
-        numbers.push(number).ok()?;
-    }
-    Some(numbers)
+/// What is measured, and its numbers.
+#[derive(Drop)]
+struct Benchmark {
+    name: String,
+    numbers: Vec<u32>,
 }
 
-/// What a name asks for with these numbers, of the benchmarks of a federation's own calls.
-fn bare_benchmark(name: &str, numbers: &[u32]) -> Option<Benchmark> {
-    match (name, numbers) {
-        ("lockstep", &[federates, events, rounds]) => Some(Benchmark::Lockstep {
-            federates,
-            events,
-            rounds: rounds.into(),
-        }),
-        ("phold", &[federates, population, lookahead, delivered]) => Some(Benchmark::Phold {
-            federates,
-            population,
-            lookahead: lookahead.into(),
-            delivered: delivered.into(),
-        }),
-        ("updates", &[receivers, updates]) => Some(Benchmark::Updates {
-            receivers,
-            updates: updates.into(),
-        }),
-        ("queue", &[events]) => Some(Benchmark::Queue { events }),
-        ("fed", &[bytes]) => Some(Benchmark::Fed {
-            bytes: bytes as usize,
-        }),
-        ("bare", &[federates, rounds]) => Some(Benchmark::Bare {
-            federates,
-            rounds: rounds.into(),
-        }),
-        _ => None,
-    }
-}
-
-/// What a name asks for with these numbers, of the benchmarks of the lock and of the checker.
-fn shared_benchmark(name: &str, numbers: &[u32]) -> Option<Benchmark> {
-    match (name, numbers) {
-        ("lent", &[federates, rounds]) => Some(Benchmark::Lent {
-            federates,
-            rounds: rounds.into(),
-        }),
-        ("locked", &[federates, rounds]) => Some(Benchmark::Locked {
-            federates,
-            rounds: rounds.into(),
-        }),
-        ("run" | "watch", &[threads, rounds]) => Some(Benchmark::Run {
-            threads,
-            rounds: rounds.into(),
-            is_watched: name == "watch",
-        }),
-        ("check", &[federates, events, rounds]) => Some(Benchmark::Check {
-            federates,
-            events,
-            rounds: rounds.into(),
-        }),
-        _ => None,
-    }
-}
-
-/// What the words of the command line ask for, if they ask for anything.
+/// What the words of the command line name, if they do, with the words behind it, each of which is a number of 32 bits.
 fn asked_for(alloc: Global, words: &mut Args) -> Option<Benchmark> {
     let _program = words.next()?;
-    let name = words.next()?;
-    let numbers = numbers_of(alloc, words)?;
-    let (name, numbers) = (name.as_str(), numbers.as_slice());
-    bare_benchmark(name, numbers).or_else(|| shared_benchmark(name, numbers))
+    let mut asked = Benchmark {
+        name: words.next()?,
+        numbers: Vec::new(alloc),
+    };
+    for word in words {
+        let number = word.parse::<u32>().ok()?;
+        asked.numbers.push(number).ok()?;
+    }
+    Some(asked)
 }
 
 /// The records that a benchmark is about; none where it is about other things.
-fn records_for(alloc: Global, asked: Benchmark) -> Result<Vec<Record>, Fault> {
-    match asked {
-        Benchmark::Check {
-            federates,
-            events,
-            rounds,
-        } => lockstep::records(alloc, federates, events, rounds),
+fn records_for(alloc: Global, name: &str, numbers: &[u32]) -> Result<Vec<Record>, Fault> {
+    match (name, numbers) {
+        ("check", &[federates, events, rounds]) => lockstep::records(
+            alloc,
+            Lockstep {
+                federates,
+                events,
+                rounds: rounds.into(),
+            },
+        ),
         _ => Ok(Vec::new(alloc)),
     }
 }
@@ -188,106 +95,124 @@ fn judge(alloc: Global, records: &[Record]) -> Result<Counts, Fault> {
     }
 }
 
-/// Runs a benchmark over the records that were made for it.
+/// Runs a benchmark of a federation's own calls; none where the name and the numbers are those of another.
+fn counts_played(alloc: Global, name: &str, numbers: &[u32]) -> Option<Result<Counts, Fault>> {
+    let counts = match (name, numbers) {
+        ("lockstep", &[federates, events, rounds]) => {
+            let rounds = rounds.into();
+            let mut play = Lockstep {
+                federates,
+                events,
+                rounds,
+            };
+            meter::run(alloc, lockstep::FED, &mut play)
+        }
+        ("phold", &[federates, population, lookahead, delivered]) => {
+            let mut play = Hold {
+                federates,
+                population,
+                lookahead: lookahead.into(),
+                delivered: delivered.into(),
+                random: Random::new(),
+            };
+            meter::run(alloc, phold::FED, &mut play)
+        }
+        ("updates", &[receivers, updates]) => {
+            let mut play = Updates {
+                federates: receivers.saturating_add(1),
+                updates: updates.into(),
+            };
+            meter::run(alloc, updating::FED, &mut play)
+        }
+        ("bare", &[federates, rounds]) => {
+            let rounds = rounds.into();
+            meter::run(alloc, advancing::FED, &mut Bare { federates, rounds })
+        }
+        _ => return None,
+    };
+    Some(counts)
+}
+
+/// Runs a benchmark over the records that were made for it; none where the name and the numbers are those of none.
 fn counts_of<R: AllocGlobal + Threads + Wait + Sync>(
     rt: &R,
-    asked: Benchmark,
+    name: &str,
+    numbers: &[u32],
     records: &[Record],
-) -> Result<Counts, Fault> {
+) -> Option<Result<Counts, Fault>> {
     let alloc = rt.alloc();
-    match asked {
-        Benchmark::Lockstep {
-            federates,
-            events,
-            rounds,
-        } => lockstep::run(alloc, federates, events, rounds),
-        Benchmark::Phold {
-            federates,
-            population,
-            lookahead,
-            delivered,
-        } => phold::run(alloc, federates, population, lookahead, delivered),
-        Benchmark::Updates { receivers, updates } => updating::run(alloc, receivers, updates),
-        Benchmark::Queue { events } => holding::run(alloc, events),
-        Benchmark::Fed { bytes } => reading::run(alloc, bytes),
-        Benchmark::Bare { federates, rounds } => advancing::run_bare(alloc, federates, rounds),
-        Benchmark::Lent { federates, rounds } => sharing::run_lent(alloc, federates, rounds),
-        Benchmark::Locked { federates, rounds } => {
-            sharing::run_locked(rt, alloc, federates, rounds)
+    let counts = match (name, numbers) {
+        ("queue", &[events]) => holding::run(alloc, events),
+        ("fed", &[bytes]) => reading::run(alloc, bytes as usize),
+        ("lent" | "locked", &[federates, rounds]) => {
+            sharing::run(rt, alloc, name == "locked", federates, rounds.into())
         }
-        Benchmark::Run {
-            threads,
-            rounds,
-            is_watched,
-        } => advancing::run(rt, alloc, threads, rounds, is_watched),
-        Benchmark::Check { .. } => judge(alloc, records),
-    }
+        ("run" | "watch", &[threads, rounds]) => {
+            let race = Race::new(threads, rounds.into(), name == "watch");
+            advancing::run(rt, alloc, &race)
+        }
+        ("check", &[_, _, _]) => judge(alloc, records),
+        _ => return counts_played(alloc, name, numbers),
+    };
+    Some(counts)
 }
 
-/// Prints the counts that are the same at each run.
-fn print_counts<R: Runtime>(rt: &R, counts: &Counts) -> io::Result<()> {
-    for (name, count) in &counts.fixed() {
-        if *count > 0 {
+/// Prints each count that is the same at each run, how long a benchmark took, and by how much each count grew in a second.
+fn print<R: Runtime>(rt: &R, counts: &Counts, took: Duration) -> io::Result<()> {
+    let micros = took.as_micros();
+    eprintln!(rt; "microseconds {micros}")?;
+    for (name, count, is_fixed) in &counts.named() {
+        if *count == 0 {
+            continue;
+        }
+        if *is_fixed {
             println!(rt; "{name} {count}")?;
         }
-    }
-    Ok(())
-}
-
-/// Prints by how much a count grew in a second.
-fn print_rate<R: Runtime>(rt: &R, name: &str, count: u64, micros: u128) -> io::Result<()> {
-    if count > 0 {
-        let rate = u128::from(count) * 1_000_000 / micros.max(1);
+        let rate = u128::from(*count) * 1_000_000 / micros.max(1);
         eprintln!(rt; "{name} per second {rate}")?;
     }
     Ok(())
 }
 
-/// Prints how long a benchmark took, and by how much each of its counts grew in a second.
-fn print_rates<R: Runtime>(rt: &R, counts: &Counts, took: Duration) -> io::Result<()> {
-    let micros = took.as_micros();
-    eprintln!(rt; "microseconds {micros}")?;
-    for (name, count) in &counts.fixed() {
-        print_rate(rt, name, *count, micros)?;
-    }
-    print_rate(rt, "reads", counts.reads, micros)
-}
-
-/// Says what stopped a benchmark; the status.
-fn stopped<R: Runtime>(rt: &R, fault: Fault) -> io::Result<u8> {
-    eprintln!(rt; "{fault}")?;
-    Ok(1)
-}
-
 /// Runs a benchmark over the records that were made for it, and prints its counts and times; the status.
 fn measure<R: Runtime + AllocGlobal + Threads + Wait + Sync>(
     rt: &R,
-    asked: Benchmark,
+    asked: &Benchmark,
     records: &[Record],
 ) -> io::Result<u8> {
     let start = Instant::now(rt)?;
-    let counts = match counts_of(rt, asked, records) {
-        Ok(counts) => counts,
-        Err(fault) => return stopped(rt, fault),
-    };
-    let took = start.elapsed(rt)?;
-    print_counts(rt, &counts)?;
-    print_rates(rt, &counts, took)?;
-    Ok(0)
+    match counts_of(rt, asked.name.as_str(), asked.numbers.as_slice(), records) {
+        Some(Ok(counts)) => {
+            let took = start.elapsed(rt)?;
+            print(rt, &counts, took)?;
+            Ok(0)
+        }
+        Some(Err(fault)) => {
+            eprintln!(rt; "{fault}")?;
+            Ok(1)
+        }
+        None => {
+            eprintln!(rt; "{USAGE}")?;
+            Ok(2)
+        }
+    }
 }
 
 /// Makes the records that a benchmark is about, and runs it; the status.
 fn prepare<R: Runtime + AllocGlobal + Threads + Wait + Sync>(
     rt: &R,
-    asked: Benchmark,
+    asked: &Benchmark,
 ) -> io::Result<u8> {
-    match records_for(rt.alloc(), asked) {
+    match records_for(rt.alloc(), asked.name.as_str(), asked.numbers.as_slice()) {
         Ok(records) => {
             let status = measure(rt, asked, records.as_slice());
             drop(records);
             status
         }
-        Err(fault) => stopped(rt, fault),
+        Err(fault) => {
+            eprintln!(rt; "{fault}")?;
+            Ok(1)
+        }
     }
 }
 
@@ -297,7 +222,11 @@ fn run<R: Runtime + AllocGlobal + Threads + Wait + Sync>(rt: &R) -> io::Result<u
     let asked = asked_for(rt.alloc(), &mut words);
     drop(words);
     match asked {
-        Some(asked) => prepare(rt, asked),
+        Some(asked) => {
+            let status = prepare(rt, &asked);
+            drop(asked);
+            status
+        }
         None => {
             eprintln!(rt; "{USAGE}")?;
             Ok(2)

@@ -1,70 +1,36 @@
-//! A federation whose steps are counted.
+//! A federation whose steps are counted, and what is played on it.
 //!
 //! A federation, a step, an answer or a list of records goes to `drop` by name: such a call is proved once, and what goes out of
 //! scope is taken apart, variant by variant, at each end of the function that lets it.
 
 use crate::advancing::name_of;
 use crate::counts::Counts;
+use crate::reading::catalogue;
 use hla_base::{
     AttributeNo, ClassNo, Fault, FederateNo, HandleValuePair, List, Plain, SharedList, Ticks, Value,
 };
 use hla_callbacks::Callback;
-use hla_catalogue::Catalogue;
-use hla_federation::{Federation, Foreseen};
+use hla_federation::Federation;
 use hla_machine::{Act, Answer, Carried, Choice, Outcome, Record, Service, Step};
 use std::alloc::Global;
-use std::mem;
 
 /// A federation execution, and what its steps have brought.
 #[derive(Drop)]
 pub struct Meter {
-    alloc: Global,
+    pub alloc: Global,
     federation: Federation,
     pub counts: Counts,
-    history: Option<History>,
+    pub history: Option<History>,
 }
 
 /// The records of an execution's steps.
 #[derive(Drop)]
-struct History {
+pub struct History {
     execution: SharedList<u8>,
-    records: List<Record>,
+    pub records: List<Record>,
 }
 
 impl History {
-    /// The history of an execution that was just created.
-    fn new(alloc: Global, catalogue: &Catalogue) -> Result<History, Fault> {
-        let mut history = History {
-            execution: SharedList::from_slice(alloc, b"bench")?,
-            records: List::new(alloc),
-        };
-        match history.add_creation(catalogue) {
-            Ok(()) => Ok(history),
-            Err(fault) => {
-                drop(history);
-                Err(fault)
-            }
-        }
-    }
-
-    /// Adds the record of the creation.
-    fn add_creation(&mut self, catalogue: &Catalogue) -> Result<(), Fault> {
-        let catalogue = Some(catalogue.copy()?);
-        let outcome = Outcome::Done(Answer::Done);
-        self.add(Act::Create { catalogue }, outcome, Choice::None)
-    }
-
-    /// Adds the record of a step.
-    fn add_step(&mut self, step: &Step, foreseen: Foreseen) -> Result<(), Fault> {
-        match step.copy() {
-            Ok(step) => self.add(Act::Step(step), foreseen.outcome, foreseen.choice),
-            Err(fault) => {
-                drop(foreseen);
-                Err(fault)
-            }
-        }
-    }
-
     /// Adds the record of an act.
     fn add(&mut self, act: Act, outcome: Outcome, choice: Choice) -> Result<(), Fault> {
         match self.execution.copy() {
@@ -87,21 +53,10 @@ impl History {
 
 /// What a callback brought, as far as it is counted.
 #[derive(Clone, Copy)]
-enum Brought {
+pub enum Brought {
     Message,
     Grant(Ticks),
     Other,
-}
-
-/// What a callback brought a federate.
-fn brought_by(callback: &Callback) -> Brought {
-    match callback {
-        Callback::ReceiveInteraction { .. } | Callback::ReflectAttributeValues { .. } => {
-            Brought::Message
-        }
-        Callback::TimeAdvanceGrant { time } => Brought::Grant(*time),
-        _ => Brought::Other,
-    }
 }
 
 /// What ticks brought a federate until they brought a grant or nothing.
@@ -111,51 +66,48 @@ pub struct Visit {
     pub grant: Option<Ticks>,
 }
 
+/// What is played on a federation.
+pub trait Play {
+    /// Plays it. An error is the fault of the first step that is refused, or `OutOfMemory` where a growth was refused. Those
+    /// before it stay done.
+    fn play(&mut self, meter: &mut Meter) -> Result<(), Fault>;
+}
+
+/// Plays on a federation of this FED text that no federate has joined yet; what its steps have brought. `ErrorReadingFED` where
+/// the text was not read, or else the fault of the play.
+pub fn run<P: Play>(alloc: Global, fed: &[u8], play: &mut P) -> Result<Counts, Fault> {
+    let mut meter = Meter::new(alloc, fed)?;
+    let played = play.play(&mut meter);
+    let counts = meter.counts;
+    drop(meter);
+    match played {
+        Ok(()) => Ok(counts),
+        Err(fault) => Err(fault),
+    }
+}
+
 impl Meter {
-    /// A federation that no federate has joined yet.
-    pub fn new(alloc: Global, catalogue: Catalogue) -> Meter {
-        Meter {
+    /// A federation that no federate has joined yet. `ErrorReadingFED` where the FED text was not read.
+    pub fn new(alloc: Global, fed: &[u8]) -> Result<Meter, Fault> {
+        let catalogue = catalogue(alloc, fed)?;
+        Ok(Meter {
             alloc,
             federation: Federation::new(alloc, catalogue),
             counts: Counts::default(),
             history: None,
-        }
+        })
     }
 
-    /// A federation that no federate has joined yet, of whose steps there will be records behind that of its creation.
-    /// `OutOfMemory` where a growth was refused.
-    pub fn with_history(alloc: Global, catalogue: Catalogue) -> Result<Meter, Fault> {
-        match History::new(alloc, &catalogue) {
-            Ok(history) => Ok(Meter {
-                alloc,
-                federation: Federation::new(alloc, catalogue),
-                counts: Counts::default(),
-                history: Some(history),
-            }),
-            Err(fault) => {
-                drop(catalogue);
-                Err(fault)
-            }
-        }
-    }
-
-    /// The counts, or the `Fault` that stopped the play on it.
-    pub fn end(self, played: Result<(), Fault>) -> Result<Counts, Fault> {
-        let counts = self.counts;
-        drop(self);
-        match played {
-            Ok(()) => Ok(counts),
-            Err(fault) => Err(fault),
-        }
-    }
-
-    /// Takes the records out, if there are any.
-    pub fn take_records(&mut self) -> Vec<Record> {
-        let none = List::new(self.alloc);
-        match &mut self.history {
-            Some(history) => mem::replace(&mut history.records, none).into_vec(),
-            None => none.into_vec(),
-        }
+    /// Keeps the records of all steps from now on, behind that of the creation by this FED text. `ErrorReadingFED` where the
+    /// text was not read, and `OutOfMemory` where a growth was refused.
+    pub fn keep_records(&mut self, fed: &[u8]) -> Result<(), Fault> {
+        let history = self.history.insert(History {
+            execution: SharedList::from_slice(self.alloc, b"bench")?,
+            records: List::new(self.alloc),
+        });
+        let catalogue = Some(catalogue(self.alloc, fed)?);
+        let outcome = Outcome::Done(Answer::Done);
+        history.add(Act::Create { catalogue }, outcome, Choice::None)
     }
 
     /// Adds the record that the next step will have.
@@ -164,22 +116,18 @@ impl Meter {
             drop(step);
             return Ok(());
         };
-        let added = match self.federation.foresee(&step) {
-            Ok(foreseen) => history.add_step(&step, foreseen),
-            Err(fault) => Err(fault),
-        };
-        drop(step);
-        added
-    }
-
-    /// Counts the next step.
-    fn count(&mut self) {
-        self.counts.steps = self.counts.steps.wrapping_add(1);
+        match self.federation.foresee(&step) {
+            Ok(foreseen) => history.add(Act::Step(step), foreseen.outcome, foreseen.choice),
+            Err(fault) => {
+                drop(step);
+                Err(fault)
+            }
+        }
     }
 
     /// Calls a service, and lets its answer go.
     fn served(&mut self, federate: FederateNo, service: &Service) -> Result<(), Fault> {
-        self.count();
+        self.counts.steps = self.counts.steps.wrapping_add(1);
         if self.history.is_some() {
             let service = service.copy()?;
             self.record(Step::Call { federate, service })?;
@@ -200,20 +148,15 @@ impl Meter {
     /// A federate joins, under the letter that has its number. An error is the fault of the step where it is refused, or
     /// `OutOfMemory` where a growth was refused.
     pub fn join(&mut self, federate: FederateNo) -> Result<(), Fault> {
-        let name = name_of(self.alloc, federate)?;
-        let joined = self.joined(&name);
-        drop(name);
-        joined
-    }
-
-    /// A federate joins under a name.
-    fn joined(&mut self, name: &List<u8>) -> Result<(), Fault> {
-        self.count();
+        self.counts.steps = self.counts.steps.wrapping_add(1);
         if self.history.is_some() {
-            let name = name.copy()?;
+            let name = name_of(self.alloc, federate)?;
             self.record(Step::Join { name })?;
         }
-        let _federate = self.federation.join(name.as_slice())?;
+        let name = name_of(self.alloc, federate)?;
+        let joined = self.federation.join(name.as_slice());
+        drop(name);
+        let _federate = joined?;
         Ok(())
     }
 
@@ -285,33 +228,31 @@ impl Meter {
         Ok(())
     }
 
-    /// What a federate's next tick brings, if it brings anything.
-    fn ticked(&mut self, federate: FederateNo) -> Result<Option<Brought>, Fault> {
-        self.count();
+    /// What a federate's next tick brings, if it brings anything. An error is the fault of the step where it is refused, or
+    /// `OutOfMemory` where a growth was refused.
+    pub fn tick(&mut self, federate: FederateNo) -> Result<Option<Brought>, Fault> {
+        self.counts.steps = self.counts.steps.wrapping_add(1);
         if self.history.is_some() {
             self.record(Step::Tick { federate })?;
         }
-        match self.federation.tick(federate)? {
-            Some(callback) => {
-                let brought = brought_by(&callback);
-                drop(callback);
-                Ok(Some(brought))
+        let Some(callback) = self.federation.tick(federate)? else {
+            return Ok(None);
+        };
+        let brought = match &callback {
+            Callback::ReceiveInteraction { .. } | Callback::ReflectAttributeValues { .. } => {
+                Brought::Message
             }
-            None => Ok(None),
-        }
-    }
-
-    /// A federate ticks once. An error is the fault of the step where it is refused, or `OutOfMemory` where a growth was
-    /// refused.
-    pub fn tick(&mut self, federate: FederateNo) -> Result<(), Fault> {
-        let _brought = self.ticked(federate)?;
-        Ok(())
+            Callback::TimeAdvanceGrant { time } => Brought::Grant(*time),
+            _ => Brought::Other,
+        };
+        drop(callback);
+        Ok(Some(brought))
     }
 
     /// A federate announces its promise. An error is the fault of the step where it is refused, or `OutOfMemory` where a
     /// growth was refused.
     pub fn announce(&mut self, federate: FederateNo) -> Result<(), Fault> {
-        self.count();
+        self.counts.steps = self.counts.steps.wrapping_add(1);
         if self.history.is_some() {
             self.record(Step::Announce { federate })?;
         }
@@ -319,21 +260,15 @@ impl Meter {
         Ok(())
     }
 
-    /// Whether there was anything on a wire to carry.
-    fn carried(&mut self, from: FederateNo, to: FederateNo) -> Result<bool, Fault> {
-        self.count();
-        if self.history.is_some() {
-            self.record(Step::Carry { from, to })?;
-        }
-        let carried = self.federation.carry(from, to)?;
-        Ok(carried != Carried::Nothing)
-    }
-
     /// Carries a wire until it is empty.
     fn carry(&mut self, from: FederateNo, to: FederateNo) -> Result<(), Fault> {
         for _ in 0..u64::MAX {
-            if !self.carried(from, to)? {
-                return Ok(());
+            self.counts.steps = self.counts.steps.wrapping_add(1);
+            if self.history.is_some() {
+                self.record(Step::Carry { from, to })?;
+            }
+            if self.federation.carry(from, to)? == Carried::Nothing {
+                break;
             }
         }
         Ok(())
@@ -353,22 +288,23 @@ impl Meter {
     /// Ticks a federate until it is granted a time, or picks up nothing. An error is the fault of the first step that is
     /// refused, or `OutOfMemory` where a growth was refused. Those before it stay done.
     pub fn visit(&mut self, federate: FederateNo) -> Result<Visit, Fault> {
-        let mut received = 0u64;
+        let mut visit = Visit {
+            received: 0,
+            grant: None,
+        };
         for _ in 0..u64::MAX {
-            match self.ticked(federate)? {
-                Some(Brought::Message) => received = received.wrapping_add(1),
-                Some(Brought::Grant(time)) => return Ok(self.visited(received, Some(time))),
+            match self.tick(federate)? {
+                Some(Brought::Message) => visit.received = visit.received.wrapping_add(1),
+                Some(Brought::Grant(time)) => {
+                    visit.grant = Some(time);
+                    self.counts.grants = self.counts.grants.wrapping_add(1);
+                    break;
+                }
                 Some(Brought::Other) => {}
                 None => break,
             }
         }
-        Ok(self.visited(received, None))
-    }
-
-    /// Counts what a visit brought.
-    fn visited(&mut self, received: u64, grant: Option<Ticks>) -> Visit {
-        self.counts.received = self.counts.received.wrapping_add(received);
-        self.counts.grants = self.counts.grants.wrapping_add(u64::from(grant.is_some()));
-        Visit { received, grant }
+        self.counts.received = self.counts.received.wrapping_add(visit.received);
+        Ok(visit)
     }
 }

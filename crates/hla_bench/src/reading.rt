@@ -5,6 +5,7 @@ use hla_base::Fault;
 use hla_catalogue::Catalogue;
 use hla_fed_file::read;
 use std::alloc::Global;
+use std::fmt;
 use std::fmt::Write;
 
 /// How many bytes are read in all, at least.
@@ -23,36 +24,35 @@ pub fn catalogue(alloc: Global, fed: &[u8]) -> Result<Catalogue, Fault> {
 }
 
 /// Adds a class with its attributes.
-fn write_class(text: &mut String, class: u32) -> Result<(), Fault> {
-    writeln!(text, " (class Class-of-objects-{class}").map_err(|_| Fault::OutOfMemory)?;
+fn write_class(text: &mut String, class: u32) -> fmt::Result {
+    writeln!(text, " (class Class-of-objects-{class}")?;
     for attribute in 0..ATTRIBUTES {
         writeln!(
             text,
             "  (attribute Attribute-{attribute}-of-the-class-{class} reliable timestamp)"
-        )
-        .map_err(|_| Fault::OutOfMemory)?;
+        )?;
     }
-    text.push_str(" )\n").map_err(|_| Fault::OutOfMemory)
+    text.write_str(" )\n")
 }
 
-/// A FED text of at least so many bytes, or of as many classes as there may be.
-fn fed_text(alloc: Global, bytes: usize) -> Result<String, Fault> {
-    let mut text = String::new(alloc);
-    text.push_str("(FED (objects\n")
-        .map_err(|_| Fault::OutOfMemory)?;
+/// Writes a FED text of at least so many bytes, or of as many classes as there may be.
+fn write_fed(text: &mut String, bytes: usize) -> fmt::Result {
+    text.write_str("(FED (objects\n")?;
     for class in 0..CLASSES {
         if text.len() < bytes {
-            write_class(&mut text, class)?;
+            write_class(text, class)?;
         }
     }
-    text.push_str("))\n").map_err(|_| Fault::OutOfMemory)?;
-    Ok(text)
+    text.write_str("))\n")
 }
 
 /// Reads a FED text again and again. `OutOfMemory` where a growth was refused for the text, and `ErrorReadingFED` as of
 /// `catalogue`.
 pub fn run(alloc: Global, bytes: usize) -> Result<Counts, Fault> {
-    let text = fed_text(alloc, bytes)?;
+    let mut text = String::new(alloc);
+    if write_fed(&mut text, bytes).is_err() {
+        return Err(Fault::OutOfMemory);
+    }
     let length = text.len() as u64;
     let mut counts = Counts::default();
     for _ in 0..VOLUME / text.len().max(1) {

@@ -9,7 +9,7 @@ ghost use Rattle.hla_machine.specs.declared.step.Step.TheVariants as step;
 
 use crate::advancing::{FED, HISTORY_LIMIT, counted, name_of};
 use crate::counts::Counts;
-use hla_base::{ExecutionName, Fault, FederateNo, LEDGER_PARTS, Ticks};
+use hla_base::{ExecutionName, Fault, LEDGER_PARTS, Ticks};
 use hla_callbacks::Recorder;
 use hla_history::Shared;
 use hla_machine::{Service, Step};
@@ -18,54 +18,50 @@ use std::marker::Brand;
 use std::sync::ledger::{Blank, Ledger, Share};
 use std::sync::{Mutex, Wait};
 
-/// The value with its federates joined, and its one caller's share.
+/// The value on which a caller's steps are done, however it comes to it.
+trait Desk<L: Ledger> {
+    /// One step of the caller.
+    fn step(
+        &mut self,
+        execution: ExecutionName,
+        step: Step,
+        share: &mut Share<L>,
+    ) -> Result<(), Fault>
+        requires parts { 0 < share.old.parts }
+        requires plain { IsPlain step }
+        ensures { share.new.parts ≡ share.old.parts };
+}
+
+impl<L: Ledger> Desk<L> for Shared<L, Recorder> {
+    fn step(
+        &mut self,
+        execution: ExecutionName,
+        step: Step,
+        share: &mut Share<L>,
+    ) -> Result<(), Fault> {
+        drop(Shared::step(self, 1, execution, step, share)?);
+        Ok(())
+    }
+}
+
+/// The value, which is locked anew for each step.
 #[derive(Drop)]
-struct Office<L: Ledger> {
-    execution: ExecutionName,
-    shared: Shared<L, Recorder>,
-    share: Share<L>,
+struct Locked<'a, L: Ledger, R: Wait> {
+    rt: &'a R,
+    shared: Mutex<Shared<L, Recorder>>,
 }
 
-/// Joins a federate.
-fn join<L: Ledger>(
-    alloc: Global,
-    shared: &mut Shared<L, Recorder>,
-    share: &mut Share<L>,
-    execution: ExecutionName,
-    federate: FederateNo,
-) -> Result<(), Fault>
-    requires { 0 < share.old.parts }
-    ensures { share.new.parts ≡ share.old.parts }
-{
-    let name = name_of(alloc, federate)?;
-    match shared.join(1, execution, name, Recorder::new(alloc), share) {
-        Ok((joined, back)) => {
-            drop(joined);
-            drop(back);
-            Ok(())
-        }
-        Err((fault, ambassador)) => {
-            drop(ambassador);
-            Err(fault)
-        }
+impl<L: Ledger, R: Wait> Desk<L> for Locked<'_, L, R> {
+    fn step(
+        &mut self,
+        execution: ExecutionName,
+        step: Step,
+        share: &mut Share<L>,
+    ) -> Result<(), Fault> {
+        let made = self.shared.lock(self.rt).step(1, execution, step, share);
+        drop(made?);
+        Ok(())
     }
-}
-
-/// Joins so many federates.
-fn join_all<L: Ledger>(
-    alloc: Global,
-    shared: &mut Shared<L, Recorder>,
-    share: &mut Share<L>,
-    execution: ExecutionName,
-    federates: u32,
-) -> Result<(), Fault>
-    requires { 0 < share.old.parts }
-    ensures { share.new.parts ≡ share.old.parts }
-{
-    for federate in 1..=federates {
-        join(alloc, shared, share, execution, federate)?;
-    }
-    Ok(())
 }
 
 /// Creates the execution, and so many federates join it.
@@ -80,232 +76,102 @@ fn begin<L: Ledger>(
     ensures { share.new.parts ≡ share.old.parts }
 {
     drop(shared.create(1, execution, FED, share)?);
-    join_all(alloc, shared, share, execution, federates)
+    for federate in 1..=federates {
+        let name = name_of(alloc, federate)?;
+        match shared.join(1, execution, name, Recorder::new(alloc), share) {
+            Ok((joined, back)) => {
+                drop(joined);
+                drop(back);
+            }
+            Err((fault, ambassador)) => {
+                drop(ambassador);
+                return Err(fault);
+            }
+        }
+    }
+    Ok(())
 }
 
-/// The value of an execution that so many federates have joined.
-fn open_office<L: Ledger>(alloc: Global, blank: Blank, federates: u32) -> Result<Office<L>, Fault>
+/// One round: each federate advances once.
+fn round<L: Ledger, D: Desk<L>>(
+    desk: &mut D,
+    share: &mut Share<L>,
+    execution: ExecutionName,
+    federates: u32,
+    time: Ticks,
+) -> Result<(), Fault>
+    requires { 0 < share.old.parts }
+    ensures { share.new.parts ≡ share.old.parts }
+{
+    for federate in 1..=federates {
+        let service = Service::TimeAdvanceRequest { time };
+        desk.step(execution, Step::Call { federate, service }, share)?;
+        desk.step(execution, Step::Tick { federate }, share)?;
+        let service = Service::QueryFederateTime;
+        desk.step(execution, Step::Call { federate, service }, share)?;
+    }
+    Ok(())
+}
+
+/// Plays so many rounds.
+fn play<L: Ledger, D: Desk<L>>(
+    desk: &mut D,
+    share: &mut Share<L>,
+    execution: ExecutionName,
+    federates: u32,
+    rounds: u64,
+) -> Result<(), Fault>
+    requires { 0 < share.old.parts }
+    ensures { share.new.parts ≡ share.old.parts }
+{
+    for time in 1..=rounds {
+        round(desk, share, execution, federates, time)?;
+    }
+    Ok(())
+}
+
+/// Plays so many rounds on a value that so many federates have joined, at its way.
+fn run_at<L: Ledger>(
+    rt: &impl Wait,
+    alloc: Global,
+    blank: Blank,
+    is_locked: bool,
+    federates: u32,
+    rounds: u64,
+) -> Result<Counts, Fault>
     requires name { blank.name ≡ L.name }
     requires parts { blank.parts ≡ L.parts }
     requires all { blank.parts ≡ ledger_parts }
-    ensures { IfOk result (λ o. 0 < o.share.parts) }
 {
     let execution = ExecutionName::new(b"bench")?;
     let (book, mut share) = blank.open::<L>();
     let mut shared = Shared::new(alloc, book, HISTORY_LIMIT)?;
     begin(alloc, &mut shared, &mut share, execution, federates)?;
-    Ok(Office {
-        execution,
-        shared,
-        share,
-    })
-}
-
-/// One step of the caller on the value.
-fn step<L: Ledger>(
-    shared: &mut Shared<L, Recorder>,
-    share: &mut Share<L>,
-    execution: ExecutionName,
-    step: Step,
-) -> Result<(), Fault>
-    requires parts { 0 < share.old.parts }
-    requires plain { IsPlain step }
-    ensures { share.new.parts ≡ share.old.parts }
-{
-    drop(shared.step(1, execution, step, share)?);
-    Ok(())
-}
-
-/// One service of a federate on the value.
-fn call<L: Ledger>(
-    shared: &mut Shared<L, Recorder>,
-    share: &mut Share<L>,
-    execution: ExecutionName,
-    federate: FederateNo,
-    service: Service,
-) -> Result<(), Fault>
-    requires parts { 0 < share.old.parts }
-    requires plain { IsPlain (step.Call federate service) }
-    ensures { share.new.parts ≡ share.old.parts }
-{
-    step(shared, share, execution, Step::Call { federate, service })
-}
-
-/// One advance of a federate on the value.
-fn advance<L: Ledger>(
-    shared: &mut Shared<L, Recorder>,
-    share: &mut Share<L>,
-    execution: ExecutionName,
-    federate: FederateNo,
-    time: Ticks,
-) -> Result<(), Fault>
-    requires { 0 < share.old.parts }
-    ensures { share.new.parts ≡ share.old.parts }
-{
-    let request = Service::TimeAdvanceRequest { time };
-    call(shared, share, execution, federate, request)?;
-    step(shared, share, execution, Step::Tick { federate })?;
-    call(
-        shared,
-        share,
-        execution,
-        federate,
-        Service::QueryFederateTime,
-    )
-}
-
-/// One step of the caller, for which the value is locked.
-fn step_locked<L: Ledger>(
-    rt: &impl Wait,
-    shared: &Mutex<Shared<L, Recorder>>,
-    share: &mut Share<L>,
-    execution: ExecutionName,
-    step: Step,
-) -> Result<(), Fault>
-    requires parts { 0 < share.old.parts }
-    requires plain { IsPlain step }
-    ensures { share.new.parts ≡ share.old.parts }
-{
-    let made = shared.lock(rt).step(1, execution, step, share);
-    drop(made?);
-    Ok(())
-}
-
-/// One service of a federate, for which the value is locked.
-fn call_locked<L: Ledger>(
-    rt: &impl Wait,
-    shared: &Mutex<Shared<L, Recorder>>,
-    share: &mut Share<L>,
-    execution: ExecutionName,
-    federate: FederateNo,
-    service: Service,
-) -> Result<(), Fault>
-    requires parts { 0 < share.old.parts }
-    requires plain { IsPlain (step.Call federate service) }
-    ensures { share.new.parts ≡ share.old.parts }
-{
-    let call = Step::Call { federate, service };
-    step_locked(rt, shared, share, execution, call)
-}
-
-/// One advance of a federate, the value locked anew for each step.
-fn advance_locked<L: Ledger>(
-    rt: &impl Wait,
-    shared: &Mutex<Shared<L, Recorder>>,
-    share: &mut Share<L>,
-    execution: ExecutionName,
-    federate: FederateNo,
-    time: Ticks,
-) -> Result<(), Fault>
-    requires { 0 < share.old.parts }
-    ensures { share.new.parts ≡ share.old.parts }
-{
-    let request = Service::TimeAdvanceRequest { time };
-    call_locked(rt, shared, share, execution, federate, request)?;
-    step_locked(rt, shared, share, execution, Step::Tick { federate })?;
-    call_locked(
-        rt,
-        shared,
-        share,
-        execution,
-        federate,
-        Service::QueryFederateTime,
-    )
-}
-
-/// One round on the value.
-fn round<L: Ledger>(
-    shared: &mut Shared<L, Recorder>,
-    share: &mut Share<L>,
-    execution: ExecutionName,
-    federates: u32,
-    time: Ticks,
-) -> Result<(), Fault>
-    requires { 0 < share.old.parts }
-    ensures { share.new.parts ≡ share.old.parts }
-{
-    for federate in 1..=federates {
-        advance(shared, share, execution, federate, time)?;
-    }
-    Ok(())
-}
-
-/// One round, the value locked anew for each step.
-fn round_locked<L: Ledger>(
-    rt: &impl Wait,
-    shared: &Mutex<Shared<L, Recorder>>,
-    share: &mut Share<L>,
-    execution: ExecutionName,
-    federates: u32,
-    time: Ticks,
-) -> Result<(), Fault>
-    requires { 0 < share.old.parts }
-    ensures { share.new.parts ≡ share.old.parts }
-{
-    for federate in 1..=federates {
-        advance_locked(rt, shared, share, execution, federate, time)?;
-    }
-    Ok(())
-}
-
-/// Plays so many rounds on the value.
-fn run_lent_at<L: Ledger>(
-    alloc: Global,
-    blank: Blank,
-    federates: u32,
-    rounds: u64,
-) -> Result<Counts, Fault>
-    requires name { blank.name ≡ L.name }
-    requires parts { blank.parts ≡ L.parts }
-    requires all { blank.parts ≡ ledger_parts }
-{
-    let Office {
-        execution,
-        mut shared,
-        mut share,
-    } = open_office::<L>(alloc, blank, federates)?;
-    for time in 1..=rounds {
-        round(&mut shared, &mut share, execution, federates, time)?;
+    if is_locked {
+        let shared = Mutex::new(shared);
+        let mut desk = Locked { rt, shared };
+        play(&mut desk, &mut share, execution, federates, rounds)?;
+    } else {
+        play(&mut shared, &mut share, execution, federates, rounds)?;
     }
     Ok(counted(federates, rounds))
 }
 
-/// Plays so many rounds, the value locked anew for each step.
-fn run_locked_at<L: Ledger>(
-    rt: &impl Wait,
+/// Plays so many rounds on a value that so many federates have joined, lent or locked anew for each step, at a brand of its own.
+/// `HistoryFull` where the history is full, and `OutOfMemory` where a growth was refused; a step that is refused stops nothing.
+pub fn run<R: Wait>(
+    rt: &R,
     alloc: Global,
-    blank: Blank,
-    federates: u32,
-    rounds: u64,
-) -> Result<Counts, Fault>
-    requires name { blank.name ≡ L.name }
-    requires parts { blank.parts ≡ L.parts }
-    requires all { blank.parts ≡ ledger_parts }
-{
-    let Office {
-        execution,
-        shared,
-        mut share,
-    } = open_office::<L>(alloc, blank, federates)?;
-    let shared = Mutex::new(shared);
-    for time in 1..=rounds {
-        round_locked(rt, &shared, &mut share, execution, federates, time)?;
-    }
-    Ok(counted(federates, rounds))
-}
-
-/// Plays so many rounds on the value, at a brand of its own. `HistoryFull` where the history is full, and `OutOfMemory` where
-/// a growth was refused; a step that is refused stops nothing.
-pub fn run_lent(alloc: Global, federates: u32, rounds: u64) -> Result<Counts, Fault> {
-    run_lent_at::<Brand>(alloc, Blank::new(LEDGER_PARTS), federates, rounds)
-}
-
-/// The same, the value locked anew for each step. The faults are `HistoryFull` and `OutOfMemory`, as of `run_lent`.
-pub fn run_locked(
-    rt: &impl Wait,
-    alloc: Global,
+    is_locked: bool,
     federates: u32,
     rounds: u64,
 ) -> Result<Counts, Fault> {
-    run_locked_at::<Brand>(rt, alloc, Blank::new(LEDGER_PARTS), federates, rounds)
+    run_at::<Brand>(
+        rt,
+        alloc,
+        Blank::new(LEDGER_PARTS),
+        is_locked,
+        federates,
+        rounds,
+    )
 }

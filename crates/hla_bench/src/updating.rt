@@ -1,75 +1,55 @@
 //! Updates of one object for federates that subscribe its class, in receive order, each carried and picked up at once.
 
-use crate::counts::Counts;
-use crate::meter::Meter;
-use crate::reading::catalogue;
-use hla_base::{Fault, FederateNo};
+use crate::meter::{Meter, Play};
+use hla_base::Fault;
 use hla_machine::Service;
-use std::alloc::Global;
 
-const FED: &[u8] =
+/// The FED file.
+pub const FED: &[u8] =
     b"(FED (objects (class Body (attribute P reliable receive) (attribute V reliable receive))))";
 
-/// A federate joins, and subscribes both attributes of class 1.
-fn subscribe(meter: &mut Meter, federate: FederateNo) -> Result<(), Fault> {
-    meter.join(federate)?;
-    let attributes = meter.numbers(&[1, 2])?;
-    meter.call(
-        federate,
-        Service::SubscribeObjectClassAttributes {
-            class: 1,
-            attributes,
-        },
-    )
+/// How many federates there are, of which the first updates, and how often it does.
+#[derive(Clone, Copy)]
+pub struct Updates {
+    pub federates: u32,
+    pub updates: u64,
 }
 
-/// The first federate publishes both attributes of class 1 and registers an object; the others subscribe them.
-fn begin(meter: &mut Meter, federates: u32) -> Result<(), Fault> {
-    meter.join(1)?;
-    let attributes = meter.numbers(&[1, 2])?;
-    meter.call(
-        1,
-        Service::PublishObjectClass {
-            class: 1,
-            attributes,
-        },
-    )?;
-    for federate in 2..=federates {
-        subscribe(meter, federate)?;
+impl Updates {
+    /// The first federate publishes both attributes of class 1 and registers an object; the others subscribe them.
+    fn begin(self, meter: &mut Meter) -> Result<(), Fault> {
+        let class = 1;
+        meter.join(1)?;
+        let attributes = meter.numbers(&[1, 2])?;
+        meter.call(1, Service::PublishObjectClass { class, attributes })?;
+        for federate in 2..=self.federates {
+            meter.join(federate)?;
+            let attributes = meter.numbers(&[1, 2])?;
+            let service = Service::SubscribeObjectClassAttributes { class, attributes };
+            meter.call(federate, service)?;
+        }
+        meter.call(1, Service::RegisterObjectInstance { class, name: None })?;
+        self.give(meter)
     }
-    meter.call(
-        1,
-        Service::RegisterObjectInstance {
-            class: 1,
-            name: None,
-        },
-    )?;
-    give(meter, federates)
-}
 
-/// What the first federate sent is carried, and picked up.
-fn give(meter: &mut Meter, federates: u32) -> Result<(), Fault> {
-    meter.carry_from(1, federates)?;
-    for federate in 2..=federates {
-        let _visit = meter.visit(federate)?;
+    /// What the first federate sent is carried, and picked up.
+    fn give(self, meter: &mut Meter) -> Result<(), Fault> {
+        meter.carry_from(1, self.federates)?;
+        for federate in 2..=self.federates {
+            let _visit = meter.visit(federate)?;
+        }
+        Ok(())
     }
-    Ok(())
 }
 
-/// Plays so many updates.
-fn play(meter: &mut Meter, federates: u32, updates: u64) -> Result<(), Fault> {
-    begin(meter, federates)?;
-    for _ in 0..updates {
-        meter.update(1)?;
-        give(meter, federates)?;
+impl Play for Updates {
+    /// Plays all updates.
+    fn play(&mut self, meter: &mut Meter) -> Result<(), Fault> {
+        self.begin(meter)?;
+        for _ in 0..self.updates {
+            meter.update(1)?;
+            self.give(meter)?;
+        }
+        Ok(())
     }
-    Ok(())
-}
-
-/// Plays so many updates for so many receivers. `ErrorReadingFED` where the FED text was not read, `OutOfMemory` where a
-/// growth was refused, or else the fault of the first step that is refused.
-pub fn run(alloc: Global, receivers: u32, updates: u64) -> Result<Counts, Fault> {
-    let mut meter = Meter::new(alloc, catalogue(alloc, FED)?);
-    let played = play(&mut meter, receivers.saturating_add(1), updates);
-    meter.end(played)
 }
