@@ -17,7 +17,7 @@ const END: Ticks = 3;
 const MAX_TICKS: u32 = 10_000;
 
 /// What a federate does.
-#[derive(Clone, Copy, Debug, PartialEq, Eq)]
+#[derive(Drop)]
 pub enum Part {
     /// Tells the level at each tick of time.
     Pump { level: ClassNo, litres: ParameterNo },
@@ -41,7 +41,7 @@ pub struct Lived<L: Ledger + Naming, W: Publisher<L>> {
 }
 
 /// What a tick told.
-#[derive(Clone, Copy, Debug, PartialEq, Eq)]
+#[derive(Drop)]
 enum News {
     Grant,
     Another,

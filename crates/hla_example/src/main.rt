@@ -8,7 +8,7 @@ ghost use Rattle.std.specs.Prelude.{◌≡◌};
 ghost use Rattle.hla_base.specs.Limits.{ledger_parts};
 
 use crate::lives::{Job, Lived, live};
-use crate::start::{Trouble, join, keep, ready};
+use crate::start::{Trouble, begin, keep};
 use hla_base::{ExecutionName, Fault, LEDGER_PARTS};
 use hla_callbacks::{Callback, Delivery, Recorder};
 use hla_machine::ResignAction;
@@ -23,18 +23,6 @@ use std::sync::ledger::{Blank, Ledger};
 use std::thread::Threads;
 use std::{io, str, thread};
 
-/// The federation execution data: one class of interactions, in time-stamp order, with one parameter.
-const FED: &[u8] = b"(FED
- (Federation Tank)
- (FEDversion v1.3)
- (spaces)
- (objects)
- (interactions
-  (class InteractionRoot reliable receive
-   (class Level reliable timestamp
-    (parameter Litres)))))
-";
-
 /// How many records the history may hold.
 const HISTORY_LIMIT: usize = 262_144;
 
@@ -47,12 +35,23 @@ fn leave<L: Ledger + Naming, W: Publisher<L>>(
     lefts: &mut Vec<Left<L, Recorder>>,
 ) -> Result<(), Trouble> {
     let Lived { job, trouble } = lived;
-    if let Some(trouble) = trouble {
-        drop(job);
+    let Job {
+        federate,
+        courier,
+        ..
+    } = job;
+    let kept = match trouble {
+        None => keep(lefts, courier.leave()),
+        Some(trouble) => {
+            drop(courier);
+            Err(trouble)
+        }
+    };
+    if let Err(trouble) = kept {
+        drop(federate);
         return Err(trouble);
     }
-    keep(lefts, job.courier.leave())?;
-    match job.federate.resign(rt, ResignAction::NoAction) {
+    match federate.resign(rt, ResignAction::NoAction) {
         Ok(left) => keep(lefts, left),
         Err((fault, federate)) => {
             drop(federate);
@@ -61,39 +60,39 @@ fn leave<L: Ledger + Naming, W: Publisher<L>>(
     }
 }
 
-/// Takes the federates out of the execution and destroys it: nobody is left joined, and all places are there for `close`.
-/// The trouble of `leave`, or `Refused` with the fault of `Rti::destroy`.
-fn end<L: Ledger + Naming, W: Publisher<L>>(
+/// Takes all federates out of the execution, as `leave` does, up to the first trouble.
+fn leave_all<L: Ledger + Naming, W: Publisher<L>>(
     rt: &impl Wait,
-    alloc: Global,
-    rti: &mut Rti<L, Recorder, W>,
-    tank: ExecutionName,
     lived: Vec<Lived<L, W>>,
-) -> Result<Vec<Left<L, Recorder>>, Trouble> {
-    let mut lefts = Vec::new(alloc);
+    lefts: &mut Vec<Left<L, Recorder>>,
+) -> Result<(), Trouble> {
     for one in lived {
-        leave(rt, one, &mut lefts)?;
+        leave(rt, one, lefts)?;
     }
-    rti.destroy(rt, tank)?;
-    Ok(lefts)
+    Ok(())
 }
 
-/// Runs the federation to its end: the places of all who took part. `Refused` with the fault of the first call that is
-/// refused, or with `OutOfMemory` where memory was refused; else the trouble of `ended`.
+/// Runs the federation to its end, and destroys it: nobody is left joined, and the places of all who took part are added.
+/// `Refused` with the fault of the first call that is refused, or with `OutOfMemory` where memory was refused; else the
+/// trouble of `leave`.
 fn run<L: Ledger + Naming + Send + Sync, W: Publisher<L> + Send, R: Threads + Wait + Sync>(
     rt: &R,
     alloc: Global,
     rti: &mut Rti<L, Recorder, W>,
-) -> Result<Vec<Left<L, Recorder>>, Trouble> {
+    lefts: &mut Vec<Left<L, Recorder>>,
+) -> Result<(), Trouble> {
     let tank = ExecutionName::new(b"tank")?;
-    rti.create(rt, tank, FED)?;
-    let pump = join(rt, alloc, rti, b"pump", tank)?;
-    let display = join(rt, alloc, rti, b"display", tank)?;
-    let jobs: Vec<Job<L, W>> = ready(rt, alloc, rti, pump, display)?;
+    let mut jobs: Vec<Job<L, W>> = Vec::new(alloc);
+    if let Err(trouble) = begin(rt, alloc, rti, tank, &mut jobs) {
+        drop(jobs);
+        return Err(trouble);
+    }
     let Ok(lived) = thread::map_vec(rt, jobs, &|job| live(rt, alloc, tank, job)) else {
         return Err(Trouble::Refused(Fault::OutOfMemory));
     };
-    end(rt, alloc, rti, tank, lived)
+    leave_all(rt, lived, lefts)?;
+    rti.destroy(rt, tank)?;
+    Ok(())
 }
 
 /// Prints a level that was told in time-stamp order. `io::Error` where the write fails.
@@ -121,23 +120,57 @@ fn print_heard<R: Runtime>(rt: &R, ambassador: &Recorder) -> io::Result<()> {
     Ok(())
 }
 
-/// The ambassadors of those who resigned. `Refused` with `OutOfMemory` where a growth was refused.
-fn ambassadors<L: Ledger>(
-    alloc: Global,
+/// Takes out the ambassadors of those who resigned. `Refused` with `OutOfMemory` where a growth was refused.
+fn take_ambassadors<L: Ledger>(
     lefts: &mut Vec<Left<L, Recorder>>,
-) -> Result<Vec<Recorder>, Trouble> {
-    let mut found = Vec::new(alloc);
+    heard: &mut Vec<Recorder>,
+) -> Result<(), Trouble> {
     for left in lefts.iter_mut() {
         if let Some(ambassador) = left.take_ambassador() {
-            keep(&mut found, ambassador)?;
+            keep(heard, ambassador)?;
         }
     }
-    Ok(found)
+    Ok(())
 }
 
-/// Runs the federation, closes the infrastructure, which compares each transcript with the history, and answers what the
-/// ambassadors heard. `Refused` with the fault of `open_rti`; the trouble of `run` or `ambassadors`; `NotClosed` where the
-/// infrastructure does not close.
+/// Closes the infrastructure, which compares each transcript with the history, and answers what the ambassadors heard. The
+/// trouble that the run had, or that of `take_ambassadors`; `NotClosed` where the infrastructure does not close. Then all is
+/// let go.
+fn close<L: Ledger + Naming, W: Publisher<L>>(
+    rt: &impl Wait,
+    alloc: Global,
+    rti: Rti<L, Recorder, W>,
+    mut lefts: Vec<Left<L, Recorder>>,
+    ran: Result<(), Trouble>,
+) -> Result<Vec<Recorder>, Trouble>
+    requires { L.parts ≡ ledger_parts }
+{
+    let mut heard = Vec::new(alloc);
+    let taken = match ran {
+        Ok(()) => take_ambassadors(&mut lefts, &mut heard),
+        Err(trouble) => Err(trouble),
+    };
+    if let Err(trouble) = taken {
+        drop(rti);
+        drop(lefts);
+        drop(heard);
+        return Err(trouble);
+    }
+    match rti.close(rt, lefts) {
+        Ok(closed) => {
+            drop(closed);
+            Ok(heard)
+        }
+        Err(refused) => {
+            drop(refused);
+            drop(heard);
+            Err(Trouble::NotClosed)
+        }
+    }
+}
+
+/// Opens the infrastructure, runs the federation, and closes it; what the ambassadors heard. `Refused` with the fault of
+/// `open_rti`; the trouble of `run` or `close`.
 fn simulated<L: Ledger + Naming + Send + Sync, R: Threads + Wait + Sync>(
     rt: &R,
     alloc: Global,
@@ -150,12 +183,9 @@ fn simulated<L: Ledger + Naming + Send + Sync, R: Threads + Wait + Sync>(
     requires book { opened.seen.book ≡ L.book }
 {
     let mut rti = open_rti::<L, Recorder, &R>(alloc, rt, blank, opened, HISTORY_LIMIT)?;
-    let mut lefts = run(rt, alloc, &mut rti)?;
-    let heard = ambassadors(alloc, &mut lefts)?;
-    match rti.close(rt, lefts) {
-        Ok(_) => Ok(heard),
-        Err(_) => Err(Trouble::NotClosed),
-    }
+    let mut lefts = Vec::new(alloc);
+    let ran = run(rt, alloc, &mut rti, &mut lefts);
+    close(rt, alloc, rti, lefts, ran)
 }
 
 /// Runs the federation and prints what was told; the status. `io::Error` where a write fails.

@@ -10,8 +10,20 @@ use std::sync::Wait;
 use std::sync::ledger::Ledger;
 use thiserror::Error;
 
+/// The federation execution data: one class of interactions, in time-stamp order, with one parameter.
+const FED: &[u8] = b"(FED
+ (Federation Tank)
+ (FEDversion v1.3)
+ (spaces)
+ (objects)
+ (interactions
+  (class InteractionRoot reliable receive
+   (class Level reliable timestamp
+    (parameter Litres)))))
+";
+
 /// Why the federation did not come to its end.
-#[derive(Clone, Copy, Debug, PartialEq, Eq, Error)]
+#[derive(Debug, Drop, Error)]
 pub enum Trouble {
     #[error("a call was refused: {0}")]
     Refused(#[from] Fault),
@@ -38,19 +50,37 @@ fn name(alloc: Global, text: &[u8]) -> Result<List<u8>, Fault> {
     Ok(name)
 }
 
-/// Joins a federate, with an ambassador that writes down what it hears. `Refused` with the fault of `Rti::join`, or with
-/// `OutOfMemory` where a growth was refused for the name; the ambassador is let go then.
-pub fn join<L: Ledger + Naming, W: Publisher<L>>(
+/// Joins a federate, with an ambassador that writes down what it hears, and gives it a courier and its part. `Refused` with
+/// the fault of `Rti::join` or `Rti::courier`, or with `OutOfMemory` where a growth was refused; what was made is let go then.
+fn join<L: Ledger + Naming, W: Publisher<L>>(
     rt: &impl Wait,
     alloc: Global,
     rti: &mut Rti<L, Recorder, W>,
+    tank: ExecutionName,
     text: &[u8],
-    execution: ExecutionName,
-) -> Result<Federate<L, Recorder, W>, Trouble> {
+    jobs: &mut Vec<Job<L, W>>,
+) -> Result<(), Trouble> {
     let name = name(alloc, text)?;
-    match rti.join(rt, name, execution, Recorder::new(alloc)) {
-        Ok(federate) => Ok(federate),
-        Err((fault, _)) => Err(Trouble::Refused(fault)),
+    let federate = match rti.join(rt, name, tank, Recorder::new(alloc)) {
+        Ok(federate) => federate,
+        Err((fault, ambassador)) => {
+            drop(ambassador);
+            return Err(Trouble::Refused(fault));
+        }
+    };
+    match rti.courier() {
+        Ok(courier) => keep(
+            jobs,
+            Job {
+                federate,
+                courier,
+                part: Part::Display,
+            },
+        ),
+        Err(fault) => {
+            drop(federate);
+            Err(Trouble::Refused(fault))
+        }
     }
 }
 
@@ -83,27 +113,22 @@ fn set_up_display<L: Ledger + Naming, W: Publisher<L>>(
     Ok(())
 }
 
-/// Says what each federate sends and receives and how it takes part in time, and gives each its part and a courier. It is done
+/// Creates the execution, joins both federates, and says what each sends and receives and how it takes part in time. It is done
 /// before the threads begin, so that the pump sends nothing before the display has subscribed. `Refused` with the fault of
-/// the first call that is refused, or with `OutOfMemory` where a growth was refused.
-pub fn ready<L: Ledger + Naming, W: Publisher<L>>(
+/// the first call that is refused, or with `OutOfMemory` where a growth was refused; those who joined are among the jobs.
+pub fn begin<L: Ledger + Naming, W: Publisher<L>>(
     rt: &impl Wait,
     alloc: Global,
     rti: &mut Rti<L, Recorder, W>,
-    mut pump: Federate<L, Recorder, W>,
-    mut display: Federate<L, Recorder, W>,
-) -> Result<Vec<Job<L, W>>, Trouble> {
-    let part = set_up_pump(rt, alloc, &mut pump)?;
-    set_up_display(rt, alloc, &mut display)?;
-    let mut jobs = Vec::new(alloc);
-    for (federate, part) in [(pump, part), (display, Part::Display)] {
-        let courier = rti.courier()?;
-        let job = Job {
-            federate,
-            courier,
-            part,
-        };
-        keep(&mut jobs, job)?;
+    tank: ExecutionName,
+    jobs: &mut Vec<Job<L, W>>,
+) -> Result<(), Trouble> {
+    rti.create(rt, tank, FED)?;
+    join(rt, alloc, rti, tank, b"pump", jobs)?;
+    join(rt, alloc, rti, tank, b"display", jobs)?;
+    if let [pump, display] = jobs.as_mut_slice() {
+        pump.part = set_up_pump(rt, alloc, &mut pump.federate)?;
+        set_up_display(rt, alloc, &mut display.federate)?;
     }
-    Ok(jobs)
+    Ok(())
 }
