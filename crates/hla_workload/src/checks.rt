@@ -1,7 +1,7 @@
 //! Recorded runs that are checked: with much that waits, with hundreds of events for each federate, and with updates for many.
 
 use crate::digest::Digest;
-use crate::plays::{by_events, by_updates, in_step, opened};
+use crate::plays::{FED, by_events, by_updates, in_step};
 use crate::sizes::Sizes;
 use crate::stage::Arena;
 use hla_base::Fault;
@@ -11,7 +11,7 @@ use std::alloc::Global;
 
 /// What is played, with its size.
 #[derive(Clone, Copy)]
-pub enum Play {
+enum Play {
     /// In step, with one federate that falls behind, and flushes at the end.
     InStep { is_flushed: bool },
     /// From event to event.
@@ -20,34 +20,28 @@ pub enum Play {
     ByUpdates,
 }
 
-/// Plays on a stage. `OutOfMemory` where a growth was refused; why a step is refused goes into the digest.
-pub fn play_on(stage: &mut Arena, play: Play, sizes: Sizes) -> Result<(), Fault> {
-    match play {
+/// Plays on a stage, and adds the digest of its answers. `OutOfMemory` where a growth was refused; why a step is refused goes into the
+/// digest.
+fn play_on(stage: &mut Arena, play: Play, sizes: Sizes, digest: &mut Digest) -> Result<(), Fault> {
+    let played = match play {
         Play::InStep { is_flushed } => in_step(stage, sizes, is_flushed),
         Play::ByEvents => by_events(stage, sizes),
         Play::ByUpdates => by_updates(stage, sizes),
-    }
+    };
+    digest.add(stage.digest.value);
+    played
 }
 
-/// The records of a play, and the digest of its answers.
-fn records_of(
-    alloc: Global,
+/// Plays on a stage, and takes the records out.
+fn recorded(
+    stage: &mut Arena,
     play: Play,
     sizes: Sizes,
     digest: &mut Digest,
 ) -> Result<Vec<Record>, Fault> {
-    let mut stage = opened(alloc, sizes, true)?;
-    let played = play_on(&mut stage, play, sizes);
-    digest.add(stage.digest.value());
-    let records = stage.take_records();
-    drop(stage);
-    match played {
-        Ok(()) => Ok(records),
-        Err(fault) => {
-            drop(records);
-            Err(fault)
-        }
-    }
+    stage.keep_records(FED)?;
+    play_on(stage, play, sizes, digest)?;
+    Ok(stage.take_records())
 }
 
 /// Has records judged.
@@ -61,8 +55,10 @@ fn judge(alloc: Global, records: &[Record], digest: &mut Digest) -> Result<(), F
     Ok(())
 }
 
-/// Forges the outcome of a record near the end: one that was refused is said to be done, and any other refused.
-fn forge(records: &mut Vec<Record>) {
+/// Has records judged, as they are and forged: the outcome of one near the end that was refused is said to be done, and any other
+/// refused.
+fn judge_both(alloc: Global, records: &mut [Record], digest: &mut Digest) -> Result<(), Fault> {
+    judge(alloc, records, digest)?;
     let place = records.len().saturating_sub(16);
     if let Some(record) = records.get_mut(place) {
         record.outcome = match record.outcome {
@@ -70,17 +66,19 @@ fn forge(records: &mut Vec<Record>) {
             _ => Outcome::Refused(Fault::FederateNotExecutionMember),
         };
     }
+    judge(alloc, records, digest)
 }
 
 /// Has the records of a play judged, as they are and forged. `ErrorReadingFED` where the FED text was not read, and
 /// `OutOfMemory` where a growth was refused; why a step is refused goes into the digest.
-pub fn check(alloc: Global, play: Play, sizes: Sizes, digest: &mut Digest) -> Result<(), Fault> {
-    let mut records = records_of(alloc, play, sizes, digest)?;
-    let judged = judge(alloc, records.as_slice(), digest);
-    forge(&mut records);
-    let forged = judge(alloc, records.as_slice(), digest);
+fn check(alloc: Global, play: Play, sizes: Sizes, digest: &mut Digest) -> Result<(), Fault> {
+    let mut stage = Arena::new(alloc, FED, sizes)?;
+    let records = recorded(&mut stage, play, sizes, digest);
+    drop(stage);
+    let mut records = records?;
+    let judged = judge_both(alloc, records.as_mut_slice(), digest);
     drop(records);
-    judged.and(forged)
+    judged
 }
 
 /// A play of the sizes of a workload, scaled to its kind.
@@ -121,9 +119,8 @@ pub fn run_plays(alloc: Global, sizes: Sizes) -> Result<Digest, Fault> {
         (Play::ByUpdates, updates),
     ];
     for (play, sizes) in plays {
-        let mut stage = opened(alloc, sizes, false)?;
-        let played = play_on(&mut stage, play, sizes);
-        digest.add(stage.digest.value());
+        let mut stage = Arena::new(alloc, FED, sizes)?;
+        let played = play_on(&mut stage, play, sizes, &mut digest);
         drop(stage);
         played?;
     }

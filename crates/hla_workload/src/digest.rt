@@ -1,13 +1,14 @@
 //! A digest of what calls have answered.
 
-use hla_base::{EventHandle, Fault, HandleValuePair};
+use hla_base::{EventHandle, HandleValuePair};
 use hla_callbacks::{Callback, Delivery};
 use hla_machine::{Answer, Carried};
 
 /// A number of 64 bits that depends on all that was added, and on its order.
 #[derive(Clone, Copy)]
 pub struct Digest {
-    value: u64,
+    /// What was added so far, as a number.
+    pub value: u64,
 }
 
 impl Digest {
@@ -16,11 +17,6 @@ impl Digest {
         Digest {
             value: 0xCBF2_9CE4_8422_2325,
         }
-    }
-
-    /// What was added so far, as a number.
-    pub fn value(self) -> u64 {
-        self.value
     }
 
     /// Adds a number.
@@ -42,33 +38,13 @@ impl Digest {
         self.add(bytes.len() as u64);
     }
 
-    /// Adds why a call was refused.
-    pub fn add_fault(&mut self, fault: Fault) {
-        self.add(u64::from(fault.number()));
-    }
-
     /// Adds the handle of an event.
     pub fn add_event(&mut self, event: EventHandle) {
         self.add(u64::from(event.sender));
         self.add(event.serial);
     }
 
-    /// Adds in which order a message is given.
-    fn add_delivery(&mut self, delivery: Delivery) {
-        match delivery {
-            Delivery::Receive => self.add(1),
-            Delivery::Demoted { stamp } => {
-                self.add(2);
-                self.add(stamp);
-            }
-            Delivery::TimeStamp { stamp } => {
-                self.add(3);
-                self.add(stamp);
-            }
-        }
-    }
-
-    /// Adds what a message says.
+    /// Adds what a message says, and in which order it is given.
     fn add_message(
         &mut self,
         number: u32,
@@ -82,7 +58,17 @@ impl Digest {
             self.add_bytes(pair.value.as_slice());
         }
         self.add_event(event);
-        self.add_delivery(delivery);
+        match delivery {
+            Delivery::Receive => self.add(1),
+            Delivery::Demoted { stamp } => {
+                self.add(2);
+                self.add(stamp);
+            }
+            Delivery::TimeStamp { stamp } => {
+                self.add(3);
+                self.add(stamp);
+            }
+        }
     }
 
     /// Adds a callback.
@@ -125,19 +111,6 @@ impl Digest {
         }
     }
 
-    /// Adds what was taken from a wire.
-    fn add_carried(&mut self, carried: Carried) {
-        match carried {
-            Carried::Nothing => self.add(0),
-            Carried::Null { bound } => self.add(bound),
-            Carried::Event { event } | Carried::Removal { event } | Carried::Retraction { event } =>
-                {
-                    self.add_event(event);
-                }
-            Carried::Discovery { object } => self.add(u64::from(object)),
-        }
-    }
-
     /// Adds an answer.
     pub fn add_answer(&mut self, answer: &Answer) {
         match answer {
@@ -153,7 +126,14 @@ impl Digest {
             Answer::Sent(Some(event)) => self.add_event(*event),
             Answer::Time(time) | Answer::Announced(Some(time)) => self.add(*time),
             Answer::Ticked(Some(callback)) => self.add_callback(callback),
-            Answer::Carried(carried) => self.add_carried(*carried),
+            Answer::Carried(carried) => match carried {
+                Carried::Nothing => self.add(0),
+                Carried::Null { bound } => self.add(*bound),
+                Carried::Event { event }
+                | Carried::Removal { event }
+                | Carried::Retraction { event } => self.add_event(*event),
+                Carried::Discovery { object } => self.add(u64::from(*object)),
+            },
         }
     }
 }

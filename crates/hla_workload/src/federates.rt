@@ -10,7 +10,7 @@
 use crate::digest::Digest;
 use crate::faltering::Faltering;
 use crate::random::Random;
-use crate::values::{ATTRIBUTES, chosen_values};
+use crate::values::{ATTRIBUTES, chosen_values, numbers};
 use hla_base::{ExecutionName, Fault, FederateNo, List, ObjectNo, Ticks};
 use hla_callbacks::Callback;
 use hla_machine::Carried;
@@ -29,19 +29,23 @@ pub const FED: &[u8] = b"(FED
  (interactions (class Fire reliable timestamp (parameter Munition))))";
 
 /// The ticks of a step, which are the lookahead, too.
-const STEP: Ticks = 10;
+pub const STEP: Ticks = 10;
 
 /// What all threads share.
 #[derive(Drop)]
 pub struct Field {
     pub alloc: Global,
     pub execution: ExecutionName,
+    /// Whether the ambassador of the first federate fails by chance, a monitor is read all the while, and the records are judged.
+    pub is_hard: bool,
+    /// By which number all numbers by chance are made.
+    pub seed: u32,
     /// How many federates join, the one that falls behind among them.
     pub federates: u32,
     /// How many objects each of the others has.
     pub objects: u32,
-    /// How many steps each takes.
-    pub steps: u64,
+    /// The time of the last step.
+    pub end: Ticks,
     /// Where all wait for the end of a phase, and for the end of the courier's work.
     pub barrier: Barrier,
     /// How many federates have come to their end.
@@ -50,21 +54,6 @@ pub struct Field {
     pub may_begin: AtomicBool,
     /// Whether all have come to their end.
     pub is_over: AtomicBool,
-}
-
-impl Field {
-    /// The time of the last step.
-    fn end(&self) -> Ticks {
-        self.steps.wrapping_mul(STEP)
-    }
-
-    /// Says what follows from how many federates have come to their end.
-    fn look_round(&self) {
-        let ended = self.ended.load(Ordering::SeqCst);
-        self.may_begin.store(ended.saturating_add(1) >= self.federates, Ordering::SeqCst);
-        self.is_over
-            .store(ended >= self.federates, Ordering::SeqCst);
-    }
 }
 
 /// A federate, and how far it is.
@@ -84,17 +73,20 @@ pub struct Player<L: Ledger + Naming, W: Publisher<L>> {
     pub fault: Option<Fault>,
 }
 
-/// What a phase does next.
-#[derive(Clone, Copy)]
-enum Turn {
-    Again,
-    Over,
-}
-
 impl<L: Ledger + Naming, W: Publisher<L>> Player<L, W> {
-    /// Whether it is the one that falls behind.
-    fn is_late(&self, field: &Field) -> bool {
-        self.federate.number() == field.federates
+    /// One that has not begun.
+    pub fn new(federate: Federate<L, Faltering, W>, random: Random) -> Player<L, W> {
+        Player {
+            federate,
+            random,
+            first: 0,
+            time: 0,
+            is_waiting: false,
+            has_ended: false,
+            failed: 0,
+            digest: Digest::new(),
+            fault: None,
+        }
     }
 
     /// Updates some attributes of an object, with a stamp, in ticks.
@@ -112,121 +104,98 @@ impl<L: Ledger + Naming, W: Publisher<L>> Player<L, W> {
         match sent {
             Ok(Some(event)) => self.digest.add_event(event),
             Ok(None) => self.digest.add(0),
-            Err(fault) => self.digest.add_fault(fault),
+            Err(fault) => self.digest.add(u64::from(fault.number())),
         }
         Ok(())
     }
 
-    /// Whether it advances from step to step, and not from event to event.
-    fn is_stepped(&self) -> bool {
-        self.federate.number() % 2 == 0
-    }
-
-    /// Updates one of its objects with a stamp within the step after next; now and then it tries another's, or too low a stamp, which
-    /// is refused.
-    fn update_own(&mut self, rt: &impl Wait, alloc: Global, object: ObjectNo) -> Result<(), Fault> {
-        let earliest = self.time.wrapping_add(STEP);
-        let stamp = earliest.wrapping_add(self.random.below(STEP));
-        self.update(rt, alloc, object, stamp)?;
-        if self.random.is_once_in(16) {
-            let other = self.random.below(64) as ObjectNo;
-            self.update(rt, alloc, other, self.time)?;
-        }
-        Ok(())
-    }
-
-    /// Updates its objects: all at each step, or at each event one in eight.
-    fn update_all(&mut self, rt: &impl Wait, field: &Field) -> Result<(), Fault> {
+    /// Updates its objects, each with a stamp within the step after next: all at each step, or at each event one in eight. Now and then
+    /// it tries another's, or too low a stamp, which is refused.
+    fn update_all(&mut self, rt: &impl Wait, field: &Field, is_stepped: bool) -> Result<(), Fault> {
         for place in 0..field.objects {
-            if self.is_stepped() || self.random.is_once_in(8) {
-                self.update_own(rt, field.alloc, self.first.wrapping_add(place))?;
+            if is_stepped || self.random.is_once_in(8) {
+                let earliest = self.time.wrapping_add(STEP);
+                let stamp = earliest.wrapping_add(self.random.below(STEP));
+                self.update(rt, field.alloc, self.first.wrapping_add(place), stamp)?;
+                if self.random.is_once_in(16) {
+                    let other = self.random.below(64) as ObjectNo;
+                    self.update(rt, field.alloc, other, self.time)?;
+                }
             }
         }
         Ok(())
     }
 
-    /// Sends an interaction.
-    fn fire(&mut self, rt: &impl Wait, alloc: Global) -> Result<(), Fault> {
-        let values = chosen_values(alloc, &mut self.random, 1)?;
-        let stamp = self.time.wrapping_add(STEP);
-        match self.federate.send_interaction(rt, 1, values, Some(stamp))? {
+    /// Sends what belongs to a step, and asks for the next: from step to step, or from event to event.
+    fn ask(&mut self, rt: &impl Wait, field: &Field) -> Result<(), Fault> {
+        if self.federate.number() == field.federates {
+            return self.federate.time_advance_request(rt, field.end);
+        }
+        let is_stepped = self.federate.number() % 2 == 0;
+        self.update_all(rt, field, is_stepped)?;
+        let values = chosen_values(field.alloc, &mut self.random, 1)?;
+        let time = self.time.wrapping_add(STEP);
+        match self.federate.send_interaction(rt, 1, values, Some(time))? {
             Some(event) => self.digest.add_event(event),
             None => self.digest.add(0),
         }
-        Ok(())
-    }
-
-    /// Sends what belongs to a step, and asks for the next.
-    fn ask(&mut self, rt: &impl Wait, field: &Field) -> Result<(), Fault> {
-        if self.is_late(field) {
-            return self.federate.time_advance_request(rt, field.end());
-        }
-        self.update_all(rt, field)?;
-        self.fire(rt, field.alloc)?;
-        let time = self.time.wrapping_add(STEP);
-        if self.is_stepped() {
+        if is_stepped {
             self.federate.time_advance_request(rt, time)
         } else {
             self.federate.next_event_request(rt, time)
         }
     }
 
-    /// Is granted a time.
-    fn reach(&mut self, time: Ticks) {
-        self.time = time;
-        self.is_waiting = false;
-    }
-
-    /// Asks for its time after a callback in which its ambassador failed, which is not told: a grant is one to a later time.
-    fn look(&mut self, rt: &impl Wait) -> Result<Turn, Fault> {
-        self.failed = self.failed.wrapping_add(1);
-        let time = self.federate.query_federate_time(rt)?;
-        if time > self.time {
-            self.reach(time);
-        }
-        Ok(Turn::Again)
-    }
-
-    /// Takes one callback.
-    fn take(&mut self, rt: &impl Wait) -> Result<Turn, Fault> {
+    /// Takes one callback; whether there was one. After one in which its ambassador failed, which is not told, it asks for its time: a
+    /// grant is one to a later time.
+    fn take(&mut self, rt: &impl Wait) -> Result<bool, Fault> {
         match self.federate.tick(rt) {
-            Ok(None) => Ok(Turn::Over),
+            Ok(None) => return Ok(false),
             Ok(Some(callback)) => {
                 if let Callback::TimeAdvanceGrant { time } = &callback {
-                    self.reach(*time);
+                    self.time = *time;
+                    self.is_waiting = false;
                 }
                 self.digest.add_callback(&callback);
                 drop(callback);
-                Ok(Turn::Again)
             }
-            Err(Fault::FederateInternalError) => self.look(rt),
-            Err(fault) => Err(fault),
+            Err(Fault::FederateInternalError) => {
+                self.failed = self.failed.wrapping_add(1);
+                let time = self.federate.query_federate_time(rt)?;
+                if time > self.time {
+                    self.time = time;
+                    self.is_waiting = false;
+                }
+            }
+            Err(fault) => return Err(fault),
         }
+        Ok(true)
     }
 
-    /// One turn of a phase: a request, or a tick.
-    fn turn(&mut self, rt: &impl Wait, field: &Field) -> Result<Turn, Fault> {
+    /// One turn of a phase, a request or a tick; whether the phase goes on.
+    fn turn(&mut self, rt: &impl Wait, field: &Field) -> Result<bool, Fault> {
         if self.is_waiting {
             return self.take(rt);
         }
-        if self.time >= field.end() {
+        if self.time >= field.end {
             self.has_ended = true;
-            return Ok(Turn::Over);
+            return Ok(false);
         }
-        if self.is_late(field) && !field.may_begin.load(Ordering::SeqCst) {
-            return Ok(Turn::Over);
+        let is_late = self.federate.number() == field.federates;
+        if is_late && !field.may_begin.load(Ordering::SeqCst) {
+            return Ok(false);
         }
         self.ask(rt, field)?;
         self.is_waiting = true;
-        Ok(Turn::Again)
+        Ok(true)
     }
 
     /// A phase: it gets as far as it can.
     fn phase(&mut self, rt: &impl Wait, field: &Field) {
         for _ in 0..u64::MAX {
             match self.turn(rt, field) {
-                Ok(Turn::Again) => {}
-                Ok(Turn::Over) => return,
+                Ok(true) => {}
+                Ok(false) => return,
                 Err(fault) => {
                     self.fault = Some(fault);
                     self.has_ended = true;
@@ -293,23 +262,12 @@ impl<L: Ledger + Naming, W: Publisher<L>> Carrier<L, W> {
         Ok(())
     }
 
-    /// Has a federate announce its promise.
-    fn announce(
-        &mut self,
-        rt: &impl Wait,
-        field: &Field,
-        federate: FederateNo,
-    ) -> Result<(), Fault> {
-        let promise = self.courier.announce(rt, field.execution, federate)?;
-        self.digest.add(promise.unwrap_or(0));
-        Ok(())
-    }
-
     /// Has all announce, and carries all wires. An error is the fault of the first call that is refused. Those before it stay
     /// done.
     pub fn exchange(&mut self, rt: &impl Wait, field: &Field) -> Result<(), Fault> {
         for federate in 1..=field.federates {
-            self.announce(rt, field, federate)?;
+            let promise = self.courier.announce(rt, field.execution, federate)?;
+            self.digest.add(promise.unwrap_or(0));
         }
         for from in 1..=field.federates {
             self.carry_from(rt, field, from)?;
@@ -321,7 +279,11 @@ impl<L: Ledger + Naming, W: Publisher<L>> Carrier<L, W> {
     pub fn live(mut self, rt: &impl Wait, field: &Field) -> Carrier<L, W> {
         for _ in 0..u64::MAX {
             let _ended = field.barrier.wait(rt);
-            field.look_round();
+            let ended = field.ended.load(Ordering::SeqCst);
+            field.may_begin.store(ended.saturating_add(1) >= field.federates, Ordering::SeqCst);
+            field
+                .is_over
+                .store(ended >= field.federates, Ordering::SeqCst);
             if self.fault.is_none() {
                 self.fault = self.exchange(rt, field).err();
             }
@@ -399,7 +361,7 @@ pub fn prepare<L: Ledger + Naming, W: Publisher<L>>(
     field: &Field,
     federate: &mut Federate<L, Faltering, W>,
 ) -> Result<(), Fault> {
-    let attributes = numbers(field.alloc)?;
+    let attributes = numbers(field.alloc, ATTRIBUTES)?;
     federate.subscribe_object_class_attributes(rt, 1, attributes)?;
     federate.subscribe_interaction_class(rt, 1)?;
     federate.enable_time_constrained(rt)?;
@@ -408,20 +370,11 @@ pub fn prepare<L: Ledger + Naming, W: Publisher<L>>(
         return Ok(());
     }
     federate.publish_interaction_class(rt, 1)?;
-    let attributes = numbers(field.alloc)?;
+    let attributes = numbers(field.alloc, ATTRIBUTES)?;
     federate.publish_object_class(rt, 1, attributes)?;
     federate.enable_time_regulation(rt, 0, STEP)?;
     drop(federate.tick(rt)?);
     Ok(())
-}
-
-/// The numbers of all attributes.
-fn numbers(alloc: Global) -> Result<List<u32>, Fault> {
-    let mut numbers = List::new(alloc);
-    for number in 1..=ATTRIBUTES {
-        numbers.push(number)?;
-    }
-    Ok(numbers)
 }
 
 /// A federate registers its objects; the number of the first. An error is the fault of the first call that is refused, or

@@ -23,7 +23,7 @@ mod texts;
 mod values;
 
 use crate::digest::Digest;
-use crate::running::{Course, Endured};
+use crate::running::Endured;
 use crate::sizes::Sizes;
 use hla_base::Fault;
 use std::alloc::Global;
@@ -34,97 +34,61 @@ use std::sync::Wait;
 use std::thread::Threads;
 use std::{env, io};
 
-/// What is run.
-#[derive(Clone, Copy)]
-enum Workload {
-    Federation,
-    Endure,
-    Check,
-    Steps,
-    Scripts,
-    Small,
-}
-
 const USAGE: &str =
     "usage: hla_workload federation|endure|check|steps|scripts|small FEDERATES AMOUNT ROUNDS SEED";
-
-/// The workload of a name.
-fn named(name: &str) -> Option<Workload> {
-    match name {
-        "federation" => Some(Workload::Federation),
-        "endure" => Some(Workload::Endure),
-        "check" => Some(Workload::Check),
-        "steps" => Some(Workload::Steps),
-        "scripts" => Some(Workload::Scripts),
-        "small" => Some(Workload::Small),
-        _ => None,
-    }
-}
 
 /// The next word, as a number.
 fn number(words: &mut Args) -> Option<u32> {
     words.next()?.parse::<u32>().ok()
 }
 
-/// The next words, as sizes.
-fn sizes_of(words: &mut Args) -> Option<Sizes> {
+/// The name of a workload and its sizes, where the words of the command line say so.
+fn asked_for(words: &mut Args) -> Option<(String, Sizes)> {
+    let _program = words.next()?;
+    let name = words.next()?;
     let federates = number(words)?;
     let amount = number(words)?;
     let rounds = number(words)?;
     let seed = number(words)?;
-    Some(Sizes {
+    let sizes = Sizes {
         federates,
         amount,
         rounds,
         seed,
-    })
-}
-
-/// What the words of the command line ask for.
-fn asked_for(words: &mut Args) -> Option<(Workload, Sizes)> {
-    let _program = words.next()?;
-    let name = words.next()?;
-    let workload = named(name.as_str())?;
-    let sizes = sizes_of(words)?;
-    Some((workload, sizes))
-}
-
-/// Runs federates on threads.
-fn run_federation<R: Threads + Wait + Sync>(
-    rt: &R,
-    alloc: Global,
-    sizes: Sizes,
-    is_hard: bool,
-) -> Result<Endured, Fault> {
-    running::run(rt, alloc, Course { sizes, is_hard })
+    };
+    Some((name, sizes))
 }
 
 /// Each workload at these sizes.
 fn small<R: Threads + Wait + Sync>(rt: &R, alloc: Global, sizes: Sizes) -> Result<Digest, Fault> {
     let mut digest = Digest::new();
-    digest.add(run_federation(rt, alloc, sizes, false)?.digest.value());
-    digest.add(checks::run(alloc, sizes)?.value());
-    digest.add(checks::run_plays(alloc, sizes)?.value());
-    digest.add(scripts::run_plays(alloc, sizes)?.value());
+    digest.add(running::run(rt, alloc, sizes, false)?.digest.value);
+    digest.add(checks::run(alloc, sizes)?.value);
+    digest.add(checks::run_plays(alloc, sizes)?.value);
+    digest.add(scripts::run_plays(alloc, sizes)?.value);
     Ok(digest)
 }
 
-/// Runs a workload.
+/// Runs the workload of a name; nothing where none has it.
 fn done<R: Threads + Wait + Sync>(
     rt: &R,
     alloc: Global,
-    workload: Workload,
+    name: &str,
     sizes: Sizes,
-) -> Result<Endured, Fault> {
-    let digest = match workload {
-        Workload::Federation => return run_federation(rt, alloc, sizes, false),
-        Workload::Endure => return run_federation(rt, alloc, sizes, true),
-        Workload::Check => checks::run(alloc, sizes),
-        Workload::Steps => checks::run_plays(alloc, sizes),
-        Workload::Scripts => scripts::run_plays(alloc, sizes),
-        Workload::Small => small(rt, alloc, sizes),
+) -> Option<Result<Endured, Fault>> {
+    let digest = match name {
+        "federation" => return Some(running::run(rt, alloc, sizes, false)),
+        "endure" => return Some(running::run(rt, alloc, sizes, true)),
+        "check" => checks::run(alloc, sizes),
+        "steps" => checks::run_plays(alloc, sizes),
+        "scripts" => scripts::run_plays(alloc, sizes),
+        "small" => small(rt, alloc, sizes),
+        _ => return None,
     };
-    Ok(Endured::unjudged(digest?))
+    Some(match digest {
+        Ok(digest) => Ok(Endured::unjudged(digest)),
+        Err(fault) => Err(fault),
+    })
 }
 
 /// Prints how a workload ended.
@@ -134,8 +98,30 @@ fn print<R: Runtime>(rt: &R, ended: &Endured) -> io::Result<()> {
         eprintln!(rt; "failed {}", ended.failed)?;
         eprintln!(rt; "reads {}", ended.reads)?;
     }
-    let value = ended.digest.value();
+    let value = ended.digest.value;
     println!(rt; "digest {value:016x}")
+}
+
+/// Runs the workload of a name, if it is there, and prints how it ended; the status.
+fn run_named<R: Runtime + AllocGlobal + Threads + Wait + Sync>(
+    rt: &R,
+    name: &str,
+    sizes: Sizes,
+) -> io::Result<u8> {
+    match done(rt, rt.alloc(), name, sizes) {
+        Some(Ok(ended)) => {
+            print(rt, &ended)?;
+            Ok(0)
+        }
+        Some(Err(fault)) => {
+            eprintln!(rt; "{fault}")?;
+            Ok(1)
+        }
+        None => {
+            eprintln!(rt; "{USAGE}")?;
+            Ok(2)
+        }
+    }
 }
 
 /// Runs what the command line asks for, and prints how it ended; the status.
@@ -143,18 +129,15 @@ fn run<R: Runtime + AllocGlobal + Threads + Wait + Sync>(rt: &R) -> io::Result<u
     let mut words = env::args(rt)?;
     let asked = asked_for(&mut words);
     drop(words);
-    let Some((workload, sizes)) = asked else {
-        eprintln!(rt; "{USAGE}")?;
-        return Ok(2);
-    };
-    match done(rt, rt.alloc(), workload, sizes) {
-        Ok(ended) => {
-            print(rt, &ended)?;
-            Ok(0)
+    match asked {
+        Some((name, sizes)) => {
+            let status = run_named(rt, name.as_str(), sizes);
+            drop(name);
+            status
         }
-        Err(fault) => {
-            eprintln!(rt; "{fault}")?;
-            Ok(1)
+        None => {
+            eprintln!(rt; "{USAGE}")?;
+            Ok(2)
         }
     }
 }

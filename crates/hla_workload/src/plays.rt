@@ -1,15 +1,13 @@
 //! What federates of a federation in one process do: in step, by events, and with one that updates its objects for all others.
 
-use crate::random::Random;
 use crate::sizes::Sizes;
 use crate::stage::{Arena, Brought};
-use crate::values::ATTRIBUTES;
-use hla_base::{EventHandle, Fault, FederateNo, MAX_TIME, Ticks};
-use hla_machine::Service;
-use std::alloc::Global;
+use crate::values::{ATTRIBUTES, numbers};
+use hla_base::{Fault, FederateNo, MAX_TIME, Ticks};
+use hla_machine::{Service, Step};
 
-/// One class of interactions that all send and receive, and one for each federate alone.
-const FED: &[u8] = b"(FED
+/// The FED file: one class of interactions that all send and receive, and one for each federate alone.
+pub const FED: &[u8] = b"(FED
  (objects (class Entity
   (attribute Position reliable timestamp) (attribute Orientation reliable receive) (attribute Motion reliable timestamp)
   (attribute Appearance reliable receive) (attribute Articulation reliable timestamp) (attribute Marking reliable receive)))
@@ -23,23 +21,16 @@ const FED: &[u8] = b"(FED
  (class C13 reliable timestamp (parameter P)) (class C14 reliable timestamp (parameter P))
  (class C15 reliable timestamp (parameter P)) (class C16 reliable timestamp (parameter P))))";
 
-/// An execution that nobody has joined. `ErrorReadingFED` where the FED text was not read, and `OutOfMemory` where a growth
-/// was refused.
-pub fn opened(alloc: Global, sizes: Sizes, is_recorded: bool) -> Result<Arena, Fault> {
-    let random = Random::new(sizes.seed, sizes.federates);
-    Arena::new(alloc, FED, random, is_recorded)
-}
-
 /// All wires are carried.
 fn carry_all(stage: &mut Arena, federates: u32) -> Result<(), Fault> {
     for from in 1..=federates {
-        stage.announce(from)?;
+        let _announced = stage.step(Step::Announce { federate: from })?;
         stage.carry_from(from, federates)?;
     }
     Ok(())
 }
 
-/// In step: each sends its events, and asks for its time; one event is retracted now and then.
+/// In step: each sends its events, retracts one in sixteen, and asks for its time.
 fn send_round(
     stage: &mut Arena,
     federate: FederateNo,
@@ -50,18 +41,12 @@ fn send_round(
         let stamp = time.wrapping_add(stage.random.below(4));
         let sent = stage.send(federate, 1, stamp)?;
         if let Brought::Sent(event) = sent {
-            retract_some(stage, federate, event)?;
+            if stage.random.is_once_in(16) {
+                let _brought = stage.call(federate, Service::Retract { event })?;
+            }
         }
     }
     let _brought = stage.call(federate, Service::TimeAdvanceRequest { time })?;
-    Ok(())
-}
-
-/// Retracts one event in sixteen.
-fn retract_some(stage: &mut Arena, federate: FederateNo, event: EventHandle) -> Result<(), Fault> {
-    if stage.random.is_once_in(16) {
-        let _brought = stage.call(federate, Service::Retract { event })?;
-    }
     Ok(())
 }
 
@@ -72,9 +57,13 @@ fn join_in_step(stage: &mut Arena, federates: u32) -> Result<(), Fault> {
         let _p = stage.call(federate, Service::PublishInteractionClass { class: 1 })?;
         let _s = stage.call(federate, Service::SubscribeInteractionClass { class: 1 })?;
         if federate != federates {
-            stage.regulate(federate, 1)?;
+            let regulation = Service::EnableTimeRegulation {
+                time: 0,
+                lookahead: 1,
+            };
+            stage.enable(federate, regulation)?;
         }
-        stage.constrain(federate)?;
+        stage.enable(federate, Service::EnableTimeConstrained)?;
     }
     Ok(())
 }
@@ -110,18 +99,8 @@ pub fn in_step(stage: &mut Arena, sizes: Sizes, is_flushed: bool) -> Result<(), 
     Ok(())
 }
 
-/// The class of a federate that is another's, by chance.
-fn class_of_other(random: &mut Random, federates: u32, federate: FederateNo) -> u32 {
-    let others = federates.max(2) - 1;
-    let chosen = random.below(u64::from(others)) as u32;
-    if chosen.wrapping_add(1) < federate {
-        chosen.wrapping_add(2)
-    } else {
-        chosen.wrapping_add(3)
-    }
-}
-
-/// Sends so many events to others by chance, each some ticks from a time on.
+/// Sends so many events to others by chance, each some ticks from a time on; one in thirty-two is retracted, and another is sent in
+/// its place.
 fn send_on(
     stage: &mut Arena,
     federates: u32,
@@ -129,28 +108,21 @@ fn send_on(
     events: u64,
     time: Ticks,
 ) -> Result<(), Fault> {
+    let others = u64::from(federates.max(2) - 1);
     for _ in 0..events {
-        let class = class_of_other(&mut stage.random, federates, federate);
-        let ahead = 10 + stage.random.below(100);
-        let sent = stage.send(federate, class, time.wrapping_add(ahead))?;
-        if let Brought::Sent(event) = sent {
-            retract_and_send(stage, federate, event, class, time.wrapping_add(ahead))?;
+        let chosen = stage.random.below(others) as u32;
+        let class = if chosen.wrapping_add(1) < federate {
+            chosen.wrapping_add(2)
+        } else {
+            chosen.wrapping_add(3)
+        };
+        let stamp = time.wrapping_add(10 + stage.random.below(100));
+        if let Brought::Sent(event) = stage.send(federate, class, stamp)? {
+            if stage.random.is_once_in(32) {
+                let _retracted = stage.call(federate, Service::Retract { event })?;
+                let _sent = stage.send(federate, class, stamp)?;
+            }
         }
-    }
-    Ok(())
-}
-
-/// Retracts one event in thirty-two, and sends another in its place.
-fn retract_and_send(
-    stage: &mut Arena,
-    federate: FederateNo,
-    event: EventHandle,
-    class: u32,
-    stamp: Ticks,
-) -> Result<(), Fault> {
-    if stage.random.is_once_in(32) {
-        let _retracted = stage.call(federate, Service::Retract { event })?;
-        let _sent = stage.send(federate, class, stamp)?;
     }
     Ok(())
 }
@@ -165,8 +137,12 @@ fn join_by_events(stage: &mut Arena, federates: u32) -> Result<(), Fault> {
         }
         let class = federate.wrapping_add(1);
         let _s = stage.call(federate, Service::SubscribeInteractionClass { class })?;
-        stage.regulate(federate, 10)?;
-        stage.constrain(federate)?;
+        let regulation = Service::EnableTimeRegulation {
+            time: 0,
+            lookahead: 10,
+        };
+        stage.enable(federate, regulation)?;
+        stage.enable(federate, Service::EnableTimeConstrained)?;
     }
     Ok(())
 }
@@ -178,7 +154,7 @@ fn visit_by_events(stage: &mut Arena, federates: u32, federate: FederateNo) -> R
         send_on(stage, federates, federate, visit.events, time)?;
         let _n = stage.call(federate, Service::NextEventRequest { time: MAX_TIME })?;
     }
-    stage.announce(federate)?;
+    let _announced = stage.step(Step::Announce { federate })?;
     stage.carry_from(federate, federates)
 }
 
@@ -207,17 +183,21 @@ pub fn by_events(stage: &mut Arena, sizes: Sizes) -> Result<(), Fault> {
 /// The first federate publishes all attributes and regulates; the others subscribe them, every second one half of them.
 fn join_for_updates(stage: &mut Arena, federates: u32) -> Result<(), Fault> {
     stage.join(1)?;
-    let attributes = stage.numbers(ATTRIBUTES)?;
+    let attributes = numbers(stage.alloc, ATTRIBUTES)?;
     let class = 1;
     let publish = Service::PublishObjectClass { class, attributes };
     let _p = stage.call(1, publish)?;
-    stage.regulate(1, 1)?;
+    let regulation = Service::EnableTimeRegulation {
+        time: 0,
+        lookahead: 1,
+    };
+    stage.enable(1, regulation)?;
     for federate in 2..=federates {
         stage.join(federate)?;
-        let attributes = stage.numbers(ATTRIBUTES >> (federate % 2))?;
+        let attributes = numbers(stage.alloc, ATTRIBUTES >> (federate % 2))?;
         let subscribe = Service::SubscribeObjectClassAttributes { class, attributes };
         let _s = stage.call(federate, subscribe)?;
-        stage.constrain(federate)?;
+        stage.enable(federate, Service::EnableTimeConstrained)?;
     }
     Ok(())
 }

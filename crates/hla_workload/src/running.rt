@@ -5,9 +5,10 @@ ghost use Rattle.hla_base.specs.Limits.{ledger_parts};
 
 use crate::digest::Digest;
 use crate::faltering::Faltering;
-use crate::federates::{Carrier, FED, Field, Player, Sight, Watcher, prepare, register};
+use crate::federates::{Carrier, FED, Field, Player, STEP, Sight, Watcher, prepare, register};
 use crate::random::Random;
 use crate::sizes::Sizes;
+use crate::values::name_of;
 use hla_base::{ExecutionName, Fault, FederateNo, LEDGER_PARTS, List};
 use hla_checker::check_run;
 use hla_machine::Record;
@@ -26,14 +27,6 @@ const HISTORY_LIMIT: usize = 1_048_576;
 
 /// In one of so many callbacks the ambassador of the first federate of a long run fails.
 const ODDS: u64 = 64;
-
-/// How a federation runs: its sizes, whether the ambassador of its first federate fails by chance, and whether a monitor is read all
-/// the while and its records are judged.
-#[derive(Clone, Copy)]
-pub struct Course {
-    pub sizes: Sizes,
-    pub is_hard: bool,
-}
 
 /// How a run ended.
 #[derive(Clone, Copy)]
@@ -76,63 +69,51 @@ struct Rest<L: Ledger + Naming> {
     watcher: Option<Watcher<L>>,
 }
 
-/// The name of the federate of a number.
-fn name_of(alloc: Global, federate: FederateNo) -> Result<List<u8>, Fault> {
-    let mut name = List::new(alloc);
-    name.push(b'@'.wrapping_add(federate.to_le_bytes()[0]))?;
-    Ok(name)
-}
-
-/// Joins a federate.
-fn join<L: Ledger + Naming, W: Publisher<L>>(
-    rt: &impl Wait,
-    field: &Field,
-    rti: &mut Rti<L, Faltering, W>,
-    number: FederateNo,
-    random: Random,
-    is_failing: bool,
-) -> Result<Player<L, W>, Fault> {
-    let name = name_of(field.alloc, number)?;
-    let odds = if is_failing { ODDS } else { 0 };
-    let ambassador = Faltering::new(field.alloc, random, odds);
-    match rti.join(rt, name, field.execution, ambassador) {
-        Ok(federate) => Ok(Player {
-            federate,
-            random,
-            first: 0,
-            time: 0,
-            is_waiting: false,
-            has_ended: false,
-            failed: 0,
-            digest: Digest::new(),
-            fault: None,
-        }),
-        Err((fault, ambassador)) => {
-            drop(ambassador);
-            Err(fault)
-        }
-    }
-}
-
 /// Joins a federate, has it prepare, and adds it to the parties.
 fn add_player<L: Ledger + Naming, W: Publisher<L>>(
     rt: &impl Wait,
     field: &Field,
     rti: &mut Rti<L, Faltering, W>,
     number: FederateNo,
-    course: Course,
     parties: &mut List<Party<L, W>>,
 ) -> Result<(), Fault> {
-    let random = Random::new(course.sizes.seed, number);
-    let is_failing = course.is_hard && number == 1;
-    let mut player = join(rt, field, rti, number, random, is_failing)?;
-    match prepare(rt, field, &mut player.federate) {
-        Ok(()) => parties.push(Party::Player(player)),
+    let random = Random::new(field.seed, number);
+    let is_failing = field.is_hard && number == 1;
+    let odds = if is_failing { ODDS } else { 0 };
+    let name = name_of(field.alloc, number)?;
+    let ambassador = Faltering::new(field.alloc, random, odds);
+    let mut federate = match rti.join(rt, name, field.execution, ambassador) {
+        Ok(federate) => federate,
+        Err((fault, ambassador)) => {
+            drop(ambassador);
+            return Err(fault);
+        }
+    };
+    match prepare(rt, field, &mut federate) {
+        Ok(()) => parties.push(Party::Player(Player::new(federate, random))),
         Err(fault) => {
-            drop(player);
+            drop(federate);
             Err(fault)
         }
     }
+}
+
+/// Creates the execution, joins all federates, and adds a monitor to the parties, where one is to watch.
+fn join_all<L: Ledger + Naming, W: Publisher<L>>(
+    rt: &impl Wait,
+    field: &Field,
+    rti: &mut Rti<L, Faltering, W>,
+    parties: &mut List<Party<L, W>>,
+) -> Result<(), Fault> {
+    rti.create(rt, field.execution, FED)?;
+    for number in 1..=field.federates {
+        add_player(rt, field, rti, number, parties)?;
+    }
+    if field.is_hard {
+        let monitor = rti.monitor(rt)?;
+        parties.push(Party::Watcher(Watcher::new(monitor)))?;
+    }
+    Ok(())
 }
 
 /// Each federate but the last registers its objects.
@@ -151,13 +132,14 @@ fn register_all<L: Ledger + Naming, W: Publisher<L>>(
     Ok(())
 }
 
-/// Adds the courier to the parties, once all is carried that was sent before.
-fn add_carrier<L: Ledger + Naming, W: Publisher<L>>(
+/// Has the federates register their objects, and adds the courier to the parties, once all is carried that was sent before.
+fn begin<L: Ledger + Naming, W: Publisher<L>>(
     rt: &impl Wait,
     field: &Field,
     rti: &mut Rti<L, Faltering, W>,
     parties: &mut Vec<Party<L, W>>,
 ) -> Result<(), Fault> {
+    register_all(rt, field, parties)?;
     let mut carrier = Carrier {
         courier: rti.courier()?,
         digest: Digest::new(),
@@ -170,70 +152,6 @@ fn add_carrier<L: Ledger + Naming, W: Publisher<L>>(
         },
         Err(fault) => {
             drop(carrier);
-            Err(fault)
-        }
-    }
-}
-
-/// Creates the execution, and joins all federates.
-fn join_all<L: Ledger + Naming, W: Publisher<L>>(
-    rt: &impl Wait,
-    field: &Field,
-    rti: &mut Rti<L, Faltering, W>,
-    course: Course,
-    parties: &mut List<Party<L, W>>,
-) -> Result<(), Fault> {
-    rti.create(rt, field.execution, FED)?;
-    for number in 1..=field.federates {
-        add_player(rt, field, rti, number, course, parties)?;
-    }
-    Ok(())
-}
-
-/// Adds a monitor to the parties, where one is to watch.
-fn add_watcher<L: Ledger + Naming, W: Publisher<L>>(
-    rt: &impl Wait,
-    rti: &mut Rti<L, Faltering, W>,
-    course: Course,
-    parties: &mut List<Party<L, W>>,
-) -> Result<(), Fault> {
-    if !course.is_hard {
-        return Ok(());
-    }
-    let monitor = rti.monitor(rt)?;
-    parties.push(Party::Watcher(Watcher::new(monitor)))
-}
-
-/// Joins all federates, and adds a monitor, where one is to watch.
-fn add_others<L: Ledger + Naming, W: Publisher<L>>(
-    rt: &impl Wait,
-    field: &Field,
-    rti: &mut Rti<L, Faltering, W>,
-    course: Course,
-    parties: &mut List<Party<L, W>>,
-) -> Result<(), Fault> {
-    join_all(rt, field, rti, course, parties)?;
-    add_watcher(rt, rti, course, parties)
-}
-
-/// All parties of a run, ready for the first phase.
-fn all_parties<L: Ledger + Naming, W: Publisher<L>>(
-    rt: &impl Wait,
-    field: &Field,
-    rti: &mut Rti<L, Faltering, W>,
-    course: Course,
-) -> Result<Vec<Party<L, W>>, Fault> {
-    let mut parties = List::new(field.alloc);
-    if let Err(fault) = add_others(rt, field, rti, course, &mut parties) {
-        drop(parties);
-        return Err(fault);
-    }
-    let mut parties = parties.into_vec();
-    let registered = register_all(rt, field, &mut parties);
-    match registered.and_then(|()| add_carrier(rt, field, rti, &mut parties)) {
-        Ok(()) => Ok(parties),
-        Err(fault) => {
-            drop(parties);
             Err(fault)
         }
     }
@@ -253,36 +171,25 @@ fn live<L: Ledger + Naming, W: Publisher<L>>(
 }
 
 impl<L: Ledger + Naming> Rest<L> {
-    /// Adds what a caller leaves behind, or says what stopped it.
-    fn add_caller(
-        &mut self,
-        left: Left<L, Faltering>,
-        digest: Digest,
-        fault: Option<Fault>,
-    ) -> Result<(), Fault> {
-        self.digest.add(digest.value());
+    /// Adds what one who has lived leaves behind, or says what stopped it.
+    fn add<W: Publisher<L>>(&mut self, party: Party<L, W>) -> Result<(), Fault> {
+        let (left, digest, fault) = match party {
+            Party::Player(player) => {
+                self.failed = self.failed.wrapping_add(player.failed);
+                (player.federate.leave(), player.digest, player.fault)
+            }
+            Party::Carrier(carrier) => (carrier.courier.leave(), carrier.digest, carrier.fault),
+            Party::Watcher(watcher) => {
+                self.watcher = Some(watcher);
+                return Ok(());
+            }
+        };
+        self.digest.add(digest.value);
         match fault {
             None => self.lefts.push(left),
             Some(fault) => {
                 drop(left);
                 Err(fault)
-            }
-        }
-    }
-
-    /// Adds what one who has lived leaves behind, or says what stopped it.
-    fn add<W: Publisher<L>>(&mut self, party: Party<L, W>) -> Result<(), Fault> {
-        match party {
-            Party::Player(player) => {
-                self.failed = self.failed.wrapping_add(player.failed);
-                self.add_caller(player.federate.leave(), player.digest, player.fault)
-            }
-            Party::Carrier(carrier) => {
-                self.add_caller(carrier.courier.leave(), carrier.digest, carrier.fault)
-            }
-            Party::Watcher(watcher) => {
-                self.watcher = Some(watcher);
-                Ok(())
             }
         }
     }
@@ -304,9 +211,18 @@ fn play<L: Ledger + Naming + Send + Sync, W: Publisher<L> + Send, R: Threads + W
     rt: &R,
     field: &Field,
     rti: &mut Rti<L, Faltering, W>,
-    course: Course,
 ) -> Result<Rest<L>, Fault> {
-    let parties = all_parties(rt, field, rti, course)?;
+    let mut parties = List::new(field.alloc);
+    let joined = join_all(rt, field, rti, &mut parties);
+    let mut parties = parties.into_vec();
+    let begun = match joined {
+        Ok(()) => begin(rt, field, rti, &mut parties),
+        Err(fault) => Err(fault),
+    };
+    if let Err(fault) = begun {
+        drop(parties);
+        return Err(fault);
+    }
     let Ok(all) = thread::map_vec(rt, parties, &|party| live(rt, field, party)) else {
         return Err(Fault::OutOfMemory);
     };
@@ -376,12 +292,12 @@ fn end_of(
     })
 }
 
-/// Closes the infrastructure.
+/// Closes the infrastructure, or lets it go where a thread was stopped.
 fn close<L: Ledger + Naming, W: Publisher<L>>(
     rt: &impl Wait,
     alloc: Global,
     mut rti: Rti<L, Faltering, W>,
-    rest: Rest<L>,
+    rest: Result<Rest<L>, Fault>,
 ) -> Result<Endured, Fault>
     requires { L.parts ≡ ledger_parts }
 {
@@ -390,7 +306,13 @@ fn close<L: Ledger + Naming, W: Publisher<L>>(
         digest,
         failed,
         watcher,
-    } = rest;
+    } = match rest {
+        Ok(rest) => rest,
+        Err(fault) => {
+            drop(rti);
+            return Err(fault);
+        }
+    };
     let sight = last_sight(rt, &mut rti, watcher);
     match rti.close(rt, lefts.into_vec()) {
         Ok(closed) => {
@@ -405,31 +327,12 @@ fn close<L: Ledger + Naming, W: Publisher<L>>(
     }
 }
 
-/// Closes the infrastructure, or lets it go where a thread was stopped.
-fn end_run<L: Ledger + Naming, W: Publisher<L>>(
-    rt: &impl Wait,
-    alloc: Global,
-    rti: Rti<L, Faltering, W>,
-    rest: Result<Rest<L>, Fault>,
-) -> Result<Endured, Fault>
-    requires { L.parts ≡ ledger_parts }
-{
-    match rest {
-        Ok(rest) => close(rt, alloc, rti, rest),
-        Err(fault) => {
-            drop(rti);
-            Err(fault)
-        }
-    }
-}
-
 /// A run at a brand.
 fn run_at<L: Ledger + Naming + Send + Sync, R: Threads + Wait + Sync>(
     rt: &R,
     field: &Field,
     blank: Blank,
     opened: Opened,
-    course: Course,
 ) -> Result<Endured, Fault>
     requires name { blank.name ≡ L.name }
     requires parts { blank.parts ≡ L.parts }
@@ -437,8 +340,8 @@ fn run_at<L: Ledger + Naming + Send + Sync, R: Threads + Wait + Sync>(
     requires book { opened.seen.book ≡ L.book }
 {
     let mut rti = open_rti::<L, Faltering, &R>(field.alloc, rt, blank, opened, HISTORY_LIMIT)?;
-    let rest = play(rt, field, &mut rti, course);
-    end_run(rt, field.alloc, rti, rest)
+    let rest = play(rt, field, &mut rti);
+    close(rt, field.alloc, rti, rest)
 }
 
 /// Runs federates of which each but the last has so many objects, for so many steps. An error is the fault that stopped a
@@ -448,19 +351,21 @@ fn run_at<L: Ledger + Naming + Send + Sync, R: Threads + Wait + Sync>(
 pub fn run<R: Threads + Wait + Sync>(
     rt: &R,
     alloc: Global,
-    course: Course,
+    sizes: Sizes,
+    is_hard: bool,
 ) -> Result<Endured, Fault> {
-    let sizes = course.sizes;
     let field = Field {
         alloc,
         execution: ExecutionName::new(b"workload")?,
+        is_hard,
+        seed: sizes.seed,
         federates: sizes.federates,
         objects: sizes.amount,
-        steps: u64::from(sizes.rounds),
+        end: u64::from(sizes.rounds).wrapping_mul(STEP),
         barrier: Barrier::new((sizes.federates as usize).saturating_add(1)),
         ended: AtomicU32::new(0),
         may_begin: AtomicBool::new(false),
         is_over: AtomicBool::new(false),
     };
-    run_at::<Brand, R>(rt, &field, Blank::new(LEDGER_PARTS), Opened::new(), course)
+    run_at::<Brand, R>(rt, &field, Blank::new(LEDGER_PARTS), Opened::new())
 }

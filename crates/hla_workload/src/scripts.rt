@@ -3,7 +3,7 @@
 use crate::digest::Digest;
 use crate::random::Random;
 use crate::sizes::Sizes;
-use crate::texts::{FED, Text, by_updates, in_step};
+use crate::texts::{FED, Subject, script};
 use hla_base::{Fault, List};
 use hla_checker::check_run;
 use hla_machine::Record;
@@ -26,11 +26,14 @@ fn played(alloc: Global, script: &str, digest: &mut Digest) -> Result<List<Recor
     }
 }
 
-/// Plays a script, and in every second round of them has its records judged.
-fn play_one(alloc: Global, text: Text, is_checked: bool, digest: &mut Digest) -> Result<(), Fault> {
-    let records = played(alloc, text.text.as_str(), digest);
-    drop(text);
-    let records = records?;
+/// Plays a script, and may have its records judged.
+fn play_one(
+    alloc: Global,
+    script: &str,
+    is_checked: bool,
+    digest: &mut Digest,
+) -> Result<(), Fault> {
+    let records = played(alloc, script, digest)?;
     digest.add(records.len() as u64);
     if is_checked {
         digest.add(u64::from(check_run(alloc, records.as_slice()).is_ok()));
@@ -39,16 +42,20 @@ fn play_one(alloc: Global, text: Text, is_checked: bool, digest: &mut Digest) ->
     Ok(())
 }
 
-/// Plays scripts in step and scripts of updates in turn, as many as there are rounds. `OutOfMemory` where a growth was
-/// refused for a text, and `FederateInternalError` where a script was not played to its end.
+/// Plays scripts in step and scripts of updates in turn, as many as there are rounds, of which every second one is judged.
+/// `OutOfMemory` where a growth was refused for a text, and `FederateInternalError` where a script was not played to its end.
 pub fn run_plays(alloc: Global, sizes: Sizes) -> Result<Digest, Fault> {
     let mut digest = Digest::new();
     for round in 0..sizes.rounds {
         let random = Random::new(sizes.seed, round);
-        let text = in_step(alloc, 4, sizes.amount.wrapping_mul(8), random)?;
-        play_one(alloc, text, round % 2 == 0, &mut digest)?;
-        let text = by_updates(alloc, sizes.federates, 200, sizes.amount, random)?;
-        play_one(alloc, text, round % 2 == 1, &mut digest)?;
+        let rounds = sizes.amount.wrapping_mul(8);
+        let text = script(alloc, Subject::InStep, 4, rounds, random)?;
+        play_one(alloc, text.as_str(), round % 2 == 0, &mut digest)?;
+        drop(text);
+        let updates = Subject::Updates { objects: 200 };
+        let text = script(alloc, updates, sizes.federates, sizes.amount, random)?;
+        play_one(alloc, text.as_str(), round % 2 == 1, &mut digest)?;
+        drop(text);
     }
     Ok(digest)
 }

@@ -2,7 +2,8 @@
 
 use crate::digest::Digest;
 use crate::random::Random;
-use crate::values::chosen_values;
+use crate::sizes::Sizes;
+use crate::values::{chosen_values, name_of};
 use hla_base::{ClassNo, EventHandle, Fault, FederateNo, List, ObjectNo, Plain, SharedList, Ticks};
 use hla_callbacks::Callback;
 use hla_catalogue::Catalogue;
@@ -30,19 +31,6 @@ pub enum Brought {
     Grant(Ticks),
     Sent(EventHandle),
     Other,
-}
-
-/// What an answer says that a step brought.
-fn brought_by(answer: &Answer) -> Brought {
-    match answer {
-        Answer::Ticked(
-            Some(Callback::ReceiveInteraction { .. } | Callback::ReflectAttributeValues { .. }),
-        ) => Brought::Event,
-        Answer::Ticked(Some(Callback::TimeAdvanceGrant { time })) => Brought::Grant(*time),
-        Answer::Ticked(None) | Answer::Carried(Carried::Nothing) => Brought::Nothing,
-        Answer::Sent(Some(event)) => Brought::Sent(*event),
-        _ => Brought::Other,
-    }
 }
 
 /// What ticks brought a federate until they brought a grant or nothing.
@@ -79,43 +67,27 @@ fn record_of(alloc: Global, act: Act, outcome: Outcome, choice: Choice) -> Resul
     }
 }
 
-/// The history of an execution that was just created.
-fn history_of(alloc: Global, catalogue: &Catalogue) -> Result<List<Record>, Fault> {
-    let catalogue = Some(catalogue.copy()?);
-    let mut records = List::new(alloc);
-    let outcome = Outcome::Done(Answer::Done);
-    records.push(record_of(alloc, Act::Create { catalogue }, outcome, Choice::None)?)?;
-    Ok(records)
-}
-
 impl Arena {
-    /// A federation that no federate has joined yet. `ErrorReadingFED` where the FED text was not read, and `OutOfMemory`
-    /// where a growth was refused.
-    pub fn new(
-        alloc: Global,
-        fed: &[u8],
-        random: Random,
-        is_recorded: bool,
-    ) -> Result<Arena, Fault> {
+    /// A federation that no federate has joined yet, with the numbers by chance of a workload of these sizes. `ErrorReadingFED` where the
+    /// FED text was not read.
+    pub fn new(alloc: Global, fed: &[u8], sizes: Sizes) -> Result<Arena, Fault> {
         let catalogue = catalogue_of(alloc, fed)?;
-        let history = if is_recorded {
-            match history_of(alloc, &catalogue) {
-                Ok(records) => Some(records),
-                Err(fault) => {
-                    drop(catalogue);
-                    return Err(fault);
-                }
-            }
-        } else {
-            None
-        };
         Ok(Arena {
             alloc,
             federation: Federation::new(alloc, catalogue),
-            random,
+            random: Random::new(sizes.seed, sizes.federates),
             digest: Digest::new(),
-            history,
+            history: None,
         })
+    }
+
+    /// Keeps the records of all steps from now on, behind that of the creation by this FED text. `ErrorReadingFED` where the
+    /// text was not read, and `OutOfMemory` where a growth was refused.
+    pub fn keep_records(&mut self, fed: &[u8]) -> Result<(), Fault> {
+        let catalogue = Some(catalogue_of(self.alloc, fed)?);
+        let outcome = Outcome::Done(Answer::Done);
+        let record = record_of(self.alloc, Act::Create { catalogue }, outcome, Choice::None)?;
+        self.history.insert(List::new(self.alloc)).push(record)
     }
 
     /// Takes the records out, if there are any.
@@ -152,13 +124,26 @@ impl Arena {
         match self.federation.step(step) {
             Ok(answer) => {
                 self.digest.add_answer(&answer);
-                let brought = brought_by(&answer);
+                let brought = match &answer {
+                    Answer::Ticked(
+                        Some(
+                            Callback::ReceiveInteraction { .. }
+                            | Callback::ReflectAttributeValues { .. },
+                        ),
+                    ) => Brought::Event,
+                    Answer::Ticked(Some(Callback::TimeAdvanceGrant { time })) => {
+                        Brought::Grant(*time)
+                    }
+                    Answer::Ticked(None) | Answer::Carried(Carried::Nothing) => Brought::Nothing,
+                    Answer::Sent(Some(event)) => Brought::Sent(*event),
+                    _ => Brought::Other,
+                };
                 drop(answer);
                 Ok(brought)
             }
             Err(Fault::OutOfMemory) => Err(Fault::OutOfMemory),
             Err(fault) => {
-                self.digest.add_fault(fault);
+                self.digest.add(u64::from(fault.number()));
                 Ok(Brought::Nothing)
             }
         }
@@ -180,25 +165,15 @@ impl Arena {
     /// A federate joins, under the letter that has its number. `OutOfMemory` where a growth was refused; why a step is
     /// refused goes into the digest.
     pub fn join(&mut self, federate: FederateNo) -> Result<(), Fault> {
-        let mut name = List::new(self.alloc);
-        name.push(b'@'.wrapping_add(federate.to_le_bytes()[0]))?;
+        let name = name_of(self.alloc, federate)?;
         let _brought = self.step(Step::Join { name })?;
         Ok(())
     }
 
-    /// A federate becomes time regulating. `OutOfMemory` where a growth was refused; why a step is refused goes into the
-    /// digest.
-    pub fn regulate(&mut self, federate: FederateNo, lookahead: Ticks) -> Result<(), Fault> {
-        let service = Service::EnableTimeRegulation { time: 0, lookahead };
+    /// A federate calls a service, and ticks until it is granted a time, or picks up nothing. `OutOfMemory` where a growth was
+    /// refused; why a step is refused goes into the digest.
+    pub fn enable(&mut self, federate: FederateNo, service: Service) -> Result<(), Fault> {
         let _brought = self.call(federate, service)?;
-        let _visit = self.visit(federate)?;
-        Ok(())
-    }
-
-    /// A federate becomes time constrained. `OutOfMemory` where a growth was refused; why a step is refused goes into the
-    /// digest.
-    pub fn constrain(&mut self, federate: FederateNo) -> Result<(), Fault> {
-        let _brought = self.call(federate, Service::EnableTimeConstrained)?;
         let _visit = self.visit(federate)?;
         Ok(())
     }
@@ -243,27 +218,11 @@ impl Arena {
         )
     }
 
-    /// The numbers from one to another. `OutOfMemory` where a growth was refused.
-    pub fn numbers(&self, last: u32) -> Result<List<u32>, Fault> {
-        let mut numbers = List::new(self.alloc);
-        for number in 1..=last {
-            numbers.push(number)?;
-        }
-        Ok(numbers)
-    }
-
-    /// A federate announces its promise. `OutOfMemory` where a growth was refused; why a step is refused goes into the
-    /// digest.
-    pub fn announce(&mut self, federate: FederateNo) -> Result<(), Fault> {
-        let _brought = self.step(Step::Announce { federate })?;
-        Ok(())
-    }
-
     /// Carries a wire until it is empty.
     fn carry(&mut self, from: FederateNo, to: FederateNo) -> Result<(), Fault> {
         for _ in 0..u64::MAX {
             if matches!(self.step(Step::Carry { from, to })?, Brought::Nothing) {
-                return Ok(());
+                break;
             }
         }
         Ok(())
@@ -283,21 +242,21 @@ impl Arena {
     /// Ticks a federate until it is granted a time, or picks up nothing. `OutOfMemory` where a growth was refused; why a step
     /// is refused goes into the digest.
     pub fn visit(&mut self, federate: FederateNo) -> Result<Visit, Fault> {
-        let mut events = 0u64;
+        let mut visit = Visit {
+            events: 0,
+            grant: None,
+        };
         for _ in 0..u64::MAX {
             match self.step(Step::Tick { federate })? {
-                Brought::Event => events = events.wrapping_add(1),
+                Brought::Event => visit.events = visit.events.wrapping_add(1),
                 Brought::Grant(time) => {
-                    let grant = Some(time);
-                    return Ok(Visit { events, grant });
+                    visit.grant = Some(time);
+                    break;
                 }
                 Brought::Nothing => break,
                 Brought::Sent(_) | Brought::Other => {}
             }
         }
-        Ok(Visit {
-            events,
-            grant: None,
-        })
+        Ok(visit)
     }
 }

@@ -2,7 +2,7 @@
 
 use crate::random::Random;
 use hla_base::Fault;
-use std::alloc::Global;
+use std::alloc::{AllocError, Global};
 use std::fmt::Write;
 
 /// The FED file of all scripts: names as long as those of real object models.
@@ -24,98 +24,92 @@ const MOST_BYTES: usize = 1_030_000;
 
 const MOST_LINES: u32 = 32_000;
 
+/// What one says who sends and receives interactions, and regulates.
+const REGULATING: [&str; 4] = [
+    "publishInteraction WeaponFire",
+    "subscribeInteraction WeaponFire",
+    "regulate 0 1",
+    "tick",
+];
+
+/// What one says who is constrained.
+const CONSTRAINED: [&str; 2] = ["constrain", "tick"];
+
+/// What one says who updates objects, and regulates.
+const PUBLISHING: [&str; 3] = [
+    "publishObject PhysicalEntity WorldLocation DeadReckoningState",
+    "regulate 0 1",
+    "tick",
+];
+
+/// What one says who receives their updates, and is constrained.
+const SUBSCRIBING: [&str; 3] = [
+    "subscribeObject PhysicalEntity WorldLocation DeadReckoningState",
+    "constrain",
+    "tick",
+];
+
 /// A script's text that grows, and its numbers by chance.
 #[derive(Drop)]
-pub struct Text {
-    pub text: String,
+struct Text {
+    text: String,
     lines: u32,
     random: Random,
 }
 
 impl Text {
-    /// A script that creates the execution, and that so many federates join. `OutOfMemory` where a growth was refused.
-    pub fn new(alloc: Global, federates: u32, random: Random) -> Result<Text, Fault> {
-        let mut text = Text {
-            text: String::new(alloc),
-            lines: 0,
-            random,
-        };
-        match text.begin(federates) {
-            Ok(()) => Ok(text),
-            Err(fault) => {
-                drop(text);
-                Err(fault)
-            }
-        }
-    }
-
-    fn begin(&mut self, federates: u32) -> Result<(), Fault> {
-        self.line("create")?;
-        for federate in 1..=federates {
-            writeln!(self.text, "join Federate-{federate}").map_err(|_| Fault::OutOfMemory)?;
-        }
-        Ok(())
-    }
-
-    /// A line.
-    fn line(&mut self, words: &str) -> Result<(), Fault> {
+    /// A line of a federate.
+    fn call(&mut self, federate: u32, words: &str) -> Result<(), AllocError> {
         self.lines = self.lines.wrapping_add(1);
-        writeln!(self.text, "{words}").map_err(|_| Fault::OutOfMemory)
+        writeln!(self.text, "Federate-{federate} {words}")
     }
 
-    /// A line of a federate. `OutOfMemory` where a growth was refused.
-    pub fn call(&mut self, federate: u32, words: &str) -> Result<(), Fault> {
+    /// A line of a federate that ends in a number.
+    fn call_with(&mut self, federate: u32, words: &str, number: u64) -> Result<(), AllocError> {
         self.lines = self.lines.wrapping_add(1);
-        writeln!(self.text, "Federate-{federate} {words}").map_err(|_| Fault::OutOfMemory)
+        writeln!(self.text, "Federate-{federate} {words}{number}")
     }
 
-    /// A line of a federate that ends in a number. `OutOfMemory` where a growth was refused.
-    pub fn call_with(&mut self, federate: u32, words: &str, number: u64) -> Result<(), Fault> {
-        self.lines = self.lines.wrapping_add(1);
-        writeln!(self.text, "Federate-{federate} {words}{number}").map_err(|_| Fault::OutOfMemory)
-    }
-
-    /// A federate sends an interaction. `OutOfMemory` where a growth was refused.
-    pub fn send(&mut self, federate: u32, stamp: u64) -> Result<(), Fault> {
+    /// A federate sends an interaction.
+    fn send(&mut self, federate: u32, stamp: u64) -> Result<(), AllocError> {
         self.lines = self.lines.wrapping_add(1);
         let munition = self.random.next();
         writeln!(
             self.text,
             "Federate-{federate} send WeaponFire MunitionType={munition} @{stamp}"
         )
-        .map_err(|_| Fault::OutOfMemory)
     }
 
-    /// A federate updates an object: mostly two values of some digits, now and then one of many bytes.
-    fn update(&mut self, federate: u32, object: u32, stamp: u64) -> Result<(), Fault> {
+    /// The first federate updates an object: mostly two values of some digits, now and then one of many bytes.
+    fn update(&mut self, object: u32, stamp: u64) -> Result<(), AllocError> {
         self.lines = self.lines.wrapping_add(1);
         let place = self.random.next();
         write!(
             self.text,
-            "Federate-{federate} update {object} PhysicalEntity WorldLocation={place} DeadReckoningState="
-        )
-        .map_err(|_| Fault::OutOfMemory)?;
+            "Federate-1 update {object} PhysicalEntity WorldLocation={place} DeadReckoningState="
+        )?;
         let words = if self.random.is_once_in(64) { 100 } else { 2 };
         for _ in 0..words {
             let word = self.random.next();
-            write!(self.text, "{word:010}").map_err(|_| Fault::OutOfMemory)?;
+            write!(self.text, "{word:010}")?;
         }
-        writeln!(self.text, " @{stamp}").map_err(|_| Fault::OutOfMemory)
+        writeln!(self.text, " @{stamp}")
     }
 
-    /// A wire is carried.
-    fn carry(&mut self, from: u32, to: u32) -> Result<(), Fault> {
-        self.lines = self.lines.wrapping_add(1);
-        writeln!(self.text, "carry Federate-{from} Federate-{to}").map_err(|_| Fault::OutOfMemory)
+    /// So many messages are carried from a federate to another.
+    fn carry(&mut self, from: u32, to: u32, messages: u32) -> Result<(), AllocError> {
+        for _ in 0..messages {
+            self.lines = self.lines.wrapping_add(1);
+            writeln!(self.text, "carry Federate-{from} Federate-{to}")?;
+        }
+        Ok(())
     }
 
     /// All that a federate sent in a round is carried, so many messages to each.
-    fn carry_from(&mut self, federates: u32, from: u32, messages: u32) -> Result<(), Fault> {
+    fn carry_from(&mut self, federates: u32, from: u32, messages: u32) -> Result<(), AllocError> {
         for to in 1..=federates {
             if to != from {
-                for _ in 0..messages {
-                    self.carry(from, to)?;
-                }
+                self.carry(from, to, messages)?;
             }
         }
         Ok(())
@@ -125,100 +119,126 @@ impl Text {
     fn is_full(&self) -> bool {
         self.text.len() >= MOST_BYTES || self.lines >= MOST_LINES
     }
-}
 
-/// All send and receive interactions, regulate and are constrained.
-fn begin_in_step(text: &mut Text, federates: u32) -> Result<(), Fault> {
-    for federate in 1..=federates {
-        text.call(federate, "publishInteraction WeaponFire")?;
-        text.call(federate, "subscribeInteraction WeaponFire")?;
-        text.call(federate, "regulate 0 1")?;
-        text.call(federate, "tick")?;
-    }
-    for federate in 1..=federates {
-        text.call(federate, "constrain")?;
-        text.call(federate, "tick")?;
-    }
-    Ok(())
-}
-
-/// One round in step: each sends two interactions, all are carried, and all are granted the time.
-fn round_in_step(text: &mut Text, federates: u32, time: u64) -> Result<(), Fault> {
-    for federate in 1..=federates {
-        text.send(federate, time)?;
-        text.send(federate, time)?;
-        text.call_with(federate, "tar ", time)?;
-        writeln!(text.text, "announce Federate-{federate}").map_err(|_| Fault::OutOfMemory)?;
-        text.carry_from(federates, federate, 3)?;
-    }
-    let due = federates.wrapping_sub(1).wrapping_mul(2).wrapping_add(1);
-    for federate in 1..=federates {
-        for _ in 0..due {
-            text.call(federate, "tick")?;
+    /// The execution is created, and so many federates join it.
+    fn begin(&mut self, federates: u32) -> Result<(), AllocError> {
+        self.lines = self.lines.wrapping_add(1);
+        writeln!(self.text, "create")?;
+        for federate in 1..=federates {
+            writeln!(self.text, "join Federate-{federate}")?;
         }
+        Ok(())
     }
-    Ok(())
-}
 
-/// A script of federates in step, as long as a script may be. `OutOfMemory` where a growth was refused.
-pub fn in_step(alloc: Global, federates: u32, rounds: u32, random: Random) -> Result<Text, Fault> {
-    let mut text = Text::new(alloc, federates, random)?;
-    begin_in_step(&mut text, federates)?;
-    for time in 1..=u64::from(rounds) {
-        if text.is_full() {
-            break;
+    /// A federate says so many things, one a line.
+    fn call_all(&mut self, federate: u32, lines: &[&str]) -> Result<(), AllocError> {
+        for words in lines {
+            self.call(federate, words)?;
         }
-        round_in_step(&mut text, federates, time)?;
+        Ok(())
     }
-    Ok(text)
-}
 
-/// The first registers objects for all others, and regulates; the others subscribe.
-fn begin_updates(text: &mut Text, federates: u32, objects: u32) -> Result<(), Fault> {
-    text.call(
-        1,
-        "publishObject PhysicalEntity WorldLocation DeadReckoningState",
-    )?;
-    text.call(1, "regulate 0 1")?;
-    text.call(1, "tick")?;
-    for federate in 2..=federates {
-        text.call(
-            federate,
-            "subscribeObject PhysicalEntity WorldLocation DeadReckoningState",
-        )?;
-        text.call(federate, "constrain")?;
-        text.call(federate, "tick")?;
+    /// All send and receive interactions, regulate and are constrained.
+    fn begin_in_step(&mut self, federates: u32) -> Result<(), AllocError> {
+        self.begin(federates)?;
+        for federate in 1..=federates {
+            self.call_all(federate, &REGULATING)?;
+        }
+        for federate in 1..=federates {
+            self.call_all(federate, &CONSTRAINED)?;
+        }
+        Ok(())
     }
-    for number in 1..=objects {
-        text.call_with(
-            1,
-            "register PhysicalEntity Entity-of-the-first-federate-",
-            u64::from(number),
-        )?;
-    }
-    Ok(())
-}
 
-/// A script in which one federate updates so many objects for all others, as long as a script may be. `OutOfMemory` where a
-/// growth was refused.
-pub fn by_updates(
-    alloc: Global,
-    federates: u32,
-    objects: u32,
-    rounds: u32,
-    random: Random,
-) -> Result<Text, Fault> {
-    let mut text = Text::new(alloc, federates, random)?;
-    begin_updates(&mut text, federates, objects)?;
-    for time in 1..=u64::from(rounds) {
-        for object in 1..=objects {
-            if !text.is_full() {
-                text.update(1, object, time)?;
+    /// One round in step: each sends two interactions, all are carried, and all are granted the time.
+    fn round_in_step(&mut self, federates: u32, time: u64) -> Result<(), AllocError> {
+        for federate in 1..=federates {
+            self.send(federate, time)?;
+            self.send(federate, time)?;
+            self.call_with(federate, "tar ", time)?;
+            writeln!(self.text, "announce Federate-{federate}")?;
+            self.carry_from(federates, federate, 3)?;
+        }
+        let due = federates.wrapping_sub(1).wrapping_mul(2).wrapping_add(1);
+        for federate in 1..=federates {
+            for _ in 0..due {
+                self.call(federate, "tick")?;
             }
         }
-        text.carry_from(federates.min(3), 1, 1)?;
-        text.call_with(1, "tar ", time)?;
-        text.call(1, "tick")?;
+        Ok(())
     }
-    Ok(text)
+
+    /// A script of federates in step, as long as a script may be.
+    fn in_step(&mut self, federates: u32, rounds: u32) -> Result<(), AllocError> {
+        self.begin_in_step(federates)?;
+        for time in 1..=u64::from(rounds) {
+            if self.is_full() {
+                break;
+            }
+            self.round_in_step(federates, time)?;
+        }
+        Ok(())
+    }
+
+    /// The first registers objects for all others, and regulates; the others subscribe.
+    fn begin_updates(&mut self, federates: u32, objects: u32) -> Result<(), AllocError> {
+        self.begin(federates)?;
+        self.call_all(1, &PUBLISHING)?;
+        for federate in 2..=federates {
+            self.call_all(federate, &SUBSCRIBING)?;
+        }
+        for number in 1..=objects {
+            let words = "register PhysicalEntity Entity-of-the-first-federate-";
+            self.call_with(1, words, u64::from(number))?;
+        }
+        Ok(())
+    }
+
+    /// A script in which one federate updates so many objects for all others, as long as a script may be.
+    fn by_updates(&mut self, federates: u32, objects: u32, rounds: u32) -> Result<(), AllocError> {
+        self.begin_updates(federates, objects)?;
+        for time in 1..=u64::from(rounds) {
+            for object in 1..=objects {
+                if !self.is_full() {
+                    self.update(object, time)?;
+                }
+            }
+            self.carry_from(federates.min(3), 1, 1)?;
+            self.call_with(1, "tar ", time)?;
+            self.call(1, "tick")?;
+        }
+        Ok(())
+    }
+}
+
+/// What a script is about.
+#[derive(Clone, Copy)]
+pub enum Subject {
+    /// Federates in step.
+    InStep,
+    /// One federate that updates so many objects for all others.
+    Updates { objects: u32 },
+}
+
+/// A script on a subject, of so many federates and rounds, or as long as a script may be. `OutOfMemory` where a growth was refused.
+pub fn script(
+    alloc: Global,
+    subject: Subject,
+    federates: u32,
+    rounds: u32,
+    random: Random,
+) -> Result<String, Fault> {
+    let mut text = Text {
+        text: String::new(alloc),
+        lines: 0,
+        random,
+    };
+    let written = match subject {
+        Subject::InStep => text.in_step(federates, rounds),
+        Subject::Updates { objects } => text.by_updates(federates, objects, rounds),
+    };
+    match written {
+        Ok(()) => Ok(text.text),
+        Err(_) => Err(Fault::OutOfMemory),
+    }
 }
