@@ -11,6 +11,7 @@ use crate::advancing::{FED, HISTORY_LIMIT, counted, name_of};
 use crate::counts::Counts;
 use hla_base::{ExecutionName, Fault, LEDGER_PARTS, Ticks};
 use hla_callbacks::Recorder;
+use hla_federation::Federation;
 use hla_history::Shared;
 use hla_machine::{Service, Step};
 use std::alloc::Global;
@@ -32,7 +33,7 @@ trait Desk<L: Ledger> {
         ensures { share.new.parts ≡ share.old.parts };
 }
 
-impl<L: Ledger> Desk<L> for Shared<L, Recorder> {
+impl<L: Ledger> Desk<L> for Shared<L, Recorder, Federation> {
     fn step(
         &mut self,
         execution: ExecutionName,
@@ -46,12 +47,12 @@ impl<L: Ledger> Desk<L> for Shared<L, Recorder> {
 
 /// The value, which is locked anew for each step.
 #[derive(Drop)]
-struct Locked<'a, L: Ledger, R: Wait> {
+struct LockedAnew<'a, L: Ledger, R: Wait> {
     rt: &'a R,
-    shared: Mutex<Shared<L, Recorder>>,
+    shared: Mutex<Shared<L, Recorder, Federation>>,
 }
 
-impl<L: Ledger, R: Wait> Desk<L> for Locked<'_, L, R> {
+impl<L: Ledger, R: Wait> Desk<L> for LockedAnew<'_, L, R> {
     fn step(
         &mut self,
         execution: ExecutionName,
@@ -67,7 +68,7 @@ impl<L: Ledger, R: Wait> Desk<L> for Locked<'_, L, R> {
 /// Creates the execution, and so many federates join it.
 fn begin<L: Ledger>(
     alloc: Global,
-    shared: &mut Shared<L, Recorder>,
+    shared: &mut Shared<L, Recorder, Federation>,
     share: &mut Share<L>,
     execution: ExecutionName,
     federates: u32,
@@ -149,7 +150,7 @@ fn run_at<L: Ledger>(
     begin(alloc, &mut shared, &mut share, execution, federates)?;
     if is_locked {
         let shared = Mutex::new(shared);
-        let mut desk = Locked { rt, shared };
+        let mut desk = LockedAnew { rt, shared };
         play(&mut desk, &mut share, execution, federates, rounds)?;
     } else {
         play(&mut shared, &mut share, execution, federates, rounds)?;
