@@ -1,10 +1,9 @@
 //! Forged transcripts of scripts that change orders, which the books of all services refuse.
 
-use crate::forged_services::{Scene, check_forgeries};
-use std::test::Fail;
+use crate::forged_services::Scene;
 
 /// A changes the order of its hits to receive order and back, and that of its car's Paint, whose update is cut or not by it.
-const ORDERS: Scene = Scene {
+pub const ORDERS: Scene = Scene {
     script: "join A
 join B
 A publishInteraction Hit
@@ -69,28 +68,22 @@ ok receive InteractionRoot.Hit RO
 ok receive InteractionRoot.Hit RO 9 1.3
 ok reflect 1 Pos=3 Paint=red RO 9 1.4
 ok nothing",
+    forgeries: &[
+        (11, "error 15 InteractionClassNotPublished"),
+        (12, "ok 1.2"),
+        (15, "ok"),
+        (17, "ok"),
+        (17, "ok 1.2"),
+        (18, "error 19 AttributeNotOwned"),
+        (19, "ok 1.5"),
+        (19, "ok"),
+        (20, "ok"),
+        (20, "error 18 ObjectNotKnown"),
+        (28, "ok receive InteractionRoot.Hit RO"),
+        (29, "ok receive InteractionRoot.Hit RO 9 1.2"),
+        (30, "ok receive InteractionRoot.Hit RO"),
+        (31, "ok reflect 1 Pos=3 Paint=red RO"),
+        (31, "ok reflect 1 Paint=red RO"),
+        (32, "ok reflect 1 Pos=3 RO 9 1.5"),
+    ],
 };
-
-const ORDER_FORGERIES: [(u32, &str); 16] = [
-    (11, "error 15 InteractionClassNotPublished"),
-    (12, "ok 1.2"),
-    (15, "ok"),
-    (17, "ok"),
-    (17, "ok 1.2"),
-    (18, "error 19 AttributeNotOwned"),
-    (19, "ok 1.5"),
-    (19, "ok"),
-    (20, "ok"),
-    (20, "error 18 ObjectNotKnown"),
-    (28, "ok receive InteractionRoot.Hit RO"),
-    (29, "ok receive InteractionRoot.Hit RO 9 1.2"),
-    (30, "ok receive InteractionRoot.Hit RO"),
-    (31, "ok reflect 1 Pos=3 Paint=red RO"),
-    (31, "ok reflect 1 Paint=red RO"),
-    (32, "ok reflect 1 Pos=3 RO 9 1.5"),
-];
-
-#[test]
-fn refuses_forged_orders(rt: HostRuntime) -> Result<(), Fail> {
-    check_forgeries(&rt, rt.alloc(), &ORDERS, &ORDER_FORGERIES)
-}

@@ -1,10 +1,9 @@
 //! Forged transcripts of scripts that synchronize, which the books of all services refuse.
 
-use crate::forged_services::{Scene, check_forgeries};
-use std::test::Fail;
+use crate::forged_services::Scene;
 
 /// A and B synchronize, C joins meanwhile, and what B leaves open its resigning closes.
-const POINTS: Scene = Scene {
+pub const POINTS: Scene = Scene {
     script: "join A
 join B
 A syncRegister go
@@ -69,36 +68,30 @@ ok synchronized stop
 ok
 ok syncRegistered go
 ok syncAnnounced go",
+    forgeries: &[
+        (3, "error 36 LimitReached"),
+        (4, "ok"),
+        (4, "error 36 LimitReached"),
+        (5, "ok syncAnnounced go"),
+        (5, "ok syncRegistered stop"),
+        (5, "ok nothing"),
+        (6, "ok nothing"),
+        (8, "ok syncRefused go"),
+        (8, "ok syncRegistered go"),
+        (9, "ok syncAnnounced go"),
+        (9, "ok nothing"),
+        (10, "error 40 SynchronizationPointLabelWasNotAnnounced"),
+        (11, "ok"),
+        (12, "ok synchronized go"),
+        (14, "ok"),
+        (15, "ok nothing"),
+        (18, "ok synchronized go"),
+        (23, "ok synchronized stop"),
+        (25, "ok nothing"),
+        (25, "ok synchronized stop"),
+        (27, "ok synchronized go"),
+        (29, "ok nothing"),
+        (31, "ok syncRefused go"),
+        (32, "ok synchronized go"),
+    ],
 };
-
-const POINT_FORGERIES: [(u32, &str); 24] = [
-    (3, "error 36 LimitReached"),
-    (4, "ok"),
-    (4, "error 36 LimitReached"),
-    (5, "ok syncAnnounced go"),
-    (5, "ok syncRegistered stop"),
-    (5, "ok nothing"),
-    (6, "ok nothing"),
-    (8, "ok syncRefused go"),
-    (8, "ok syncRegistered go"),
-    (9, "ok syncAnnounced go"),
-    (9, "ok nothing"),
-    (10, "error 40 SynchronizationPointLabelWasNotAnnounced"),
-    (11, "ok"),
-    (12, "ok synchronized go"),
-    (14, "ok"),
-    (15, "ok nothing"),
-    (18, "ok synchronized go"),
-    (23, "ok synchronized stop"),
-    (25, "ok nothing"),
-    (25, "ok synchronized stop"),
-    (27, "ok synchronized go"),
-    (29, "ok nothing"),
-    (31, "ok syncRefused go"),
-    (32, "ok synchronized go"),
-];
-
-#[test]
-fn refuses_forged_points(rt: HostRuntime) -> Result<(), Fail> {
-    check_forgeries(&rt, rt.alloc(), &POINTS, &POINT_FORGERIES)
-}

@@ -1,66 +1,84 @@
 //! Forged transcripts, which the books of all services refuse: each differs in one line from one that they take.
 
+use crate::forged_orders::ORDERS;
+use crate::forged_points::POINTS;
 use hla_service_books::read_services;
 use std::alloc::{AllocError, Global};
 use std::process::Abort;
 use std::test::Fail;
 
-/// A script and its transcript.
+/// A script and its transcript, and forgeries: another answer in place of one, by the number of its line.
 pub struct Scene {
     pub script: &'static str,
     pub transcript: &'static str,
+    pub forgeries: &'static [(u32, &'static str)],
 }
 
 impl Scene {
     /// Writes the transcript with another answer in place of one, by the number of its line.
-    fn write_with(
-        &self,
-        alloc: Global,
-        text: &mut String,
-        number: u32,
-        answer: &str,
-    ) -> Result<(), AllocError> {
+    fn write_with(&self, text: &mut String, number: u32, answer: &str) -> Result<(), AllocError> {
         let mut at = 0u32;
         for line in self.transcript.lines() {
             at = at.saturating_add(1);
             let said = if at == number { answer } else { line };
-            write_line(alloc, text, at, said)?;
+            write!(text, "{at} {said}\n")?;
+        }
+        Ok(())
+    }
+
+    /// Whether the transcript is by the books with another answer in place of one, by the number of its line; 0 replaces none.
+    fn is_taken_with(&self, alloc: Global, number: u32, answer: &str) -> Result<bool, AllocError> {
+        let mut transcript = String::new(alloc);
+        self.write_with(&mut transcript, number, answer)?;
+        Ok(read_services(alloc, self.script, transcript.as_str())?.is_some())
+    }
+
+    /// That the books take the transcript, and none of the forgeries.
+    fn check(&self, rt: &impl Abort, alloc: Global) -> Result<(), AllocError> {
+        let is_taken = self.is_taken_with(alloc, 0, "")?;
+        assert!(rt; is_taken, "not taken: {}", self.script);
+        for (number, answer) in self.forgeries {
+            let is_taken = self.is_taken_with(alloc, *number, answer)?;
+            assert!(rt; !is_taken, "taken: {number} {answer} of {}", self.script);
         }
         Ok(())
     }
 }
 
-/// Adds a line of a transcript.
-fn write_line(alloc: Global, text: &mut String, at: u32, said: &str) -> Result<(), AllocError> {
-    let line = format!(in alloc; "{at} {said}\n")?;
-    text.push_str(line.as_str())
+/// All scenes.
+const SCENES: [&Scene; 8] = [
+    &RETRACTION,
+    &EPOCH,
+    &NEWEST_NULL,
+    &NEXT_EVENT,
+    &RECEIVE_ORDER,
+    &OBJECT,
+    &ORDERS,
+    &POINTS,
+];
+
+#[test]
+fn refuses_each_forgery(rt: HostRuntime) -> Result<(), Fail> {
+    for scene in SCENES {
+        scene.check(&rt, rt.alloc())?;
+    }
+    Ok(())
 }
 
-/// Whether a transcript is by the books with another answer in place of one, by the number of its line; 0 replaces none.
-fn is_taken_with(
-    alloc: Global,
-    scene: &Scene,
-    number: u32,
-    answer: &str,
-) -> Result<bool, AllocError> {
-    let mut transcript = String::new(alloc);
-    scene.write_with(alloc, &mut transcript, number, answer)?;
-    Ok(read_services(alloc, scene.script, transcript.as_str())?.is_some())
-}
+/// Transcripts of the script `create`, and whether the books take them.
+const NUMBERED: [(&str, bool); 5] = [
+    ("", false),
+    ("2 ok\n", false),
+    ("ok\n", false),
+    ("1 ok\n2 ok\n", false),
+    ("1 ok\n", true),
+];
 
-/// That the books take the scene's transcript, and none with one of these answers in place of the one at the line of that number.
-pub fn check_forgeries(
-    rt: &impl Abort,
-    alloc: Global,
-    scene: &Scene,
-    forgeries: &[(u32, &str)],
-) -> Result<(), Fail> {
-    assert!(rt; is_taken_with(alloc, scene, 0, "")?);
-    for (number, answer) in forgeries {
-        assert!(rt;
-            !is_taken_with(alloc, scene, *number, answer)?,
-            "taken: {number} {answer}"
-        );
+#[test]
+fn refuses_lines_of_other_numbers(rt: HostRuntime) -> Result<(), Fail> {
+    for (transcript, is_taken) in NUMBERED {
+        let tally = read_services(rt.alloc(), "create\n", transcript)?;
+        assert!(rt; tally.is_some() == is_taken, "{transcript:?}");
     }
     Ok(())
 }
@@ -119,38 +137,32 @@ ok
 ok retraction 1.3
 ok requestRetraction 1.3
 ok nothing",
+    forgeries: &[
+        (9, "error 33 InvalidRetractionHandle"),
+        (10, "ok"),
+        (12, "ok"),
+        (13, "ok 1.2"),
+        (15, "ok retraction 1.1"),
+        (16, "ok event 1.2"),
+        (16, "ok none"),
+        (20, "ok receive InteractionRoot.Hit TSO 9 1.1"),
+        (20, "ok receive InteractionRoot.Hit TSO 9 1.3"),
+        (20, "ok receive InteractionRoot.Hit TSO 2 1.2"),
+        (20, "ok receive InteractionRoot.Hit RO 1 1.2"),
+        (20, "ok receive InteractionRoot.Hit Force=1 TSO 1 1.2"),
+        (20, "ok nothing"),
+        (21, "ok receive InteractionRoot.Hit TSO 1 1.2"),
+        (21, "ok receive InteractionRoot.Hit TSO 9 1.1"),
+        (21, "ok grant 1"),
+        (22, "ok grant 9"),
+        (22, "ok grant 50"),
+        (22, "ok receive InteractionRoot.Hit TSO 9 1.1"),
+        (23, "error 33 InvalidRetractionHandle"),
+        (25, "ok nothing"),
+        (25, "ok requestRetraction 1.2"),
+        (26, "ok requestRetraction 1.3"),
+    ],
 };
-
-const RETRACTION_FORGERIES: [(u32, &str); 23] = [
-    (9, "error 33 InvalidRetractionHandle"),
-    (10, "ok"),
-    (12, "ok"),
-    (13, "ok 1.2"),
-    (15, "ok retraction 1.1"),
-    (16, "ok event 1.2"),
-    (16, "ok none"),
-    (20, "ok receive InteractionRoot.Hit TSO 9 1.1"),
-    (20, "ok receive InteractionRoot.Hit TSO 9 1.3"),
-    (20, "ok receive InteractionRoot.Hit TSO 2 1.2"),
-    (20, "ok receive InteractionRoot.Hit RO 1 1.2"),
-    (20, "ok receive InteractionRoot.Hit Force=1 TSO 1 1.2"),
-    (20, "ok nothing"),
-    (21, "ok receive InteractionRoot.Hit TSO 1 1.2"),
-    (21, "ok receive InteractionRoot.Hit TSO 9 1.1"),
-    (21, "ok grant 1"),
-    (22, "ok grant 9"),
-    (22, "ok grant 50"),
-    (22, "ok receive InteractionRoot.Hit TSO 9 1.1"),
-    (23, "error 33 InvalidRetractionHandle"),
-    (25, "ok nothing"),
-    (25, "ok requestRetraction 1.2"),
-    (26, "ok requestRetraction 1.3"),
-];
-
-#[test]
-fn refuses_forged_retractions(rt: HostRuntime) -> Result<(), Fail> {
-    check_forgeries(&rt, rt.alloc(), &RETRACTION, &RETRACTION_FORGERIES)
-}
 
 /// A leaves regulation and comes back while its FOREVER is still under way: B may not take that for the new epoch's.
 const EPOCH: Scene = Scene {
@@ -210,36 +222,30 @@ ok 21
 ok 20
 ok receive InteractionRoot.Hit TSO 20 1.1
 ok grant 20",
+    forgeries: &[
+        (5, "ok regulationEnabled 1"),
+        (6, "ok null 2"),
+        (11, "error 27 TimeRegulationWasNotEnabled"),
+        (13, "ok forever"),
+        (15, "ok null 1"),
+        (16, "ok forever"),
+        (17, "ok receive InteractionRoot.Hit TSO 20 1.1"),
+        (17, "ok grant 20"),
+        (18, "ok null forever"),
+        (21, "ok 20"),
+        (21, "ok 22"),
+        (21, "ok none"),
+        (22, "ok 1.2"),
+        (23, "ok 1.3"),
+        (23, "error 21 InvalidFederationTime"),
+        (25, "ok forever"),
+        (26, "ok 21"),
+        (27, "ok nothing"),
+        (27, "ok grant 20"),
+        (28, "ok grant 21"),
+        (28, "ok receive InteractionRoot.Hit TSO 20 1.1"),
+    ],
 };
-
-const EPOCH_FORGERIES: [(u32, &str); 21] = [
-    (5, "ok regulationEnabled 1"),
-    (6, "ok null 2"),
-    (11, "error 27 TimeRegulationWasNotEnabled"),
-    (13, "ok forever"),
-    (15, "ok null 1"),
-    (16, "ok forever"),
-    (17, "ok receive InteractionRoot.Hit TSO 20 1.1"),
-    (17, "ok grant 20"),
-    (18, "ok null forever"),
-    (21, "ok 20"),
-    (21, "ok 22"),
-    (21, "ok none"),
-    (22, "ok 1.2"),
-    (23, "ok 1.3"),
-    (23, "error 21 InvalidFederationTime"),
-    (25, "ok forever"),
-    (26, "ok 21"),
-    (27, "ok nothing"),
-    (27, "ok grant 20"),
-    (28, "ok grant 21"),
-    (28, "ok receive InteractionRoot.Hit TSO 20 1.1"),
-];
-
-#[test]
-fn refuses_forged_epochs(rt: HostRuntime) -> Result<(), Fail> {
-    check_forgeries(&rt, rt.alloc(), &EPOCH, &EPOCH_FORGERIES)
-}
 
 /// A announces twice before anything is carried: its second null message takes the place of the first, and the third lies behind
 /// an event.
@@ -274,23 +280,17 @@ ok null 6
 ok event 1.1
 ok null 8
 ok none",
+    forgeries: &[
+        (12, "ok null 1"),
+        (12, "ok null 8"),
+        (12, "ok event 1.1"),
+        (13, "ok null 6"),
+        (13, "ok null 8"),
+        (14, "ok null 6"),
+        (14, "ok none"),
+        (15, "ok null 8"),
+    ],
 };
-
-const NEWEST_NULL_FORGERIES: [(u32, &str); 8] = [
-    (12, "ok null 1"),
-    (12, "ok null 8"),
-    (12, "ok event 1.1"),
-    (13, "ok null 6"),
-    (13, "ok null 8"),
-    (14, "ok null 6"),
-    (14, "ok none"),
-    (15, "ok null 8"),
-];
-
-#[test]
-fn refuses_forged_nulls(rt: HostRuntime) -> Result<(), Fail> {
-    check_forgeries(&rt, rt.alloc(), &NEWEST_NULL, &NEWEST_NULL_FORGERIES)
-}
 
 /// A and B wait for each other's next events, each by bounds that are stale, and C comes to regulate.
 const NEXT_EVENT: Scene = Scene {
@@ -360,37 +360,31 @@ ok
 ok regulationEnabled 6
 ok grant 6
 ok 6",
+    forgeries: &[
+        (11, "ok nothing"),
+        (17, "ok 5"),
+        (17, "ok 7"),
+        (19, "ok 12"),
+        (19, "ok 7"),
+        (19, "ok none"),
+        (21, "ok nothing"),
+        (21, "ok grant 6"),
+        (22, "ok 1.1"),
+        (23, "ok 1.2"),
+        (23, "ok"),
+        (25, "ok grant 10"),
+        (25, "ok grant 6"),
+        (25, "ok receive InteractionRoot.Hit Force=7 TSO 6 1.1"),
+        (29, "ok grant 6"),
+        (29, "ok receive InteractionRoot.Hit Force=8 TSO 6 1.1"),
+        (29, "ok receive InteractionRoot.Hit Force=7 TSO 7 1.1"),
+        (31, "ok regulationEnabled 0"),
+        (31, "ok regulationEnabled 7"),
+        (32, "ok grant 10"),
+        (32, "ok nothing"),
+        (33, "ok 10"),
+    ],
 };
-
-const NEXT_EVENT_FORGERIES: [(u32, &str); 22] = [
-    (11, "ok nothing"),
-    (17, "ok 5"),
-    (17, "ok 7"),
-    (19, "ok 12"),
-    (19, "ok 7"),
-    (19, "ok none"),
-    (21, "ok nothing"),
-    (21, "ok grant 6"),
-    (22, "ok 1.1"),
-    (23, "ok 1.2"),
-    (23, "ok"),
-    (25, "ok grant 10"),
-    (25, "ok grant 6"),
-    (25, "ok receive InteractionRoot.Hit Force=7 TSO 6 1.1"),
-    (29, "ok grant 6"),
-    (29, "ok receive InteractionRoot.Hit Force=8 TSO 6 1.1"),
-    (29, "ok receive InteractionRoot.Hit Force=7 TSO 7 1.1"),
-    (31, "ok regulationEnabled 0"),
-    (31, "ok regulationEnabled 7"),
-    (32, "ok grant 10"),
-    (32, "ok nothing"),
-    (33, "ok 10"),
-];
-
-#[test]
-fn refuses_forged_next_events(rt: HostRuntime) -> Result<(), Fail> {
-    check_forgeries(&rt, rt.alloc(), &NEXT_EVENT, &NEXT_EVENT_FORGERIES)
-}
 
 /// B is told of an object, of an update's part in receive order and then of its other part.
 const RECEIVE_ORDER: Scene = Scene {
@@ -422,38 +416,23 @@ ok event 1.2
 ok reflect 1 Paint=red RO
 ok reflect 1 Pos=1 RO
 ok nothing",
+    forgeries: &[
+        (8, "ok nothing"),
+        (8, "ok discover 2 ObjectRoot.Car object-1"),
+        (10, "ok event 1.2"),
+        (10, "ok event 1.3"),
+        (10, "ok removal 1.1"),
+        (11, "ok event 1.1"),
+        (12, "ok nothing"),
+        (12, "ok reflect 1 Pos=1 RO"),
+        (12, "ok reflect 1 Paint=blue RO"),
+        (12, "ok reflect 2 Paint=red RO"),
+        (12, "ok remove 1 RO"),
+        (13, "ok reflect 1 Paint=red RO"),
+        (14, "ok reflect 1 Pos=1 RO"),
+        (14, ""),
+    ],
 };
-
-const RECEIVE_ORDER_FORGERIES: [(u32, &str); 14] = [
-    (8, "ok nothing"),
-    (8, "ok discover 2 ObjectRoot.Car object-1"),
-    (10, "ok event 1.2"),
-    (10, "ok event 1.3"),
-    (10, "ok removal 1.1"),
-    (11, "ok event 1.1"),
-    (12, "ok nothing"),
-    (12, "ok reflect 1 Pos=1 RO"),
-    (12, "ok reflect 1 Paint=blue RO"),
-    (12, "ok reflect 2 Paint=red RO"),
-    (12, "ok remove 1 RO"),
-    (13, "ok reflect 1 Paint=red RO"),
-    (14, "ok reflect 1 Pos=1 RO"),
-    (14, ""),
-];
-
-#[test]
-fn refuses_forged_updates(rt: HostRuntime) -> Result<(), Fail> {
-    check_forgeries(&rt, rt.alloc(), &RECEIVE_ORDER, &RECEIVE_ORDER_FORGERIES)
-}
-
-#[test]
-fn refuses_lines_of_other_numbers(rt: HostRuntime) -> Result<(), Fail> {
-    for transcript in ["", "2 ok\n", "ok\n", "1 ok\n2 ok\n"] {
-        assert!(rt; read_services(rt.alloc(), "create\n", transcript)?.is_none());
-    }
-    assert!(rt; read_services(rt.alloc(), "create\n", "1 ok\n")?.is_some());
-    Ok(())
-}
 
 /// A updates and deletes its object in both orders; B ceases to be constrained before its time comes.
 const OBJECT: Scene = Scene {
@@ -501,30 +480,24 @@ ok reflect 1 Paint=red RO
 ok reflect 1 Pos=3 RO 5 1.2
 ok remove 1 RO 7 1.3
 ok nothing",
+    forgeries: &[
+        (4, "ok 2 object-2"),
+        (7, "ok null 1"),
+        (10, "ok constrainedEnabled 0"),
+        (10, "ok discover 2 ObjectRoot.Car object-1"),
+        (12, "ok 1.1"),
+        (12, "ok"),
+        (14, "ok event 1.2"),
+        (16, "ok event 1.3"),
+        (16, "ok none"),
+        (17, "ok reflect 1 Paint=red RO"),
+        (19, "ok nothing"),
+        (19, "ok reflect 1 Pos=3 RO 5 1.2"),
+        (20, "ok reflect 1 Pos=3 TSO 5 1.2"),
+        (20, "ok reflect 1 Pos=3 RO 6 1.2"),
+        (20, "ok reflect 2 Pos=3 RO 5 1.2"),
+        (21, "ok remove 1 RO"),
+        (21, "ok receive InteractionRoot.Hit RO 7 1.3"),
+        (22, "ok remove 1 RO 7 1.3"),
+    ],
 };
-
-const OBJECT_FORGERIES: [(u32, &str); 18] = [
-    (4, "ok 2 object-2"),
-    (7, "ok null 1"),
-    (10, "ok constrainedEnabled 0"),
-    (10, "ok discover 2 ObjectRoot.Car object-1"),
-    (12, "ok 1.1"),
-    (12, "ok"),
-    (14, "ok event 1.2"),
-    (16, "ok event 1.3"),
-    (16, "ok none"),
-    (17, "ok reflect 1 Paint=red RO"),
-    (19, "ok nothing"),
-    (19, "ok reflect 1 Pos=3 RO 5 1.2"),
-    (20, "ok reflect 1 Pos=3 TSO 5 1.2"),
-    (20, "ok reflect 1 Pos=3 RO 6 1.2"),
-    (20, "ok reflect 2 Pos=3 RO 5 1.2"),
-    (21, "ok remove 1 RO"),
-    (21, "ok receive InteractionRoot.Hit RO 7 1.3"),
-    (22, "ok remove 1 RO 7 1.3"),
-];
-
-#[test]
-fn refuses_forged_objects(rt: HostRuntime) -> Result<(), Fail> {
-    check_forgeries(&rt, rt.alloc(), &OBJECT, &OBJECT_FORGERIES)
-}

@@ -3,7 +3,7 @@
 #![tactic(auto)]
 
 #[cfg(test)]
-mod federations;
+mod authors;
 #[cfg(test)]
 mod forged_orders;
 #[cfg(test)]
@@ -12,8 +12,6 @@ mod forged_points;
 mod forged_services;
 #[cfg(test)]
 mod forging;
-#[cfg(test)]
-mod newcomer_run;
 #[cfg(test)]
 mod objects;
 #[cfg(test)]
@@ -34,3 +32,7 @@ mod runs;
 mod scenarios;
 #[cfg(test)]
 mod service_scripts;
+#[cfg(test)]
+mod sketches;
+#[cfg(test)]
+mod steps;

@@ -1,13 +1,13 @@
 //! Forgeries of orders that change.
 
-use crate::forging::{HIT, call, refuses_outcome, refuses_step, refuses_without};
-use hla_base::{EventHandle, Fault, List};
+use crate::forging::{Forged, Forgeries, Forgery, HIT};
+use crate::sketches::{Asked, Deed, Told};
+use hla_base::Fault;
 use hla_catalogue::Order;
-use hla_machine::{Answer, Outcome, Service};
-use std::test::Fail;
 
 /// A changes the orders of its hits and of its car's attribute to receive order and sends one message of each; B may change neither.
-const CHANGED: &str = "create
+pub const CHANGED: Forgeries = Forgeries {
+    script: "create
 join A
 join B
 A publishInteraction Hit
@@ -21,72 +21,86 @@ A attributeOrder 1 Car receive Pos
 A update 1 Car Pos=3 @5
 B interactionOrder Hit timestamp
 B attributeOrder 1 Car timestamp Pos
-";
-
-/// What a call answers that sent a message of A in time-stamp order.
-fn in_time_stamp_order(serial: u64) -> Outcome {
-    let event = EventHandle { sender: 1, serial };
-    Outcome::Done(Answer::Sent(Some(event)))
-}
-
-#[test]
-fn change_by_one_who_does_not_publish(rt: HostRuntime) -> Result<(), Fail> {
-    refuses_outcome(&rt, rt.alloc(), CHANGED, 12, Outcome::Done(Answer::Done))
-}
-
-#[test]
-fn change_by_one_who_does_not_own(rt: HostRuntime) -> Result<(), Fail> {
-    refuses_outcome(&rt, rt.alloc(), CHANGED, 13, Outcome::Done(Answer::Done))
-}
-
-#[test]
-fn change_of_a_class_refused(rt: HostRuntime) -> Result<(), Fail> {
-    let refused = Outcome::Refused(Fault::InteractionClassNotPublished);
-    refuses_outcome(&rt, rt.alloc(), CHANGED, 8, refused)
-}
-
-#[test]
-fn change_of_an_attribute_refused(rt: HostRuntime) -> Result<(), Fail> {
-    let refused = Outcome::Refused(Fault::AttributeNotOwned);
-    refuses_outcome(&rt, rt.alloc(), CHANGED, 10, refused)
-}
-
-#[test]
-fn interaction_in_its_order_before(rt: HostRuntime) -> Result<(), Fail> {
-    refuses_outcome(&rt, rt.alloc(), CHANGED, 9, in_time_stamp_order(1))
-}
-
-#[test]
-fn update_in_its_order_before(rt: HostRuntime) -> Result<(), Fail> {
-    refuses_outcome(&rt, rt.alloc(), CHANGED, 11, in_time_stamp_order(2))
-}
-
-#[test]
-fn interaction_without_its_change(rt: HostRuntime) -> Result<(), Fail> {
-    refuses_without(&rt, rt.alloc(), CHANGED, 8, 8)
-}
-
-#[test]
-fn update_without_its_change(rt: HostRuntime) -> Result<(), Fail> {
-    refuses_without(&rt, rt.alloc(), CHANGED, 10, 10)
-}
-
-#[test]
-fn another_order_of_a_class(rt: HostRuntime) -> Result<(), Fail> {
-    let other = Service::ChangeInteractionOrderType {
-        class: HIT,
-        order: Order::Timestamp,
-    };
-    refuses_step(&rt, rt.alloc(), CHANGED, 8, call(1, other), 9)
-}
-
-#[test]
-fn order_of_no_attribute(rt: HostRuntime) -> Result<(), Fail> {
-    let alloc = rt.alloc();
-    let none = Service::ChangeAttributeOrderType {
-        object: 1,
-        attributes: List::new(alloc),
-        order: Order::Receive,
-    };
-    refuses_step(&rt, alloc, CHANGED, 10, call(1, none), 11)
-}
+",
+    records: 14,
+    forgeries: &[
+        Forgery {
+            name: "change by one who does not publish",
+            place: 12,
+            forged: Forged::Answer(Told::Done),
+            told: Some(12),
+        },
+        Forgery {
+            name: "change by one who does not own",
+            place: 13,
+            forged: Forged::Answer(Told::Done),
+            told: Some(13),
+        },
+        Forgery {
+            name: "change of a class refused",
+            place: 8,
+            forged: Forged::Refusal(Fault::InteractionClassNotPublished),
+            told: Some(8),
+        },
+        Forgery {
+            name: "change of an attribute refused",
+            place: 10,
+            forged: Forged::Refusal(Fault::AttributeNotOwned),
+            told: Some(10),
+        },
+        Forgery {
+            name: "interaction in its order before",
+            place: 9,
+            forged: Forged::Answer(Told::Sent {
+                sender: 1,
+                serial: 1,
+            }),
+            told: Some(9),
+        },
+        Forgery {
+            name: "update in its order before",
+            place: 11,
+            forged: Forged::Answer(Told::Sent {
+                sender: 1,
+                serial: 2,
+            }),
+            told: Some(11),
+        },
+        Forgery {
+            name: "interaction without its change",
+            place: 8,
+            forged: Forged::Without,
+            told: Some(8),
+        },
+        Forgery {
+            name: "update without its change",
+            place: 10,
+            forged: Forged::Without,
+            told: Some(10),
+        },
+        Forgery {
+            name: "another order of a class",
+            place: 8,
+            forged: Forged::Deed(Deed::Call(
+                1,
+                Asked::InteractionOrder {
+                    class: HIT,
+                    order: Order::Timestamp,
+                },
+            )),
+            told: Some(9),
+        },
+        Forgery {
+            name: "order of no attribute",
+            place: 10,
+            forged: Forged::Deed(Deed::Call(
+                1,
+                Asked::AttributeOrder {
+                    object: 1,
+                    order: Order::Receive,
+                },
+            )),
+            told: Some(11),
+        },
+    ],
+};

@@ -1,12 +1,153 @@
-use crate::playing::answers;
+//! Scripts over `FED`, line by line, each with what it answers.
+
+use crate::playing::transcript;
+use std::alloc::{AllocError, Global};
+use std::process::Abort;
 use std::test::Fail;
 
+/// The lines of a script, each beside what stands behind its number in the transcript; nothing beside a line that is not answered.
+struct Scenario {
+    name: &'static str,
+    lines: &'static [(&'static str, &'static str)],
+}
+
+impl Scenario {
+    fn write_script(&self, script: &mut String) -> Result<(), AllocError> {
+        for (line, _) in self.lines {
+            write!(script, "{line}\n")?;
+        }
+        Ok(())
+    }
+
+    fn write_transcript(&self, transcript: &mut String) -> Result<(), AllocError> {
+        for (place, (_, answer)) in self.lines.iter().enumerate() {
+            let number = place.saturating_add(1);
+            if !answer.is_empty() {
+                write!(transcript, "{number} {answer}\n")?;
+            }
+        }
+        Ok(())
+    }
+
+    /// Plays the script, which must print the transcript.
+    fn check(&self, rt: &impl Abort, alloc: Global) -> Result<(), Fail> {
+        let mut script = String::new(alloc);
+        self.write_script(&mut script)?;
+        let mut expected = String::new(alloc);
+        self.write_transcript(&mut expected)?;
+        let printed = transcript(alloc, script.as_bytes())?;
+        assert_eq!(rt; printed.as_str(), expected.as_str(), "{}", self.name);
+        Ok(())
+    }
+}
+
 #[test]
-fn refusals(rt: HostRuntime) -> Result<(), Fail> {
-    answers(
-        &rt,
-        rt.alloc(),
-        &[
+fn answers_each_line(rt: HostRuntime) -> Result<(), Fail> {
+    for scenario in &SCENARIOS {
+        scenario.check(&rt, rt.alloc())?;
+    }
+    Ok(())
+}
+
+const SCENARIOS: [Scenario; 15] = [
+    Scenario {
+        name: "receives at the subscribed ancestor",
+        lines: &[
+            ("create", "ok"),
+            ("join A", "ok 1"),
+            ("join B", "ok 2"),
+            ("A publishInteraction Memo", "ok"),
+            ("B subscribeInteraction Note", "ok"),
+            ("A send Memo Text=a Extra=b", "ok"),
+            ("carry A B", "ok event 1.1"),
+            ("B tick", "ok receive InteractionRoot.Note Text=a RO"),
+        ],
+    },
+    Scenario {
+        name: "gives nothing back to the sender",
+        lines: &[
+            ("create", "ok"),
+            ("join A", "ok 1"),
+            ("join B", "ok 2"),
+            ("A publishInteraction Hit", "ok"),
+            ("A subscribeInteraction Hit", "ok"),
+            ("B subscribeInteraction Hit", "ok"),
+            ("A send Hit", "ok"),
+            ("carry A B", "ok event 1.1"),
+            ("A tick", "ok nothing"),
+            ("B tick", "ok receive InteractionRoot.Hit RO"),
+            ("B tick", "ok nothing"),
+        ],
+    },
+    Scenario {
+        name: "refuses by number and name",
+        lines: &[
+            ("# a comment", ""),
+            ("", ""),
+            ("join A", "error 2 FederationExecutionDoesNotExist"),
+            ("A tick", "error 6 FederateNotExecutionMember"),
+            ("carry A A", "error 6 FederateNotExecutionMember"),
+            ("create", "ok"),
+            ("create", "error 1 FederationExecutionAlreadyExists"),
+            ("join A", "ok 1"),
+            ("join A", "error 5 FederateAlreadyExecutionMember"),
+            ("carry A A", "error 6 FederateNotExecutionMember"),
+            ("carry A C", "error 6 FederateNotExecutionMember"),
+            (
+                "A send Memo Text=a",
+                "error 15 InteractionClassNotPublished",
+            ),
+            ("A publishInteraction Wrong", "error 34 NameNotFound"),
+            ("A send Hit Text=a", "error 34 NameNotFound"),
+            ("A publishInteraction Hit", "ok"),
+            ("C send Wrong", "error 6 FederateNotExecutionMember"),
+            ("A send Hit Force=\r", "ok"),
+            ("carry\tA  A", "error 6 FederateNotExecutionMember"),
+        ],
+    },
+    Scenario {
+        name: "tests names before the step",
+        lines: &[
+            ("create", "ok"),
+            ("join A", "ok 1"),
+            ("A publishObject Hit", "error 34 NameNotFound"),
+            ("A subscribeObject Car Text", "error 34 NameNotFound"),
+            ("A subscribeObject ObjectRoot Pos", "error 34 NameNotFound"),
+            ("A unpublishObject Note", "error 34 NameNotFound"),
+            ("A unsubscribeObject Wrong", "error 34 NameNotFound"),
+            ("A publishInteraction Car", "error 34 NameNotFound"),
+            ("A unpublishInteraction ObjectRoot", "error 34 NameNotFound"),
+            ("A unsubscribeInteraction Car", "error 34 NameNotFound"),
+            ("A register Hit", "error 34 NameNotFound"),
+            ("A update 1 Hit Force=7", "error 34 NameNotFound"),
+            ("A update 1 Car Text=a", "error 34 NameNotFound"),
+            ("A update 1 ObjectRoot Pos=1", "error 34 NameNotFound"),
+            (
+                "B update 1 Car Text=a",
+                "error 6 FederateNotExecutionMember",
+            ),
+        ],
+    },
+    Scenario {
+        name: "creates and destroys",
+        lines: &[
+            ("destroy", "error 2 FederationExecutionDoesNotExist"),
+            ("create", "ok"),
+            ("destroy", "ok"),
+            ("destroy", "error 2 FederationExecutionDoesNotExist"),
+            ("join A", "error 2 FederationExecutionDoesNotExist"),
+            ("A tick", "error 6 FederateNotExecutionMember"),
+            ("carry A A", "error 6 FederateNotExecutionMember"),
+            ("create", "ok"),
+            ("join A", "ok 1"),
+            ("destroy", "error 3 FederatesCurrentlyJoined"),
+            ("create", "error 1 FederationExecutionAlreadyExists"),
+            ("A tick", "ok nothing"),
+        ],
+    },
+    Scenario {
+        name: "refusals",
+        lines: &[
             ("create", "ok"),
             ("create", "error 1 FederationExecutionAlreadyExists"),
             ("join A", "ok 1"),
@@ -24,15 +165,10 @@ fn refusals(rt: HostRuntime) -> Result<(), Fail> {
             ("destroy", "ok"),
             ("join A", "error 2 FederationExecutionDoesNotExist"),
         ],
-    )
-}
-
-#[test]
-fn late_subscriber(rt: HostRuntime) -> Result<(), Fail> {
-    answers(
-        &rt,
-        rt.alloc(),
-        &[
+    },
+    Scenario {
+        name: "late subscriber",
+        lines: &[
             ("create", "ok"),
             ("join A", "ok 1"),
             ("join B", "ok 2"),
@@ -62,15 +198,10 @@ fn late_subscriber(rt: HostRuntime) -> Result<(), Fail> {
                 "error 16 InteractionClassNotSubscribed",
             ),
         ],
-    )
-}
-
-#[test]
-fn sender_is_given_nothing_of_its_own(rt: HostRuntime) -> Result<(), Fail> {
-    answers(
-        &rt,
-        rt.alloc(),
-        &[
+    },
+    Scenario {
+        name: "sender is given nothing of its own",
+        lines: &[
             ("create", "ok"),
             ("join A", "ok 1"),
             ("join B", "ok 2"),
@@ -82,15 +213,10 @@ fn sender_is_given_nothing_of_its_own(rt: HostRuntime) -> Result<(), Fail> {
             ("A tick", "ok nothing"),
             ("B tick", "ok receive InteractionRoot.Hit RO"),
         ],
-    )
-}
-
-#[test]
-fn nearest_subscribed_ancestor(rt: HostRuntime) -> Result<(), Fail> {
-    answers(
-        &rt,
-        rt.alloc(),
-        &[
+    },
+    Scenario {
+        name: "nearest subscribed ancestor",
+        lines: &[
             ("create", "ok"),
             ("join A", "ok 1"),
             ("join B", "ok 2"),
@@ -109,15 +235,10 @@ fn nearest_subscribed_ancestor(rt: HostRuntime) -> Result<(), Fail> {
             ("A unpublishInteraction Memo", "ok"),
             ("A send Memo", "error 15 InteractionClassNotPublished"),
         ],
-    )
-}
-
-#[test]
-fn update_and_removal(rt: HostRuntime) -> Result<(), Fail> {
-    answers(
-        &rt,
-        rt.alloc(),
-        &[
+    },
+    Scenario {
+        name: "update and removal",
+        lines: &[
             ("create", "ok"),
             ("join A", "ok 1"),
             ("join B", "ok 2"),
@@ -151,15 +272,10 @@ fn update_and_removal(rt: HostRuntime) -> Result<(), Fail> {
             ("A objectHandle x", "error 18 ObjectNotKnown"),
             ("A register Car x", "error 17 ObjectAlreadyRegistered"),
         ],
-    )
-}
-
-#[test]
-fn names_are_used_once(rt: HostRuntime) -> Result<(), Fail> {
-    answers(
-        &rt,
-        rt.alloc(),
-        &[
+    },
+    Scenario {
+        name: "names are used once",
+        lines: &[
             ("create", "ok"),
             ("join A", "ok 1"),
             ("join A", "error 5 FederateAlreadyExecutionMember"),
@@ -174,15 +290,10 @@ fn names_are_used_once(rt: HostRuntime) -> Result<(), Fail> {
             ("A objectHandle object-3", "ok 2"),
             ("A objectName 004", "ok object-4"),
         ],
-    )
-}
-
-#[test]
-fn objects_that_are_not_known(rt: HostRuntime) -> Result<(), Fail> {
-    answers(
-        &rt,
-        rt.alloc(),
-        &[
+    },
+    Scenario {
+        name: "objects that are not known",
+        lines: &[
             ("create", "ok"),
             ("join A", "ok 1"),
             ("join B", "ok 2"),
@@ -211,15 +322,10 @@ fn objects_that_are_not_known(rt: HostRuntime) -> Result<(), Fail> {
                 "error 12 ObjectClassNotSubscribed",
             ),
         ],
-    )
-}
-
-#[test]
-fn orders_that_change(rt: HostRuntime) -> Result<(), Fail> {
-    answers(
-        &rt,
-        rt.alloc(),
-        &[
+    },
+    Scenario {
+        name: "orders that change",
+        lines: &[
             ("create", "ok"),
             ("join A", "ok 1"),
             ("join B", "ok 2"),
@@ -246,15 +352,10 @@ fn orders_that_change(rt: HostRuntime) -> Result<(), Fail> {
             ("A attributeOrder 1 Car receive Pos", "ok"),
             ("A update 1 Car Pos=1 @5", "ok"),
         ],
-    )
-}
-
-#[test]
-fn points_of_synchronization(rt: HostRuntime) -> Result<(), Fail> {
-    answers(
-        &rt,
-        rt.alloc(),
-        &[
+    },
+    Scenario {
+        name: "points of synchronization",
+        lines: &[
             ("create", "ok"),
             ("join A", "ok 1"),
             (
@@ -280,15 +381,10 @@ fn points_of_synchronization(rt: HostRuntime) -> Result<(), Fail> {
             ("A syncRegister go", "ok"),
             ("A tick", "ok syncRegistered go"),
         ],
-    )
-}
-
-#[test]
-fn names_of_those_that_resigned(rt: HostRuntime) -> Result<(), Fail> {
-    answers(
-        &rt,
-        rt.alloc(),
-        &[
+    },
+    Scenario {
+        name: "names of those that resigned",
+        lines: &[
             ("create", "ok"),
             ("join A", "ok 1"),
             ("join B", "ok 2"),
@@ -316,5 +412,5 @@ fn names_of_those_that_resigned(rt: HostRuntime) -> Result<(), Fail> {
             ("carry A B", "error 6 FederateNotExecutionMember"),
             ("join A", "ok 1"),
         ],
-    )
-}
+    },
+];
