@@ -1,12 +1,12 @@
 ghost use Rattle.std.specs.Prelude.{◌≡◌, IfOk};
 ghost use Rattle.hla_declaration.specs.Declarations.{declarations_of};
 
-use hla_base::{AttributeNo, ClassNo, FederateNo, List};
+use crate::facts::check;
+use hla_base::{AttributeNo, ClassNo, Fault, FederateNo, List};
 use hla_catalogue::{Catalogue, Order};
 use hla_declaration::{Declarations, Receiver};
 use hla_fed_file::read;
-use std::alloc::{AllocError, Global};
-use std::process::Abort;
+use std::alloc::Global;
 use std::test::Fail;
 
 /// Object classes 1 to 3 and interaction classes 1 to 3, each below the one before.
@@ -30,7 +30,7 @@ const FED: &[u8] = b"(FED
 ";
 
 /// Three federates, which declare nothing.
-fn three_federates(alloc: Global) -> Result<Declarations, Fail>
+fn three_federates(alloc: Global) -> Result<Declarations, Fault>
     ensures federates { IfOk result (λ d. (declarations_of d).federates ≡ 3) }
     ensures objects { IfOk result (λ d. (declarations_of d).object_classes ≡ 3) }
     ensures interactions { IfOk result (λ d. (declarations_of d).interaction_classes ≡ 3) }
@@ -43,26 +43,10 @@ fn three_federates(alloc: Global) -> Result<Declarations, Fail>
 }
 
 /// A list of one attribute.
-fn one(alloc: Global, attribute: AttributeNo) -> Result<List<AttributeNo>, AllocError> {
-    Ok(List::from_vec(vec![in alloc; attribute]?))
-}
-
-/// Federate 2 subscribes object classes 1 and 3, and federate 3 object class 2.
-fn subscribe(alloc: Global, declarations: &mut Declarations) -> Result<(), Fail>
-    requires federates { (declarations_of declarations.old).federates ≡ 3 }
-    requires objects { (declarations_of declarations.old).object_classes ≡ 3 }
-{
-    declarations.subscribe_object_class_attributes(2, 1, one(alloc, 1)?);
-    declarations.subscribe_object_class_attributes(2, 3, one(alloc, 3)?);
-    declarations.subscribe_object_class_attributes(3, 2, one(alloc, 2)?);
-    Ok(())
-}
-
-/// What is declared once federates 2 and 3 have subscribed.
-fn subscribed(alloc: Global) -> Result<Declarations, Fail> {
-    let mut declarations = three_federates(alloc)?;
-    subscribe(alloc, &mut declarations)?;
-    Ok(declarations)
+fn one(alloc: Global, attribute: AttributeNo) -> Result<List<AttributeNo>, Fault> {
+    let mut list = List::new(alloc);
+    list.push(attribute)?;
+    Ok(list)
 }
 
 /// Whether these federates receive, each at its class.
@@ -74,106 +58,105 @@ fn are_receivers(receivers: &[Receiver], expected: &[(FederateNo, ClassNo)]) -> 
     is_same
 }
 
-/// Whether federate 2 is served of object class 3 at that class and of class 2 at class 1, and federate 1 at none.
-fn is_served(catalogue: &Catalogue, declarations: &Declarations) -> bool {
-    declarations.object_class_served(catalogue, 2, 3) == Some(3)
-        && declarations.object_class_served(catalogue, 2, 2) == Some(1)
-        && declarations.object_class_served(catalogue, 1, 3).is_none()
-}
-
 /// Whether an object of class 3 that federate 1 sends has these receivers, each at its class.
 fn is_object_received_by(
     alloc: Global,
+    catalogue: &Catalogue,
     declarations: &Declarations,
     expected: &[(FederateNo, ClassNo)],
-) -> Result<bool, Fail> {
-    let catalogue = read(alloc, FED)?;
-    let receivers = declarations.receivers_of_object_class(alloc, &catalogue, 1, 3)?;
+) -> Result<bool, Fault> {
+    let receivers = declarations.receivers_of_object_class(alloc, catalogue, 1, 3)?;
     Ok(are_receivers(receivers.as_slice(), expected))
 }
 
 /// Whether an interaction of class 3 that federate 1 sends has these receivers, each at its class.
 fn is_interaction_received_by(
     alloc: Global,
+    catalogue: &Catalogue,
     declarations: &Declarations,
     expected: &[(FederateNo, ClassNo)],
-) -> Result<bool, Fail> {
-    let catalogue = read(alloc, FED)?;
-    let receivers = declarations.receivers_of_interaction_class(alloc, &catalogue, 1, 3)?;
+) -> Result<bool, Fault> {
+    let receivers = declarations.receivers_of_interaction_class(alloc, catalogue, 1, 3)?;
     Ok(are_receivers(receivers.as_slice(), expected))
 }
 
-/// Whether federates 2 and 3 are served and receive what they subscribed, each at its most derived class.
-fn is_served_and_received(alloc: Global, declarations: &Declarations) -> Result<bool, Fail> {
-    let is_served = is_served(&read(alloc, FED)?, declarations);
-    Ok(is_object_received_by(alloc, declarations, &[(2, 3), (3, 2)])? && is_served)
+/// Federate 2 subscribes object classes 1 and 3, and federate 3 object class 2.
+fn subscribed(alloc: Global) -> Result<Declarations, Fault> {
+    let (root, pos, load) = (one(alloc, 1)?, one(alloc, 2)?, one(alloc, 3)?);
+    let mut declarations = three_federates(alloc)?;
+    declarations.subscribe_object_class_attributes(2, 1, root);
+    declarations.subscribe_object_class_attributes(2, 3, load);
+    declarations.subscribe_object_class_attributes(3, 2, pos);
+    Ok(declarations)
 }
 
-#[test]
-fn is_served_at_the_most_derived_class(rt: HostRuntime) -> Result<(), Fail> {
-    let declarations = subscribed(rt.alloc())?;
-    let is_right = is_served_and_received(rt.alloc(), &declarations)?;
-    assert!(rt; is_right);
-    Ok(())
+const SERVED: [&str; 4] = [
+    "a federate is served at the class that it subscribed",
+    "it is served at the most derived class that it subscribed",
+    "one that subscribed nothing is not served",
+    "those receive that subscribed, each at its class",
+];
+
+/// What is so once federates 2 and 3 have subscribed.
+fn served(
+    alloc: Global,
+    catalogue: &Catalogue,
+    declarations: &Declarations,
+) -> Result<[bool; 4], Fault> {
+    Ok([
+        declarations.object_class_served(catalogue, 2, 3) == Some(3),
+        declarations.object_class_served(catalogue, 2, 2) == Some(1),
+        declarations.object_class_served(catalogue, 1, 3).is_none(),
+        is_object_received_by(alloc, catalogue, declarations, &[(2, 3), (3, 2)])?,
+    ])
 }
 
-#[test]
-fn sender_is_no_receiver(rt: HostRuntime) -> Result<(), Fail> {
-    let mut declarations = three_federates(rt.alloc())?;
+/// Whether of a sender and another that both subscribed the other alone is a receiver.
+fn is_no_receiver(alloc: Global, catalogue: &Catalogue) -> Result<bool, Fault> {
+    let mut declarations = three_federates(alloc)?;
     declarations.subscribe_interaction_class(1, 2);
     declarations.subscribe_interaction_class(3, 1);
-    let is_received = is_interaction_received_by(rt.alloc(), &declarations, &[(3, 1)])?;
-    assert!(rt; is_received);
-    Ok(())
-}
-
-/// Federate 2 declares object class 2 and interaction class 2, and is withdrawn.
-fn withdraw(rt: &impl Abort, alloc: Global, declarations: &mut Declarations) -> Result<(), Fail>
-    requires federates { (declarations_of declarations.old).federates ≡ 3 }
-    requires objects { (declarations_of declarations.old).object_classes ≡ 3 }
-    requires interactions { (declarations_of declarations.old).interaction_classes ≡ 3 }
-{
-    declarations.publish_object_class(2, 2, one(alloc, 2)?);
-    declarations.subscribe_object_class_attributes(2, 2, one(alloc, 2)?);
-    declarations.subscribe_interaction_class(2, 2);
-    assert!(rt; declarations.publishes_attribute(2, 2, 2));
-    declarations.withdraw(2);
-    Ok(())
-}
-
-/// What is declared once federate 2 was withdrawn.
-fn withdrawn(rt: &impl Abort, alloc: Global) -> Result<Declarations, Fail> {
-    let mut declarations = three_federates(alloc)?;
-    withdraw(rt, alloc, &mut declarations)?;
-    Ok(declarations)
-}
-
-/// Whether neither an object nor an interaction of class 3 that federate 1 sends has a receiver.
-fn is_received_by_none(alloc: Global, declarations: &Declarations) -> Result<bool, Fail> {
-    Ok(
-        is_object_received_by(alloc, declarations, &[])?
-            && is_interaction_received_by(alloc, declarations, &[])?,
-    )
+    is_interaction_received_by(alloc, catalogue, &declarations, &[(3, 1)])
 }
 
 #[test]
-fn receives_and_publishes_nothing_once_withdrawn(rt: HostRuntime) -> Result<(), Fail> {
-    let declarations = withdrawn(&rt, rt.alloc())?;
-    let is_gone = is_received_by_none(rt.alloc(), &declarations)?
-        && !declarations.publishes_object_class(2, 2)
-        && declarations.federates() == 3;
-    assert!(rt; is_gone);
+fn receives_at_the_most_derived_class_what_others_send(rt: HostRuntime) -> Result<(), Fail> {
+    let catalogue = read(rt.alloc(), FED)?;
+    let declarations = subscribed(rt.alloc())?;
+    check(
+        &rt,
+        &SERVED,
+        &served(rt.alloc(), &catalogue, &declarations)?,
+    );
+    let is_no_receiver = is_no_receiver(rt.alloc(), &catalogue)?;
+    assert!(rt; is_no_receiver, "a sender is no receiver");
     Ok(())
 }
 
-/// Federate 2 changes the order of its interactions of class 2 twice.
-fn change_order(alloc: Global) -> Result<Declarations, Fail>
-    ensures federates { IfOk result (λ d. (declarations_of d).federates ≡ 3) }
-{
+const WITHDRAWN: [&str; 5] = [
+    "a federate publishes what it declared",
+    "it publishes nothing once it is withdrawn",
+    "the federates are as many as before",
+    "it receives no object then",
+    "it receives no interaction then",
+];
+
+/// What is so of federate 2, which declares object class 2 and interaction class 2 and is withdrawn.
+fn withdrawn(alloc: Global, catalogue: &Catalogue) -> Result<[bool; 5], Fault> {
+    let (published, subscribed) = (one(alloc, 2)?, one(alloc, 2)?);
     let mut declarations = three_federates(alloc)?;
-    declarations.change_interaction_order(2, 2, Order::Receive)?;
-    declarations.change_interaction_order(2, 2, Order::Timestamp)?;
-    Ok(declarations)
+    declarations.publish_object_class(2, 2, published);
+    declarations.subscribe_object_class_attributes(2, 2, subscribed);
+    declarations.subscribe_interaction_class(2, 2);
+    let publishes = declarations.publishes_attribute(2, 2, 2);
+    declarations.withdraw(2);
+    Ok([
+        publishes,
+        !declarations.publishes_object_class(2, 2),
+        declarations.federates() == 3,
+        is_object_received_by(alloc, catalogue, &declarations, &[])?,
+        is_interaction_received_by(alloc, catalogue, &declarations, &[])?,
+    ])
 }
 
 /// The orders of federate 2's interactions of classes 2 and 3, and of federate 3's of class 2, where they were changed.
@@ -185,27 +168,22 @@ fn orders(declarations: &Declarations) -> [Option<Order>; 3] {
     ]
 }
 
-#[test]
-fn order_of_one_federate_and_class_until_withdrawn(rt: HostRuntime) -> Result<(), Fail> {
-    let mut declarations = change_order(rt.alloc())?;
-    assert!(&rt; orders(&declarations) == [Some(Order::Timestamp), None, None]);
-    declarations.withdraw(2);
-    assert!(&rt; orders(&declarations) == [None, None, None]);
-    Ok(())
-}
+const ORDERS: [&str; 2] = [
+    "an order is that of one federate and class",
+    "it is so until the federate is withdrawn",
+];
 
-/// Federate 1 publishes and subscribes object class 3 and interaction class 3.
-fn declared(alloc: Global) -> Result<Declarations, Fail>
-    ensures federates { IfOk result (λ d. (declarations_of d).federates ≡ 3) }
-    ensures objects { IfOk result (λ d. (declarations_of d).object_classes ≡ 3) }
-    ensures interactions { IfOk result (λ d. (declarations_of d).interaction_classes ≡ 3) }
-{
+/// What is so of federate 2, which changes the order of its interactions of class 2 twice.
+fn changed(alloc: Global) -> Result<[bool; 2], Fault> {
     let mut declarations = three_federates(alloc)?;
-    declarations.publish_object_class(1, 3, one(alloc, 3)?);
-    declarations.publish_interaction_class(1, 3);
-    declarations.subscribe_object_class_attributes(1, 3, one(alloc, 3)?);
-    declarations.subscribe_interaction_class(1, 3);
-    Ok(declarations)
+    declarations.change_interaction_order(2, 2, Order::Receive)?;
+    declarations.change_interaction_order(2, 2, Order::Timestamp)?;
+    let changed = orders(&declarations);
+    declarations.withdraw(2);
+    Ok([
+        changed == [Some(Order::Timestamp), None, None],
+        orders(&declarations) == [None, None, None],
+    ])
 }
 
 /// Whether federate 1 publishes and subscribes object class 3, and then interaction class 3.
@@ -218,24 +196,47 @@ fn declared_at_three(declarations: &Declarations) -> [bool; 4] {
     ]
 }
 
-/// Whether federate 1 has declared its attribute, and nothing of no class, and no federate 0 has.
-fn has_declared_no_more(declarations: &Declarations) -> bool {
-    declarations.published_attributes(1, 3) == [3].as_slice()
-        && declarations.subscribes_attribute(1, 3, 3)
-        && !declarations.publishes_object_class(1, 0)
-        && !declarations.publishes_object_class(0, 3)
-}
+const DECLARED: [&str; 6] = [
+    "a federate publishes the attributes that it declared",
+    "it subscribes the attribute that it declared",
+    "it publishes nothing of no class",
+    "no federate publishes nothing",
+    "it publishes and subscribes both classes",
+    "it publishes and subscribes neither once it has taken that back",
+];
 
-#[test]
-fn declares_until_it_takes_back(rt: HostRuntime) -> Result<(), Fail> {
-    let mut declarations = declared(rt.alloc())?;
-    let has_no_more = has_declared_no_more(&declarations);
+/// What is so of federate 1, which publishes and subscribes object class 3 and interaction class 3, and takes that back.
+fn declared(alloc: Global) -> Result<[bool; 6], Fault> {
+    let (published, subscribed) = (one(alloc, 3)?, one(alloc, 3)?);
+    let mut declarations = three_federates(alloc)?;
+    declarations.publish_object_class(1, 3, published);
+    declarations.publish_interaction_class(1, 3);
+    declarations.subscribe_object_class_attributes(1, 3, subscribed);
+    declarations.subscribe_interaction_class(1, 3);
+    let publishes = declarations.published_attributes(1, 3) == [3].as_slice();
+    let subscribes = declarations.subscribes_attribute(1, 3, 3);
+    let of_no_class = declarations.publishes_object_class(1, 0);
+    let of_nobody = declarations.publishes_object_class(0, 3);
     let before = declared_at_three(&declarations);
     declarations.unpublish_object_class(1, 3);
     declarations.unpublish_interaction_class(1, 3);
     declarations.unsubscribe_object_class(1, 3);
     declarations.unsubscribe_interaction_class(1, 3);
-    let after = declared_at_three(&declarations);
-    assert!(rt; (has_no_more, before, after) == (true, [true; 4], [false; 4]));
+    Ok([
+        publishes,
+        subscribes,
+        !of_no_class,
+        !of_nobody,
+        before == [true; 4],
+        declared_at_three(&declarations) == [false; 4],
+    ])
+}
+
+#[test]
+fn declares_until_it_takes_back_or_is_withdrawn(rt: HostRuntime) -> Result<(), Fail> {
+    let catalogue = read(rt.alloc(), FED)?;
+    check(&rt, &WITHDRAWN, &withdrawn(rt.alloc(), &catalogue)?);
+    check(&rt, &ORDERS, &changed(rt.alloc())?);
+    check(&rt, &DECLARED, &declared(rt.alloc())?);
     Ok(())
 }

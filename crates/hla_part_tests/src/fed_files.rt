@@ -1,54 +1,55 @@
 use crate::FED;
+use crate::facts::check;
 use hla_base::Plain;
 use hla_catalogue::{Catalogue, Order, Transport};
 use hla_fed_file::{FedFault, FedFaultKind, read};
 use std::alloc::{AllocError, Global};
 use std::test::Fail;
 
-/// The catalogue of `FED`.
-fn catalogue(alloc: Global) -> Result<Catalogue, Fail> {
-    Ok(read(alloc, FED.as_bytes())?)
-}
+const CATALOGUE: [&str; 17] = [
+    "an object class is found by its whole name",
+    "it is found by its last name",
+    "it is not found by the end of that",
+    "a class inherits an attribute",
+    "none is inherited from below",
+    "an interaction class is found by its last name",
+    "it inherits a parameter",
+    "none is inherited from another class",
+    "a parameter has its name",
+    "an interaction class has its path",
+    "it has its lineage",
+    "a class has the privilege to delete",
+    "an attribute has its order",
+    "an interaction class has its order",
+    "a copy is the same",
+    "the same text is read as the same",
+    "another text is not",
+];
 
-#[test]
-fn reads_object_classes(rt: HostRuntime) -> Result<(), Fail> {
-    let catalogue = catalogue(rt.alloc())?;
-    let classes = [
-        catalogue.object_class(b"ObjectRoot.Car"),
-        catalogue.object_class(b"Car"),
-        catalogue.object_class(b"ar"),
-    ];
-    assert!(rt; classes == [Some(2), Some(2), None]);
-    assert!(rt; catalogue.attribute(2, b"privilegeToDelete") == Some(1));
-    assert!(rt; catalogue.attribute(1, b"Pos").is_none());
-    Ok(())
-}
-
-#[test]
-fn reads_interaction_classes(rt: HostRuntime) -> Result<(), Fail> {
-    let catalogue = catalogue(rt.alloc())?;
-    assert!(rt; catalogue.interaction_class(b"Memo") == Some(3));
-    assert!(rt; catalogue.parameter(3, b"Text") == Some(1));
-    assert!(rt; catalogue.parameter(4, b"Text").is_none());
-    assert!(rt; catalogue.parameter_name(3) == b"Force".as_slice());
-    Ok(())
-}
-
-#[test]
-fn reads_paths(rt: HostRuntime) -> Result<(), Fail> {
-    let catalogue = catalogue(rt.alloc())?;
-    assert!(rt; catalogue.interaction_path(3) == b"InteractionRoot.Note.Memo".as_slice());
-    assert!(rt; catalogue.interaction_lineage(3) == [3, 2, 1].as_slice());
-    Ok(())
-}
-
-#[test]
-fn reads_orders(rt: HostRuntime) -> Result<(), Fail> {
-    let catalogue = catalogue(rt.alloc())?;
-    assert!(rt; catalogue.deletion_privilege(2) == Some(1));
-    assert!(rt; catalogue.attribute_order(3) == Order::Receive);
-    assert!(rt; catalogue.interaction_order(4) == Order::Timestamp);
-    Ok(())
+/// What is so of the catalogue of `FED`.
+fn catalogue(alloc: Global, catalogue: &Catalogue) -> Result<[bool; 17], Fail> {
+    let copy = catalogue.copy()?;
+    let again = read(alloc, FED.as_bytes())?;
+    let other = read(alloc, b"(FED)")?;
+    Ok([
+        catalogue.object_class(b"ObjectRoot.Car") == Some(2),
+        catalogue.object_class(b"Car") == Some(2),
+        catalogue.object_class(b"ar").is_none(),
+        catalogue.attribute(2, b"privilegeToDelete") == Some(1),
+        catalogue.attribute(1, b"Pos").is_none(),
+        catalogue.interaction_class(b"Memo") == Some(3),
+        catalogue.parameter(3, b"Text") == Some(1),
+        catalogue.parameter(4, b"Text").is_none(),
+        catalogue.parameter_name(3) == b"Force".as_slice(),
+        catalogue.interaction_path(3) == b"InteractionRoot.Note.Memo".as_slice(),
+        catalogue.interaction_lineage(3) == [3, 2, 1].as_slice(),
+        catalogue.deletion_privilege(2) == Some(1),
+        catalogue.attribute_order(3) == Order::Receive,
+        catalogue.interaction_order(4) == Order::Timestamp,
+        copy.is_same(catalogue),
+        again.is_same(catalogue),
+        !other.is_same(catalogue),
+    ])
 }
 
 /// A FED file in letters of both cases, with a comment.
@@ -57,19 +58,62 @@ const ANY_CASE: &[u8] = b"(fed (FEDERATION \"My Fed\") (FedVersion v1.3) ; note
 (Interactions (class I (parameter p))))
 ";
 
-/// Whether the first of three attributes is sent by best effort.
-fn has_a_first_of_best_effort(catalogue: &Catalogue) -> bool {
-    matches!(catalogue.attributes(), [a, _, _] if a.transport == Transport::BestEffort)
+const OF_ANY_CASE: [&str; 5] = [
+    "a class has its name",
+    "an attribute has its order",
+    "the first of three attributes is sent by best effort",
+    "an interaction class has receive order where none is said",
+    "it has its parameter",
+];
+
+/// What is so of the catalogue of `ANY_CASE`.
+fn of_any_case(catalogue: &Catalogue) -> [bool; 5] {
+    [
+        catalogue.object_path(1) == b"Root X".as_slice(),
+        catalogue.attribute_order(1) == Order::Timestamp,
+        matches!(catalogue.attributes(), [a, _, _] if a.transport == Transport::BestEffort),
+        catalogue.interaction_order(1) == Order::Receive,
+        catalogue.has_parameter(1, 1),
+    ]
+}
+
+/// A class whose attributes stand before and behind a class below it.
+const INHERITING: &[u8] =
+    b"(FED (objects (class a (attribute x) (class b (attribute x) (attribute y) (attribute y)) (attribute y) (class b))))";
+
+const INHERITED: [&str; 7] = [
+    "an attribute that is named twice is declared once",
+    "a class inherits what stands before it",
+    "it declares what stands behind it, too",
+    "which the class above has for itself",
+    "a class is found by its path",
+    "a class inherits what stands before its second place",
+    "but not what was declared in the first",
+];
+
+/// What is so of the catalogue of `INHERITING`.
+fn inherited(catalogue: &Catalogue) -> [bool; 7] {
+    [
+        catalogue.attributes().len() == 3,
+        catalogue.attribute(2, b"x") == Some(1),
+        catalogue.attribute(2, b"y") == Some(2),
+        catalogue.attribute(1, b"y") == Some(3),
+        catalogue.object_class(b"a.b") == Some(2),
+        catalogue.has_attribute(3, 3),
+        !catalogue.has_attribute(3, 2),
+    ]
 }
 
 #[test]
-fn reads_any_case(rt: HostRuntime) -> Result<(), Fail> {
-    let catalogue = read(rt.alloc(), ANY_CASE)?;
-    assert!(rt; catalogue.object_path(1) == b"Root X".as_slice());
-    assert!(rt; catalogue.attribute_order(1) == Order::Timestamp);
-    assert!(rt; has_a_first_of_best_effort(&catalogue));
-    assert!(rt; catalogue.interaction_order(1) == Order::Receive);
-    assert!(rt; catalogue.has_parameter(1, 1));
+fn reads_catalogues(rt: HostRuntime) -> Result<(), Fail> {
+    let fed = read(rt.alloc(), FED.as_bytes())?;
+    check(&rt, &CATALOGUE, &catalogue(rt.alloc(), &fed)?);
+    check(
+        &rt,
+        &OF_ANY_CASE,
+        &of_any_case(&read(rt.alloc(), ANY_CASE)?),
+    );
+    check(&rt, &INHERITED, &inherited(&read(rt.alloc(), INHERITING)?));
     Ok(())
 }
 
@@ -81,30 +125,6 @@ fn fault_of(alloc: Global, text: &[u8]) -> (usize, FedFaultKind) {
     match read(alloc, text) {
         Ok(_) => READ,
         Err(fault) => (fault.line, fault.kind),
-    }
-}
-
-/// How many attributes and parameters a text declares.
-fn counts_of(alloc: Global, text: &[u8]) -> Option<(usize, usize)> {
-    match read(alloc, text) {
-        Ok(catalogue) => Some((catalogue.attributes().len(), catalogue.parameters().len())),
-        Err(_) => None,
-    }
-}
-
-/// Whether a copy of a catalogue is equal to it.
-fn is_copied(catalogue: &Catalogue) -> bool {
-    match catalogue.copy() {
-        Ok(copy) => copy.is_same(catalogue),
-        Err(_) => false,
-    }
-}
-
-/// Whether a text is read as a catalogue.
-fn is_read_as(alloc: Global, text: &[u8], catalogue: &Catalogue) -> bool {
-    match read(alloc, text) {
-        Ok(other) => other.is_same(catalogue),
-        Err(_) => false,
     }
 }
 
@@ -261,115 +281,168 @@ fn finds_faults(rt: HostRuntime) {
     }
 }
 
-/// A text of so many times the same item.
-fn repeated_text(
-    alloc: Global,
-    head: &[u8],
-    item: &[u8],
+/// A text of so many times the same item, and how many attributes and parameters it declares. With more of it, maybe behind another
+/// head, the text is too large.
+struct Limit {
+    head: &'static [u8],
+    item: &'static [u8],
     count: usize,
-    tail: &[u8],
-) -> Result<Vec<u8>, AllocError> {
-    let mut text = Vec::from_slice(alloc, head)?;
-    for _ in 0..count {
-        text.extend_from_slice(item)?;
-    }
-    text.extend_from_slice(tail)?;
-    Ok(text)
-}
-
-/// The fault of a text of so many times the same item.
-fn fault_of_repeated(
-    alloc: Global,
-    head: &[u8],
-    item: &[u8],
-    count: usize,
-    tail: &[u8],
-) -> Result<(usize, FedFaultKind), AllocError> {
-    let text = repeated_text(alloc, head, item, count, tail)?;
-    Ok(fault_of(alloc, text.as_slice()))
-}
-
-/// Texts of so many times the same item; with one more it is too large.
-const LIMITS: [(&[u8], &[u8], usize, &[u8]); 9] = [
-    (b"(FED)", b" ", 1_048_571, b""),
-    (
-        b"(FED (spaces ",
-        b"(",
-        62,
-        b"))))))))))))))))))))))))))))))))))))))))))))))))))))))))))))))))",
-    ),
-    (
-        b"(FED (objects ",
-        b"(class c",
-        62,
-        b"))))))))))))))))))))))))))))))))))))))))))))))))))))))))))))))))",
-    ),
-    (b"(FED (objects", b"(class c)", 512, b"))"),
-    (b"(FED (interactions", b"(class c)", 512, b"))"),
-    (b"(FED (Federation ", b"n", 255, b"))"),
-    (b"(FED (objects (class \"", b"n", 255, b"\")))"),
-    (b"(FED (objects (class c (attribute ", b"n", 255, b"))))"),
-    (
-        b"(FED (interactions (class c (parameter ",
-        b"n",
-        255,
-        b"))))",
-    ),
-];
-
-const TOO_LARGE: (usize, FedFaultKind) = (1, FedFaultKind::TooLarge);
-
-#[test]
-fn keeps_the_limits(rt: HostRuntime) -> Result<(), Fail> {
-    for (head, item, count, tail) in LIMITS.iter() {
-        let last = fault_of_repeated(rt.alloc(), head, item, *count, tail)?;
-        assert!(rt; last == READ, "{head:?}");
-        let next = fault_of_repeated(rt.alloc(), head, item, *count + 1, tail)?;
-        assert!(rt; next == TOO_LARGE, "{head:?}");
-    }
-    Ok(())
-}
-
-/// How many attributes and parameters a text of so many times the same item declares.
-fn counts_of_repeated(
-    alloc: Global,
-    head: &[u8],
-    item: &[u8],
-    count: usize,
-) -> Result<Option<(usize, usize)>, AllocError> {
-    let text = repeated_text(alloc, head, item, count, b"))")?;
-    Ok(counts_of(alloc, text.as_slice()))
+    tail: &'static [u8],
+    declared: (usize, usize),
+    larger_head: &'static [u8],
+    larger_count: usize,
 }
 
 /// A class of eight attributes.
 const EIGHT_ATTRIBUTES: &[u8] =
     b"(class c (attribute a)(attribute b)(attribute c)(attribute d)(attribute e)(attribute f)(attribute g)(attribute h))";
 
-#[test]
-fn counts_attributes(rt: HostRuntime) -> Result<(), Fail> {
-    let alloc = rt.alloc();
-    let counts = counts_of_repeated(alloc, b"(FED (objects", EIGHT_ATTRIBUTES, 512)?;
-    assert!(rt; counts == Some((4096, 0)));
-    let head =
-        b"(FED (objects (class c (attribute a)(attribute b)(attribute c)(attribute d)(attribute e)(attribute f)(attribute g)(attribute h)(attribute i))";
-    let fault = fault_of_repeated(alloc, head, EIGHT_ATTRIBUTES, 511, b"))")?;
-    assert!(rt; fault == TOO_LARGE);
-    Ok(())
-}
-
 /// A class of eight parameters.
 const EIGHT_PARAMETERS: &[u8] =
     b"(class c (parameter a)(parameter b)(parameter c)(parameter d)(parameter e)(parameter f)(parameter g)(parameter h))";
 
+const LIMITS: [Limit; 11] = [
+    Limit {
+        head: b"(FED)",
+        item: b" ",
+        count: 1_048_571,
+        tail: b"",
+        declared: (0, 0),
+        larger_head: b"(FED)",
+        larger_count: 1_048_572,
+    },
+    Limit {
+        head: b"(FED (spaces ",
+        item: b"(",
+        count: 62,
+        tail: b"))))))))))))))))))))))))))))))))))))))))))))))))))))))))))))))))",
+        declared: (0, 0),
+        larger_head: b"(FED (spaces ",
+        larger_count: 63,
+    },
+    Limit {
+        head: b"(FED (objects ",
+        item: b"(class c",
+        count: 62,
+        tail: b"))))))))))))))))))))))))))))))))))))))))))))))))))))))))))))))))",
+        declared: (0, 0),
+        larger_head: b"(FED (objects ",
+        larger_count: 63,
+    },
+    Limit {
+        head: b"(FED (objects",
+        item: b"(class c)",
+        count: 512,
+        tail: b"))",
+        declared: (0, 0),
+        larger_head: b"(FED (objects",
+        larger_count: 513,
+    },
+    Limit {
+        head: b"(FED (interactions",
+        item: b"(class c)",
+        count: 512,
+        tail: b"))",
+        declared: (0, 0),
+        larger_head: b"(FED (interactions",
+        larger_count: 513,
+    },
+    Limit {
+        head: b"(FED (Federation ",
+        item: b"n",
+        count: 255,
+        tail: b"))",
+        declared: (0, 0),
+        larger_head: b"(FED (Federation ",
+        larger_count: 256,
+    },
+    Limit {
+        head: b"(FED (objects (class \"",
+        item: b"n",
+        count: 255,
+        tail: b"\")))",
+        declared: (0, 0),
+        larger_head: b"(FED (objects (class \"",
+        larger_count: 256,
+    },
+    Limit {
+        head: b"(FED (objects (class c (attribute ",
+        item: b"n",
+        count: 255,
+        tail: b"))))",
+        declared: (1, 0),
+        larger_head: b"(FED (objects (class c (attribute ",
+        larger_count: 256,
+    },
+    Limit {
+        head: b"(FED (interactions (class c (parameter ",
+        item: b"n",
+        count: 255,
+        tail: b"))))",
+        declared: (0, 1),
+        larger_head: b"(FED (interactions (class c (parameter ",
+        larger_count: 256,
+    },
+    Limit {
+        head: b"(FED (objects",
+        item: EIGHT_ATTRIBUTES,
+        count: 512,
+        tail: b"))",
+        declared: (4096, 0),
+        larger_head: b"(FED (objects (class c (attribute a)(attribute b)(attribute c)(attribute d)(attribute e)(attribute f)(attribute g)(attribute h)(attribute i))",
+        larger_count: 511,
+    },
+    Limit {
+        head: b"(FED (interactions",
+        item: EIGHT_PARAMETERS,
+        count: 512,
+        tail: b"))",
+        declared: (0, 4096),
+        larger_head: b"(FED (interactions (class c (parameter a)(parameter b)(parameter c)(parameter d)(parameter e)(parameter f)(parameter g)(parameter h)(parameter i))",
+        larger_count: 511,
+    },
+];
+
+impl Limit {
+    /// A text of so many times the item behind a head.
+    fn text(&self, alloc: Global, head: &[u8], count: usize) -> Result<Vec<u8>, AllocError> {
+        let mut text = Vec::from_slice(alloc, head)?;
+        for _ in 0..count {
+            text.extend_from_slice(self.item)?;
+        }
+        text.extend_from_slice(self.tail)?;
+        Ok(text)
+    }
+
+    /// How many attributes and parameters such a text declares, or its fault.
+    fn reading(
+        &self,
+        alloc: Global,
+        head: &[u8],
+        count: usize,
+    ) -> Result<Result<(usize, usize), FedFault>, AllocError> {
+        let text = self.text(alloc, head, count)?;
+        match read(alloc, text.as_slice()) {
+            Ok(catalogue) => Ok(Ok((catalogue.attributes().len(), catalogue.parameters().len()))),
+            Err(fault) => Ok(Err(fault)),
+        }
+    }
+}
+
+const TOO_LARGE: FedFault = FedFault {
+    line: 1,
+    kind: FedFaultKind::TooLarge,
+};
+
 #[test]
-fn counts_parameters(rt: HostRuntime) -> Result<(), Fail> {
-    let alloc = rt.alloc();
-    let counts = counts_of_repeated(alloc, b"(FED (interactions", EIGHT_PARAMETERS, 512)?;
-    assert!(rt; counts == Some((0, 4096)));
-    let head =
-        b"(FED (interactions (class c (parameter a)(parameter b)(parameter c)(parameter d)(parameter e)(parameter f)(parameter g)(parameter h)(parameter i))";
-    let fault = fault_of_repeated(alloc, head, EIGHT_PARAMETERS, 511, b"))")?;
-    assert!(rt; fault == TOO_LARGE);
+fn keeps_the_limits(rt: HostRuntime) -> Result<(), Fail> {
+    for limit in &LIMITS {
+        let head = limit.head;
+        let last = limit.reading(rt.alloc(), head, limit.count)?;
+        assert!(rt; last == Ok(limit.declared), "{head:?}");
+        let next = limit.reading(rt.alloc(), limit.larger_head, limit.larger_count)?;
+        assert!(rt; next == Err(TOO_LARGE), "{head:?}");
+    }
     Ok(())
 }
 
@@ -405,34 +478,5 @@ fn answers_each_change_of_a_byte(rt: HostRuntime) -> Result<(), Fail> {
         }
         text[place] = before;
     }
-    Ok(())
-}
-
-#[test]
-fn copies_a_catalogue(rt: HostRuntime) -> Result<(), Fail> {
-    let catalogue = catalogue(rt.alloc())?;
-    assert!(rt; is_copied(&catalogue));
-    assert!(rt; is_read_as(rt.alloc(), FED.as_bytes(), &catalogue));
-    assert!(rt; !is_read_as(rt.alloc(), b"(FED)", &catalogue));
-    Ok(())
-}
-
-/// A class whose attributes stand before and behind a class below it.
-const INHERITING: &[u8] =
-    b"(FED (objects (class a (attribute x) (class b (attribute x) (attribute y) (attribute y)) (attribute y) (class b))))";
-
-#[test]
-fn inherits_what_stands_before(rt: HostRuntime) -> Result<(), Fail> {
-    let catalogue = read(rt.alloc(), INHERITING)?;
-    assert!(rt; catalogue.attributes().len() == 3);
-    let attributes = [
-        catalogue.attribute(2, b"x"),
-        catalogue.attribute(2, b"y"),
-        catalogue.attribute(1, b"y"),
-    ];
-    assert!(rt; attributes == [Some(1), Some(2), Some(3)]);
-    assert!(rt; catalogue.object_class(b"a.b") == Some(2));
-    assert!(rt; catalogue.has_attribute(3, 3));
-    assert!(rt; !catalogue.has_attribute(3, 2));
     Ok(())
 }

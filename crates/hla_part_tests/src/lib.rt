@@ -5,6 +5,8 @@
 #[cfg(test)]
 mod declarations;
 #[cfg(test)]
+mod facts;
+#[cfg(test)]
 mod fed_files;
 #[cfg(test)]
 mod listing;

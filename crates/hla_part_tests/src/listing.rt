@@ -1,47 +1,38 @@
 use hla_fed_file::{FedFault, FedFaultKind};
 use hla_transcript::{ListFault, Watched, list};
-use std::alloc::Global;
-use std::process::Abort;
-use std::test::Fail;
 
-/// The list of a FED file.
-fn listing_of(rt: &impl Abort, alloc: Global, fed: &str) -> Result<String, Fail> {
-    let mut out = Vec::new(alloc);
-    list(alloc, fed.as_bytes(), &mut Watched::new(&mut out))?;
-    match String::from_utf8(out) {
-        Ok(text) => Ok(text),
-        Err(_) => panic!(rt; "the list is no text"),
-    }
+/// A FED file, what listing it answers, and what is written.
+struct Listing {
+    name: &'static str,
+    fed: &'static str,
+    answer: Result<(), ListFault>,
+    written: &'static str,
 }
 
-#[test]
-fn lists_a_catalogue(rt: HostRuntime) -> Result<(), Fail> {
-    let fed = "(fed (FEDERATION \"My Fed\") (FedVersion v1.3) ; note
+const LISTINGS: [Listing; 3] = [
+    Listing {
+        name: "a catalogue",
+        fed: "(fed (FEDERATION \"My Fed\") (FedVersion v1.3) ; note
 (OBJECTS (Class \"Root X\" (ATTRIBUTE a BEST_EFFORT TimeStamp Geo) (attribute b RELIABLE) (attribute c)))
 (Interactions (class I (parameter p))))
-";
-    assert_eq!(rt;
-        listing_of(&rt, rt.alloc(), fed)?.as_str(),
-        "object 1 Root X
+",
+        answer: Ok(()),
+        written: "object 1 Root X
 attribute 1 a best_effort timestamp
 attribute 2 b reliable receive
 attribute 3 c reliable receive
 interaction 1 I reliable receive
 parameter 1 p
-"
-    );
-    Ok(())
-}
-
-#[test]
-fn lists_each_item_behind_its_own_class(rt: HostRuntime) -> Result<(), Fail> {
-    let fed = "(FED
+",
+    },
+    Listing {
+        name: "each item behind its own class",
+        fed: "(FED
 (interactions (class I best_effort timestamp (class J (parameter q)) (parameter p)))
 (objects (class A (attribute a) (class B (attribute b) (attribute a)) (attribute c)) (class C)))
-";
-    assert_eq!(rt;
-        listing_of(&rt, rt.alloc(), fed)?.as_str(),
-        "object 1 A
+",
+        answer: Ok(()),
+        written: "object 1 A
 attribute 1 a reliable receive
 attribute 3 c reliable receive
 object 2 A.B
@@ -51,22 +42,27 @@ interaction 1 I best_effort timestamp
 parameter 2 p
 interaction 2 I.J reliable receive
 parameter 1 q
-"
-    );
-    Ok(())
-}
-
-/// A FED file that is cut off in its third line.
-const REFUSED: &[u8] = b"(FED\n(objects\n(class Ob";
+",
+    },
+    Listing {
+        name: "a file that is cut off in its third line",
+        fed: "(FED\n(objects\n(class Ob",
+        answer: Err(ListFault::Fed(FedFault {
+            line: 3,
+            kind: FedFaultKind::UnexpectedEnd,
+        })),
+        written: "",
+    },
+];
 
 #[test]
-fn writes_nothing_of_a_refused_file(rt: HostRuntime) {
-    let mut out = Vec::new(rt.alloc());
-    let answer = list(rt.alloc(), REFUSED, &mut Watched::new(&mut out));
-    let fault = FedFault {
-        line: 3,
-        kind: FedFaultKind::UnexpectedEnd,
-    };
-    assert!(rt; answer == Err(ListFault::Fed(fault)));
-    assert!(rt; out.is_empty());
+fn lists_a_catalogue_or_writes_nothing(rt: HostRuntime) {
+    for listing in &LISTINGS {
+        let mut out = Vec::new(rt.alloc());
+        let fed = listing.fed.as_bytes();
+        let answer = list(rt.alloc(), fed, &mut Watched::new(&mut out));
+        assert!(rt; answer == listing.answer, "{}", listing.name);
+        let is_written = out.as_slice() == listing.written.as_bytes();
+        assert!(rt; is_written, "{}", listing.name);
+    }
 }

@@ -1,6 +1,7 @@
 ghost use Rattle.std.specs.Prelude.{◌≤◌, ◌<◌};
 ghost use Rattle.hla_base.specs.Limits.{max_joins};
 
+use crate::facts::check;
 use hla_base::{AdvanceKind, Content, Event, FOREVER, FederateNo, Serial, SharedEvent, Ticks};
 use hla_local::{Local, NextPick, Picked};
 use hla_null_message::Message;
@@ -108,92 +109,202 @@ fn pending(alloc: Global) -> Local {
     local
 }
 
-#[test]
-fn gives_in_receive_order_what_is_below_its_time(rt: HostRuntime) {
-    let mut local = pending(rt.alloc());
-    assert!(rt; is_taken(rt.alloc(), &mut local, 2, 1, 12));
-    assert!(rt; is_taken_beside(rt.alloc(), &mut local, 3, 1, 5));
-    assert!(rt; picked(&mut local) == Some(NextPick::Constraint));
-    assert!(rt; local.next_pick() == NextPick::Nothing);
+const BELOW: [&str; 6] = [
+    "a message is taken in",
+    "one below its time is",
+    "it is constrained",
+    "it is given nothing without asynchronous delivery",
+    "it is given the one below its time with it",
+    "the other waits",
+];
+
+/// What is so of one that is sent a message at 12 and one below its time.
+fn below(alloc: Global) -> [bool; 6] {
+    let mut local = pending(alloc);
+    let first = is_taken(alloc, &mut local, 2, 1, 12);
+    let second = is_taken_beside(alloc, &mut local, 3, 1, 5);
+    let entered = picked(&mut local);
+    let next = local.next_pick();
     local.set_asynchronous_delivery(true);
-    assert!(rt; picked(&mut local) == Some(NextPick::Received));
-    assert!(rt; local.least_waiting() == 12);
+    let given = picked(&mut local);
+    [
+        first,
+        second,
+        entered == Some(NextPick::Constraint),
+        next == NextPick::Nothing,
+        given == Some(NextPick::Received),
+        local.least_waiting() == 12,
+    ]
 }
 
-#[test]
-fn waits_until_the_bound_passes(rt: HostRuntime) {
-    let mut local = pending(rt.alloc());
+const WAITING: [&str; 7] = [
+    "it is constrained",
+    "a message is taken in",
+    "it waits at the bound",
+    "it is given the message once the bound has passed it",
+    "it waits at its time",
+    "it is granted its time once the bound has passed that",
+    "its bar is behind its time",
+];
+
+/// What is so of one that waits for its time until the bound passes.
+fn waiting(alloc: Global) -> [bool; 7] {
+    let mut local = pending(alloc);
     local.meet(2, 1, 12);
-    assert!(rt; picked(&mut local) == Some(NextPick::Constraint));
-    assert!(rt; is_taken(rt.alloc(), &mut local, 2, 1, 12));
+    let entered = picked(&mut local);
+    let is_taken = is_taken(alloc, &mut local, 2, 1, 12);
     local.request(AdvanceKind::TimeAdvance, 20);
-    assert!(rt; picked(&mut local) == Some(NextPick::Nothing));
+    let waits = picked(&mut local);
     hear(&mut local, 1, 20);
-    assert!(rt; picked(&mut local) == Some(NextPick::Ordered));
-    assert!(rt; picked(&mut local) == Some(NextPick::Nothing));
+    let given = picked(&mut local);
+    let waits_again = picked(&mut local);
     hear(&mut local, 1, 21);
-    assert!(rt; picked(&mut local) == Some(NextPick::Grant(20)));
-    assert!(rt; local.bar() == 21);
+    let granted = picked(&mut local);
+    [
+        entered == Some(NextPick::Constraint),
+        is_taken,
+        waits == Some(NextPick::Nothing),
+        given == Some(NextPick::Ordered),
+        waits_again == Some(NextPick::Nothing),
+        granted == Some(NextPick::Grant(20)),
+        local.bar() == 21,
+    ]
 }
 
-#[test]
-fn is_granted_at_the_bound_where_that_is_available(rt: HostRuntime) {
-    let mut local = pending(rt.alloc());
+const AVAILABLE: [&str; 2] = ["it is constrained", "it is granted its time at the bound"];
+
+/// What is so of one that asks for the bound where that is available.
+fn available(alloc: Global) -> [bool; 2] {
+    let mut local = pending(alloc);
     local.meet(2, 1, 20);
-    assert!(rt; picked(&mut local) == Some(NextPick::Constraint));
+    let entered = picked(&mut local);
     local.request(AdvanceKind::TimeAdvanceAvailable, 20);
-    assert!(rt; picked(&mut local) == Some(NextPick::Grant(20)));
+    let granted = picked(&mut local);
+    [
+        entered == Some(NextPick::Constraint),
+        granted == Some(NextPick::Grant(20)),
+    ]
 }
 
-#[test]
-fn takes_a_message_back_or_asks_for_it(rt: HostRuntime) {
-    let mut local = Local::new(rt.alloc());
-    assert!(rt; is_taken(rt.alloc(), &mut local, 2, 1, 7));
-    assert!(rt; local.first_received().is_some());
-    assert!(rt; is_retracted(&mut local, 2, 1));
-    assert!(rt; local.next_pick() == NextPick::Nothing);
-    assert!(rt; is_retracted(&mut local, 2, 1));
-    assert!(rt; local.first_control().is_some());
-    assert!(rt; picked(&mut local) == Some(NextPick::Control));
+const TAKEN_BACK: [&str; 7] = [
+    "a message is taken in",
+    "it was received",
+    "it is retracted",
+    "then there is nothing to be given",
+    "it is retracted once more",
+    "then its receiver is asked for it",
+    "and picks that up",
+];
+
+/// What is so of a message that is taken back before it is given, and is asked back where it does not wait.
+fn taken_back(alloc: Global) -> [bool; 7] {
+    let mut local = Local::new(alloc);
+    let is_taken = is_taken(alloc, &mut local, 2, 1, 7);
+    let is_received = local.first_received().is_some();
+    let is_back = is_retracted(&mut local, 2, 1);
+    let next = local.next_pick();
+    let is_asked = is_retracted(&mut local, 2, 1);
+    let is_controlled = local.first_control().is_some();
+    let asked = picked(&mut local);
+    [
+        is_taken,
+        is_received,
+        is_back,
+        next == NextPick::Nothing,
+        is_asked,
+        is_controlled,
+        asked == Some(NextPick::Control),
+    ]
 }
 
-#[test]
-fn hears_a_peer_in_its_present_epoch_alone(rt: HostRuntime) {
-    let mut local = Local::new(rt.alloc());
+const HEARD: [&str; 2] = [
+    "it hears nothing of an old epoch",
+    "it hears a peer in its present epoch",
+];
+
+/// What is so of one that hears of two epochs.
+fn heard(alloc: Global) -> [bool; 2] {
+    let mut local = Local::new(alloc);
     local.meet(2, 1, 5);
     hear(&mut local, 0, 9);
-    assert!(rt; local.bound() == 5);
+    let old = local.bound();
     local.lower(2, 2, 3);
     hear(&mut local, 2, 9);
-    assert!(rt; local.bound() == 9);
+    [old == 5, local.bound() == 9]
 }
 
-#[test]
-fn regulates_and_resigns(rt: HostRuntime) {
-    let mut local = Local::new(rt.alloc());
+const REGULATING: [&str; 7] = [
+    "it has announced from where it sends",
+    "it regulates",
+    "it promises that still with less lookahead",
+    "it has entered where it was",
+    "it has announced the end once it has ceased",
+    "it is at the beginning once it has resigned",
+    "it is in its second epoch then",
+];
+
+/// What is so of one that regulates, ceases and resigns.
+fn regulating(alloc: Global) -> [bool; 7] {
+    let mut local = Local::new(alloc);
     local.regulate_from(2, 6);
-    assert!(rt; local.last_announced() == 6);
-    assert!(rt; picked(&mut local) == Some(NextPick::Regulation));
+    let announced = local.last_announced();
+    let entered = picked(&mut local);
     local.set_lookahead(1);
-    assert!(rt; local.promise() == 6);
+    let promise = local.promise();
     local.announce(8);
-    assert!(rt; local.entry() == 0);
+    let entry = local.entry();
     local.cease_regulation();
-    assert!(rt; local.last_announced() == FOREVER);
+    let ceased = local.last_announced();
     local.resign();
-    assert!(rt; local.state().time() == 0);
-    assert!(rt; local.epoch() == 1);
+    [
+        announced == 6,
+        entered == Some(NextPick::Regulation),
+        promise == 6,
+        entry == 0,
+        ceased == FOREVER,
+        local.state().time() == 0,
+        local.epoch() == 1,
+    ]
+}
+
+const LEFT: [&str; 6] = [
+    "a message is taken in",
+    "it waits in time-stamp order",
+    "it waits there alone",
+    "the federate ceases to be constrained",
+    "the message does not wait there then",
+    "it was received",
+];
+
+/// What is so of one that ceases to be constrained, and is given all in receive order then.
+fn left(alloc: Global) -> [bool; 6] {
+    let mut local = pending(alloc);
+    let is_taken = is_taken(alloc, &mut local, 2, 1, 12);
+    let waits = local.first_ordered().is_some();
+    let waits_alone =
+        matches!(local.ordered_below(alloc, FOREVER), Ok(handles) if handles.len() == 1);
+    let has_ceased = local.cease_constraint().is_ok();
+    [
+        is_taken,
+        waits,
+        waits_alone,
+        has_ceased,
+        local.first_ordered().is_none(),
+        local.next_pick() == NextPick::Received,
+    ]
 }
 
 #[test]
-fn gives_all_in_receive_order_once_it_is_not_constrained(rt: HostRuntime) {
-    let mut local = pending(rt.alloc());
-    assert!(rt; is_taken(rt.alloc(), &mut local, 2, 1, 12));
-    assert!(rt; local.first_ordered().is_some());
-    assert!(rt;
-        matches!(local.ordered_below(rt.alloc(), FOREVER), Ok(handles) if handles.len() == 1)
-    );
-    assert!(rt; local.cease_constraint().is_ok());
-    assert!(rt; local.first_ordered().is_none());
-    assert!(rt; local.next_pick() == NextPick::Received);
+fn gives_what_waits_in_its_time(rt: HostRuntime) {
+    check(&rt, &BELOW, &below(rt.alloc()));
+    check(&rt, &WAITING, &waiting(rt.alloc()));
+    check(&rt, &AVAILABLE, &available(rt.alloc()));
+    check(&rt, &TAKEN_BACK, &taken_back(rt.alloc()));
+    check(&rt, &LEFT, &left(rt.alloc()));
+}
+
+#[test]
+fn hears_its_peers_and_regulates(rt: HostRuntime) {
+    check(&rt, &HEARD, &heard(rt.alloc()));
+    check(&rt, &REGULATING, &regulating(rt.alloc()));
 }

@@ -1,4 +1,5 @@
-use hla_base::{ClassNo, FederateNo, List, ObjectNo};
+use crate::facts::check;
+use hla_base::{Fault, FederateNo, List, ObjectNo};
 use hla_object_registry::Registry;
 use std::alloc::Global;
 use std::process::Abort;
@@ -12,9 +13,7 @@ fn add(
     name: &[u8],
     owner: FederateNo,
 ) -> Result<ObjectNo, Fail> {
-    assert!(rt; 0 < owner);
-    assert!(rt; owner <= 16);
-    assert!(rt; registry.next_object() <= 4096);
+    assert!(rt; 0 < owner && owner <= 16 && registry.next_object() <= 4096);
     assert!(rt; !registry.is_name_used(name));
     let name = List::from_vec(Vec::from_slice(alloc, name)?);
     let attributes = List::from_vec(Vec::from_slice(alloc, &[4, 5])?);
@@ -29,79 +28,58 @@ fn add_three(rt: &impl Abort, alloc: Global, registry: &mut Registry) -> Result<
     Ok(())
 }
 
-/// Three objects, of federates 1, 2 and 1.
-fn three(rt: &impl Abort, alloc: Global) -> Result<Registry, Fail> {
-    let mut registry = Registry::new(alloc);
-    add_three(rt, alloc, &mut registry)?;
-    Ok(registry)
-}
-
-/// The class and the owner of an object.
-fn class_and_owner(registry: &Registry, object: ObjectNo) -> (ClassNo, FederateNo) {
-    (registry.class_of(object), registry.owner(object))
-}
-
-/// Whether object 2 is what was registered of three, and there is no fourth.
-fn is_registered(registry: &Registry) -> bool {
-    registry.next_object() == 4
-        && class_and_owner(registry, 2) == (3, 2)
-        && registry.name_of(2) == b"Bus".as_slice()
-        && registry.name_of(4) == b"".as_slice()
-}
-
-/// Which of objects 0, 2 and 4 there are.
-fn objects_there(registry: &Registry) -> [bool; 3] {
-    [
-        registry.has_object(0),
-        registry.has_object(2),
-        registry.has_object(4),
-    ]
-}
-
-/// Whether federate 2 owns attribute 5 of object 2, federate 1 does, and federate 2 owns attribute 6.
-fn attributes_owned(registry: &Registry) -> [bool; 3] {
-    [
-        registry.owns_attribute(2, 2, 5),
-        registry.owns_attribute(1, 2, 5),
-        registry.owns_attribute(2, 2, 6),
-    ]
-}
-
 /// Deletes an object, which was registered.
 fn delete(rt: &impl Abort, registry: &mut Registry, object: ObjectNo) {
-    assert!(rt; 0 < object);
-    assert!(rt; object < registry.next_object());
+    assert!(rt; 0 < object && object < registry.next_object());
     registry.delete(object);
 }
 
-/// Three objects, the first of which was deleted.
-fn one_deleted(rt: &impl Abort, alloc: Global) -> Result<Registry, Fail> {
-    let mut registry = three(rt, alloc)?;
-    delete(rt, &mut registry, 1);
-    Ok(registry)
+/// Whether federates 1 and 2 own these objects, and as many as are counted.
+fn own(
+    registry: &Registry,
+    alloc: Global,
+    first: &[ObjectNo],
+    second: &[ObjectNo],
+) -> Result<bool, Fault> {
+    let of_first = registry.objects_owned_by(alloc, 1)?;
+    let of_second = registry.objects_owned_by(alloc, 2)?;
+    Ok(
+        of_first.as_slice() == first
+            && of_second.as_slice() == second
+            && registry.count_owned_by(1) == first.len()
+            && registry.count_owned_by(2) == second.len(),
+    )
 }
 
-/// Whether the first object keeps its name, and is not found by it.
-fn is_deleted(registry: &Registry) -> bool {
-    !registry.has_object(1)
-        && registry.name_of(1) == b"Car".as_slice()
-        && registry.object_named(1, b"Car").is_none()
-        && registry.is_name_used(b"Car")
-}
+const REGISTERED: [&str; 11] = [
+    "the next has the next number",
+    "an object has its class",
+    "it has its owner",
+    "it has its name",
+    "an object that was not registered has none",
+    "there is no object 0",
+    "there is one that was registered",
+    "there is none that was not",
+    "its owner owns its attributes",
+    "another federate does not",
+    "its owner owns no other attributes",
+];
 
-/// Whether another name is not used until an object has it, with the next number.
-fn takes_new_name(rt: &impl Abort, alloc: Global, registry: &mut Registry) -> Result<bool, Fail> {
-    let is_new = !registry.is_name_used(b"Train");
-    Ok(add(rt, alloc, registry, b"Train", 1)? == 4 && is_new)
-}
-
-#[test]
-fn never_uses_a_name_of_a_deleted_object_again(rt: HostRuntime) -> Result<(), Fail> {
-    let mut registry = one_deleted(&rt, rt.alloc())?;
-    let is_deleted = is_deleted(&registry);
-    let is_right = takes_new_name(&rt, rt.alloc(), &mut registry)? && is_deleted;
-    assert!(rt; is_right);
-    Ok(())
+/// What is so of three objects.
+fn registered(registry: &Registry) -> [bool; 11] {
+    [
+        registry.next_object() == 4,
+        registry.class_of(2) == 3,
+        registry.owner(2) == 2,
+        registry.name_of(2) == b"Bus".as_slice(),
+        registry.name_of(4) == b"".as_slice(),
+        !registry.has_object(0),
+        registry.has_object(2),
+        !registry.has_object(4),
+        registry.owns_attribute(2, 2, 5),
+        !registry.owns_attribute(1, 2, 5),
+        !registry.owns_attribute(2, 2, 6),
+    ]
 }
 
 /// To which of federates 0, 1, 2, 16 and 17 object 2 is known.
@@ -115,69 +93,90 @@ fn known_to(registry: &Registry) -> [bool; 5] {
     ]
 }
 
-/// Makes the second of three objects known to federate 1.
-fn make_known(rt: &impl Abort, registry: &mut Registry) {
-    assert!(rt; known_to(registry) == [false, false, true, false, false]);
-    assert!(rt; registry.object_named(1, b"Bus").is_none());
+const KNOWN: [&str; 6] = [
+    "an object is known to its owner alone",
+    "another federate does not find it by its name",
+    "it is known to one that it was made known to",
+    "that federate finds it by its name",
+    "it is not known once it is deleted",
+    "but was made known",
+];
+
+/// What is so of object 2 of three, which is made known to federate 1 and then deleted.
+fn known(rt: &impl Abort, registry: &mut Registry) -> [bool; 6] {
+    let before = known_to(registry);
+    let unknown = registry.object_named(1, b"Bus");
     assert!(rt; registry.next_object() > 2);
     registry.make_known(2, 1);
+    let then = known_to(registry);
+    let named = registry.object_named(1, b"Bus");
+    delete(rt, registry, 2);
+    [
+        before == [false, false, true, false, false],
+        unknown.is_none(),
+        then == [false, true, true, false, false],
+        named == Some(2),
+        !registry.is_known(2, 1),
+        registry.was_made_known(2, 1),
+    ]
 }
 
-/// Three objects, the second of which was made known to federate 1.
-fn one_made_known(rt: &impl Abort, alloc: Global) -> Result<Registry, Fail> {
-    let mut registry = three(rt, alloc)?;
-    make_known(rt, &mut registry);
-    Ok(registry)
+const DELETED: [&str; 6] = [
+    "an object is not there once it is deleted",
+    "it keeps its name",
+    "it is not found by that",
+    "its name is used still",
+    "another name is not",
+    "an object with that has the next number",
+];
+
+/// What is so of object 1 of three, which is deleted, and of a fourth.
+fn deleted(rt: &impl Abort, alloc: Global, registry: &mut Registry) -> Result<[bool; 6], Fail> {
+    delete(rt, registry, 1);
+    let is_gone = !registry.has_object(1);
+    let keeps_name = registry.name_of(1) == b"Car".as_slice();
+    let is_unnamed = registry.object_named(1, b"Car").is_none();
+    let is_used = registry.is_name_used(b"Car");
+    let is_new = !registry.is_name_used(b"Train");
+    let fourth = add(rt, alloc, registry, b"Train", 1)?;
+    Ok([
+        is_gone,
+        keeps_name,
+        is_unnamed,
+        is_used,
+        is_new,
+        fourth == 4,
+    ])
+}
+
+const OWNED: [&str; 3] = [
+    "each owns what it registered",
+    "an object of a federate is deleted with all of its objects",
+    "the other keeps its objects",
+];
+
+/// What is so of three objects, of which those of federate 1 are deleted.
+fn owned(alloc: Global, registry: &mut Registry) -> Result<[bool; 3], Fault> {
+    let before = own(registry, alloc, &[1, 3], &[2])?;
+    registry.delete_owned_by(1);
+    let after = own(registry, alloc, &[], &[2])?;
+    Ok([before, !registry.has_object(3), after])
 }
 
 #[test]
-fn is_known_until_it_is_deleted(rt: HostRuntime) -> Result<(), Fail> {
-    let mut registry = one_made_known(&rt, rt.alloc())?;
-    let before = (known_to(&registry), registry.object_named(1, b"Bus"));
-    delete(&rt, &mut registry, 2);
-    let after = (registry.is_known(2, 1), registry.was_made_known(2, 1));
-    assert!(rt; before == ([false, true, true, false, false], Some(2)));
-    assert!(rt; after == (false, true));
-    Ok(())
-}
-
-/// Whether a federate owns these objects, and as many as are counted.
-fn owns(
-    registry: &Registry,
-    alloc: Global,
-    owner: FederateNo,
-    objects: &[ObjectNo],
-) -> Result<bool, Fail> {
-    let owned = registry.objects_owned_by(alloc, owner)?;
-    Ok(owned.as_slice() == objects && registry.count_owned_by(owner) == objects.len())
-}
-
-/// Whether federates 1 and 2 own these objects.
-fn own(
-    registry: &Registry,
-    alloc: Global,
-    first: &[ObjectNo],
-    second: &[ObjectNo],
-) -> Result<bool, Fail> {
-    Ok(owns(registry, alloc, 1, first)? && owns(registry, alloc, 2, second)?)
-}
-
-#[test]
-fn owns_what_was_registered(rt: HostRuntime) -> Result<(), Fail> {
-    let registry = three(&rt, rt.alloc())?;
-    let is_right = is_registered(&registry)
-        && objects_there(&registry) == [false, true, false]
-        && attributes_owned(&registry) == [true, false, false]
-        && own(&registry, rt.alloc(), &[1, 3], &[2])?;
-    assert!(rt; is_right);
+fn knows_objects_until_they_are_deleted(rt: HostRuntime) -> Result<(), Fail> {
+    let mut registry = Registry::new(rt.alloc());
+    add_three(&rt, rt.alloc(), &mut registry)?;
+    check(&rt, &REGISTERED, &registered(&registry));
+    check(&rt, &KNOWN, &known(&rt, &mut registry));
+    check(&rt, &DELETED, &deleted(&rt, rt.alloc(), &mut registry)?);
     Ok(())
 }
 
 #[test]
 fn deletes_the_objects_of_a_federate(rt: HostRuntime) -> Result<(), Fail> {
-    let mut registry = three(&rt, rt.alloc())?;
-    registry.delete_owned_by(1);
-    let is_right = !registry.has_object(3) && own(&registry, rt.alloc(), &[], &[2])?;
-    assert!(rt; is_right);
+    let mut registry = Registry::new(rt.alloc());
+    add_three(&rt, rt.alloc(), &mut registry)?;
+    check(&rt, &OWNED, &owned(rt.alloc(), &mut registry)?);
     Ok(())
 }

@@ -1,5 +1,6 @@
 ghost use Rattle.std.specs.Prelude.{◌<◌};
 
+use crate::facts::check;
 use hla_base::{Content, Event, FOREVER, Fault, FederateNo, Serial, Ticks};
 use hla_order_queues::{RoQueue, TsoQueue};
 use std::alloc::{AllocError, Global};
@@ -23,52 +24,42 @@ fn key(event: &Event) -> Key {
     (event.stamp, event.sender, event.serial)
 }
 
+/// The key of an event that was taken out, if one was.
+fn key_of(event: Option<Event>) -> Option<Key> {
+    match event {
+        Some(event) => Some(key(&event)),
+        None => None,
+    }
+}
+
+/// Puts an event into a queue that does not have it, and says whether that was done.
+fn put(queue: &mut TsoQueue, event: Event) -> bool {
+    if queue.has_event(event.sender, event.serial) {
+        return false;
+    }
+    queue.insert(event).is_ok()
+}
+
+/// The event of a number.
 fn event_of(i: u64) -> Event
     requires { i < 10000 }
 {
     event(1 + (i % 16) as u32, i + 1, 7919 * i % 1009)
 }
 
-fn put(queue: &mut TsoQueue, event: Event) -> Result<(), Fail> {
-    if queue.has_event(event.sender, event.serial) {
-        return Err("it is there already".into());
-    }
-    if queue.insert(event).is_err() {
-        return Err("no room".into());
-    }
-    Ok(())
-}
-
-/// Takes an event out, and gives its key.
-fn remove(queue: &mut TsoQueue, sender: FederateNo, serial: Serial) -> Option<Key> {
-    match queue.remove(sender, serial) {
-        Some(event) => Some(key(&event)),
-        None => None,
-    }
-}
-
-/// Takes the least event out, and gives its key.
-fn take_least(queue: &mut TsoQueue) -> Option<Key> {
-    match queue.take_least() {
-        Some(event) => Some(key(&event)),
-        None => None,
-    }
-}
-
-/// Ten thousand events.
-fn filled(alloc: Global) -> Result<TsoQueue, Fail> {
-    let mut queue = TsoQueue::new(alloc);
+/// Puts ten thousand events into a queue.
+fn fill(rt: &impl Abort, queue: &mut TsoQueue) {
     for i in 0..10_000u64 {
-        put(&mut queue, event_of(i))?;
+        assert!(rt; put(queue, event_of(i)), "event {i}");
     }
-    Ok(queue)
 }
 
-/// Takes out each third of the events of `filled`.
+/// Takes out each third of the events of `fill`.
 fn remove_thirds(rt: &impl Abort, queue: &mut TsoQueue) {
     for i in 0..3_334u64 {
         let expected = key(&event_of(3 * i));
-        assert!(rt; remove(queue, expected.1, expected.2) == Some(expected));
+        let removed = key_of(queue.remove(expected.1, expected.2));
+        assert!(rt; removed == Some(expected), "{removed:?}");
     }
 }
 
@@ -88,35 +79,36 @@ fn keys_left(alloc: Global) -> Result<Vec<Key>, AllocError> {
 fn take_all(rt: &impl Abort, queue: &mut TsoQueue, keys: &[Key]) {
     assert!(rt; queue.len() == 6_666);
     for expected in keys {
-        assert!(rt; take_least(queue) == Some(*expected));
+        let taken = key_of(queue.take_least());
+        assert!(rt; taken == Some(*expected), "{taken:?}");
     }
-    assert!(rt; take_least(queue).is_none());
+    assert!(rt; queue.take_least().is_none());
 }
 
 #[test]
 fn gives_what_is_left_in_the_order_of_a_sorted_list(rt: HostRuntime) -> Result<(), Fail> {
     let keys = keys_left(rt.alloc())?;
-    let mut queue = filled(rt.alloc())?;
+    let mut queue = TsoQueue::new(rt.alloc());
+    fill(&rt, &mut queue);
     remove_thirds(&rt, &mut queue);
     take_all(&rt, &mut queue, keys.as_slice());
     Ok(())
 }
 
-/// Five events, of which four are below 9.
-fn five_events(alloc: Global) -> Result<TsoQueue, Fail> {
-    let mut queue = TsoQueue::new(alloc);
-    for (sender, serial, stamp) in [(2, 1, 7), (1, 2, 7), (1, 1, 7), (3, 1, 9), (3, 2, 5)] {
-        put(&mut queue, event(sender, serial, stamp))?;
-    }
-    Ok(queue)
-}
+/// Five events, of which four are below 9: the sender, the serial and the stamp of each.
+const FIVE: [(FederateNo, Serial, Ticks); 5] = [
+    (2, 1, 7),
+    (1, 2, 7),
+    (1, 1, 7),
+    (3, 1, 9),
+    (3, 2, 5),
+];
 
-/// One event that was received before.
-fn one_received(alloc: Global) -> Result<RoQueue, Fail> {
-    let mut received = RoQueue::new(alloc);
-    received.reserve(1)?;
-    received.put(event(9, 9, 1));
-    Ok(received)
+/// Puts the five events into a queue.
+fn put_five(rt: &impl Abort, queue: &mut TsoQueue) {
+    for (sender, serial, stamp) in FIVE {
+        assert!(rt; put(queue, event(sender, serial, stamp)));
+    }
 }
 
 /// Whether the events that were received have these keys.
@@ -132,43 +124,44 @@ fn are_received(received: &RoQueue, expected: &[Key]) -> bool {
     is_same
 }
 
-/// The key of an event that is taken out of those that were received.
-fn remove_received(received: &mut RoQueue, sender: FederateNo, serial: Serial) -> Option<Key> {
-    match received.remove(sender, serial) {
-        Some(event) => Some(key(&event)),
-        None => None,
-    }
-}
+const MOVED: [&str; 7] = [
+    "the least stamp is that of the least event",
+    "one event is not below the bound",
+    "four move behind what was received, by their keys",
+    "one is taken out of what was received",
+    "none is above the last bound",
+    "what was received first was not sent in time-stamp order",
+    "the fifth moves behind those that are left",
+];
 
-/// Moves four of five events.
-fn move_four(rt: &impl Abort, queue: &mut TsoQueue, received: &mut RoQueue) -> Result<(), Fault> {
+/// What is so of five events, of which four move behind one that was received before, and the fifth once one was taken out.
+fn moved(queue: &mut TsoQueue, received: &mut RoQueue) -> Result<[bool; 7], Fault> {
     let least = queue.least_stamp();
     queue.move_below(9, received)?;
-    assert!(rt; (least, queue.len()) == (5, 1));
-    let expected = [(1, 9, 9), (5, 3, 2), (7, 1, 1), (7, 1, 2), (7, 2, 1)];
-    assert!(rt; are_received(received, &expected));
-    Ok(())
-}
-
-/// Takes out one of four events, and moves the fifth.
-fn move_last(rt: &impl Abort, queue: &mut TsoQueue, received: &mut RoQueue) -> Result<(), Fault> {
-    assert!(rt; remove_received(received, 2, 1) == Some((7, 2, 1)));
+    let left = queue.len();
+    let first = [(1, 9, 9), (5, 3, 2), (7, 1, 1), (7, 1, 2), (7, 2, 1)];
+    let are_moved = are_received(received, &first);
+    let removed = key_of(received.remove(2, 1));
     queue.move_below(FOREVER, received)?;
-    assert!(rt; queue.least().is_none() && received.least_ordered() == 1);
-    let expected = [(1, 9, 9), (5, 3, 2), (7, 1, 1), (7, 1, 2), (9, 3, 1)];
-    assert!(rt; are_received(received, &expected));
-    Ok(())
-}
-
-/// Moves four of five events, and then the last.
-fn move_all(rt: &impl Abort, queue: &mut TsoQueue, received: &mut RoQueue) -> Result<(), Fault> {
-    move_four(rt, queue, received)?;
-    move_last(rt, queue, received)
+    let last = [(1, 9, 9), (5, 3, 2), (7, 1, 1), (7, 1, 2), (9, 3, 1)];
+    Ok([
+        least == 5,
+        left == 1,
+        are_moved,
+        removed == Some((7, 2, 1)),
+        queue.least().is_none(),
+        received.least_ordered() == 1,
+        are_received(received, &last),
+    ])
 }
 
 #[test]
 fn moves_what_is_below_a_bound(rt: HostRuntime) -> Result<(), Fail> {
-    let mut queue = five_events(rt.alloc())?;
-    let mut received = one_received(rt.alloc())?;
-    Ok(move_all(&rt, &mut queue, &mut received)?)
+    let mut queue = TsoQueue::new(rt.alloc());
+    put_five(&rt, &mut queue);
+    let mut received = RoQueue::new(rt.alloc());
+    received.reserve(1)?;
+    received.put(event(9, 9, 1));
+    check(&rt, &MOVED, &moved(&mut queue, &mut received)?);
+    Ok(())
 }

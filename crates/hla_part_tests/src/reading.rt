@@ -1,18 +1,23 @@
+use crate::facts::check;
 use hla_base::{AdvanceKind, MAX_SCRIPT};
 use hla_commands::{Call, Command, Line, parse};
 use std::alloc::{AllocError, Global};
 use std::test::Fail;
 
-/// The line and the name of a script's fault, or line 0 where it is read.
-fn fault_of(alloc: Global, text: &[u8]) -> (usize, &'static str) {
+/// What `reading_of` says of a script with no fault, beside how many lines with a command it has.
+const READ: &str = "none";
+
+/// The line and the name of a script's fault, or, where it is read, how many lines with a command it has.
+fn reading_of(alloc: Global, text: &[u8]) -> (usize, &'static str) {
     match parse(alloc, text) {
-        Ok(_) => (0, "none"),
+        Ok(script) => (script.len(), READ),
         Err(fault) => (fault.line, fault.kind.name()),
     }
 }
 
-/// Scripts, and the line and the name of the first fault of each.
-const FAULTS: [(&str, usize, &str); 54] = [
+/// Scripts, and what `reading_of` says of each: those with a fault, those with one of a stamp or a handle or of time management, and
+/// those with none.
+const SCRIPTS: [(&str, usize, &str); 117] = [
     ("create\ncreate x", 2, "ExtraWord"),
     ("\n\n # x", 3, "UnknownWord"),
     ("join", 1, "MissingWord"),
@@ -67,137 +72,92 @@ const FAULTS: [(&str, usize, &str); 54] = [
     ("create\ncreate\r", 2, "BadByte"),
     ("create\r\r\n", 1, "BadByte"),
     ("A tick x \x7f", 1, "BadByte"),
-];
-
-/// Whether a script has its first fault in this line, and the fault this name.
-fn is_refused(alloc: Global, text: &str, line: usize, kind: &str) -> bool {
-    let fault = fault_of(alloc, text.as_bytes());
-    fault.0 == line && fault.1 == kind
-}
-
-#[test]
-fn finds_the_first_fault(rt: HostRuntime) {
-    for (text, line, kind) in FAULTS.iter() {
-        assert!(rt; is_refused(rt.alloc(), text, *line, kind), "in {text:?}");
-    }
-}
-
-/// Lines with a fault of a stamp or a handle, and its name.
-const FAULTS_OF_STAMPS: [(&str, &str); 22] = [
-    ("A send Hit @", "BadWord"),
-    ("A send Hit @x", "BadWord"),
-    ("A send Hit x @5", "BadWord"),
-    ("A send Hit @18446744073709551616", "BadWord"),
-    ("A send Hit @5 a=1", "ExtraWord"),
-    ("A update 1 Car @5:", "BadWord"),
-    ("A update 1 Car @5 Pos", "ExtraWord"),
-    ("A update 1 Car Pos=1 @5 Pos=2", "ExtraWord"),
-    ("A delete @5", "BadNumber"),
-    ("A delete 1 5", "BadWord"),
-    ("A delete 1 @-5", "BadWord"),
-    ("A delete 1 @5=x", "BadWord"),
-    ("A delete 1 @5 @6", "ExtraWord"),
-    ("A retract", "MissingWord"),
-    ("A retract 1", "BadWord"),
-    ("A retract 1.", "BadWord"),
-    ("A retract .1", "BadWord"),
-    ("A retract 1.x", "BadWord"),
-    ("A retract 1.2.3", "BadWord"),
-    ("A retract 18446744073709551616.1", "BadWord"),
-    ("A retract 1.18446744073709551616", "BadWord"),
-    ("A retract 1.1 1.2", "ExtraWord"),
-];
-
-#[test]
-fn finds_faults_of_stamps_and_handles(rt: HostRuntime) {
-    for (text, kind) in FAULTS_OF_STAMPS.iter() {
-        assert!(rt; is_refused(rt.alloc(), text, 1, kind), "in {text:?}");
-    }
-}
-
-/// Lines with a fault of time management, and its name.
-const FAULTS_OF_TIME: [(&str, &str); 22] = [
-    ("A regulate", "MissingWord"),
-    ("A regulate 0", "MissingWord"),
-    ("A regulate @0 1", "BadNumber"),
-    ("A regulate 0 x", "BadNumber"),
-    ("A regulate 0 1 2", "ExtraWord"),
-    ("A unregulate 1", "ExtraWord"),
-    ("A constrain 1", "ExtraWord"),
-    ("A unconstrain x", "ExtraWord"),
-    ("A tar", "MissingWord"),
-    ("A tara 1.1", "BadNumber"),
-    ("A ner 1 2", "ExtraWord"),
-    ("A nera 18446744073709551616", "BadNumber"),
-    ("A fqr @5", "BadNumber"),
-    ("A modifyLookahead", "MissingWord"),
-    ("A modifyLookahead x", "BadNumber"),
-    ("A asyncOn x", "ExtraWord"),
-    ("A asyncOff x", "ExtraWord"),
-    ("A async", "UnknownWord"),
-    ("A lbts 1", "ExtraWord"),
-    ("A time 1", "ExtraWord"),
-    ("A minNext 1", "ExtraWord"),
-    ("A lookahead 1", "ExtraWord"),
-];
-
-#[test]
-fn finds_faults_of_time_management(rt: HostRuntime) {
-    for (text, kind) in FAULTS_OF_TIME.iter() {
-        assert!(rt; is_refused(rt.alloc(), text, 1, kind), "in {text:?}");
-    }
-}
-
-/// Scripts with no fault, and how many lines with a command each has.
-const SCRIPTS: [(&str, usize); 19] = [
-    ("", 0usize),
-    ("\r\n \t\n#A \n", 0),
-    ("create\r\n\tjoin\tA \n", 2),
-    ("A send Hit @5=x a==", 1),
-    ("join tick\ntick tick", 2),
+    ("A send Hit @", 1, "BadWord"),
+    ("A send Hit @x", 1, "BadWord"),
+    ("A send Hit x @5", 1, "BadWord"),
+    ("A send Hit @18446744073709551616", 1, "BadWord"),
+    ("A send Hit @5 a=1", 1, "ExtraWord"),
+    ("A update 1 Car @5:", 1, "BadWord"),
+    ("A update 1 Car @5 Pos", 1, "ExtraWord"),
+    ("A update 1 Car Pos=1 @5 Pos=2", 1, "ExtraWord"),
+    ("A delete @5", 1, "BadNumber"),
+    ("A delete 1 5", 1, "BadWord"),
+    ("A delete 1 @-5", 1, "BadWord"),
+    ("A delete 1 @5=x", 1, "BadWord"),
+    ("A delete 1 @5 @6", 1, "ExtraWord"),
+    ("A retract", 1, "MissingWord"),
+    ("A retract 1", 1, "BadWord"),
+    ("A retract 1.", 1, "BadWord"),
+    ("A retract .1", 1, "BadWord"),
+    ("A retract 1.x", 1, "BadWord"),
+    ("A retract 1.2.3", 1, "BadWord"),
+    ("A retract 18446744073709551616.1", 1, "BadWord"),
+    ("A retract 1.18446744073709551616", 1, "BadWord"),
+    ("A retract 1.1 1.2", 1, "ExtraWord"),
+    ("A regulate", 1, "MissingWord"),
+    ("A regulate 0", 1, "MissingWord"),
+    ("A regulate @0 1", 1, "BadNumber"),
+    ("A regulate 0 x", 1, "BadNumber"),
+    ("A regulate 0 1 2", 1, "ExtraWord"),
+    ("A unregulate 1", 1, "ExtraWord"),
+    ("A constrain 1", 1, "ExtraWord"),
+    ("A unconstrain x", 1, "ExtraWord"),
+    ("A tar", 1, "MissingWord"),
+    ("A tara 1.1", 1, "BadNumber"),
+    ("A ner 1 2", 1, "ExtraWord"),
+    ("A nera 18446744073709551616", 1, "BadNumber"),
+    ("A fqr @5", 1, "BadNumber"),
+    ("A modifyLookahead", 1, "MissingWord"),
+    ("A modifyLookahead x", 1, "BadNumber"),
+    ("A asyncOn x", 1, "ExtraWord"),
+    ("A asyncOff x", 1, "ExtraWord"),
+    ("A async", 1, "UnknownWord"),
+    ("A lbts 1", 1, "ExtraWord"),
+    ("A time 1", 1, "ExtraWord"),
+    ("A minNext 1", 1, "ExtraWord"),
+    ("A lookahead 1", 1, "ExtraWord"),
+    ("", 0, READ),
+    ("\r\n \t\n#A \n", 0, READ),
+    ("create\r\n\tjoin\tA \n", 2, READ),
+    ("A send Hit @5=x a==", 1, READ),
+    ("join tick\ntick tick", 2, READ),
     (
         "destroy\nA publishObject Car\nA update 1 Car\nA register Car 1",
         4,
+        READ,
     ),
-    ("A delete 18446744073709551615\nA objectName 007", 2),
-    ("A resign DELETE_OBJECTS_AND_RELEASE_ATTRIBUTES", 1),
+    ("A delete 18446744073709551615\nA objectName 007", 2, READ),
+    ("A resign DELETE_OBJECTS_AND_RELEASE_ATTRIBUTES", 1, READ),
     (
         "A attributeOrder 1 Car receive\nA attributeOrder 1 Car timestamp Pos Paint",
         2,
+        READ,
     ),
     (
         "A interactionOrder Hit receive\nA interactionOrder Hit timestamp",
         2,
+        READ,
     ),
-    ("A syncRegister go\nA syncAchieve syncRegister", 2),
-    ("announce A\nannounce tick\njoin time", 3),
-    ("A regulate 0 18446744073709551615\nA unregulate", 2),
-    ("A constrain\nA unconstrain", 2),
-    ("A tar 1\nA tara 2\nA ner 3\nA nera 4\nA fqr 5", 5),
-    ("A modifyLookahead 0\nA asyncOn\nA asyncOff", 3),
-    ("A lbts\nA time\nA minNext\nA lookahead", 4),
-    ("A retract 0.18446744073709551615\nA retract 01.02", 2),
+    ("A syncRegister go\nA syncAchieve syncRegister", 2, READ),
+    ("announce A\nannounce tick\njoin time", 3, READ),
+    ("A regulate 0 18446744073709551615\nA unregulate", 2, READ),
+    ("A constrain\nA unconstrain", 2, READ),
+    ("A tar 1\nA tara 2\nA ner 3\nA nera 4\nA fqr 5", 5, READ),
+    ("A modifyLookahead 0\nA asyncOn\nA asyncOff", 3, READ),
+    ("A lbts\nA time\nA minNext\nA lookahead", 4, READ),
+    ("A retract 0.18446744073709551615\nA retract 01.02", 2, READ),
     (
         "A update 1 Car @5\nA send Hit @5\nA delete 1 @18446744073709551615",
         3,
+        READ,
     ),
 ];
 
-/// How many lines with a command a script has, if it is read.
-fn lines_of(alloc: Global, text: &[u8]) -> Option<usize> {
-    match parse(alloc, text) {
-        Ok(script) => Some(script.len()),
-        Err(_) => None,
-    }
-}
-
 #[test]
-fn reads_what_is_no_fault(rt: HostRuntime) {
-    for (text, lines) in SCRIPTS.iter() {
-        assert!(rt;
-            lines_of(rt.alloc(), text.as_bytes()) == Some(*lines),
-            "in {text:?}"
-        );
+fn reads_a_script_or_finds_its_first_fault(rt: HostRuntime) {
+    for (text, line, kind) in SCRIPTS {
+        let reading = reading_of(rt.alloc(), text.as_bytes());
+        assert_eq!(rt; reading, (line, kind), "in {text:?}");
     }
 }
 
@@ -253,23 +213,34 @@ fn longest_script(alloc: Global) -> Result<Vec<u8>, AllocError> {
     Ok(text)
 }
 
-#[test]
-fn limits_lines(rt: HostRuntime) -> Result<(), Fail> {
-    let mut text = longest_script(rt.alloc())?;
-    assert!(rt; lines_of(rt.alloc(), text.as_slice()) == Some(0));
+const LIMITS: [&str; 3] = [
+    "the longest lines are read",
+    "a longer line is too large",
+    "a longer script is too large, which is told of its first line",
+];
+
+/// What is so of the longest script, one whose first line is longer, and a longer one.
+fn limits(alloc: Global, text: &mut Vec<u8>) -> Result<[bool; 3], AllocError> {
+    let longest = reading_of(alloc, text.as_slice());
     if let Some(byte) = text.get_mut(4096) {
         *byte = b'\r';
     }
-    assert!(rt; fault_of(rt.alloc(), text.as_slice()).1 == "TooLarge");
-    Ok(())
+    let (_, of_line) = reading_of(alloc, text.as_slice());
+    if let Some(byte) = text.get_mut(4096) {
+        *byte = b'\n';
+    }
+    text.push(b'\n')?;
+    let of_script = reading_of(alloc, text.as_slice());
+    Ok([
+        longest == (0, READ),
+        of_line == "TooLarge",
+        of_script == (1, "TooLarge"),
+    ])
 }
 
 #[test]
-fn limits_scripts(rt: HostRuntime) -> Result<(), Fail> {
+fn limits_lines_and_scripts(rt: HostRuntime) -> Result<(), Fail> {
     let mut text = longest_script(rt.alloc())?;
-    text.push(b'\n')?;
-    let fault = fault_of(rt.alloc(), text.as_slice());
-    assert!(rt; fault.0 == 1);
-    assert!(rt; fault.1 == "TooLarge");
+    check(&rt, &LIMITS, &limits(rt.alloc(), &mut text)?);
     Ok(())
 }

@@ -1,5 +1,6 @@
 ghost use Rattle.std.specs.Prelude.{◌<◌, ◌≤◌};
 
+use crate::facts::check;
 use hla_base::{FederateNo, FederateSet, Serial, Ticks};
 use hla_retraction::Sent;
 use std::alloc::Global;
@@ -38,28 +39,6 @@ fn mask(receivers: FederateSet) -> u64 {
     mask
 }
 
-#[test]
-fn receivers_are_those_that_were_added(rt: HostRuntime) {
-    let mut receivers = FederateSet::new();
-    receivers.add(16);
-    let before = receivers;
-    receivers.add(1);
-    receivers.add(16);
-    assert!(rt; mask(receivers) == (1 << 16) | (1 << 1));
-    assert!(rt; mask(before) == 1 << 16);
-    assert!(rt; !receivers.has(u32::MAX));
-}
-
-#[test]
-fn nothing_was_sent_at_first(rt: HostRuntime) -> Result<(), Fail> {
-    let sent = Sent::new(rt.alloc());
-    for serial in 0..3 {
-        assert!(rt; !sent.may_retract(true, 0, serial));
-        assert!(rt; !sent.is_receiver(serial, 1));
-    }
-    Ok(())
-}
-
 /// Message 3 went to federates 2 and 16, and message 5 to federate 4.
 fn two_sent(alloc: Global) -> Result<Sent, Fail> {
     let mut sent = Sent::new(alloc);
@@ -68,43 +47,103 @@ fn two_sent(alloc: Global) -> Result<Sent, Fail> {
     Ok(sent)
 }
 
-/// Whether the receivers of `two_sent` are those of its messages, and no others.
-fn has_its_receivers(sent: &Sent) -> bool {
-    let receivers = [
+const RECEIVERS: [&str; 3] = [
+    "are those that were added",
+    "are no others in a copy from before",
+    "are none beyond the last federate",
+];
+
+/// What is so of receivers, to which one more is added.
+fn receivers() -> [bool; 3] {
+    let mut receivers = FederateSet::new();
+    receivers.add(16);
+    let before = receivers;
+    receivers.add(1);
+    receivers.add(16);
+    [
+        mask(receivers) == (1 << 16) | (1 << 1),
+        mask(before) == 1 << 16,
+        !receivers.has(u32::MAX),
+    ]
+}
+
+const NOTHING_SENT: [&str; 6] = [
+    "message 0 is not retracted where nothing was sent",
+    "message 1 is not, either",
+    "message 2 is not, either",
+    "message 0 has no receiver where nothing was sent",
+    "message 1 has none, either",
+    "message 2 has none, either",
+];
+
+/// What is so where nothing was sent.
+fn nothing_sent(sent: &Sent) -> [bool; 6] {
+    [
+        !sent.may_retract(true, 0, 0),
+        !sent.may_retract(true, 0, 1),
+        !sent.may_retract(true, 0, 2),
+        !sent.is_receiver(0, 1),
+        !sent.is_receiver(1, 1),
+        !sent.is_receiver(2, 1),
+    ]
+}
+
+const RETRACTED: [&str; 9] = [
+    "no message is retracted that was not sent",
+    "a message is retracted",
+    "it is not retracted again",
+    "another is retracted",
+    "a message keeps its first receiver",
+    "it keeps its second receiver",
+    "the other keeps its receiver",
+    "a message has no receiver of another",
+    "a message that was not sent has none",
+];
+
+/// What is so of the messages of `two_sent`, which are retracted.
+fn retracted(sent: &mut Sent) -> [bool; 9] {
+    let unsent = take_back(sent, 0, 4);
+    let first = take_back(sent, 0, 3);
+    let again = take_back(sent, 0, 3);
+    let other = take_back(sent, 0, 5);
+    [
+        !unsent,
+        first,
+        !again,
+        other,
         sent.is_receiver(3, 2),
         sent.is_receiver(3, 16),
         sent.is_receiver(5, 4),
-        sent.is_receiver(3, 4),
-        sent.is_receiver(4, 4),
-    ];
-    receivers == [true, true, true, false, false]
+        !sent.is_receiver(3, 4),
+        !sent.is_receiver(4, 4),
+    ]
+}
+
+const LEAST: [&str; 4] = [
+    "a stamp below the least is not taken back",
+    "nor the least",
+    "one above the least is",
+    "nor is it where its sender does not regulate",
+];
+
+/// What is so of a message at 20.
+fn sent_at_20(sent: &Sent) -> [bool; 4] {
+    [
+        !sent.may_retract(true, 21, 1),
+        !sent.may_retract(true, 20, 1),
+        sent.may_retract(true, 19, 1),
+        !sent.may_retract(false, 19, 1),
+    ]
 }
 
 #[test]
-fn a_message_is_retracted_once_and_keeps_its_receivers(rt: HostRuntime) -> Result<(), Fail> {
-    let mut sent = two_sent(rt.alloc())?;
-    let taken = [
-        take_back(&mut sent, 0, 4),
-        take_back(&mut sent, 0, 3),
-        take_back(&mut sent, 0, 3),
-        take_back(&mut sent, 0, 5),
-    ];
-    assert!(rt; taken == [false, true, false, true]);
-    assert!(rt; has_its_receivers(&sent));
-    Ok(())
-}
-
-#[test]
-fn only_a_stamp_above_the_least_is_taken_back(rt: HostRuntime) -> Result<(), Fail> {
+fn only_what_was_sent_above_the_least_is_retracted_once(rt: HostRuntime) -> Result<(), Fail> {
+    check(&rt, &RECEIVERS, &receivers());
+    check(&rt, &NOTHING_SENT, &nothing_sent(&Sent::new(rt.alloc())));
+    check(&rt, &RETRACTED, &retracted(&mut two_sent(rt.alloc())?));
     let mut sent = Sent::new(rt.alloc());
     sent.note(1, 20, FederateSet::new())?;
-    let accepted = [
-        sent.may_retract(true, 21, 1),
-        sent.may_retract(true, 20, 1),
-        sent.may_retract(true, 19, 1),
-        sent.may_retract(false, 19, 1),
-    ];
-    assert!(rt; accepted == [false, false, true, false]);
+    check(&rt, &LEAST, &sent_at_20(&sent));
     Ok(())
 }
 

@@ -1,53 +1,46 @@
-use hla_base::{List, Plain, SharedList};
+use hla_base::{Fault, List, Plain, SharedList};
 use std::alloc::Global;
 use std::test::Fail;
 
-/// A shared list of these items.
-fn shared(alloc: Global, items: &[u32]) -> Result<SharedList<u32>, Fail> {
+/// Two lists, and whether they are the same.
+const LISTS: [(&[u32], &[u32], bool); 5] = [
+    (&[7, 9], &[7, 9], true),
+    (&[7], &[7], true),
+    (&[7], &[], false),
+    (&[], &[7], false),
+    (&[], &[], true),
+];
+
+/// A shared list of these items, made of a copy of a list of them.
+fn shared(alloc: Global, items: &[u32]) -> Result<SharedList<u32>, Fault> {
     let mut list = List::new(alloc);
     for item in items {
         list.push(*item)?;
     }
-    Ok(SharedList::from_list(list)?)
+    SharedList::from_list(list.copy()?)
 }
 
-/// A copy of a shared list that is gone.
-fn copy_of(shared: SharedList<u32>) -> Result<SharedList<u32>, Fail> {
+/// Whether a copy of a shared list that is gone has these items.
+fn is_copied(shared: SharedList<u32>, items: &[u32]) -> Result<bool, Fault> {
     let copy = shared.copy()?;
     drop(shared);
-    Ok(copy)
+    Ok(copy.as_slice() == items && copy.len() == items.len() && copy.is_empty() == items.is_empty())
 }
 
-/// Whether a list has the items 7 and 9, and nothing else.
-fn has_both(list: &SharedList<u32>) -> bool {
-    list.as_slice() == [7, 9].as_slice() && list.len() == 2 && !list.is_empty()
-}
-
-#[test]
-fn shares_items(rt: HostRuntime) -> Result<(), Fail> {
-    let copy = copy_of(shared(rt.alloc(), &[7, 9])?)?;
-    assert!(rt; has_both(&copy));
-    Ok(())
-}
-
-/// Whether a list of one item and its copy are equal when they are shared.
-fn is_equal_to_copy(alloc: Global) -> Result<bool, Fail> {
-    let list = List::from_vec(vec![in alloc; 7u32]?);
-    let one = SharedList::from_list(list.copy()?)?;
-    let other = SharedList::from_list(list)?;
+/// Whether two lists are the same once they are shared.
+fn is_same(alloc: Global, items: &[u32], others: &[u32]) -> Result<bool, Fault> {
+    let one = shared(alloc, items)?;
+    let other = shared(alloc, others)?;
     Ok(one == other)
 }
 
-/// Whether a list with an item differs from one without, and that one is empty.
-fn is_unlike_empty(alloc: Global) -> Result<bool, Fail> {
-    let one = shared(alloc, &[7])?;
-    let none = shared(alloc, &[])?;
-    Ok(one != none && none.is_empty())
-}
-
 #[test]
-fn compares_shared_items(rt: HostRuntime) -> Result<(), Fail> {
-    assert!(rt; is_equal_to_copy(rt.alloc())?);
-    assert!(rt; is_unlike_empty(rt.alloc())?);
+fn shares_and_compares_items(rt: HostRuntime) -> Result<(), Fail> {
+    for (items, others, are_same) in LISTS {
+        let is_copied = is_copied(shared(rt.alloc(), items)?, items)?;
+        assert!(rt; is_copied, "{items:?}");
+        let is_same = is_same(rt.alloc(), items, others)?;
+        assert!(rt; is_same == are_same, "{items:?} and {others:?}");
+    }
     Ok(())
 }

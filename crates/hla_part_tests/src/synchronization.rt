@@ -1,6 +1,7 @@
 ghost use Rattle.std.specs.Prelude.{◌<◌, ◌≤◌};
 
-use hla_base::{Fault, FederateNo, FederateSet, NoticeKind, SharedList};
+use crate::facts::check;
+use hla_base::{Fault, FederateNo, FederateSet, Notice, NoticeKind, SharedList};
 use hla_synchronization::OpenPoints;
 use std::alloc::Global;
 use std::test::Fail;
@@ -17,81 +18,118 @@ fn pair(first: FederateNo, second: FederateNo) -> FederateSet
     members
 }
 
-fn open(alloc: Global, points: &mut OpenPoints, label: &[u8]) -> Result<(), Fault> {
-    let label = SharedList::from_slice(alloc, label)?;
-    points.open(alloc, label)
-}
-
-#[test]
-fn a_point_is_achieved_once_by_whom_it_was_announced_to(rt: HostRuntime) -> Result<(), Fail> {
-    let mut points = OpenPoints::new();
-    open(rt.alloc(), &mut points, b"start")?;
-    let unannounced = points.may_achieve(2, b"start");
-    points.announce(2, b"start");
-    let announced = [
-        points.may_achieve(2, b"start"),
-        points.may_achieve(1, b"start"),
-        points.may_achieve(2, b"stop"),
-    ];
-    points.achieve(2, b"start");
-    let achieved = points.may_achieve(2, b"start");
-    assert!(rt; !unannounced);
-    assert!(rt; announced == [true, false, false]);
-    assert!(rt; !achieved);
+/// Opens a point of each of these labels.
+fn open(alloc: Global, points: &mut OpenPoints, labels: &[&[u8]]) -> Result<(), Fault> {
+    for label in labels {
+        points.open(alloc, SharedList::from_slice(alloc, label)?)?;
+    }
     Ok(())
 }
 
-#[test]
-fn points_close_in_order_of_opening_once_all_have_achieved_them(
-    rt: HostRuntime,
-) -> Result<(), Fail> {
+/// Whether notices are of this kind and of the points of these labels.
+fn are_of(notices: &[Notice], kind: NoticeKind, labels: &[&[u8]]) -> bool {
+    let mut are_same = notices.len() == labels.len();
+    for (notice, label) in notices.iter().zip(labels) {
+        are_same = are_same && notice.kind == kind && notice.label.as_slice() == *label;
+    }
+    are_same
+}
+
+const ACHIEVED: [&str; 5] = [
+    "a point is not achieved before it was announced",
+    "it is by whom it was announced to",
+    "it is not by another",
+    "no other point is",
+    "it is not achieved twice",
+];
+
+/// What is so of a point that is announced to federate 2, which achieves it.
+fn achieved(alloc: Global) -> Result<[bool; 5], Fault> {
     let mut points = OpenPoints::new();
-    open(rt.alloc(), &mut points, b"a")?;
-    open(rt.alloc(), &mut points, b"b")?;
-    open(rt.alloc(), &mut points, b"c")?;
+    open(alloc, &mut points, &[b"start"])?;
+    let unannounced = points.may_achieve(2, b"start");
+    points.announce(2, b"start");
+    let announced = points.may_achieve(2, b"start");
+    let to_other = points.may_achieve(1, b"start");
+    let of_other = points.may_achieve(2, b"stop");
+    points.achieve(2, b"start");
+    let again = points.may_achieve(2, b"start");
+    Ok([!unannounced, announced, !to_other, !of_other, !again])
+}
+
+const CLOSED: [&str; 5] = [
+    "points close in order of opening once all have achieved them",
+    "the first is closed",
+    "one that one has not achieved stays open",
+    "the last is closed",
+    "what one has achieved is closed once that one is alone",
+];
+
+/// What is so of three points, of which federates 1 and 16 achieve the last and the first, and federate 1 the second.
+fn closed(alloc: Global) -> Result<[bool; 5], Fault> {
+    let mut points = OpenPoints::new();
+    open(alloc, &mut points, &[b"a", b"b", b"c"])?;
     for federate in [1, 16] {
         points.achieve(federate, b"c");
         points.achieve(federate, b"a");
     }
     points.achieve(1, b"b");
-    let closings = points.closings(rt.alloc(), pair(1, 16))?;
+    let closings = points.closings(alloc, pair(1, 16))?;
     points.close(pair(1, 16));
-    assert!(rt; closings.len() == 2);
-    assert!(rt; closings[0].label.as_slice() == b"a".as_slice());
-    assert!(rt; closings[1].label.as_slice() == b"c".as_slice());
-    assert!(rt; closings[1].kind == NoticeKind::Synchronized);
-    assert!(rt; !points.is_open(b"a") && points.is_open(b"b") && !points.is_open(b"c"));
+    let (a, b, c) = (
+        points.is_open(b"a"),
+        points.is_open(b"b"),
+        points.is_open(b"c"),
+    );
     points.close(pair(1, 1));
-    assert!(rt; points.is_empty());
-    Ok(())
+    Ok([
+        are_of(closings.as_slice(), NoticeKind::Synchronized, &[b"a", b"c"]),
+        !a,
+        b,
+        !c,
+        points.is_empty(),
+    ])
 }
 
-#[test]
-fn a_newcomer_is_told_of_all_that_are_open(rt: HostRuntime) -> Result<(), Fail> {
+const TOLD: [&str; 3] = [
+    "a newcomer is told nothing where no point is open",
+    "no point is open that nobody has to achieve",
+    "a newcomer is told of all that are open",
+];
+
+/// What is so of two points that a newcomer is told of, in a copy, while they close.
+fn told(alloc: Global) -> Result<[bool; 3], Fault> {
     let mut points = OpenPoints::new();
-    let none = points.announcements(rt.alloc())?;
-    open(rt.alloc(), &mut points, b"a")?;
-    open(rt.alloc(), &mut points, b"b")?;
-    let copy = points.copy(rt.alloc())?;
+    let none = points.announcements(alloc)?.is_empty();
+    open(alloc, &mut points, &[b"a", b"b"])?;
+    let copy = points.copy(alloc)?;
     points.close(FederateSet::new());
-    let announcements = copy.announcements(rt.alloc())?;
-    assert!(rt; none.is_empty());
-    assert!(rt; points.is_empty());
-    assert!(rt; announcements.len() == 2);
-    assert!(rt; announcements[0].label.as_slice() == b"a".as_slice());
-    assert!(rt; announcements[1].label.as_slice() == b"b".as_slice());
-    assert!(rt; announcements[0].kind == NoticeKind::Announced);
-    Ok(())
+    let told = copy.announcements(alloc)?;
+    Ok([
+        none,
+        points.is_empty(),
+        are_of(told.as_slice(), NoticeKind::Announced, &[b"a", b"b"]),
+    ])
 }
 
-#[test]
-fn at_most_64_points_are_open(rt: HostRuntime) -> Result<(), Fail> {
+const FULL: [&str; 2] = ["63 points may be joined by another", "64 are all"];
+
+/// What is so of 63 points, and of 64.
+fn full(alloc: Global) -> Result<[bool; 2], Fault> {
     let mut points = OpenPoints::new();
     for number in 0..63u8 {
-        open(rt.alloc(), &mut points, &[number])?;
+        open(alloc, &mut points, &[&[number]])?;
     }
     let before = points.is_full();
-    open(rt.alloc(), &mut points, b"@")?;
-    assert!(rt; !before && points.is_full());
+    open(alloc, &mut points, &[b"@"])?;
+    Ok([!before, points.is_full()])
+}
+
+#[test]
+fn points_open_and_close(rt: HostRuntime) -> Result<(), Fail> {
+    check(&rt, &ACHIEVED, &achieved(rt.alloc())?);
+    check(&rt, &CLOSED, &closed(rt.alloc())?);
+    check(&rt, &TOLD, &told(rt.alloc())?);
+    check(&rt, &FULL, &full(rt.alloc())?);
     Ok(())
 }

@@ -1,56 +1,58 @@
+use crate::facts::check;
 use hla_base::{AdvanceKind, AdvanceRequest, Fault, MAX_TIME};
 use hla_time_roles::TimeState;
-use std::process::Abort;
 
-/// A federate that regulates with a lookahead of 5.
-fn regulating() -> TimeState {
+/// A request for a time advance to 10.
+const TO_10: AdvanceRequest = AdvanceRequest {
+    kind: AdvanceKind::TimeAdvance,
+    asked: 10,
+};
+
+const REGULATING: [&str; 12] = [
+    "may begin to regulate",
+    "is a regulator once it has asked",
+    "may ask for no advance meanwhile",
+    "stays at its time when it has begun",
+    "may ask for an advance then",
+    "sends from its lookahead above what it asked for",
+    "is at what it was granted",
+    "may not ask for a time that has passed",
+    "may not ask for a time beyond the last",
+    "may change its lookahead",
+    "keeps its least stamp with less lookahead",
+    "does not regulate once it has ceased",
+];
+
+/// What is so of a federate that regulates with a lookahead of 5 and is granted 10.
+fn regulating() -> [bool; 12] {
     let mut state = TimeState::new();
+    let fault = state.regulation_fault(5, 0, 5);
     state.regulate_from(5, 5);
+    let (is_regulator, pending) = (state.is_regulator(), state.request_fault(1));
     state.enter_regulation();
-    state
-}
-
-#[test]
-fn regulates(rt: HostRuntime) {
-    let mut state = TimeState::new();
-    assert!(rt; state.regulation_fault(5, 0, 5).is_none());
-    state.regulate_from(5, 5);
-    assert!(rt; state.is_regulator());
-    assert!(rt; state.request_fault(1) == Some(Fault::EnableTimeRegulationPending));
-    let state = regulating();
-    assert!(rt; state.time() == 0);
-    assert!(rt; state.request_fault(10).is_none());
-}
-
-/// A federate that regulates with a lookahead of 5 and was granted 10.
-fn granted(rt: &impl Abort) -> TimeState {
-    let mut state = regulating();
+    let (begun, none) = (state.time(), state.request_fault(10));
     state.request(AdvanceKind::TimeAdvance, 10);
-    assert!(rt; state.least_stamp() == 15);
-    let request = AdvanceRequest {
-        kind: AdvanceKind::TimeAdvance,
-        asked: 10,
-    };
-    state.grant(request, 10);
-    state
-}
-
-#[test]
-fn advances(rt: HostRuntime) {
-    let state = granted(&rt);
-    assert!(rt; state.time() == 10);
-    assert!(rt; state.request_fault(9) == Some(Fault::FederationTimeAlreadyPassed));
-    assert!(rt; state.request_fault(MAX_TIME + 1) == Some(Fault::InvalidFederationTime));
-    assert!(rt; state.lookahead_fault(1).is_none());
-}
-
-#[test]
-fn keeps_the_least_stamp_with_less_lookahead(rt: HostRuntime) {
-    let mut state = granted(&rt);
+    let asked = state.least_stamp();
+    state.grant(TO_10, 10);
+    let (granted, lookahead) = (state.time(), state.lookahead_fault(1));
+    let (passed, beyond) = (state.request_fault(9), state.request_fault(MAX_TIME + 1));
     state.set_lookahead(1);
-    assert!(rt; state.least_stamp() == 15);
+    let kept = state.least_stamp();
     state.cease_regulation();
-    assert!(rt; state.unregulate_fault() == Some(Fault::TimeRegulationWasNotEnabled));
+    [
+        fault.is_none(),
+        is_regulator,
+        pending == Some(Fault::EnableTimeRegulationPending),
+        begun == 0,
+        none.is_none(),
+        asked == 15,
+        granted == 10,
+        passed == Some(Fault::FederationTimeAlreadyPassed),
+        beyond == Some(Fault::InvalidFederationTime),
+        lookahead.is_none(),
+        kept == 15,
+        state.unregulate_fault() == Some(Fault::TimeRegulationWasNotEnabled),
+    ]
 }
 
 /// A request for the next event up to 20.
@@ -59,46 +61,58 @@ const NEXT_TO_20: AdvanceRequest = AdvanceRequest {
     asked: 20,
 };
 
-/// A constrained federate that asked for the next event up to 20, and has picked one at 7.
-fn picked(rt: &impl Abort) -> TimeState {
+const CONSTRAINED: [&str; 13] = [
+    "has its order kept once it has asked",
+    "may not ask again meanwhile",
+    "is constrained once it has entered",
+    "waits for its request",
+    "has its bar behind what it picked",
+    "remembers what it picked first",
+    "has its bar behind what it was granted",
+    "waits for nothing once it was granted",
+    "may leave",
+    "is not constrained once it has left",
+    "has no asynchronous delivery to disable",
+    "has none to enable once it is enabled",
+    "has it then",
+];
+
+/// What is so of a federate that is constrained, asks for the next event up to 20 and picks one at 7.
+fn constrained() -> [bool; 13] {
     let mut state = TimeState::new();
     state.ask_constraint();
+    let (is_kept, pending) = (state.is_order_kept(), state.constrain_fault());
     state.enter_constraint();
+    let is_constrained = state.is_constrained();
     state.request(AdvanceKind::NextEvent, 20);
-    assert!(rt; state.next_request() == Some(NEXT_TO_20));
+    let asked = state.next_request();
     state.pick(NEXT_TO_20, 7);
-    state
-}
-
-#[test]
-fn is_constrained_once_it_has_entered(rt: HostRuntime) {
-    let mut state = TimeState::new();
-    state.ask_constraint();
-    assert!(rt; state.is_order_kept());
-    assert!(rt; state.constrain_fault() == Some(Fault::EnableTimeConstrainedPending));
-    state.enter_constraint();
-    assert!(rt; state.is_constrained());
-}
-
-#[test]
-fn waits_for_events(rt: HostRuntime) {
-    let mut state = picked(&rt);
-    assert!(rt; state.row().bar == 8);
-    assert!(rt; state.row().first_pick == Some(7));
+    let picked = state.row();
     state.grant(NEXT_TO_20, 7);
-    assert!(rt; state.row().bar == 8);
-    assert!(rt; state.advance().is_none());
-    assert!(rt; state.unconstrain_fault().is_none());
-}
-
-#[test]
-fn is_free_once_it_has_left(rt: HostRuntime) {
-    let mut state = picked(&rt);
-    state.grant(NEXT_TO_20, 7);
+    let (granted, advance) = (state.row(), state.advance());
+    let may_leave = state.unconstrain_fault().is_none();
     state.cease_constraint();
-    assert!(rt; !state.is_constrained());
-    assert!(rt; state.asynchronous_off_fault().is_some());
+    let (is_left, off) = (!state.is_constrained(), state.asynchronous_off_fault());
     state.set_asynchronous_delivery(true);
-    assert!(rt; state.asynchronous_on_fault().is_some());
-    assert!(rt; state.has_asynchronous_delivery());
+    [
+        is_kept,
+        pending == Some(Fault::EnableTimeConstrainedPending),
+        is_constrained,
+        asked == Some(NEXT_TO_20),
+        picked.bar == 8,
+        picked.first_pick == Some(7),
+        granted.bar == 8,
+        advance.is_none(),
+        may_leave,
+        is_left,
+        off.is_some(),
+        state.asynchronous_on_fault().is_some(),
+        state.has_asynchronous_delivery(),
+    ]
+}
+
+#[test]
+fn takes_and_leaves_its_roles(rt: HostRuntime) {
+    check(&rt, &REGULATING, &regulating());
+    check(&rt, &CONSTRAINED, &constrained());
 }

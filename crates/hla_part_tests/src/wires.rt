@@ -1,89 +1,92 @@
-use hla_base::{FOREVER, Ticks};
+use hla_base::{FOREVER, Fault, Ticks};
 use hla_null_message::{Message, Wire};
 use std::alloc::Global;
 use std::test::Fail;
 
-/// The epoch and the bound of the null message that a wire gives next.
-fn take_null(wire: &mut Wire) -> Option<(u64, Ticks)> {
-    match wire.take_first() {
-        Some(Message::Null { epoch, bound }) => Some((epoch, bound)),
-        _ => None,
+/// A message on a wire.
+enum Put {
+    /// A null message of an epoch, with its bound.
+    Null(u64, Ticks),
+    /// The retraction of the message with this serial.
+    Retraction(u64),
+}
+
+/// What is put on a wire, and what it gives then.
+struct Case {
+    name: &'static str,
+    put: &'static [Put],
+    given: &'static [Put],
+}
+
+const CASES: [Case; 4] = [
+    Case {
+        name: "a null takes the place of one of its epoch",
+        put: &[Put::Null(1, 6), Put::Null(1, 8)],
+        given: &[Put::Null(1, 8)],
+    },
+    Case {
+        name: "the newest bound stays",
+        put: &[Put::Null(1, FOREVER), Put::Null(1, 6)],
+        given: &[Put::Null(1, 6)],
+    },
+    Case {
+        name: "nulls of two epochs lie apart",
+        put: &[Put::Null(1, FOREVER), Put::Null(2, 5)],
+        given: &[Put::Null(1, FOREVER), Put::Null(2, 5)],
+    },
+    Case {
+        name: "nulls lie apart across another message",
+        put: &[Put::Null(1, 6), Put::Retraction(1), Put::Null(1, 8)],
+        given: &[Put::Null(1, 6), Put::Retraction(1), Put::Null(1, 8)],
+    },
+];
+
+/// Puts messages on a wire.
+fn put_all(wire: &mut Wire, messages: &[Put]) -> Result<(), Fault> {
+    for message in messages {
+        wire.reserve(1)?;
+        wire.put(match message {
+            Put::Null(epoch, bound) => Message::Null {
+                epoch: *epoch,
+                bound: *bound,
+            },
+            Put::Retraction(serial) => Message::Retraction(*serial),
+        });
+    }
+    Ok(())
+}
+
+/// Whether a wire gives this message next.
+fn gives(wire: &mut Wire, message: &Put) -> bool {
+    match (wire.take_first(), message) {
+        (Some(Message::Null { epoch, bound }), Put::Null(e, b)) => epoch == *e && bound == *b,
+        (Some(Message::Retraction(serial)), Put::Retraction(s)) => serial == *s,
+        _ => false,
     }
 }
 
-/// The serial of the retraction that a wire gives next.
-fn take_retraction(wire: &mut Wire) -> Option<u64> {
-    match wire.take_first() {
-        Some(Message::Retraction(serial)) => Some(serial),
-        _ => None,
+/// Whether a wire gives these messages, and then nothing.
+fn gives_all(wire: &mut Wire, messages: &[Put]) -> bool {
+    for message in messages {
+        if !gives(wire, message) {
+            return false;
+        }
     }
+    wire.is_empty()
 }
 
-/// What a wire with room for one message has of two null messages of epoch 1, if it has one.
-fn last_of_two(alloc: Global, first: Ticks, second: Ticks) -> Result<Option<(u64, Ticks)>, Fail> {
+/// Whether a wire gives what it is to give of what is put on it.
+fn keeps(alloc: Global, case: &Case) -> Result<bool, Fault> {
     let mut wire = Wire::new(alloc);
-    wire.reserve(1)?;
-    wire.put(Message::Null {
-        epoch: 1,
-        bound: first,
-    });
-    wire.put(Message::Null {
-        epoch: 1,
-        bound: second,
-    });
-    let null = take_null(&mut wire);
-    Ok(if wire.is_empty() { null } else { None })
+    put_all(&mut wire, case.put)?;
+    Ok(gives_all(&mut wire, case.given))
 }
 
 #[test]
-fn a_null_takes_the_place_of_one_of_its_epoch(rt: HostRuntime) -> Result<(), Fail> {
-    assert!(rt; last_of_two(rt.alloc(), 6, 8)? == Some((1, 8)));
-    Ok(())
-}
-
-#[test]
-fn the_newest_bound_stays(rt: HostRuntime) -> Result<(), Fail> {
-    assert!(rt; last_of_two(rt.alloc(), FOREVER, 6)? == Some((1, 6)));
-    Ok(())
-}
-
-/// Null messages of epochs 1 and 2.
-fn two_epochs(alloc: Global) -> Result<Wire, Fail> {
-    let mut wire = Wire::new(alloc);
-    wire.reserve(2)?;
-    wire.put(Message::Null {
-        epoch: 1,
-        bound: FOREVER,
-    });
-    wire.put(Message::Null { epoch: 2, bound: 5 });
-    Ok(wire)
-}
-
-#[test]
-fn nulls_of_two_epochs_lie_apart(rt: HostRuntime) -> Result<(), Fail> {
-    let mut wire = two_epochs(rt.alloc())?;
-    assert!(rt; take_null(&mut wire) == Some((1, FOREVER)));
-    assert!(rt; take_null(&mut wire) == Some((2, 5)));
-    assert!(rt; wire.is_empty());
-    Ok(())
-}
-
-/// Null messages of one epoch before and behind a retraction.
-fn across_a_retraction(alloc: Global) -> Result<Wire, Fail> {
-    let mut wire = Wire::new(alloc);
-    wire.reserve(3)?;
-    wire.put(Message::Null { epoch: 1, bound: 6 });
-    wire.put(Message::Retraction(1));
-    wire.put(Message::Null { epoch: 1, bound: 8 });
-    Ok(wire)
-}
-
-#[test]
-fn nulls_lie_apart_across_another_message(rt: HostRuntime) -> Result<(), Fail> {
-    let mut wire = across_a_retraction(rt.alloc())?;
-    assert!(rt; take_null(&mut wire) == Some((1, 6)));
-    assert!(rt; take_retraction(&mut wire) == Some(1));
-    assert!(rt; take_null(&mut wire) == Some((1, 8)));
-    assert!(rt; wire.is_empty());
+fn gives_what_was_put_and_of_nulls_the_newest(rt: HostRuntime) -> Result<(), Fail> {
+    for case in &CASES {
+        let is_kept = keeps(rt.alloc(), case)?;
+        assert!(rt; is_kept, "{}", case.name);
+    }
     Ok(())
 }
