@@ -13,7 +13,7 @@ pub fn ticking(record: &Record) -> Option<FederateNo> {
 }
 
 /// The service that was called and done.
-fn service_done(record: &Record) -> Option<&Service> {
+pub fn service_done(record: &Record) -> Option<&Service> {
     match &record.outcome {
         Outcome::Done(_) => match &record.act {
             Act::Step(Step::Call { service, .. }) => Some(service),
@@ -23,41 +23,12 @@ fn service_done(record: &Record) -> Option<&Service> {
     }
 }
 
-/// Whether a federate called Flush Queue Request.
-fn is_flush(record: &Record) -> bool {
-    match service_done(record) {
-        Some(Service::FlushQueueRequest { .. }) => true,
-        _ => false,
-    }
-}
-
 /// Whether a federate called Flush Queue Request before a place, counted from 0.
 pub fn has_flushed(records: &[Record], place: usize) -> bool {
-    records.iter().take(place).any(|record| is_flush(record))
-}
-
-/// Whether a federate resigned.
-pub fn is_resignation(record: &Record) -> bool {
-    match service_done(record) {
-        Some(Service::Resign { .. }) => true,
-        _ => false,
-    }
-}
-
-/// The event that was retracted.
-pub fn retracted(record: &Record) -> Option<EventHandle> {
-    match service_done(record) {
-        Some(Service::Retract { event }) => Some(*event),
-        _ => None,
-    }
-}
-
-/// The least stamp, in ticks, that a federate asked to send from: its time and its lookahead.
-pub fn asked_entry(record: &Record) -> Option<Ticks> {
-    match service_done(record) {
-        Some(Service::EnableTimeRegulation { time, lookahead }) => time.checked_add(*lookahead),
-        _ => None,
-    }
+    records.iter().take(place).any(|record| matches!(
+        service_done(record),
+        Some(Service::FlushQueueRequest { .. })
+    ))
 }
 
 /// The callback that a tick gave.
@@ -133,30 +104,5 @@ pub fn receipt(record: &Record, event: EventHandle) -> Result<Option<Callback>, 
             delivery: Delivery::TimeStamp { stamp: *stamp },
         })),
         _ => Ok(None),
-    }
-}
-
-/// The callback told as that all have reached the label that it announces. `OutOfMemory` where a growth was refused.
-pub fn synchronized_of(callback: &Callback) -> Result<Option<Callback>, Fault> {
-    match callback {
-        Callback::AnnounceSynchronizationPoint { label } => {
-            Ok(Some(Callback::FederationSynchronized {
-                label: label.copy()?,
-            }))
-        }
-        _ => Ok(None),
-    }
-}
-
-/// Whether a federate said that it has reached a label.
-pub fn is_achievement(record: &Record) -> bool {
-    match &record.act {
-        Act::Step(
-            Step::Call {
-                service: Service::SynchronizationPointAchieved { .. },
-                ..
-            },
-        ) => true,
-        _ => false,
     }
 }

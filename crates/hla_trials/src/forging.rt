@@ -1,13 +1,12 @@
 //! Records that are forged, one at a time: the checker tells each at its place. Each forgery is undone behind it.
 
 use crate::facts::{
-    asked_entry, given, granted, has_flushed, is_achievement, is_resignation, receipt, retracted,
-    stamp_of, synchronized_of, ticking, with_stamp,
+    given, granted, has_flushed, receipt, service_done, stamp_of, ticking, with_stamp,
 };
 use hla_base::{EventHandle, Fault, Plain};
 use hla_callbacks::Callback;
 use hla_checker::{CheckFault, check_run};
-use hla_machine::{Answer, Choice, Outcome, Record};
+use hla_machine::{Act, Answer, Choice, Outcome, Record, Service, Step};
 use std::alloc::Global;
 use std::mem;
 
@@ -36,11 +35,6 @@ fn giving(record: &Record, callback: Callback) -> Result<Record, Fault> {
     ending(record, Outcome::Done(Answer::Ticked(Some(callback))))
 }
 
-/// The record, refused for want of memory, which the machine has always.
-fn other_outcome(record: &Record) -> Result<Option<Record>, Fault> {
-    Ok(Some(ending(record, Outcome::Refused(Fault::OutOfMemory))?))
-}
-
 /// Whether the checker tells of the record at a place once it is refused since the history is full. `OutOfMemory` where a copy was
 /// refused.
 pub fn tells_full(alloc: Global, records: &mut [Record], place: usize) -> Result<bool, Fault> {
@@ -61,17 +55,21 @@ fn other_choice(record: &Record) -> Result<Option<Record>, Fault> {
     Ok(Some(forged))
 }
 
-/// The record with an entry one tick below what was asked for. `OutOfMemory` where a growth was refused.
+/// The record with an entry one tick below the least stamp that a federate asked to send from: its time and its lookahead.
+/// `OutOfMemory` where a growth was refused.
 fn low_entry(record: &Record) -> Result<Option<Record>, Fault> {
-    let Some(asked) = asked_entry(record) else {
-        return Ok(None);
+    let asked = match service_done(record) {
+        Some(Service::EnableTimeRegulation { time, lookahead }) => time.checked_add(*lookahead),
+        _ => None,
     };
-    if asked == 0 {
-        return Ok(None);
+    match asked {
+        Some(asked) if asked > 0 => {
+            let mut forged = record.copy()?;
+            forged.choice = Choice::Entry(asked - 1);
+            Ok(Some(forged))
+        }
+        _ => Ok(None),
     }
-    let mut forged = record.copy()?;
-    forged.choice = Choice::Entry(asked - 1);
-    Ok(Some(forged))
 }
 
 /// The record of a callback with a stamp that is a tick greater. `OutOfMemory` where a growth was refused.
@@ -110,8 +108,8 @@ fn early_grant(records: &[Record], place: usize, record: &Record) -> Result<Opti
 fn retracted_before(records: &[Record], place: usize) -> Option<EventHandle> {
     let mut last = None;
     for record in records.iter().take(place) {
-        if let Some(event) = retracted(record) {
-            last = Some(event);
+        if let Some(Service::Retract { event }) = service_done(record) {
+            last = Some(*event);
         }
     }
     last
@@ -133,10 +131,11 @@ fn receipt_before(
 }
 
 /// The tick at a place, which gives an interaction that was retracted before. `OutOfMemory` where a growth was refused.
-fn retracted_pick(records: &[Record], place: usize) -> Result<Option<Record>, Fault> {
-    let Some(record) = records.get(place) else {
-        return Ok(None);
-    };
+fn retracted_pick(
+    records: &[Record],
+    place: usize,
+    record: &Record,
+) -> Result<Option<Record>, Fault> {
     if ticking(record).is_none() {
         return Ok(None);
     }
@@ -153,28 +152,34 @@ fn retracted_pick(records: &[Record], place: usize) -> Result<Option<Record>, Fa
 fn second_resignation(records: &[Record], place: usize) -> Result<Option<Record>, Fault> {
     let mut last = None;
     for record in records.iter().take(place) {
-        if is_resignation(record) {
-            last = Some(record.copy()?);
+        if let Some(Service::Resign { .. }) = service_done(record) {
+            last = Some(record);
         }
     }
-    Ok(last)
+    match last {
+        Some(record) => Ok(Some(record.copy()?)),
+        None => Ok(None),
+    }
 }
 
 /// The record of an announcement, which tells instead that all have reached its label.
 /// `OutOfMemory` where a growth was refused.
 fn early_synchronized(record: &Record) -> Result<Option<Record>, Fault> {
-    let Some(callback) = given(record) else {
-        return Ok(None);
-    };
-    match synchronized_of(callback)? {
-        Some(early) => Ok(Some(giving(record, early)?)),
-        None => Ok(None),
+    match given(record) {
+        Some(Callback::AnnounceSynchronizationPoint { label }) => {
+            let label = label.copy()?;
+            Ok(Some(giving(record, Callback::FederationSynchronized { label })?))
+        }
+        _ => Ok(None),
     }
 }
 
 /// The record of one who says that it has reached a label, done where it was refused, and refused where it was done.
 fn other_achievement(record: &Record) -> Result<Option<Record>, Fault> {
-    if !is_achievement(record) {
+    let Act::Step(Step::Call { service, .. }) = &record.act else {
+        return Ok(None);
+    };
+    if !matches!(service, Service::SynchronizationPointAchieved { .. }) {
         return Ok(None);
     }
     let other = match &record.outcome {
@@ -184,33 +189,64 @@ fn other_achievement(record: &Record) -> Result<Option<Record>, Fault> {
     Ok(Some(ending(record, other)?))
 }
 
-/// The forgeries of the record at a place, one of each kind that it has. `OutOfMemory` where a growth was refused.
-fn forgeries(records: &[Record], place: usize) -> Result<[Option<Record>; 9], Fault> {
-    let Some(record) = records.get(place) else {
-        return Ok([None, None, None, None, None, None, None, None, None]);
-    };
-    Ok([
-        other_outcome(record)?,
-        other_choice(record)?,
-        low_entry(record)?,
-        other_stamp(record)?,
-        early_grant(records, place, record)?,
-        retracted_pick(records, place)?,
-        second_resignation(records, place)?,
-        early_synchronized(record)?,
-        other_achievement(record)?,
-    ])
+/// How a record is forged.
+enum Forgery {
+    /// Refused for want of memory, which the machine has always.
+    Outcome,
+    /// With something chosen where nothing is.
+    Choice,
+    LowEntry,
+    OtherStamp,
+    EarlyGrant,
+    RetractedPick,
+    SecondResignation,
+    EarlySynchronized,
+    OtherAchievement,
+}
+
+const FORGERIES: [Forgery; 9] = [
+    Forgery::Outcome,
+    Forgery::Choice,
+    Forgery::LowEntry,
+    Forgery::OtherStamp,
+    Forgery::EarlyGrant,
+    Forgery::RetractedPick,
+    Forgery::SecondResignation,
+    Forgery::EarlySynchronized,
+    Forgery::OtherAchievement,
+];
+
+impl Forgery {
+    /// The record at a place, forged so, where it can be. `OutOfMemory` where a growth was refused.
+    fn forged(&self, records: &[Record], place: usize) -> Result<Option<Record>, Fault> {
+        let Some(record) = records.get(place) else {
+            return Ok(None);
+        };
+        match self {
+            Forgery::Outcome => {
+                let forged = ending(record, Outcome::Refused(Fault::OutOfMemory))?;
+                Ok(Some(forged))
+            }
+            Forgery::Choice => other_choice(record),
+            Forgery::LowEntry => low_entry(record),
+            Forgery::OtherStamp => other_stamp(record),
+            Forgery::EarlyGrant => early_grant(records, place, record),
+            Forgery::RetractedPick => retracted_pick(records, place, record),
+            Forgery::SecondResignation => second_resignation(records, place),
+            Forgery::EarlySynchronized => early_synchronized(record),
+            Forgery::OtherAchievement => other_achievement(record),
+        }
+    }
 }
 
 /// Whether the checker tells of each forgery of the record at a place. The records stay. `OutOfMemory` where a copy was
 /// refused.
 pub fn tells_forgeries(alloc: Global, records: &mut [Record], place: usize) -> Result<bool, Fault> {
-    for forged in forgeries(records, place)? {
-        let Some(forged) = forged else {
-            continue;
-        };
-        if !tells(alloc, records, place, forged) {
-            return Ok(false);
+    for forgery in &FORGERIES {
+        if let Some(forged) = forgery.forged(records, place)? {
+            if !tells(alloc, records, place, forged) {
+                return Ok(false);
+            }
         }
     }
     Ok(true)

@@ -262,20 +262,18 @@ pub fn listeners<'a>(
     Ok(listeners)
 }
 
-/// Whether this is the callback that a record's tick gave, heard by the federate that ticked.
-fn is_of(heard: Option<&Heard>, record: &Record, callback: &Callback) -> bool {
-    match heard {
-        Some(heard) => Some(heard.federate) == ticking(record) && heard.callback == *callback,
-        None => false,
-    }
-}
-
-/// Whether ambassadors have heard just the callbacks that the records' ticks gave, in their order.
+/// Whether ambassadors have heard just the callbacks that the records' ticks gave, in their order, each by the federate that ticked.
 pub fn are_of(heard: &[Heard], records: &[Record]) -> bool {
     let mut rest = heard.iter();
     for record in records {
         if let Some(callback) = callback_of(record) {
-            if !is_of(rest.next(), record, callback) {
+            let is_heard = match rest.next() {
+                Some(heard) => {
+                    Some(heard.federate) == ticking(record) && heard.callback == *callback
+                }
+                None => false,
+            };
+            if !is_heard {
                 return false;
             }
         }

@@ -6,42 +6,30 @@ use hla_checker::{CheckFault, check_run};
 use hla_machine::Record;
 use std::alloc::Global;
 
-/// Whether a record and the one behind it are ticks of one federate, the first of which gave an event in time-stamp order, and the
-/// second either a later one, or a grant to a later time.
-fn is_in_order(first: &Record, second: &Record) -> bool {
-    if ticking(first).is_none() || ticking(first) != ticking(second) {
+/// The time to which a tick granted an advance, or else the stamp of what it gave in time-stamp order.
+fn reached(record: &Record) -> Option<Ticks> {
+    let callback = given(record)?;
+    granted(callback).or(stamp_of(callback))
+}
+
+/// Whether the order of the record at a place and the one behind it is fixed by their stamps: nobody flushed before, both are ticks of
+/// one federate, the first gave an event in time-stamp order, and the second either a later one, or a grant to a later time.
+fn is_ordered(records: &[Record], place: usize) -> bool {
+    let (Some(first), Some(second)) = (records.get(place), records.get(place.saturating_add(1)))
+    else {
+        return false;
+    };
+    if has_flushed(records, place)
+        || ticking(first).is_none()
+        || ticking(first) != ticking(second)
+    {
         return false;
     }
-    match given(first) {
-        Some(callback) => match stamp_of(callback) {
-            Some(stamp) => is_behind(stamp, second),
+    match (given(first), reached(second)) {
+        (Some(callback), Some(reached)) => match stamp_of(callback) {
+            Some(stamp) => stamp < reached,
             None => false,
         },
-        None => false,
-    }
-}
-
-/// Whether a callback was given with a greater stamp, or a grant to a later time, than this, in ticks.
-fn is_behind(stamp: Ticks, second: &Record) -> bool {
-    match given(second) {
-        Some(callback) => match granted(callback) {
-            Some(time) => stamp < time,
-            None => match stamp_of(callback) {
-                Some(other) => stamp < other,
-                None => false,
-            },
-        },
-        None => false,
-    }
-}
-
-/// Whether the order of the record at a place and the one behind it is fixed by their stamps: nobody flushed before.
-fn is_ordered(records: &[Record], place: usize) -> bool {
-    if has_flushed(records, place) {
-        return false;
-    }
-    match (records.get(place), records.get(place.saturating_add(1))) {
-        (Some(first), Some(second)) => is_in_order(first, second),
         _ => false,
     }
 }

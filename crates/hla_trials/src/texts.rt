@@ -30,19 +30,14 @@ impl<'a> Listed<'a> {
 
     /// The text of the script's first lines, so many; of all, where it has fewer. `AllocError` where a growth was refused.
     pub fn begun(&self, alloc: Global, count: usize) -> Result<Vec<u8>, AllocError> {
-        text_of(alloc, first(self.script.as_slice(), count))
+        text_of(alloc, self.script.as_slice(), count)
     }
 
     /// What the script's first lines must print, so many; what all must, where it has fewer. `AllocError` where a growth was
     /// refused.
     pub fn printed(&self, alloc: Global, count: usize) -> Result<Vec<u8>, AllocError> {
-        text_of(alloc, first(self.expected.as_slice(), count))
+        text_of(alloc, self.expected.as_slice(), count)
     }
-}
-
-/// The first of some lines, so many.
-fn first<'a>(lines: &'a [&'a str], count: usize) -> &'a [&'a str] {
-    &lines[..count.min(lines.len())]
 }
 
 /// Those of some lines from a place on, counted from 0; none, where there are fewer.
@@ -67,9 +62,9 @@ pub fn add_lines(text: &mut Vec<u8>, lines: &[&str]) -> Result<(), AllocError> {
     Ok(())
 }
 
-/// The text of some lines. `AllocError` where a growth was refused.
-fn text_of(alloc: Global, lines: &[&str]) -> Result<Vec<u8>, AllocError> {
+/// The text of the first of some lines, so many. `AllocError` where a growth was refused.
+fn text_of(alloc: Global, lines: &[&str], count: usize) -> Result<Vec<u8>, AllocError> {
     let mut text = Vec::new(alloc);
-    add_lines(&mut text, lines)?;
+    add_lines(&mut text, &lines[..count.min(lines.len())])?;
     Ok(text)
 }
