@@ -7,17 +7,12 @@ use hla_trials::{Listed, Trouble, add_line, add_lines, callback_of, rest, tickin
 use std::alloc::{AllocError, Global};
 use std::sync::Wait;
 
-/// Whether a record is a tick of a federate.
-fn is_tick_of(record: &Record, federate: FederateNo) -> bool {
-    ticking(record) == Some(federate)
-}
-
 /// How often a federate ticked before a place.
 fn ticks_before(records: &[Record], place: usize, federate: FederateNo) -> usize {
     records
         .iter()
         .take(place)
-        .filter(|record| is_tick_of(record, federate))
+        .filter(|record| ticking(record) == Some(federate))
         .count()
 }
 
@@ -26,7 +21,7 @@ fn callbacks_before(records: &[Record], place: usize, federate: FederateNo) -> u
     records
         .iter()
         .take(place)
-        .filter(|record| is_tick_of(record, federate) && callback_of(record).is_some())
+        .filter(|record| ticking(record) == Some(federate) && callback_of(record).is_some())
         .count()
 }
 
@@ -164,19 +159,6 @@ fn goes_on_refused<R: Wait>(
     }
 }
 
-/// Whether all goes on behind the tick at a place as if its federate's ambassador had given no trouble at it.
-fn goes_on<R: Wait>(
-    rt: &R,
-    alloc: Global,
-    listed: &Listed<'_>,
-    done: &[Record],
-    place: usize,
-    federate: FederateNo,
-) -> bool {
-    goes_on_failed(rt, alloc, listed, done, place, federate) == Ok(true)
-        && goes_on_refused(rt, alloc, listed, done, place, federate) == Ok(true)
-}
-
 /// How many ticks of a script gave a callback, where all goes on behind each that has trouble.
 fn trouble_at_each<R: Wait>(
     rt: &R,
@@ -187,7 +169,9 @@ fn trouble_at_each<R: Wait>(
     let mut count = 0usize;
     for (place, record) in done.iter().enumerate() {
         if let (Some(federate), Some(_)) = (ticking(record), callback_of(record)) {
-            if !goes_on(rt, alloc, listed, done, place, federate) {
+            if goes_on_failed(rt, alloc, listed, done, place, federate) != Ok(true)
+                || goes_on_refused(rt, alloc, listed, done, place, federate) != Ok(true)
+            {
                 return None;
             }
             count = count.saturating_add(1);

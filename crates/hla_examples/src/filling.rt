@@ -18,18 +18,16 @@ fn printed_full(alloc: Global, listed: &Listed<'_>, limit: usize) -> Result<Vec<
     Ok(text)
 }
 
-/// Whether two runs have the same records, so many, ambassadors heard the same in them, and monitors read the same.
-fn is_same_end(full: &Played, stopped: &Played, limit: usize) -> bool {
-    full.records().len() == limit
-        && full.records() == stopped.records()
-        && full.heard == stopped.heard
-        && full.ran.seen == stopped.ran.seen
-}
-
-/// Whether a run whose history is full behind so many records ends as one does that stops there.
+/// Whether a run whose history is full behind so many records ends as one does that stops there: both have the same records, so many,
+/// ambassadors heard the same in them, and monitors read the same.
 fn ends_as(full: Played, stopped: Option<Played>, limit: usize) -> bool {
     let is_same = match &stopped {
-        Some(stopped) => is_same_end(&full, stopped, limit),
+        Some(stopped) => {
+            full.records().len() == limit
+                && full.records() == stopped.records()
+                && full.heard == stopped.heard
+                && full.ran.seen == stopped.ran.seen
+        }
         None => false,
     };
     drop(full);

@@ -180,21 +180,18 @@ fn printed_bare(
     printed
 }
 
-/// Whether a monitor read the counts of all records of a run but the last, which waits where the board was refused room for it.
-fn has_seen_most(ran: &Ran) -> bool {
-    match &ran.seen {
-        Some(seen) => seen.steps.saturating_add(1) >= ran.closed.records().len() as u64,
-        None => false,
-    }
-}
-
-/// Has the records of a run judged, which a monitor has read; `FederateInternalError` where one of that is not as it should be, and
-/// `OutOfMemory` where judging them was refused a growth.
+/// Has the records of a run judged, all of which but the last a monitor has read: that one waits where the board was refused room for it.
+/// `FederateInternalError` where one of that is not as it should be, and `OutOfMemory` where judging them was refused a growth.
 fn judge(alloc: Global, ran: &Ran) -> Result<(), Fault> {
-    if !has_seen_most(ran) {
+    let records = ran.closed.records();
+    let has_seen_most = match &ran.seen {
+        Some(seen) => seen.steps.saturating_add(1) >= records.len() as u64,
+        None => false,
+    };
+    if !has_seen_most {
         return Err(Fault::FederateInternalError);
     }
-    match check_run(alloc, ran.closed.records()) {
+    match check_run(alloc, records) {
         Ok(()) => Ok(()),
         Err(CheckFault::Memory) => Err(Fault::OutOfMemory),
         Err(CheckFault::Place(_)) => Err(Fault::FederateInternalError),

@@ -22,7 +22,7 @@ mod stopping;
 
 use crate::harming::harm_some;
 use crate::layers::{Layer, printed};
-use crate::locking::{Example, is_run_on_threads, is_same_behind_the_lock};
+use crate::locking::{is_run_on_threads, is_same_behind_the_lock};
 use hla_base::Fault;
 use hla_checker::check_run;
 use hla_machine::Record;
@@ -110,7 +110,7 @@ fn are_judged(alloc: Global, records: &mut Vec<Record>) -> Result<bool, Fault> {
     Ok(check_run(alloc, records.as_slice()) == Ok(()))
 }
 
-/// What the files of an example have in them.
+/// What the files of an example have in them: the FED file, the script, and the transcript that is expected.
 #[derive(Drop)]
 struct Files {
     fed: String,
@@ -134,15 +134,6 @@ impl Files {
         })
     }
 
-    /// The example.
-    fn example(&self) -> Example {
-        Example {
-            fed: self.fed.as_bytes(),
-            script: self.script.as_bytes(),
-            expected: self.expected.as_bytes(),
-        }
-    }
-
     /// The example by its lines.
     fn listed(&self, alloc: Global) -> Result<Listed<'_>, AllocError> {
         Listed::new(
@@ -156,15 +147,15 @@ impl Files {
 
 /// How many records an example has; none where it prints something else than what is expected, or its records are not judged as
 /// they should be.
-fn records_as_expected(alloc: Global, example: Example) -> Option<usize> {
+fn records_as_expected(alloc: Global, files: &Files) -> Option<usize> {
     let mut transcript = Vec::new(alloc);
     match play(
         alloc,
-        example.fed,
-        example.script,
+        files.fed.as_bytes(),
+        files.script.as_bytes(),
         &mut Watched::new(&mut transcript),
     ) {
-        Ok(records) if transcript.as_slice() == example.expected => {
+        Ok(records) if transcript.as_slice() == files.expected.as_bytes() => {
             let mut records = records.into_vec();
             match are_judged(alloc, &mut records) {
                 Ok(true) => Some(records.len()),
@@ -182,10 +173,8 @@ fn records_both_ways<R: Runtime + AllocGlobal + Wait>(
 ) -> io::Result<Option<usize>> {
     let alloc = rt.alloc();
     let files = Files::read(rt, name)?;
-    match records_as_expected(alloc, files.example()) {
-        Some(count) if is_same_behind_the_lock(rt, alloc, files.example(), count) => Ok(Some(
-            count,
-        )),
+    match records_as_expected(alloc, &files) {
+        Some(count) if is_same_behind_the_lock(rt, alloc, &files, count) => Ok(Some(count)),
         _ => Ok(None),
     }
 }
@@ -210,7 +199,7 @@ fn run_some<R: Runtime + AllocGlobal + Threads + Wait + Sync>(rt: &R) -> io::Res
     let mut are_all = true;
     for name in ON_THREADS.iter() {
         let files = Files::read(rt, name)?;
-        if is_run_on_threads(rt, rt.alloc(), files.example()) {
+        if is_run_on_threads(rt, rt.alloc(), &files) {
             println!(rt; "{name} on threads ok")?;
         } else {
             are_all = false;

@@ -1,7 +1,7 @@
 //! Scripts that stop: each is played up to each of its lines, all that was handed out leaves, and it closes with records that the
 //! checker takes; and the checker tells of each record whose outcome is exchanged for `HistoryFull`, at its place.
 
-use crate::playing::{Played, ROOM, run_printing, whole_run};
+use crate::playing::{ROOM, run_printing, whole_run};
 use hla_base::{Fault, Plain};
 use hla_machine::Record;
 use hla_trials::{Listed, Trouble, tells_full};
@@ -75,21 +75,13 @@ fn tells_each_full(alloc: Global, records: &[Record]) -> Result<bool, Fault> {
     Ok(true)
 }
 
-/// Whether a script that was played stops as it should, and the checker tells of its records.
-fn is_stopped_and_told<R: Wait>(
-    rt: &R,
-    alloc: Global,
-    listed: &Listed<'_>,
-    whole: &Played,
-) -> bool {
-    is_stopped_anywhere(rt, alloc, listed, whole.records()) == Ok(true)
-        && tells_each_full(alloc, whole.records()) == Ok(true)
-}
-
-/// How many stops of a script are as they should be, where all are.
+/// How many stops of a script are as they should be, where all are, and the checker tells of its records.
 pub fn stops<R: Wait>(rt: &R, alloc: Global, listed: &Listed<'_>) -> Option<usize> {
     let whole = whole_run(rt, alloc, listed)?;
-    if is_stopped_and_told(rt, alloc, listed, &whole) {
+    let are_right = is_stopped_anywhere(rt, alloc, listed, whole.records()) == Ok(true)
+        && tells_each_full(alloc, whole.records()) == Ok(true);
+    drop(whole);
+    if are_right {
         Some(listed.script.len())
     } else {
         None
