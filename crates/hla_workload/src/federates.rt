@@ -11,7 +11,7 @@ use crate::digest::Digest;
 use crate::faltering::Faltering;
 use crate::random::Random;
 use crate::values::{ATTRIBUTES, chosen_values, numbers};
-use hla_base::{ExecutionName, Fault, FederateNo, List, ObjectNo, Ticks};
+use hla_base::{ExecutionName, Fault, FederateNo, ObjectNo, Ticks};
 use hla_callbacks::Callback;
 use hla_machine::Carried;
 use hla_monitor::{Monitor, Naming, Publisher, Status};
