@@ -168,19 +168,21 @@ fn orders(declarations: &Declarations) -> [Option<Order>; 3] {
     ]
 }
 
-const ORDERS: [&str; 2] = [
+const ORDERS: [&str; 3] = [
+    "an order is changed twice",
     "an order is that of one federate and class",
     "it is so until the federate is withdrawn",
 ];
 
 /// What is so of federate 2, which changes the order of its interactions of class 2 twice.
-fn changed(alloc: Global) -> Result<[bool; 2], Fault> {
+fn changed(alloc: Global) -> Result<[bool; 3], Fault> {
     let mut declarations = three_federates(alloc)?;
-    declarations.change_interaction_order(2, 2, Order::Receive)?;
-    declarations.change_interaction_order(2, 2, Order::Timestamp)?;
+    let first = declarations.change_interaction_order(2, 2, Order::Receive);
+    let second = declarations.change_interaction_order(2, 2, Order::Timestamp);
     let changed = orders(&declarations);
     declarations.withdraw(2);
     Ok([
+        first.is_ok() && second.is_ok(),
         changed == [Some(Order::Timestamp), None, None],
         orders(&declarations) == [None, None, None],
     ])

@@ -50,7 +50,7 @@ fn event_of(i: u64) -> Event
 /// Puts ten thousand events into a queue.
 fn fill(rt: &impl Abort, queue: &mut TsoQueue) {
     for i in 0..10_000u64 {
-        assert!(rt; put(queue, event_of(i)), "event {i}");
+        assert!(rt; put(queue, event_of(i)));
     }
 }
 
@@ -59,7 +59,7 @@ fn remove_thirds(rt: &impl Abort, queue: &mut TsoQueue) {
     for i in 0..3_334u64 {
         let expected = key(&event_of(3 * i));
         let removed = key_of(queue.remove(expected.1, expected.2));
-        assert!(rt; removed == Some(expected), "{removed:?}");
+        assert!(rt; removed == Some(expected));
     }
 }
 
@@ -79,8 +79,7 @@ fn keys_left(alloc: Global) -> Result<Vec<Key>, AllocError> {
 fn take_all(rt: &impl Abort, queue: &mut TsoQueue, keys: &[Key]) {
     assert!(rt; queue.len() == 6_666);
     for expected in keys {
-        let taken = key_of(queue.take_least());
-        assert!(rt; taken == Some(*expected), "{taken:?}");
+        assert!(rt; key_of(queue.take_least()) == Some(*expected));
     }
     assert!(rt; queue.take_least().is_none());
 }
@@ -104,11 +103,13 @@ const FIVE: [(FederateNo, Serial, Ticks); 5] = [
     (3, 2, 5),
 ];
 
-/// Puts the five events into a queue.
-fn put_five(rt: &impl Abort, queue: &mut TsoQueue) {
+/// Whether the five events are put into a queue.
+fn are_put(queue: &mut TsoQueue) -> bool {
+    let mut are_put = true;
     for (sender, serial, stamp) in FIVE {
-        assert!(rt; put(queue, event(sender, serial, stamp)));
+        are_put = put(queue, event(sender, serial, stamp)) && are_put;
     }
+    are_put
 }
 
 /// Whether the events that were received have these keys.
@@ -124,7 +125,8 @@ fn are_received(received: &RoQueue, expected: &[Key]) -> bool {
     is_same
 }
 
-const MOVED: [&str; 7] = [
+const MOVED: [&str; 8] = [
+    "five events are put into a queue",
     "the least stamp is that of the least event",
     "one event is not below the bound",
     "four move behind what was received, by their keys",
@@ -135,7 +137,8 @@ const MOVED: [&str; 7] = [
 ];
 
 /// What is so of five events, of which four move behind one that was received before, and the fifth once one was taken out.
-fn moved(queue: &mut TsoQueue, received: &mut RoQueue) -> Result<[bool; 7], Fault> {
+fn moved(queue: &mut TsoQueue, received: &mut RoQueue) -> Result<[bool; 8], Fault> {
+    let are_put = are_put(queue);
     let least = queue.least_stamp();
     queue.move_below(9, received)?;
     let left = queue.len();
@@ -145,6 +148,7 @@ fn moved(queue: &mut TsoQueue, received: &mut RoQueue) -> Result<[bool; 7], Faul
     queue.move_below(FOREVER, received)?;
     let last = [(1, 9, 9), (5, 3, 2), (7, 1, 1), (7, 1, 2), (9, 3, 1)];
     Ok([
+        are_put,
         least == 5,
         left == 1,
         are_moved,
@@ -155,13 +159,16 @@ fn moved(queue: &mut TsoQueue, received: &mut RoQueue) -> Result<[bool; 7], Faul
     ])
 }
 
-#[test]
-fn moves_what_is_below_a_bound(rt: HostRuntime) -> Result<(), Fail> {
-    let mut queue = TsoQueue::new(rt.alloc());
-    put_five(&rt, &mut queue);
-    let mut received = RoQueue::new(rt.alloc());
+/// What is so where one event was received before.
+fn moved_behind_one(alloc: Global) -> Result<[bool; 8], Fault> {
+    let mut received = RoQueue::new(alloc);
     received.reserve(1)?;
     received.put(event(9, 9, 1));
-    check(&rt, &MOVED, &moved(&mut queue, &mut received)?);
+    moved(&mut TsoQueue::new(alloc), &mut received)
+}
+
+#[test]
+fn moves_what_is_below_a_bound(rt: HostRuntime) -> Result<(), Fail> {
+    check(&rt, &MOVED, &moved_behind_one(rt.alloc())?);
     Ok(())
 }

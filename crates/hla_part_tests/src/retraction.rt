@@ -77,7 +77,8 @@ const NOTHING_SENT: [&str; 6] = [
 ];
 
 /// What is so where nothing was sent.
-fn nothing_sent(sent: &Sent) -> [bool; 6] {
+fn nothing_sent(alloc: Global) -> [bool; 6] {
+    let sent = Sent::new(alloc);
     [
         !sent.may_retract(true, 0, 0),
         !sent.may_retract(true, 0, 1),
@@ -101,12 +102,13 @@ const RETRACTED: [&str; 9] = [
 ];
 
 /// What is so of the messages of `two_sent`, which are retracted.
-fn retracted(sent: &mut Sent) -> [bool; 9] {
-    let unsent = take_back(sent, 0, 4);
-    let first = take_back(sent, 0, 3);
-    let again = take_back(sent, 0, 3);
-    let other = take_back(sent, 0, 5);
-    [
+fn retracted(alloc: Global) -> Result<[bool; 9], Fail> {
+    let mut sent = two_sent(alloc)?;
+    let unsent = take_back(&mut sent, 0, 4);
+    let first = take_back(&mut sent, 0, 3);
+    let again = take_back(&mut sent, 0, 3);
+    let other = take_back(&mut sent, 0, 5);
+    Ok([
         !unsent,
         first,
         !again,
@@ -116,7 +118,7 @@ fn retracted(sent: &mut Sent) -> [bool; 9] {
         sent.is_receiver(5, 4),
         !sent.is_receiver(3, 4),
         !sent.is_receiver(4, 4),
-    ]
+    ])
 }
 
 const LEAST: [&str; 4] = [
@@ -127,23 +129,23 @@ const LEAST: [&str; 4] = [
 ];
 
 /// What is so of a message at 20.
-fn sent_at_20(sent: &Sent) -> [bool; 4] {
-    [
+fn sent_at_20(alloc: Global) -> Result<[bool; 4], Fail> {
+    let mut sent = Sent::new(alloc);
+    sent.note(1, 20, FederateSet::new())?;
+    Ok([
         !sent.may_retract(true, 21, 1),
         !sent.may_retract(true, 20, 1),
         sent.may_retract(true, 19, 1),
         !sent.may_retract(false, 19, 1),
-    ]
+    ])
 }
 
 #[test]
 fn only_what_was_sent_above_the_least_is_retracted_once(rt: HostRuntime) -> Result<(), Fail> {
     check(&rt, &RECEIVERS, &receivers());
-    check(&rt, &NOTHING_SENT, &nothing_sent(&Sent::new(rt.alloc())));
-    check(&rt, &RETRACTED, &retracted(&mut two_sent(rt.alloc())?));
-    let mut sent = Sent::new(rt.alloc());
-    sent.note(1, 20, FederateSet::new())?;
-    check(&rt, &LEAST, &sent_at_20(&sent));
+    check(&rt, &NOTHING_SENT, &nothing_sent(rt.alloc()));
+    check(&rt, &RETRACTED, &retracted(rt.alloc())?);
+    check(&rt, &LEAST, &sent_at_20(rt.alloc())?);
     Ok(())
 }
 
