@@ -155,9 +155,9 @@ const SCRIPTS: [(&str, usize, &str); 117] = [
 
 #[test]
 fn reads_a_script_or_finds_its_first_fault(rt: HostRuntime) {
-    for (text, line, kind) in SCRIPTS {
+    for (text, line, kind) in SCRIPTS.iter() {
         let reading = reading_of(rt.alloc(), text.as_bytes());
-        assert_eq!(rt; reading, (line, kind), "in {text:?}");
+        assert_eq!(rt; reading, (*line, *kind), "in {text:?}");
     }
 }
 
