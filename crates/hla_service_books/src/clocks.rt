@@ -3,20 +3,21 @@
 
 use crate::texts::FOREVER;
 
-#[derive(Clone, Copy, PartialEq, Eq)]
+#[derive(Clone, Copy)]
 pub enum Role {
     Disabled,
     Pending,
     Enabled,
 }
 
-#[derive(Clone, Copy, PartialEq, Eq)]
-pub enum Kind {
-    TimeAdvance,
-    TimeAdvanceAvailable,
-    NextEvent,
-    NextEventAvailable,
-    FlushQueue,
+/// One of the five requests to advance.
+#[derive(Clone, Copy)]
+pub struct Kind {
+    /// Whether it leaves nothing behind at the time of its grant.
+    pub is_strict: bool,
+    /// Whether it is a next-event request.
+    pub is_next: bool,
+    pub is_flush: bool,
 }
 
 /// An advance that was asked for and not granted yet.
@@ -26,8 +27,8 @@ pub struct Advance {
     pub asked: u64,
     /// The stamp of the first message that was picked in it.
     pub first_pick: Option<u64>,
-    /// The least stamp that was flushed in it.
-    pub flushed: Option<u64>,
+    /// The least stamp that was flushed in it, or `FOREVER`.
+    pub flushed: u64,
 }
 
 #[derive(Clone, Copy)]
@@ -50,34 +51,24 @@ pub struct Clock {
 impl Kind {
     /// The request that a word of a script makes.
     pub fn of(word: &str) -> Option<Kind> {
-        match word {
-            "tar" => Some(Kind::TimeAdvance),
-            "tara" => Some(Kind::TimeAdvanceAvailable),
-            "ner" => Some(Kind::NextEvent),
-            "nera" => Some(Kind::NextEventAvailable),
-            "fqr" => Some(Kind::FlushQueue),
-            _ => None,
-        }
-    }
-
-    /// Whether it leaves nothing behind at the time of its grant.
-    pub fn is_strict(self) -> bool {
-        matches!(self, Kind::TimeAdvance | Kind::NextEvent)
-    }
-
-    /// Whether it is a next-event request.
-    pub fn is_next(self) -> bool {
-        matches!(self, Kind::NextEvent | Kind::NextEventAvailable)
-    }
-
-    /// Whether it is a flush.
-    pub fn is_flush(self) -> bool {
-        self == Kind::FlushQueue
+        let (is_strict, is_next, is_flush) = match word {
+            "tar" => (true, false, false),
+            "tara" => (false, false, false),
+            "ner" => (true, true, false),
+            "nera" => (false, true, false),
+            "fqr" => (false, false, true),
+            _ => return None,
+        };
+        Some(Kind {
+            is_strict,
+            is_next,
+            is_flush,
+        })
     }
 
     /// The first time that a grant at a time leaves open.
     pub fn reach(self, time: u64) -> u64 {
-        if self.is_strict() {
+        if self.is_strict {
             time.saturating_add(1)
         } else {
             time
@@ -105,21 +96,39 @@ impl Clock {
 
     /// Whether the federate is constrained.
     pub fn is_constrained(self) -> bool {
-        self.constrained == Role::Enabled
+        matches!(self.constrained, Role::Enabled)
     }
 
     /// Whether the federate regulates.
     pub fn is_regulating(self) -> bool {
-        self.regulating == Role::Enabled
+        matches!(self.regulating, Role::Enabled)
+    }
+
+    /// Whether it has asked for an advance that was not granted yet.
+    pub fn is_advancing(self) -> bool {
+        matches!(self.advance, Some(_))
+    }
+
+    /// Whether its advance is a flush.
+    pub fn is_flushing(self) -> bool {
+        match self.advance {
+            Some(advance) => advance.kind.is_flush,
+            None => false,
+        }
     }
 
     /// Whether messages in receive order wait for the next advance.
     pub fn holds_back(self) -> bool {
-        self.is_constrained() && self.advance.is_none() && !self.is_asynchronous
+        self.is_constrained() && !self.is_advancing() && !self.is_asynchronous
+    }
+
+    /// What it promises of a time by such a request: what it sends is stamped this or more.
+    fn promised(self, kind: Kind, time: u64) -> u64 {
+        time.saturating_add(self.width(kind))
     }
 
     fn width(self, kind: Kind) -> u64 {
-        if kind.is_strict() {
+        if kind.is_strict {
             self.lookahead.max(1)
         } else {
             self.lookahead
@@ -129,49 +138,61 @@ impl Clock {
     /// The least stamp that it may send.
     pub fn least_stamp(self) -> u64 {
         match self.advance {
-            Some(advance) => self
-                .floor
-                .max(advance.asked.saturating_add(self.width(advance.kind))),
+            Some(advance) => self.floor.max(self.promised(advance.kind, advance.asked)),
             None => self.floor,
         }
     }
 
-    /// Makes a request to advance, and says whether it may be made.
-    pub fn ask(&mut self, kind: Kind, asked: u64) -> bool {
-        let is_allowed = self.advance.is_none()
-            && self.regulating != Role::Pending
-            && self.constrained != Role::Pending
-            && self.time <= asked;
-        self.advance = Some(Advance {
+    /// Whether it may ask for an advance to a time.
+    pub fn may_ask(self, asked: u64) -> bool {
+        !self.is_advancing()
+            && !matches!(self.regulating, Role::Pending)
+            && !matches!(self.constrained, Role::Pending)
+            && self.time <= asked
+    }
+
+    /// The clock with a request to advance made.
+    pub fn asking(self, kind: Kind, asked: u64) -> Clock {
+        let mut clock = self;
+        clock.advance = Some(Advance {
             kind,
             asked,
             first_pick: None,
-            flushed: None,
+            flushed: FOREVER,
         });
-        if !(self.is_constrained() && (kind.is_next() || kind.is_flush())) {
-            self.floor = self.floor.max(asked.saturating_add(self.width(kind)));
+        if !(self.is_constrained() && (kind.is_next || kind.is_flush)) {
+            clock.floor = self.floor.max(self.promised(kind, asked));
         }
-        is_allowed
+        clock
     }
 
-    /// Asks for regulation, which begins with an entry.
-    pub fn enter(&mut self, lookahead: u64, entry: u64) {
-        self.lookahead = lookahead;
-        self.floor = entry;
-        self.regulating = Role::Pending;
-        self.entry_time = if self.is_constrained() {
+    /// The clock with regulation asked for, which begins with an entry.
+    pub fn entering(self, lookahead: u64, entry: u64) -> Clock {
+        let mut clock = self;
+        clock.lookahead = lookahead;
+        clock.floor = entry;
+        clock.regulating = Role::Pending;
+        clock.entry_time = if self.is_constrained() {
             self.time
         } else {
             entry.saturating_sub(lookahead)
         };
-        self.epoch = self.epoch.saturating_add(1);
-        self.last_announced = entry;
+        clock.epoch = self.epoch.saturating_add(1);
+        clock.last_announced = entry;
+        clock
+    }
+
+    /// Whether it may ask for regulation from a time on.
+    pub fn may_enter(self, time: u64) -> bool {
+        matches!(self.regulating, Role::Disabled)
+            && !self.is_advancing()
+            && (time == self.time || (self.time < time && !self.is_constrained()))
     }
 
     /// The next-event request in which it waits, constrained.
     fn next_request(self) -> Option<Advance> {
         match self.advance {
-            Some(advance) if advance.kind.is_next() && self.is_constrained() => Some(advance),
+            Some(advance) if advance.kind.is_next && self.is_constrained() => Some(advance),
             _ => None,
         }
     }
@@ -193,8 +214,7 @@ impl Clock {
             Some(advance) => {
                 let first = advance.first_pick.unwrap_or(advance.asked);
                 let wake = first.min(advance.asked).min(waiting).min(bound);
-                self.floor
-                    .max(wake.saturating_add(self.width(advance.kind)))
+                self.floor.max(self.promised(advance.kind, wake))
             }
             None => self.floor,
         }
@@ -206,60 +226,58 @@ impl Clock {
             return false;
         };
         let is_first = match advance.first_pick {
-            Some(first) => first == stamp || !advance.kind.is_next(),
+            Some(first) => first == stamp || !advance.kind.is_next,
             None => true,
         };
         let is_open = stamp <= advance.asked && advance.kind.reach(stamp) <= bound && is_first;
-        self.is_constrained() && (advance.kind.is_flush() || is_open)
+        self.is_constrained() && (advance.kind.is_flush || is_open)
     }
 
-    /// A message of this stamp is given in time-stamp order.
-    pub fn pick(&mut self, stamp: u64) {
-        let Some(mut advance) = self.advance else {
-            return;
-        };
-        if advance.kind.is_flush() {
-            advance.flushed = Some(advance.flushed.unwrap_or(stamp).min(stamp));
-        } else {
-            advance.first_pick = Some(advance.first_pick.unwrap_or(stamp));
-            self.bar = self.bar.max(advance.kind.reach(stamp));
+    /// The clock with a message of this stamp given in time-stamp order.
+    pub fn picking(self, stamp: u64) -> Clock {
+        let mut clock = self;
+        if let Some(mut advance) = self.advance {
+            if advance.kind.is_flush {
+                advance.flushed = advance.flushed.min(stamp);
+            } else {
+                advance.first_pick = Some(advance.first_pick.unwrap_or(stamp));
+                clock.bar = self.bar.max(advance.kind.reach(stamp));
+            }
+            clock.advance = Some(advance);
         }
-        self.advance = Some(advance);
+        clock
     }
 
     /// Where its advance is granted, if its bound and the least stamp that waits let it.
     pub fn grant_time(self, waiting: u64, bound: u64) -> Option<u64> {
         let advance = self.advance?;
-        if !self.is_constrained() {
-            return Some(advance.asked);
-        }
-        if advance.kind.is_flush() {
-            let flushed = advance.flushed.unwrap_or(FOREVER);
-            return Some(advance.asked.min(bound).min(flushed));
-        }
         let time = match advance.first_pick {
-            Some(first) if advance.kind.is_next() => first,
+            Some(first) if advance.kind.is_next => first,
             _ => advance.asked,
         };
         let reach = advance.kind.reach(time);
-        if reach <= bound && reach <= waiting {
+        if !self.is_constrained() {
+            Some(advance.asked)
+        } else if advance.kind.is_flush {
+            Some(advance.asked.min(bound).min(advance.flushed))
+        } else if reach <= bound && reach <= waiting {
             Some(time)
         } else {
             None
         }
     }
 
-    /// It is granted a time.
-    pub fn grant(&mut self, time: u64) {
+    /// The clock that is granted a time.
+    pub fn granted(self, time: u64) -> Clock {
+        let mut clock = self;
         if let Some(advance) = self.advance {
-            self.floor = self
-                .floor
-                .max(time.saturating_add(self.width(advance.kind)));
+            clock.floor = self.floor.max(self.promised(advance.kind, time));
             if self.is_constrained() {
-                self.bar = self.bar.max(advance.kind.reach(time));
+                clock.bar = self.bar.max(advance.kind.reach(time));
             }
         }
-        self.time = time;
-        self.advance = None;
+        clock.time = time;
+        clock.advance = None;
+        clock
     }
 }

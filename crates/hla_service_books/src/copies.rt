@@ -1,32 +1,41 @@
 //! What was sent, and what has become of it at each of its receivers.
 
-use crate::receivers::{Attributes, is_of};
-use crate::texts::{cut, handle, is_last_of_its_name, number, path_of, ticks};
+use crate::receivers::Attributes;
+use crate::texts::{EventName, KnownTexts, cut, is_last_of_its_name, name_in, number, ticks};
 use std::alloc::{AllocError, Global};
 
 /// What a message says.
 #[derive(Clone, Copy)]
-pub enum Said<'a> {
-    Interaction { class: &'a str },
-    Update { object: u32, part: Attributes },
-    Deletion { object: u32 },
+pub enum Said {
+    /// An interaction of a class, by the number of its path.
+    Interaction {
+        class: usize,
+    },
+    /// The part of an update that has these attributes, where the update gives values to those.
+    Update {
+        object: u32,
+        part: Attributes,
+        given: Attributes,
+    },
+    Deletion {
+        object: u32,
+    },
 }
 
 /// A message of an interaction, an update or a deletion.
 #[derive(Clone, Copy)]
-pub struct BookedMessage<'a> {
-    pub sender: u32,
-    pub serial: u32,
+pub struct BookedMessage {
+    pub event: EventName,
     /// Its stamp, if it goes in time-stamp order.
     pub stamp: Option<u64>,
-    pub said: Said<'a>,
-    /// The line that sent it.
-    pub line: &'a str,
+    pub said: Said,
+    /// The number of the words that sent it.
+    pub words: usize,
     pub is_retracted: bool,
 }
 
 /// What has become of a copy.
-#[derive(Clone, Copy, PartialEq, Eq)]
+#[derive(Clone, Copy)]
 pub enum Fate {
     /// It lies on its wire.
     Sent,
@@ -39,117 +48,169 @@ pub enum Fate {
     Gone,
 }
 
+/// Where a message stands in the order of stamps.
+#[derive(Clone, Copy)]
+pub struct StampKey {
+    pub stamp: u64,
+    pub event: EventName,
+}
+
 /// A message on its way to one receiver.
 #[derive(Clone, Copy)]
 struct Copy {
-    sender: u32,
-    serial: u32,
+    event: EventName,
     receiver: u32,
     stamp: Option<u64>,
-    is_retracted: bool,
     fate: Fate,
 }
 
 /// All messages and their copies.
 #[derive(Drop)]
-pub struct Copies<'a> {
-    messages: Vec<BookedMessage<'a>>,
+pub struct Copies {
+    messages: Vec<BookedMessage>,
     copies: Vec<Copy>,
 }
 
-impl BookedMessage<'_> {
+impl BookedMessage {
     /// Whether a callback tells of it, in the order in which it is to be given.
-    pub fn is_told_by(self, callback: &str, is_ordered: bool) -> bool {
-        let (head, tail) = match callback.split_once(" TSO ") {
-            Some(parts) if is_ordered => parts,
-            None if !is_ordered => callback.split_once(" RO").unwrap_or(("", callback)),
-            _ => return false,
-        };
+    pub fn is_told_by(self, texts: &KnownTexts, callback: &str, is_ordered: bool) -> bool {
+        let mark = if is_ordered { " TSO " } else { " RO" };
+        let (head, tail) = callback.split_once(mark).unwrap_or(("", callback));
+        callback.contains(" TSO ") == is_ordered
+            && self.is_stamped_so(tail)
+            && self.is_said_by(texts, head)
+    }
+
+    /// Whether a callback ends with its stamp and its name, or with nothing where it has no stamp.
+    fn is_stamped_so(self, tail: &str) -> bool {
         let (stamp, event) = cut(tail);
-        let is_stamped = match self.stamp {
-            Some(sent) => ticks(stamp) == sent && handle(event) == (self.sender, self.serial),
+        match self.stamp {
+            Some(sent) => ticks(stamp) == sent && EventName::of(event).is(self.event),
             None => tail.is_empty(),
-        };
-        is_stamped && self.is_said_by(head)
+        }
     }
 
     /// Whether it says this, with values that its line sent, of the message's part of an update.
-    fn is_said_by(self, head: &str) -> bool {
+    fn is_said_by(self, texts: &KnownTexts, head: &str) -> bool {
         let (kind, rest) = cut(head);
         let (subject, shown) = cut(rest);
-        let is_subject = match self.said {
-            Said::Interaction { class } => {
-                kind == "receive" && path_of(class).starts_with(subject)
-            }
-            Said::Update { object, .. } => kind == "reflect" && number(subject) == object,
-            Said::Deletion { object } => kind == "remove" && number(subject) == object,
-        };
-        is_subject
-            && shown.split_whitespace().all(|pair| self.has_part_of(pair)
-                && is_last_of_its_name(self.line, pair))
+        kind == self.said.word()
+            && self.said.is_of(texts, subject)
+            && self.said.has_all(shown, texts.text(self.words))
+    }
+}
+
+impl Said {
+    /// The word for a callback that tells of it.
+    fn word(self) -> &'static str {
+        match self {
+            Said::Interaction { .. } => "receive",
+            Said::Update { .. } => "reflect",
+            Said::Deletion { .. } => "remove",
+        }
     }
 
-    /// Whether a pair goes with the message.
-    fn has_part_of(self, pair: &str) -> bool {
-        match self.said {
-            Said::Update { part, .. } => is_of(part, pair),
+    /// Whether a callback names its class or one above it, or its object.
+    fn is_of(self, texts: &KnownTexts, subject: &str) -> bool {
+        match self {
+            Said::Interaction { class } => texts.text(class).starts_with(subject),
+            Said::Update { object, .. } | Said::Deletion { object } => number(subject) == object,
+        }
+    }
+
+    /// Whether all these pairs go with it, in the words that sent it.
+    fn has_all(self, shown: &str, words: &str) -> bool {
+        let mut has_all = true;
+        for pair in shown.split_whitespace() {
+            has_all = has_all && self.has(name_in(pair)) && is_last_of_its_name(words, pair);
+        }
+        has_all
+    }
+
+    /// Whether a value of an attribute or a parameter goes with it.
+    fn has(self, name: &str) -> bool {
+        match self {
+            Said::Update { part, .. } => part.have(name),
             _ => true,
         }
     }
 }
 
-impl Copy {
-    fn is_of(self, sender: u32, serial: u32) -> bool {
-        self.sender == sender && self.serial == serial
+impl StampKey {
+    /// Before all that is stamped so or later.
+    pub fn at(stamp: u64) -> StampKey {
+        let event = EventName {
+            sender: 0,
+            serial: 0,
+        };
+        StampKey { stamp, event }
     }
 
-    /// Whether it is given before a stamp, a sender and a serial.
-    fn is_before(self, key: (u64, u32, u32)) -> bool {
-        let stamp = self.stamp.unwrap_or(0);
-        stamp < key.0
-            || (stamp == key.0
-                && (self.sender < key.1 || (self.sender == key.1 && self.serial < key.2)))
+    /// Whether it is before another: by the stamp, then the sender, then the serial.
+    fn is_before(self, other: StampKey) -> bool {
+        if self.stamp != other.stamp {
+            return self.stamp < other.stamp;
+        }
+        if self.event.sender != other.event.sender {
+            return self.event.sender < other.event.sender;
+        }
+        self.event.serial < other.event.serial
     }
 }
 
-impl<'a> Copies<'a> {
+impl Copy {
+    fn is_of(self, event: EventName, receiver: u32) -> bool {
+        self.event.is(event) && self.receiver == receiver
+    }
+
+    fn key(self) -> StampKey {
+        StampKey {
+            stamp: self.stamp.unwrap_or(0),
+            event: self.event,
+        }
+    }
+
+    /// Whether it is still to be given to a federate in the order of stamps, below a time.
+    fn is_open_below(self, receiver: u32, time: u64) -> bool {
+        let is_waiting = matches!(self.fate, Fate::Sent | Fate::Ordered);
+        let is_below = match self.stamp {
+            Some(stamp) => stamp < time,
+            None => false,
+        };
+        self.receiver == receiver && is_waiting && is_below
+    }
+}
+
+impl Copies {
     /// No messages.
-    pub fn new(alloc: Global) -> Copies<'a> {
+    pub fn new(alloc: Global) -> Copies {
         Copies {
             messages: Vec::new(alloc),
             copies: Vec::new(alloc),
         }
     }
 
-    /// Forgets all messages.
-    pub fn clear(&mut self) {
-        self.messages.clear();
-        self.copies.clear();
-    }
-
     /// Writes a message down. `AllocError` where a growth was refused.
-    pub fn note(&mut self, message: BookedMessage<'a>) -> Result<(), AllocError> {
+    pub fn note(&mut self, message: BookedMessage) -> Result<(), AllocError> {
         self.messages.push(message)?;
         Ok(())
     }
 
     /// A copy of a message is sent. `AllocError` where a growth was refused.
-    pub fn send(&mut self, message: BookedMessage<'a>, receiver: u32) -> Result<(), AllocError> {
+    pub fn send(&mut self, message: BookedMessage, receiver: u32) -> Result<(), AllocError> {
         self.copies.push(Copy {
-            sender: message.sender,
-            serial: message.serial,
+            event: message.event,
             receiver,
             stamp: message.stamp,
-            is_retracted: false,
             fate: Fate::Sent,
         })?;
         Ok(())
     }
 
-    /// The message of a sender with a serial, if there is one.
-    pub fn message(&self, sender: u32, serial: u32) -> Option<BookedMessage<'a>> {
+    /// The message of a name, if there is one.
+    pub fn message(&self, event: EventName) -> Option<BookedMessage> {
         for message in self.messages.as_slice() {
-            if message.sender == sender && message.serial == serial {
+            if message.event.is(event) {
                 return Some(*message);
             }
         }
@@ -157,9 +218,9 @@ impl<'a> Copies<'a> {
     }
 
     /// What has become of a copy; none where the federate was sent none.
-    pub fn fate(&self, sender: u32, serial: u32, receiver: u32) -> Option<Fate> {
+    pub fn fate(&self, event: EventName, receiver: u32) -> Option<Fate> {
         for copy in self.copies.as_slice() {
-            if copy.is_of(sender, serial) && copy.receiver == receiver {
+            if copy.is_of(event, receiver) {
                 return Some(copy.fate);
             }
         }
@@ -167,52 +228,70 @@ impl<'a> Copies<'a> {
     }
 
     /// What has become of a receiver's copy.
-    pub fn set_fate(&mut self, sender: u32, serial: u32, receiver: u32, fate: Fate) {
+    pub fn set_fate(&mut self, event: EventName, receiver: u32, fate: Fate) {
         for copy in self.copies.iter_mut() {
-            if copy.is_of(sender, serial) && copy.receiver == receiver {
+            if copy.is_of(event, receiver) {
                 copy.fate = fate;
             }
         }
     }
 
     /// A message is retracted.
-    pub fn retract(&mut self, sender: u32, serial: u32) {
+    pub fn retract(&mut self, event: EventName) {
         for message in self.messages.iter_mut() {
-            if message.sender == sender && message.serial == serial {
+            if message.event.is(event) {
                 message.is_retracted = true;
             }
         }
-        self.retract_copies(sender, serial);
     }
 
-    fn retract_copies(&mut self, sender: u32, serial: u32) {
-        for copy in self.copies.iter_mut() {
-            if copy.is_of(sender, serial) {
-                copy.is_retracted = true;
-            }
+    /// Whether a message deletes an object.
+    pub fn is_deletion(&self, event: EventName) -> bool {
+        match self.message(event) {
+            Some(message) => matches!(message.said, Said::Deletion { .. }),
+            None => false,
+        }
+    }
+
+    /// Whether a message was not retracted, and is stamped above a time.
+    pub fn is_unretracted_above(&self, event: EventName, time: u64) -> bool {
+        match self.message(event) {
+            Some(
+                BookedMessage {
+                    stamp: Some(stamp),
+                    is_retracted: false,
+                    ..
+                },
+            ) => time < stamp,
+            _ => false,
+        }
+    }
+
+    /// Whether a message was retracted.
+    fn is_retracted(&self, event: EventName) -> bool {
+        match self.message(event) {
+            Some(message) => message.is_retracted,
+            None => false,
         }
     }
 
     /// A federate has resigned: what was not given to it never is.
     pub fn drop_all(&mut self, receiver: u32) {
         for copy in self.copies.iter_mut() {
-            if copy.receiver == receiver && copy.fate != Fate::Given {
+            if copy.receiver == receiver && !matches!(copy.fate, Fate::Given) {
                 copy.fate = Fate::Gone;
             }
         }
     }
 
-    /// The stamp, the sender and the serial of what a federate is to be given first, of what waits in the order of stamps and is
-    /// stamped below a limit.
-    pub fn first_below(&self, receiver: u32, limit: u64) -> Option<(u64, u32, u32)> {
-        let mut first = None;
+    /// What a federate is to be given first, of what waits in the order of stamps and is stamped below a limit; where there is
+    /// nothing, a key at the limit.
+    pub fn first_below(&self, receiver: u32, limit: u64) -> StampKey {
+        let mut first = StampKey::at(limit);
         for copy in self.copies.as_slice() {
-            let is_first = match first {
-                Some(key) => copy.is_before(key),
-                None => copy.is_before((limit, 0, 0)),
-            };
-            if copy.receiver == receiver && copy.fate == Fate::Ordered && is_first {
-                first = Some((copy.stamp.unwrap_or(0), copy.sender, copy.serial));
+            let is_ordered = copy.receiver == receiver && matches!(copy.fate, Fate::Ordered);
+            if is_ordered && copy.key().is_before(first) {
+                first = copy.key();
             }
         }
         first
@@ -222,7 +301,7 @@ impl<'a> Copies<'a> {
     pub fn least_received(&self, receiver: u32, limit: u64) -> u64 {
         let mut least = limit;
         for copy in self.copies.as_slice() {
-            if copy.receiver == receiver && copy.fate == Fate::Received {
+            if copy.receiver == receiver && matches!(copy.fate, Fate::Received) {
                 least = least.min(copy.stamp.unwrap_or(limit));
             }
         }
@@ -230,13 +309,12 @@ impl<'a> Copies<'a> {
     }
 
     /// Whether something that was sent to a federate below a time, and not retracted, is still to be given in the order of stamps.
-    pub fn is_left_behind(&self, receiver: u32, limit: u64) -> bool {
-        self.copies.iter().any(|copy| {
-            let is_waiting = copy.fate == Fate::Sent || copy.fate == Fate::Ordered;
-            copy.receiver == receiver
-                && is_waiting
-                && !copy.is_retracted
-                && copy.stamp.is_some_and(|stamp| stamp < limit)
-        })
+    pub fn is_left_behind(&self, receiver: u32, time: u64) -> bool {
+        for copy in self.copies.as_slice() {
+            if copy.is_open_below(receiver, time) && !self.is_retracted(copy.event) {
+                return true;
+            }
+        }
+        false
     }
 }

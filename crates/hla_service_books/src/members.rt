@@ -1,207 +1,182 @@
-//! What the books keep of each federate, and of the wires between them.
+//! What the books keep of each federate.
 
 use crate::clocks::Clock;
-use crate::point_books::Tiding;
-use crate::receivers::Subscriptions;
-use crate::texts::{FOREVER, path_of};
+use crate::receivers::Attributes;
 use std::alloc::{AllocError, Global};
 
-/// What a federate knows of another: its epoch, and a bound that it sends nothing below.
-#[derive(Clone, Copy)]
-struct Row {
-    peer: u32,
-    epoch: u32,
-    bound: u64,
-}
-
-/// What a federate is told at any tick.
-#[derive(Clone, Copy)]
-pub enum Control<'a> {
-    Discovery { object: u32 },
-    Retraction { sender: u32, serial: u32 },
-    Point { tiding: Tiding, label: &'a str },
-}
-
 /// A federate, by its number from 1 on.
-#[derive(Drop)]
-pub struct BookedFederate<'a> {
+#[derive(Clone, Copy)]
+pub struct BookedFederate {
     pub number: u32,
-    pub name: &'a str,
+    /// The number of its name's text.
+    pub name: usize,
     pub is_joined: bool,
     pub next_serial: u32,
     pub clock: Clock,
-    pub subscriptions: Subscriptions<'a>,
-    /// The interaction classes whose order it changed, whole paths, and whether they go in time-stamp order; the last counts.
-    orders: Vec<(&'a str, bool)>,
-    rows: Vec<Row>,
-    pub controls: Vec<Control<'a>>,
-    /// The sender and the serial of what waits in receive order.
-    pub received: Vec<(u32, u32)>,
+    /// The attributes that it subscribes of the class `Car`, if it subscribes the class, and of `ObjectRoot`.
+    pub car: Option<Attributes>,
+    pub root: Option<Attributes>,
     /// The stamp of what it was given last in time-stamp order, flushes left out.
     pub last_stamp: u64,
 }
 
-/// What lies on a wire.
-#[derive(Clone, Copy)]
-pub enum Letter {
-    Message { serial: u32 },
-    Retraction { serial: u32 },
-    Discovery { object: u32 },
-    Null { epoch: u32, bound: u64 },
-}
-
-#[derive(Clone, Copy)]
-struct Posted {
-    from: u32,
-    to: u32,
-    letter: Letter,
-}
-
-/// The wires between all federates.
+/// All who have joined, also those that have resigned.
 #[derive(Drop)]
-pub struct Wires {
-    posted: Vec<Posted>,
+pub struct BookedFederates {
+    pub list: Vec<BookedFederate>,
 }
 
-impl<'a> BookedFederate<'a> {
+impl BookedFederate {
     /// A federate that has just joined.
-    pub fn new(alloc: Global, number: u32, name: &'a str) -> BookedFederate<'a> {
+    pub fn new(number: u32, name: usize) -> BookedFederate {
         BookedFederate {
             number,
             name,
             is_joined: true,
             next_serial: 1,
             clock: Clock::new(),
-            subscriptions: Subscriptions::new(alloc),
-            orders: Vec::new(alloc),
-            rows: Vec::new(alloc),
-            controls: Vec::new(alloc),
-            received: Vec::new(alloc),
+            car: None,
+            root: None,
             last_stamp: 0,
         }
     }
 
-    /// It resigns.
-    pub fn leave(&mut self) {
-        self.is_joined = false;
-        self.clock = Clock::new();
-        self.subscriptions.clear();
-        self.controls.clear();
-        self.received.clear();
+    /// Whether it is joined, and not this federate.
+    pub fn is_other(self, federate: u32) -> bool {
+        self.is_joined && self.number != federate
     }
 
-    /// Its interactions of a class go in another order. `AllocError` where a growth was refused.
-    pub fn change_order(&mut self, class: &'a str, order: &str) -> Result<(), AllocError> {
-        self.orders.push((path_of(class), order == "timestamp"))?;
-        Ok(())
-    }
-
-    /// Whether its interactions of a class go in time-stamp order now: by the FED file only those of `Hit` do.
-    pub fn sends_in_order(&self, class: &str) -> bool {
-        let path = path_of(class);
-        let mut is_ordered = path == path_of("Hit");
-        for (changed, order) in self.orders.as_slice() {
-            if *changed == path {
-                is_ordered = *order;
-            }
+    /// The attributes that it subscribes of the class at which it is served with an object.
+    pub fn served(self, is_car: bool) -> Option<Attributes> {
+        match self.car {
+            Some(attributes) if is_car => Some(attributes),
+            _ => self.root,
         }
-        is_ordered
     }
 
-    /// The least of what it knows of its peers.
-    pub fn bound(&self) -> u64 {
-        let mut least = FOREVER;
-        for row in self.rows.as_slice() {
-            least = least.min(row.bound);
+    /// Whether an update of these attributes shows it something.
+    pub fn is_shown(self, is_car: bool, attributes: Attributes) -> bool {
+        match self.served(is_car) {
+            Some(served) => served.among(attributes).are_any(),
+            None => false,
         }
-        least
     }
 
-    /// It learns at once that a peer begins an epoch, and from where on that peer may send. `AllocError` where a growth was
-    /// refused.
-    pub fn hear_entry(&mut self, peer: u32, epoch: u32, entry: u64) -> Result<(), AllocError> {
-        for row in self.rows.iter_mut() {
-            if row.peer == peer {
-                row.epoch = epoch;
-                row.bound = row.bound.min(entry);
-                return Ok(());
-            }
+    /// Whether a stamp is in its past: below what was granted or given to it already.
+    pub fn is_past(self, stamp: Option<u64>) -> bool {
+        match stamp {
+            Some(stamp) => self.clock.is_constrained() && stamp < self.clock.bar,
+            None => false,
         }
-        self.rows.push(Row {
-            peer,
-            epoch,
-            bound: entry,
-        })?;
-        Ok(())
-    }
-
-    /// A null message comes, and says whether it was of the epoch that is known.
-    pub fn hear_null(&mut self, peer: u32, epoch: u32, bound: u64) -> bool {
-        for row in self.rows.iter_mut() {
-            if row.peer == peer {
-                let is_known = row.epoch == epoch;
-                if is_known {
-                    row.bound = row.bound.max(bound);
-                }
-                return is_known;
-            }
-        }
-        false
     }
 }
 
-impl Wires {
-    /// Wires with nothing on them.
-    pub fn new(alloc: Global) -> Wires {
-        Wires {
-            posted: Vec::new(alloc),
+impl BookedFederates {
+    /// Nobody has joined.
+    pub fn new(alloc: Global) -> BookedFederates {
+        BookedFederates {
+            list: Vec::new(alloc),
         }
     }
 
-    /// Takes all off the wires.
-    pub fn clear(&mut self) {
-        self.posted.clear();
+    /// The place of a federate that has joined; one that has not stands behind all others.
+    fn place(federate: u32) -> usize {
+        (federate as usize).checked_sub(1).unwrap_or(usize::MAX)
     }
 
-    /// Puts a letter on a wire, behind the others. A null message takes the place of the last letter there, where that is a null
-    /// message of its epoch. `AllocError` where a growth was refused.
-    pub fn put(&mut self, from: u32, to: u32, letter: Letter) -> Result<(), AllocError> {
-        if let Letter::Null { epoch, .. } = letter {
-            self.drop_last_null(from, to, epoch);
+    /// A federate by number, counted from 1; one that has not joined has the number 0, and a new clock.
+    pub fn member(&self, federate: u32) -> BookedFederate {
+        match self.list.get(BookedFederates::place(federate)) {
+            Some(member) => *member,
+            None => BookedFederate {
+                is_joined: false,
+                ..BookedFederate::new(0, 0)
+            },
         }
-        self.posted.push(Posted { from, to, letter })?;
-        Ok(())
     }
 
-    /// Drops the last letter on a wire, where it is a null message of an epoch.
-    fn drop_last_null(&mut self, from: u32, to: u32, epoch: u32) {
-        let last = self
-            .posted
-            .iter()
-            .rposition(|posted| posted.from == from && posted.to == to);
-        let Some(place) = last else {
-            return;
-        };
-        match self.posted[place].letter {
-            Letter::Null { epoch: own, .. } if own == epoch => {
-                self.posted.remove(place);
+    /// A federate by number, to be changed, if it has joined.
+    pub fn member_mut(&mut self, federate: u32) -> Option<&mut BookedFederate> {
+        self.list.get_mut(BookedFederates::place(federate))
+    }
+
+    /// One more has joined; answers whether its number is that of its place. `AllocError` where a growth was refused.
+    pub fn add(&mut self, member: BookedFederate) -> Result<bool, AllocError> {
+        self.list.push(member)?;
+        Ok(member.number as usize == self.list.len())
+    }
+
+    /// The roles and time of a federate from now on.
+    pub fn set_clock(&mut self, federate: u32, clock: Clock) {
+        if let Some(member) = self.member_mut(federate) {
+            member.clock = clock;
+        }
+    }
+
+    /// A federate subscribes attributes of a class, or none of it any more.
+    pub fn subscribe(&mut self, federate: u32, is_car: bool, attributes: Option<Attributes>) {
+        if let Some(member) = self.member_mut(federate) {
+            if is_car {
+                member.car = attributes;
+            } else {
+                member.root = attributes;
             }
-            _ => {}
         }
     }
 
-    /// Takes what was put first on the wire from one federate to another.
-    pub fn take_first(&mut self, from: u32, to: u32) -> Option<Letter> {
-        let place = self
-            .posted
-            .iter()
-            .position(|posted| posted.from == from && posted.to == to)?;
-        let posted = self.posted.remove(place);
-        Some(posted.letter)
+    /// A federate resigns.
+    pub fn leave(&mut self, federate: u32) {
+        if let Some(member) = self.member_mut(federate) {
+            member.is_joined = false;
+            member.clock = Clock::new();
+            member.car = None;
+            member.root = None;
+        }
     }
 
-    /// A federate has resigned: what lies on wires to it is dropped.
-    pub fn drop_all(&mut self, to: u32) {
-        self.posted.retain(|posted| posted.to != to);
+    /// The serial of what a federate sends now, which it takes.
+    pub fn take_serial(&mut self, federate: u32) -> u32 {
+        match self.member_mut(federate) {
+            Some(member) => {
+                let serial = member.next_serial;
+                member.next_serial = serial.saturating_add(1);
+                serial
+            }
+            None => 0,
+        }
+    }
+
+    /// Notes the stamp of what a federate is given, 0 where it begins anew, and says whether it is not below the one before.
+    pub fn note_stamp(&mut self, federate: u32, stamp: u64) -> bool {
+        match self.member_mut(federate) {
+            Some(member) => {
+                let is_later = member.last_stamp <= stamp;
+                member.last_stamp = stamp;
+                is_later
+            }
+            None => false,
+        }
+    }
+
+    /// The first entry from a time on that is below no bar of those that are joined, for one of them that begins to regulate.
+    pub fn entry_from(&self, federate: u32, time: u64) -> u64 {
+        let mut entry = time;
+        for member in self.list.as_slice() {
+            if member.is_joined {
+                entry = entry.max(member.clock.entry_bar(member.number == federate));
+            }
+        }
+        entry
+    }
+
+    /// The number of the federate that joined last under a name, by the number of the name's text, or 0.
+    pub fn number_of(&self, name: usize) -> u32 {
+        let mut found = 0;
+        for member in self.list.as_slice() {
+            if member.name == name {
+                found = member.number;
+            }
+        }
+        found
     }
 }

@@ -2,68 +2,49 @@
 
 use crate::clocks::Role;
 use crate::copies::{Fate, Said};
-use crate::members::{Control, Letter};
-use crate::receivers::{Attributes, Object, is_car};
+use crate::objects::is_car;
+use crate::receivers::Attributes;
 use crate::service_books::Books;
-use crate::texts::{FOREVER, cut, handle, has_word, number, ticks};
+use crate::texts::{EventName, FOREVER, cut, number, ticks};
+use crate::wires::Letter;
 use std::alloc::AllocError;
 
-impl<'a> Books<'a> {
+impl Books {
     /// An object takes the next number, and is known to its owner. `AllocError` where a growth was refused; then the books
     /// are left halfway.
     pub fn register(&mut self, owner: u32, class: &str, object: u32) -> Result<bool, AllocError> {
-        let known = vec![in self.alloc; owner]?;
-        self.objects.push(Object {
-            owner,
-            is_car: is_car(class),
-            is_there: true,
-            stamped: Attributes::stamped_at_first(),
-            known,
-        })?;
-        for federate in self.others(owner)?.as_slice() {
-            self.discover_object(*federate, object)?;
+        self.objects.register(owner, is_car(class))?;
+        self.objects.make_known(object, owner)?;
+        for member in self.members.list.as_slice() {
+            if member.is_other(owner) {
+                self.objects.show(*member, object, &mut self.wires)?;
+            }
         }
-        Ok(object as usize == self.objects.len())
+        Ok(self.objects.are_as_many_as(object))
     }
 
-    /// A federate is to discover each object that fits its subscriptions. `AllocError` where a growth was refused; then the
-    /// books are left halfway.
-    pub fn discover(&mut self, federate: u32) -> Result<bool, AllocError> {
-        for place in 0..self.objects.len().min(4096) {
-            self.discover_object(federate, place as u32 + 1)?;
+    /// A federate subscribes attributes of an object class, or nothing of it any more; then it is to discover each object that fits
+    /// its subscriptions. `AllocError` where a growth was refused; then the books are left halfway.
+    pub fn declare_object(
+        &mut self,
+        federate: u32,
+        verb: &str,
+        words: &str,
+    ) -> Result<bool, AllocError> {
+        let (class, names) = cut(words);
+        let is_subscribed = verb == "subscribeObject";
+        let attributes = is_subscribed.then_some(Attributes::named_in(names, false));
+        self.members.subscribe(federate, is_car(class), attributes);
+        let member = self.members.member(federate);
+        let count = if is_subscribed {
+            self.objects.count()
+        } else {
+            0
+        };
+        for number in 1..=count {
+            self.objects.show(member, number, &mut self.wires)?;
         }
         Ok(true)
-    }
-
-    /// A federate is to discover an object, if it is there, is not known to it, and fits its subscriptions.
-    fn discover_object(&mut self, federate: u32, number: u32) -> Result<(), AllocError> {
-        let Some(object) = self.object(number) else {
-            return Ok(());
-        };
-        let owner = object.owner;
-        let fits = self.member(federate).is_some_and(|member| {
-            member.subscriptions.served(object.is_car).is_some()
-        });
-        if !object.is_there || object.is_known_to(federate) || !fits {
-            return Ok(());
-        }
-        if let Some(object) = self.object_mut(number) {
-            object.known.push(federate)?;
-        }
-        self.wires
-            .put(owner, federate, Letter::Discovery { object: number })
-    }
-
-    fn object_mut(&mut self, number: u32) -> Option<&mut Object> {
-        self.objects.get_mut((number as usize).checked_sub(1)?)
-    }
-
-    /// The attributes of an object that go in time-stamp order now.
-    pub fn stamped(&self, object: u32) -> Attributes {
-        match self.object(object) {
-            Some(object) => object.stamped,
-            None => Attributes::stamped_at_first(),
-        }
     }
 
     /// Updates of some attributes of an object go in another order; whether the federate may say so: the object is there, and its
@@ -72,10 +53,11 @@ impl<'a> Books<'a> {
         let (object, rest) = cut(words);
         let (order, names) = cut(cut(rest).1);
         self.tally.changed = self.tally.changed.saturating_add(1);
-        let Some(object) = self.object_mut(number(object)) else {
+        let Some(object) = self.objects.object_mut(number(object)) else {
             return false;
         };
-        object.stamped.mark(names, order == "timestamp");
+        let some = Attributes::named_in(names, false);
+        object.stamped = object.stamped.with(some, order == "timestamp");
         object.is_there && (object.owner == federate || names.is_empty())
     }
 
@@ -83,13 +65,14 @@ impl<'a> Books<'a> {
     /// one of them.
     pub fn may_refuse_attributes(&self, federate: u32, words: &str, fault: u32) -> bool {
         let (object, rest) = cut(words);
-        let Some(object) = self.object(number(object)) else {
+        let place = number(object);
+        let Some(object) = self.objects.find(place) else {
             return fault == 18;
         };
         match fault {
-            18 => !object.is_there || !object.is_known_to(federate),
+            18 => !object.is_there || !self.objects.is_known(place, federate),
             9 => !object.is_car,
-            19 => object.owner != federate || has_word(rest, "privilegeToDelete"),
+            19 => { object.owner != federate || Attributes::named_in(rest, false).has_privilege }
             _ => false,
         }
     }
@@ -100,56 +83,59 @@ impl<'a> Books<'a> {
         &mut self,
         sender: u32,
         object: u32,
-        line: &'a str,
+        words: usize,
         stamp: Option<u64>,
     ) -> Result<bool, AllocError> {
-        let stamp = if self.stamped(object).have("privilegeToDelete") {
-            self.kept_stamp(sender, stamp)
-        } else {
-            None
-        };
-        let is_allowed = self.post(sender, Said::Deletion { object }, stamp, line)?;
-        if let Some(object) = self.object_mut(object) {
-            object.is_there = false;
-        }
+        let is_stamped = self.objects.object(object).stamped.has_privilege;
+        let stamp = self.kept_stamp(sender, stamp, is_stamped);
+        let is_allowed = self.post(sender, Said::Deletion { object }, stamp, words)?;
+        self.objects.delete(object);
         Ok(is_allowed)
     }
 
     /// A federate that resigns deletes its objects by rising number, and if it regulates it puts FOREVER on its wires. What was not
     /// given to it never is. `AllocError` where a growth was refused; then the books are left halfway.
-    pub fn resign(&mut self, federate: u32, line: &'a str) -> Result<bool, AllocError> {
-        let mut is_allowed = true;
-        for place in 0..self.objects.len().min(4096) {
-            let number = place as u32 + 1;
-            if self
-                .object(number)
-                .is_some_and(|object| object.is_there && object.owner == federate)
-            {
-                is_allowed = self.delete(federate, number, line, None)? && is_allowed;
-            }
-        }
-        if self.clock(federate).regulating != Role::Disabled {
+    pub fn resign(&mut self, federate: u32, words: &str) -> Result<bool, AllocError> {
+        let is_allowed = self.delete_own(federate, words)?;
+        if !matches!(
+            self.members.member(federate).clock.regulating,
+            Role::Disabled
+        ) {
             self.put_null(federate, FOREVER)?;
         }
         self.wires.drop_all(federate);
+        self.controls.drop_all(federate);
+        self.received.drop_all(federate);
         self.copies.drop_all(federate);
-        if let Some(member) = self.member_mut(federate) {
-            member.leave();
-        }
+        self.members.leave(federate);
         self.close_points()?;
+        Ok(is_allowed)
+    }
+
+    /// A federate deletes its objects by rising number.
+    fn delete_own(&mut self, federate: u32, words: &str) -> Result<bool, AllocError> {
+        let place = self.texts.keep(words)?;
+        let mut is_allowed = true;
+        for number in 1..=self.objects.count() {
+            let object = self.objects.object(number);
+            if object.is_there && object.owner == federate {
+                is_allowed = self.delete(federate, number, place, None)? && is_allowed;
+            }
+        }
         Ok(is_allowed)
     }
 
     /// A null message of a federate's epoch on each of its wires. `AllocError` where a growth was refused; then the books are
     /// left halfway.
     pub fn put_null(&mut self, federate: u32, bound: u64) -> Result<(), AllocError> {
-        let mut clock = self.clock(federate);
+        let mut clock = self.members.member(federate).clock;
         clock.last_announced = bound;
-        self.set_clock(federate, clock);
-        for peer in self.others(federate)?.as_slice() {
-            let epoch = clock.epoch;
-            self.wires
-                .put(federate, *peer, Letter::Null { epoch, bound })?;
+        self.members.set_clock(federate, clock);
+        for member in self.members.list.as_slice() {
+            if member.is_other(federate) {
+                self.wires
+                    .put_null(federate, member.number, clock.epoch, bound)?;
+            }
         }
         Ok(())
     }
@@ -157,92 +143,71 @@ impl<'a> Books<'a> {
     /// A carry takes what was put on the wire first, and does with it what its kind says. `AllocError` where a growth was
     /// refused; then the books are left halfway.
     pub fn carry(&mut self, from: u32, to: u32, answer: &str) -> Result<bool, AllocError> {
-        let (kind, what) = cut(answer);
-        let letter = self.wires.take_first(from, to);
-        match letter {
-            None => Ok(answer == "none"),
-            Some(Letter::Null { epoch, bound }) => {
-                self.arrive_null(from, to, epoch, bound);
-                Ok(kind == "null" && ticks(what) == bound)
-            }
-            Some(Letter::Discovery { object }) => {
-                if let Some(member) = self.member_mut(to) {
-                    member.controls.push(Control::Discovery { object })?;
-                }
-                Ok(kind == "discovery" && number(what) == object)
-            }
-            Some(Letter::Retraction { serial }) => {
-                self.arrive_retraction(from, serial, to)?;
-                Ok(kind == "retraction" && handle(what) == (from, serial))
-            }
-            Some(Letter::Message { serial }) => {
-                let is_removal = self.arrive(from, serial, to)?;
-                let is_kind = kind == (if is_removal { "removal" } else { "event" });
-                Ok(is_kind && handle(what) == (from, serial))
-            }
-        }
-    }
-
-    /// A null message of an older epoch changes nothing.
-    fn arrive_null(&mut self, from: u32, to: u32, epoch: u32, bound: u64) {
-        let is_known = self
-            .member_mut(to)
-            .is_some_and(|member| member.hear_null(from, epoch, bound));
-        if !is_known {
-            self.tally.ignored = self.tally.ignored.saturating_add(1);
-        }
-    }
-
-    /// What comes in time-stamp order waits in the order of stamps, where its receiver is constrained or has asked to be. Answers
-    /// whether it is a removal.
-    fn arrive(&mut self, sender: u32, serial: u32, receiver: u32) -> Result<bool, AllocError> {
-        let Some(message) = self.copies.message(sender, serial) else {
-            return Ok(false);
+        let Some(letter) = self.wires.take_first(from, to) else {
+            return Ok(answer == "none");
         };
-        let is_kept = self.clock(receiver).constrained != Role::Disabled;
-        if message.stamp.is_some() && is_kept {
-            self.copies
-                .set_fate(sender, serial, receiver, Fate::Ordered);
-        } else {
-            self.receive(sender, serial, receiver)?;
+        let (word, what) = cut(answer);
+        self.arrive(from, to, letter)?;
+        match letter {
+            Letter::Null { bound, .. } => Ok(word == "null" && ticks(what) == bound),
+            Letter::Discovery { object } => Ok(word == "discovery" && number(what) == object),
+            Letter::Retraction { event } => {
+                Ok(word == "retraction" && EventName::of(what).is(event))
+            }
+            Letter::Message { event } => {
+                let is_removal = self.copies.is_deletion(event);
+                let is_kind = word == (if is_removal { "removal" } else { "event" });
+                Ok(is_kind && EventName::of(what).is(event))
+            }
+            Letter::Point { .. } => Ok(false),
         }
-        Ok(matches!(message.said, Said::Deletion { .. }))
+    }
+
+    /// What comes from a wire. A null message of an older epoch changes nothing.
+    fn arrive(&mut self, from: u32, to: u32, letter: Letter) -> Result<(), AllocError> {
+        match letter {
+            Letter::Null { epoch, bound } => {
+                if !self.rows.hear_null(to, from, epoch, bound) {
+                    self.tally.ignored = self.tally.ignored.saturating_add(1);
+                }
+                Ok(())
+            }
+            Letter::Message { event } => self.arrive_message(event, to),
+            Letter::Retraction { event } => self.arrive_retraction(event, to),
+            _ => self.controls.put(0, to, letter),
+        }
+    }
+
+    /// What comes in time-stamp order waits in the order of stamps, where its receiver is constrained or has asked to be.
+    fn arrive_message(&mut self, event: EventName, receiver: u32) -> Result<(), AllocError> {
+        let is_kept = !matches!(
+            self.members.member(receiver).clock.constrained,
+            Role::Disabled
+        );
+        match self.copies.message(event) {
+            Some(message) if is_kept && matches!(message.stamp, Some(_)) => {
+                self.copies.set_fate(event, receiver, Fate::Ordered);
+                Ok(())
+            }
+            Some(_) => self.receive(event, receiver),
+            None => Ok(()),
+        }
     }
 
     /// A message joins what waits in receive order. `AllocError` where a growth was refused; then the books are left halfway.
-    pub fn receive(&mut self, sender: u32, serial: u32, receiver: u32) -> Result<(), AllocError> {
-        self.copies
-            .set_fate(sender, serial, receiver, Fate::Received);
-        if let Some(member) = self.member_mut(receiver) {
-            member.received.push((sender, serial))?;
-        }
-        Ok(())
+    pub fn receive(&mut self, event: EventName, receiver: u32) -> Result<(), AllocError> {
+        self.copies.set_fate(event, receiver, Fate::Received);
+        self.received.put(0, receiver, Letter::Message { event })
     }
 
     /// A message that was not given vanishes when its retraction comes; one that was is asked back.
-    fn arrive_retraction(
-        &mut self,
-        sender: u32,
-        serial: u32,
-        receiver: u32,
-    ) -> Result<(), AllocError> {
-        let is_given = self.copies.fate(sender, serial, receiver) == Some(Fate::Given);
-        if !is_given {
-            self.copies.set_fate(sender, serial, receiver, Fate::Gone);
-            self.tally.vanished = self.tally.vanished.saturating_add(1);
+    fn arrive_retraction(&mut self, event: EventName, receiver: u32) -> Result<(), AllocError> {
+        if matches!(self.copies.fate(event, receiver), Some(Fate::Given)) {
+            return self.controls.put(0, receiver, Letter::Retraction { event });
         }
-        let Some(member) = self.member_mut(receiver) else {
-            return Ok(());
-        };
-        if is_given {
-            member
-                .controls
-                .push(Control::Retraction { sender, serial })?;
-        } else {
-            member
-                .received
-                .retain(|waiting| *waiting != (sender, serial));
-        }
+        self.copies.set_fate(event, receiver, Fate::Gone);
+        self.received.drop_message(receiver, event);
+        self.tally.vanished = self.tally.vanished.saturating_add(1);
         Ok(())
     }
 }

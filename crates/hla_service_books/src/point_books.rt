@@ -1,29 +1,35 @@
 //! What the books know of synchronization points.
 
-use crate::members::Control;
+use crate::members::BookedFederates;
 use crate::service_books::Books;
-use std::alloc::AllocError;
-use std::mem;
+use crate::texts::KnownTexts;
+use crate::wires::{Letter, Tiding};
+use std::alloc::{AllocError, Global};
 
 /// The most points that are open at once, and the most bytes of a label.
 const MOST: usize = 64;
 
-/// A point that is open. Its members are all who are joined.
-#[derive(Drop)]
-pub struct BookedPoint<'a> {
-    label: &'a str,
-    /// Who was told of it, and who has achieved it.
-    told: Vec<u32>,
-    achieved: Vec<u32>,
+/// A point. Its members are all who are joined.
+#[derive(Clone, Copy)]
+struct BookedPoint {
+    /// The number of its label's text.
+    label: usize,
+    is_open: bool,
 }
 
-/// What a federate is told of a point.
-#[derive(Clone, Copy, PartialEq, Eq)]
-pub enum Tiding {
-    Registered,
-    Refused,
-    Announced,
-    Synchronized,
+/// That a federate was told of the point at a place, or has achieved it.
+#[derive(Clone, Copy)]
+struct Mark {
+    point: usize,
+    federate: u32,
+    is_achievement: bool,
+}
+
+/// All points, in order of opening.
+#[derive(Drop)]
+pub struct Points {
+    list: Vec<BookedPoint>,
+    marks: Vec<Mark>,
 }
 
 impl Tiding {
@@ -38,90 +44,170 @@ impl Tiding {
     }
 }
 
-impl<'a> BookedPoint<'a> {
-    /// Whether all of some federates have achieved it.
-    fn is_achieved_by(&self, federates: &[u32]) -> bool {
-        federates
-            .iter()
-            .all(|federate| self.achieved.contains(federate))
-    }
-}
-
-impl<'a> Books<'a> {
-    /// The open point of a label.
-    fn point(&self, label: &str) -> Option<&BookedPoint<'a>> {
-        self.points.iter().find(|point| point.label == label)
+impl Points {
+    /// No points.
+    pub fn new(alloc: Global) -> Points {
+        Points {
+            list: Vec::new(alloc),
+            marks: Vec::new(alloc),
+        }
     }
 
-    /// The same, to be changed.
-    fn point_mut(&mut self, label: &str) -> Option<&mut BookedPoint<'a>> {
-        self.points.iter_mut().find(|point| point.label == label)
+    /// The place of the open point of a label.
+    fn place(&self, label: usize) -> Option<usize> {
+        for (place, point) in self.list.iter().enumerate() {
+            if point.is_open && point.label == label {
+                return Some(place);
+            }
+        }
+        None
+    }
+
+    /// The same, by the label's text.
+    fn place_of(&self, texts: &KnownTexts, label: &str) -> Option<usize> {
+        self.place(texts.find(label)?)
+    }
+
+    /// How many are open.
+    fn count(&self) -> usize {
+        let mut count = 0usize;
+        for point in self.list.as_slice() {
+            if point.is_open {
+                count = count.saturating_add(1);
+            }
+        }
+        count
     }
 
     /// Whether a point of a label may open, or is open.
-    fn may_register(&self, label: &str) -> bool {
-        (1..=MOST).contains(&label.len())
-            && (self.point(label).is_some() || self.points.len() < MOST)
+    pub fn may_open(&self, texts: &KnownTexts, label: &str) -> bool {
+        let is_long = label.is_empty() || label.len() > MOST;
+        !is_long && (self.count() < MOST || matches!(self.place_of(texts, label), Some(_)))
     }
 
-    /// Whether a federate was told of the open point of a label, and has not achieved it.
-    fn may_achieve(&self, federate: u32, label: &str) -> bool {
-        self.point(label).is_some_and(|point| {
-            point.told.contains(&federate) && !point.achieved.contains(&federate)
-        })
+    /// A point opens. `AllocError` where a growth was refused.
+    fn open(&mut self, label: usize) -> Result<(), AllocError> {
+        self.list.push(BookedPoint {
+            label,
+            is_open: true,
+        })?;
+        Ok(())
     }
 
-    /// Whether a registration may be refused so.
-    pub fn may_refuse_point(&self, label: &str, fault: u32) -> bool {
-        fault == 36 && !self.may_register(label)
+    /// Whether a federate was told of a point, or has achieved it.
+    fn is_marked(&self, point: usize, federate: u32, is_achievement: bool) -> bool {
+        for mark in self.marks.as_slice() {
+            let is_federate = mark.federate == federate && mark.is_achievement == is_achievement;
+            if is_federate && mark.point == point {
+                return true;
+            }
+        }
+        false
     }
 
-    /// Whether an achievement may be refused so.
-    pub fn may_refuse_achievement(&mut self, federate: u32, label: &str, fault: u32) -> bool {
-        self.tally.unannounced = self.tally.unannounced.saturating_add(1);
-        fault == 40 && !self.may_achieve(federate, label)
-    }
-
-    /// A federate is to be told something at a tick, behind what there is.
-    fn tell(&mut self, federate: u32, tiding: Tiding, label: &'a str) -> Result<(), AllocError> {
-        if let Some(member) = self.member_mut(federate) {
-            member.controls.push(Control::Point { tiding, label })?;
+    /// A federate was told of the open point of a label, or has achieved it. `AllocError` where a growth was refused.
+    fn mark(
+        &mut self,
+        federate: u32,
+        label: usize,
+        is_achievement: bool,
+    ) -> Result<(), AllocError> {
+        if let Some(point) = self.place(label) {
+            self.marks.push(Mark {
+                point,
+                federate,
+                is_achievement,
+            })?;
         }
         Ok(())
     }
 
+    /// Whether a federate was told of the open point of a label, and has not achieved it.
+    fn may_achieve(&self, texts: &KnownTexts, federate: u32, label: &str) -> bool {
+        match self.place_of(texts, label) {
+            Some(point) => {
+                self.is_marked(point, federate, false) && !self.is_marked(point, federate, true)
+            }
+            None => false,
+        }
+    }
+
+    /// Whether all who are joined have achieved a point.
+    fn is_achieved(&self, point: usize, members: &BookedFederates) -> bool {
+        for member in members.list.as_slice() {
+            if member.is_joined && !self.is_marked(point, member.number, true) {
+                return false;
+            }
+        }
+        true
+    }
+
+    /// The label of the point at a place, if it is open.
+    fn label_at(&self, place: usize) -> Option<usize> {
+        match self.list.get(place) {
+            Some(point) if point.is_open => Some(point.label),
+            _ => None,
+        }
+    }
+
+    /// Closes the point at a place, if it is open and all who are joined have achieved it, and answers its label.
+    fn close(&mut self, place: usize, members: &BookedFederates) -> Option<usize> {
+        let label = self.label_at(place)?;
+        if !self.is_achieved(place, members) {
+            return None;
+        }
+        if let Some(point) = self.list.get_mut(place) {
+            point.is_open = false;
+        }
+        Some(label)
+    }
+}
+
+impl Books {
+    /// Whether an achievement may be refused so.
+    pub fn may_refuse_achievement(&mut self, federate: u32, label: &str, fault: u32) -> bool {
+        self.tally.unannounced = self.tally.unannounced.saturating_add(1);
+        fault == 40 && !self.points.may_achieve(&self.texts, federate, label)
+    }
+
+    /// A federate is to be told something at a tick, behind what there is.
+    fn tell(&mut self, federate: u32, tiding: Tiding, label: usize) -> Result<(), AllocError> {
+        self.controls
+            .put(0, federate, Letter::Point { tiding, label })
+    }
+
     /// All who are joined are to be told something.
-    fn tell_all(&mut self, tiding: Tiding, label: &'a str) -> Result<(), AllocError> {
-        for federate in self.others(0)?.as_slice() {
-            self.tell(*federate, tiding, label)?;
+    fn tell_all(&mut self, tiding: Tiding, label: usize) -> Result<(), AllocError> {
+        for member in self.members.list.as_slice() {
+            if member.is_joined {
+                self.controls
+                    .put(0, member.number, Letter::Point { tiding, label })?;
+            }
         }
         Ok(())
     }
 
     /// A point opens, and all are told so, its registrar first that it has registered it; or it alone, that one of the label was
     /// open. `AllocError` where a growth was refused; then the books are left halfway.
-    pub fn register_point(&mut self, federate: u32, label: &'a str) -> Result<bool, AllocError> {
-        let is_allowed = self.may_register(label);
-        if self.point(label).is_some() {
-            self.tell(federate, Tiding::Refused, label)?;
-            return Ok(is_allowed);
+    pub fn register_point(&mut self, federate: u32, text: &str) -> Result<bool, AllocError> {
+        let is_allowed = self.points.may_open(&self.texts, text);
+        let label = self.texts.keep(text)?;
+        match self.points.place(label) {
+            Some(_) => self.tell(federate, Tiding::Refused, label)?,
+            None => {
+                self.points.open(label)?;
+                self.tell(federate, Tiding::Registered, label)?;
+                self.tell_all(Tiding::Announced, label)?;
+            }
         }
-        let point = BookedPoint {
-            label,
-            told: Vec::new(self.alloc),
-            achieved: Vec::new(self.alloc),
-        };
-        self.points.push(point)?;
-        self.tell(federate, Tiding::Registered, label)?;
-        self.tell_all(Tiding::Announced, label)?;
         Ok(is_allowed)
     }
 
     /// A federate has achieved a point. `AllocError` where a growth was refused; then the books are left halfway.
-    pub fn achieve_point(&mut self, federate: u32, label: &str) -> Result<bool, AllocError> {
-        let is_allowed = self.may_achieve(federate, label);
-        if let Some(point) = self.point_mut(label) {
-            point.achieved.push(federate)?;
+    pub fn achieve_point(&mut self, federate: u32, text: &str) -> Result<bool, AllocError> {
+        let is_allowed = self.points.may_achieve(&self.texts, federate, text);
+        if let Some(label) = self.texts.find(text) {
+            self.points.mark(federate, label, true)?;
         }
         self.close_points()?;
         Ok(is_allowed)
@@ -130,13 +216,9 @@ impl<'a> Books<'a> {
     /// Each point that all who are joined have achieved closes, and they are told so. `AllocError` where a growth was refused;
     /// then the books are left halfway.
     pub fn close_points(&mut self) -> Result<(), AllocError> {
-        let joined = self.others(0)?;
-        let points = mem::replace(&mut self.points, Vec::new(self.alloc));
-        for point in points {
-            if point.is_achieved_by(joined.as_slice()) {
-                self.tell_all(Tiding::Synchronized, point.label)?;
-            } else {
-                self.points.push(point)?;
+        for place in 0..self.points.list.len() {
+            if let Some(label) = self.points.close(place, &self.members) {
+                self.tell_all(Tiding::Synchronized, label)?;
             }
         }
         Ok(())
@@ -144,9 +226,8 @@ impl<'a> Books<'a> {
 
     /// One who has joined is told of each open point. `AllocError` where a growth was refused; then the books are left halfway.
     pub fn announce_points(&mut self, federate: u32) -> Result<(), AllocError> {
-        for place in 0..self.points.len() {
-            if let Some(point) = self.points.get(place) {
-                let label = point.label;
+        for place in 0..self.points.list.len() {
+            if let Some(label) = self.points.label_at(place) {
                 self.tell(federate, Tiding::Announced, label)?;
             }
         }
@@ -159,21 +240,19 @@ impl<'a> Books<'a> {
         &mut self,
         federate: u32,
         tiding: Tiding,
-        label: &str,
+        label: usize,
         callback: &str,
     ) -> Result<bool, AllocError> {
         match tiding {
-            Tiding::Announced => {
-                if let Some(point) = self.point_mut(label) {
-                    point.told.push(federate)?;
-                }
-            }
+            Tiding::Announced => self.points.mark(federate, label, false)?,
             Tiding::Synchronized => {
                 self.tally.synchronized = self.tally.synchronized.saturating_add(1);
             }
             Tiding::Registered | Tiding::Refused => {}
         }
-        let said = callback.split_once(' ');
-        Ok(said == Some((tiding.word(), label)))
+        match callback.split_once(' ') {
+            Some((word, rest)) => Ok(word == tiding.word() && rest == self.texts.text(label)),
+            None => Ok(false),
+        }
     }
 }

@@ -1,177 +1,177 @@
-//! Who receives what: subscriptions by the words of their lines, and the objects that there are.
+//! Who receives what: attributes by name, and what each federate has said of interaction classes.
 
-use crate::texts::{cut, has_word, name_in, path_of};
+use crate::texts::{KnownTexts, name_in};
 use std::alloc::{AllocError, Global};
 
-/// Some of the attributes of the class `Car`, by name.
-#[derive(Clone, Copy, PartialEq, Eq)]
+/// Some of the attributes of the class `Car`.
+#[derive(Clone, Copy)]
 pub struct Attributes {
-    marks: [bool; 3],
-}
-
-/// The place of an attribute of the class `Car`, if there is one of the name.
-fn place_of(name: &str) -> Option<usize> {
-    match name {
-        "Pos" => Some(0),
-        "Paint" => Some(1),
-        "privilegeToDelete" => Some(2),
-        _ => None,
-    }
+    pub has_pos: bool,
+    pub has_paint: bool,
+    /// Whether `privilegeToDelete` is one of them.
+    pub has_privilege: bool,
 }
 
 impl Attributes {
     /// Those that go in time-stamp order by the FED file: all but `Paint`.
-    pub fn stamped_at_first() -> Attributes {
+    pub const STAMPED_AT_FIRST: Attributes = Attributes {
+        has_pos: true,
+        has_paint: false,
+        has_privilege: true,
+    };
+
+    /// Those that a text names: by words alone, or by pairs of a name and a value.
+    pub fn named_in(text: &str, by_pairs: bool) -> Attributes {
+        let mut has_pos = false;
+        let mut has_paint = false;
+        let mut has_privilege = false;
+        for word in text.split_whitespace() {
+            if word.contains('=') == by_pairs {
+                match name_in(word) {
+                    "Pos" => has_pos = true,
+                    "Paint" => has_paint = true,
+                    "privilegeToDelete" => has_privilege = true,
+                    _ => {}
+                }
+            }
+        }
         Attributes {
-            marks: [true, false, true],
+            has_pos,
+            has_paint,
+            has_privilege,
         }
     }
 
     /// The others.
     pub fn others(self) -> Attributes {
         Attributes {
-            marks: self.marks.map(|is_marked| !is_marked),
+            has_pos: !self.has_pos,
+            has_paint: !self.has_paint,
+            has_privilege: !self.has_privilege,
         }
     }
 
     /// Whether an attribute is one of them.
     pub fn have(self, name: &str) -> bool {
-        match place_of(name) {
-            Some(place) => self.marks.get(place).copied().unwrap_or(false),
-            None => false,
+        match name {
+            "Pos" => self.has_pos,
+            "Paint" => self.has_paint,
+            "privilegeToDelete" => self.has_privilege,
+            _ => false,
         }
     }
 
-    /// Puts attributes among them by name, or takes them out.
-    pub fn mark(&mut self, names: &str, is_in: bool) {
-        for name in names.split_whitespace() {
-            if let Some(place) = place_of(name) {
-                if let Some(mark) = self.marks.get_mut(place) {
-                    *mark = is_in;
-                }
+    /// Those of them that others are, too.
+    pub fn among(self, others: Attributes) -> Attributes {
+        Attributes {
+            has_pos: self.has_pos && others.has_pos,
+            has_paint: self.has_paint && others.has_paint,
+            has_privilege: self.has_privilege && others.has_privilege,
+        }
+    }
+
+    /// Whether there are any.
+    pub fn are_any(self) -> bool {
+        self.has_pos || self.has_paint || self.has_privilege
+    }
+
+    /// With some more, or without those.
+    pub fn with(self, some: Attributes, is_in: bool) -> Attributes {
+        if is_in {
+            self.others().among(some.others()).others()
+        } else {
+            self.among(some.others())
+        }
+    }
+}
+
+/// That a federate subscribes an interaction class, by the number of its path.
+#[derive(Clone, Copy)]
+struct Hearing {
+    federate: u32,
+    class: usize,
+    is_on: bool,
+}
+
+/// A change of the order in which a federate's interactions of a class go.
+#[derive(Clone, Copy)]
+struct OrderChange {
+    federate: u32,
+    class: usize,
+    is_stamped: bool,
+}
+
+/// What all federates have said of interaction classes.
+#[derive(Drop)]
+pub struct Interactions {
+    hearings: Vec<Hearing>,
+    /// The last one of a federate and a class counts.
+    changes: Vec<OrderChange>,
+}
+
+impl Interactions {
+    /// Nothing was said.
+    pub fn new(alloc: Global) -> Interactions {
+        Interactions {
+            hearings: Vec::new(alloc),
+            changes: Vec::new(alloc),
+        }
+    }
+
+    /// A federate subscribes a class. `AllocError` where a growth was refused.
+    pub fn subscribe(&mut self, federate: u32, class: usize) -> Result<(), AllocError> {
+        self.hearings.push(Hearing {
+            federate,
+            class,
+            is_on: true,
+        })?;
+        Ok(())
+    }
+
+    /// A federate unsubscribes a class.
+    pub fn unsubscribe(&mut self, federate: u32, class: usize) {
+        for hearing in self.hearings.iter_mut() {
+            if hearing.federate == federate && hearing.class == class {
+                hearing.is_on = false;
             }
         }
     }
-}
 
-/// What a federate subscribes.
-#[derive(Drop)]
-pub struct Subscriptions<'a> {
-    /// The attributes that it subscribes of the class `Car`, if it subscribes the class, and of `ObjectRoot`.
-    car: Option<&'a str>,
-    root: Option<&'a str>,
-    interactions: Vec<&'a str>,
-}
-
-/// An object, by its number from 1 on.
-#[derive(Drop)]
-pub struct Object {
-    pub owner: u32,
-    pub is_car: bool,
-    pub is_there: bool,
-    /// The attributes that go in time-stamp order now.
-    pub stamped: Attributes,
-    /// To whom it is known.
-    pub known: Vec<u32>,
-}
-
-/// Whether a name is that of the class `Car`, and not `ObjectRoot`.
-pub fn is_car(class: &str) -> bool {
-    class.ends_with("Car")
-}
-
-/// Whether a pair's attribute goes with a part of an update.
-pub fn is_of(part: Attributes, pair: &str) -> bool {
-    part.have(name_in(pair))
-}
-
-/// Whether an update has a value for a part.
-pub fn has_part(part: Attributes, line: &str) -> bool {
-    line.split_whitespace()
-        .any(|pair| pair.contains('=') && is_of(part, pair))
-}
-
-impl<'a> Subscriptions<'a> {
-    /// Nothing is subscribed.
-    pub fn new(alloc: Global) -> Subscriptions<'a> {
-        Subscriptions {
-            car: None,
-            root: None,
-            interactions: Vec::new(alloc),
+    /// Whether a federate receives the interactions of a class: it subscribes that class or one above it.
+    pub fn are_heard(&self, texts: &KnownTexts, federate: u32, class: usize) -> bool {
+        let path = texts.text(class);
+        for hearing in self.hearings.as_slice() {
+            let is_own = hearing.is_on && hearing.federate == federate;
+            if is_own && path.starts_with(texts.text(hearing.class)) {
+                return true;
+            }
         }
+        false
     }
 
-    /// Nothing is subscribed any more.
-    pub fn clear(&mut self) {
-        self.car = None;
-        self.root = None;
-        self.interactions.clear();
-    }
-
-    /// A class with its attributes, or none of it any more.
-    pub fn set_object(&mut self, class: &str, attributes: Option<&'a str>) {
-        if is_car(class) {
-            self.car = attributes;
-        } else {
-            self.root = attributes;
-        }
-    }
-
-    /// Subscribes an interaction class. `AllocError` where a growth was refused.
-    pub fn add_interaction(&mut self, class: &'a str) -> Result<(), AllocError> {
-        self.interactions.push(class)?;
+    /// A federate's interactions of a class go in another order. `AllocError` where a growth was refused.
+    pub fn change_order(
+        &mut self,
+        federate: u32,
+        class: usize,
+        is_stamped: bool,
+    ) -> Result<(), AllocError> {
+        self.changes.push(OrderChange {
+            federate,
+            class,
+            is_stamped,
+        })?;
         Ok(())
     }
 
-    /// Unsubscribes an interaction class.
-    pub fn remove_interaction(&mut self, class: &str) {
-        let path = path_of(class);
-        self.interactions.retain(|other| path_of(other) != path);
-    }
-
-    /// Whether it receives the interactions of a class: it subscribes that class or one above it.
-    pub fn hears(&self, class: &str) -> bool {
-        let path = path_of(class);
-        self.interactions
-            .iter()
-            .any(|other| path.starts_with(path_of(other)))
-    }
-
-    /// The attributes that it subscribes of the class at which it is served with an object.
-    pub fn served(&self, is_car: bool) -> Option<&'a str> {
-        match self.car {
-            Some(attributes) if is_car => Some(attributes),
-            _ => self.root,
+    /// Whether a federate's interactions of a class go in time-stamp order now, where the FED file says this of them.
+    pub fn are_stamped(&self, federate: u32, class: usize, by_file: bool) -> bool {
+        let mut are_stamped = by_file;
+        for change in self.changes.as_slice() {
+            if change.federate == federate && change.class == class {
+                are_stamped = change.is_stamped;
+            }
         }
-    }
-
-    /// Whether a part of an update shows it something.
-    pub fn is_shown(&self, is_car: bool, part: Attributes, line: &str) -> bool {
-        let Some(attributes) = self.served(is_car) else {
-            return false;
-        };
-        line.split_whitespace().any(|pair| {
-            pair.contains('=') && is_of(part, pair) && has_word(attributes, name_in(pair))
-        })
-    }
-
-    /// Notes a line of declaration management. `AllocError` where a growth was refused.
-    pub fn note(&mut self, verb: &str, rest: &'a str) -> Result<(), AllocError> {
-        let (class, attributes) = cut(rest);
-        match verb {
-            "subscribeObject" => self.set_object(class, Some(attributes)),
-            "unsubscribeObject" => self.set_object(class, None),
-            "subscribeInteraction" => self.add_interaction(class)?,
-            "unsubscribeInteraction" => self.remove_interaction(class),
-            _ => {}
-        }
-        Ok(())
-    }
-}
-
-impl Object {
-    /// Whether a federate knows the object.
-    pub fn is_known_to(&self, federate: u32) -> bool {
-        self.known.iter().any(|other| *other == federate)
+        are_stamped
     }
 }

@@ -2,12 +2,14 @@
 //! each federate's time has come. They know no crate of the federation, and say of each answer of a transcript whether the rules
 //! allow it.
 
-use crate::clocks::Clock;
 use crate::copies::{BookedMessage, Copies, Said};
-use crate::members::{BookedFederate, Letter, Wires};
-use crate::point_books::BookedPoint;
-use crate::receivers::{Object, has_part};
-use crate::texts::{FOREVER, cut, handle, number, stamp_of};
+use crate::members::{BookedFederate, BookedFederates};
+use crate::objects::Objects;
+use crate::point_books::Points;
+use crate::receivers::{Attributes, Interactions};
+use crate::rows::Rows;
+use crate::texts::{EventName, FOREVER, KnownTexts, cut, number, path_of, stamp_of};
+use crate::wires::{Letter, Wires};
 use std::alloc::{AllocError, Global};
 
 /// How often the laws were tried.
@@ -70,98 +72,67 @@ impl Tally {
 
 /// What was noted so far.
 #[derive(Drop)]
-pub struct Books<'a> {
-    pub alloc: Global,
-    pub members: Vec<BookedFederate<'a>>,
-    pub objects: Vec<Object>,
-    /// In order of opening.
-    pub points: Vec<BookedPoint<'a>>,
-    pub copies: Copies<'a>,
+pub struct Books {
+    alloc: Global,
+    pub texts: KnownTexts,
+    pub members: BookedFederates,
+    pub rows: Rows,
+    pub interactions: Interactions,
+    pub objects: Objects,
+    pub points: Points,
+    pub copies: Copies,
+    /// Between all federates.
     pub wires: Wires,
+    /// What federates are to be told at any tick, and what waits for them in receive order, each from 0.
+    pub controls: Wires,
+    pub received: Wires,
     pub tally: Tally,
 }
 
-impl<'a> Books<'a> {
-    /// Books in which nothing stands yet.
-    pub fn new(alloc: Global) -> Books<'a> {
+impl Books {
+    /// Books in which nothing stands yet but how often the laws were tried.
+    fn new(alloc: Global, tally: Tally) -> Books {
         Books {
             alloc,
-            members: Vec::new(alloc),
-            objects: Vec::new(alloc),
-            points: Vec::new(alloc),
+            texts: KnownTexts::new(alloc),
+            members: BookedFederates::new(alloc),
+            rows: Rows::new(alloc),
+            interactions: Interactions::new(alloc),
+            objects: Objects::new(alloc),
+            points: Points::new(alloc),
             copies: Copies::new(alloc),
             wires: Wires::new(alloc),
-            tally: Tally::new(),
-        }
-    }
-
-    /// A federate by number, counted from 1, if it has joined.
-    pub fn member(&self, federate: u32) -> Option<&BookedFederate<'a>> {
-        self.members.get((federate as usize).checked_sub(1)?)
-    }
-
-    /// A federate by number, to be changed.
-    pub fn member_mut(&mut self, federate: u32) -> Option<&mut BookedFederate<'a>> {
-        self.members.get_mut((federate as usize).checked_sub(1)?)
-    }
-
-    /// The clock of a federate.
-    pub fn clock(&self, federate: u32) -> Clock {
-        match self.member(federate) {
-            Some(member) => member.clock,
-            None => Clock::new(),
-        }
-    }
-
-    /// The roles and time of a federate from now on.
-    pub fn set_clock(&mut self, federate: u32, clock: Clock) {
-        if let Some(member) = self.member_mut(federate) {
-            member.clock = clock;
-        }
-    }
-
-    /// The bound of a federate, in ticks; of one that has not joined it is `FOREVER`.
-    pub fn bound(&self, federate: u32) -> u64 {
-        match self.member(federate) {
-            Some(member) => member.bound(),
-            None => FOREVER,
+            controls: Wires::new(alloc),
+            received: Wires::new(alloc),
+            tally,
         }
     }
 
     /// The least stamp that waits for a federate in time-stamp order.
     pub fn waiting(&self, federate: u32) -> u64 {
-        match self.copies.first_below(federate, FOREVER) {
-            Some(first) => first.0,
-            None => FOREVER,
-        }
+        self.copies.first_below(federate, FOREVER).stamp
     }
 
     /// The number of the federate that joined last under a name, or 0.
     fn number_of(&self, name: &str) -> u32 {
-        let mut found = 0;
-        for member in self.members.as_slice() {
-            if member.name == name {
-                found = member.number;
-            }
+        match self.texts.find(name) {
+            Some(name) => self.members.number_of(name),
+            None => 0,
         }
-        found
     }
 
     /// Notes a line of the script and its answer, and says whether the answer is one that the books allow. `AllocError` where
     /// a growth was refused; then the books are left halfway.
-    pub fn note(&mut self, line: &'a str, answer: &str) -> Result<bool, AllocError> {
+    fn note(&mut self, line: &str, answer: &str) -> Result<bool, AllocError> {
         let (ok, said) = cut(answer);
         let (word, rest) = cut(line);
         if ok != "ok" {
-            return Ok(ok == "error" && self.may_refuse(word, rest, number(cut(said).0)));
+            let fault = number(cut(said).0);
+            return Ok(ok == "error" && self.may_refuse(word, rest, fault));
         }
         match word {
             "create" | "destroy" => {
-                self.members.clear();
-                self.objects.clear();
-                self.points.clear();
-                self.copies.clear();
-                self.wires.clear();
+                *self = Books::new(self.alloc, self.tally);
                 Ok(said.is_empty())
             }
             "join" => self.join(rest, number(said)),
@@ -170,15 +141,12 @@ impl<'a> Books<'a> {
                 self.carry(self.number_of(from), self.number_of(to), said)
             }
             "announce" => self.announce(self.number_of(rest), said),
-            name => {
-                let (verb, words) = cut(rest);
-                self.call(self.number_of(name), verb, words, said)
-            }
+            name => self.call(self.number_of(name), rest, said),
         }
     }
 
     /// Notes the lines of a script and their answers in a transcript, and says whether that is by the books.
-    fn read(&mut self, script: &'a str, transcript: &str) -> Result<bool, AllocError> {
+    fn read(&mut self, script: &str, transcript: &str) -> Result<bool, AllocError> {
         let mut answers = transcript.lines();
         let mut number = 0u64;
         for line in script.lines() {
@@ -198,139 +166,127 @@ impl<'a> Books<'a> {
     fn may_refuse(&mut self, name: &str, rest: &str, fault: u32) -> bool {
         let federate = self.number_of(name);
         let (verb, words) = cut(rest);
-        if !self.member(federate).is_some_and(|member| member.is_joined) {
+        if !self.members.member(federate).is_joined {
             return true;
         }
         match verb {
             "tick" => false,
-            "send" | "update" | "delete" if fault == 21 => {
-                self.tally.refused = self.tally.refused.saturating_add(1);
-                stamp_of(words).is_some_and(|stamp| stamp < self.clock(federate).least_stamp())
-                    && self.clock(federate).is_regulating()
-            }
+            "send" | "update" | "delete" => fault != 21 || self.may_refuse_stamp(federate, words),
             "attributeOrder" => self.may_refuse_attributes(federate, words, fault),
             "interactionOrder" => fault == 15,
-            "retract" => fault == 33 && !self.may_retract(federate, handle(words)),
-            "syncRegister" => self.may_refuse_point(cut(words).0, fault),
+            "retract" => fault == 33 && !self.may_retract(federate, EventName::of(words)),
+            "syncRegister" => { fault == 36 && !self.points.may_open(&self.texts, cut(words).0) },
             "syncAchieve" => self.may_refuse_achievement(federate, cut(words).0, fault),
             _ => true,
         }
     }
 
+    /// Whether what a line sends may be refused for its stamp.
+    fn may_refuse_stamp(&mut self, federate: u32, words: &str) -> bool {
+        self.tally.refused = self.tally.refused.saturating_add(1);
+        let clock = self.members.member(federate).clock;
+        match stamp_of(words) {
+            Some(stamp) => stamp < clock.least_stamp() && clock.is_regulating(),
+            None => false,
+        }
+    }
+
     /// What a federate's service does.
-    fn call(
-        &mut self,
-        federate: u32,
-        verb: &str,
-        words: &'a str,
-        answer: &str,
-    ) -> Result<bool, AllocError> {
+    fn call(&mut self, federate: u32, rest: &str, answer: &str) -> Result<bool, AllocError> {
+        let (verb, words) = cut(rest);
         match verb {
-            "tick" => {
-                if answer != "nothing" {
-                    self.tally.told = self.tally.told.saturating_add(1);
-                }
-                self.tick(federate, answer)
-            }
-            "send" => {
-                let said = Said::Interaction {
-                    class: cut(words).0,
-                };
-                self.send(federate, said, words, answer)
-            }
+            "tick" => self.tick(federate, answer),
+            "send" => self.send(federate, words, answer),
             "update" => self.update(federate, words, answer),
-            "delete" => {
-                let object = number(cut(words).0);
-                Ok(self.delete(federate, object, words, stamp_of(words))? && answer.is_empty())
-            }
-            "attributeOrder" => { Ok(self.change_attributes(federate, words) && answer.is_empty()) }
-            "interactionOrder" => Ok(
-                self.change_interactions(federate, words)? && answer.is_empty(),
-            ),
-            "retract" => self.retract(federate, handle(words)),
-            "syncRegister" => Ok(self.register_point(federate, cut(words).0)? && answer.is_empty()),
-            "syncAchieve" => Ok(self.achieve_point(federate, cut(words).0)? && answer.is_empty()),
             "register" => self.register(federate, cut(words).0, number(cut(answer).0)),
+            "retract" => self.retract(federate, EventName::of(words)),
             "resign" => self.resign(federate, words),
-            "subscribeObject" => {
-                self.declare(federate, verb, words)?;
-                self.discover(federate)
+            "delete" | "attributeOrder" | "interactionOrder" | "syncRegister" | "syncAchieve" => {
+                Ok(self.call_silently(federate, verb, words)? && answer.is_empty())
             }
-            "unsubscribeObject" | "subscribeInteraction" | "unsubscribeInteraction" => {
-                self.declare(federate, verb, words)
+            "subscribeObject" | "unsubscribeObject" => self.declare_object(federate, verb, words),
+            "subscribeInteraction" | "unsubscribeInteraction" => {
+                self.speak_of_class(federate, verb, words)
             }
             _ => self.manage_time(federate, verb, words, answer),
         }
     }
 
-    /// A federate's interactions of a class go in another order.
-    fn change_interactions(&mut self, federate: u32, words: &'a str) -> Result<bool, AllocError> {
-        let (class, order) = cut(words);
-        if let Some(member) = self.member_mut(federate) {
-            member.change_order(class, order)?;
+    /// What a service does whose answer says nothing.
+    fn call_silently(
+        &mut self,
+        federate: u32,
+        verb: &str,
+        words: &str,
+    ) -> Result<bool, AllocError> {
+        let first = cut(words).0;
+        match verb {
+            "delete" => {
+                let place = self.texts.keep(words)?;
+                self.delete(federate, number(first), place, stamp_of(words))
+            }
+            "attributeOrder" => Ok(self.change_attributes(federate, words)),
+            "interactionOrder" => self.speak_of_class(federate, verb, words),
+            "syncRegister" => self.register_point(federate, first),
+            _ => self.achieve_point(federate, first),
         }
-        self.tally.changed = self.tally.changed.saturating_add(1);
-        Ok(true)
     }
 
-    fn declare(&mut self, federate: u32, verb: &str, words: &'a str) -> Result<bool, AllocError> {
-        if let Some(member) = self.member_mut(federate) {
-            member.subscriptions.note(verb, words)?;
+    /// A federate subscribes an interaction class, or unsubscribes it, or its interactions of the class go in another order.
+    fn speak_of_class(
+        &mut self,
+        federate: u32,
+        verb: &str,
+        words: &str,
+    ) -> Result<bool, AllocError> {
+        let (class, order) = cut(words);
+        let class = self.texts.keep(path_of(class))?;
+        match verb {
+            "subscribeInteraction" => self.interactions.subscribe(federate, class)?,
+            "unsubscribeInteraction" => self.interactions.unsubscribe(federate, class),
+            _ => {
+                self.tally.changed = self.tally.changed.saturating_add(1);
+                self.interactions
+                    .change_order(federate, class, order == "timestamp")?;
+            }
         }
         Ok(true)
     }
 
     /// A federate that joins knows at once what each other one announced last, and is to be told of each open point.
-    fn join(&mut self, name: &'a str, federate: u32) -> Result<bool, AllocError> {
-        let mut newcomer = BookedFederate::new(self.alloc, federate, name);
-        self.introduce(&mut newcomer)?;
-        self.members.push(newcomer)?;
+    fn join(&mut self, name: &str, federate: u32) -> Result<bool, AllocError> {
+        let newcomer = BookedFederate::new(federate, self.texts.keep(name)?);
+        self.introduce(federate)?;
+        let is_next = self.members.add(newcomer)?;
         self.announce_points(federate)?;
-        Ok(federate as usize == self.members.len())
+        Ok(is_next)
     }
 
-    fn introduce(&self, newcomer: &mut BookedFederate<'a>) -> Result<(), AllocError> {
-        for member in self.members.as_slice() {
+    fn introduce(&mut self, newcomer: u32) -> Result<(), AllocError> {
+        for member in self.members.list.as_slice() {
             let clock = member.clock;
-            newcomer.hear_entry(member.number, clock.epoch, clock.last_announced)?;
+            self.rows
+                .hear_entry(newcomer, member.number, clock.epoch, clock.last_announced)?;
         }
         Ok(())
-    }
-
-    /// The other federates that are joined. `AllocError` where a growth was refused.
-    pub fn others(&self, federate: u32) -> Result<Vec<u32>, AllocError> {
-        let mut others = Vec::new(self.alloc);
-        for member in self.members.as_slice() {
-            if member.number != federate && member.is_joined {
-                others.push(member.number)?;
-            }
-        }
-        Ok(others)
     }
 
     // ---- what is sent
 
     /// Whether a federate is sent a copy.
-    fn receives(&self, federate: u32, said: Said<'a>, line: &str) -> bool {
-        let Some(member) = self.member(federate) else {
-            return false;
-        };
+    fn receives(&self, member: BookedFederate, said: Said) -> bool {
         match said {
-            Said::Interaction { class } => member.subscriptions.hears(class),
-            Said::Update { object, part } => {
-                let is_car = self.object(object).is_some_and(|object| object.is_car);
-                member.subscriptions.is_shown(is_car, part, line)
+            Said::Interaction { class } => {
+                self.interactions
+                    .are_heard(&self.texts, member.number, class)
             }
-            Said::Deletion { object } => {
-                self.object(object)
-                    .is_some_and(|object| object.is_known_to(federate))
-            }
+            Said::Update {
+                object,
+                part,
+                given,
+            } => member.is_shown(self.objects.object(object).is_car, part.among(given)),
+            Said::Deletion { object } => self.objects.is_known(object, member.number),
         }
-    }
-
-    /// An object by number, counted from 1, if it was registered.
-    pub fn object(&self, number: u32) -> Option<&Object> {
-        self.objects.get((number as usize).checked_sub(1)?)
     }
 
     /// A message takes the next serial, and goes to each of its receivers; with a stamp it is not below what the sender may send
@@ -339,53 +295,57 @@ impl<'a> Books<'a> {
     pub fn post(
         &mut self,
         sender: u32,
-        said: Said<'a>,
+        said: Said,
         stamp: Option<u64>,
-        line: &'a str,
+        words: usize,
     ) -> Result<bool, AllocError> {
-        let mut is_allowed = stamp.is_none_or(|stamp| self.may_send(sender, stamp));
-        let serial = match self.member_mut(sender) {
-            Some(member) => {
-                let serial = member.next_serial;
-                member.next_serial = serial.saturating_add(1);
-                serial
-            }
-            None => 0,
+        let clock = self.members.member(sender).clock;
+        let is_allowed = match stamp {
+            Some(stamp) => clock.least_stamp() <= stamp && clock.last_announced <= stamp,
+            None => true,
         };
+        let serial = self.members.take_serial(sender);
         let message = BookedMessage {
-            sender,
-            serial,
+            event: EventName { sender, serial },
             stamp,
             said,
-            line,
+            words,
             is_retracted: false,
         };
         self.copies.note(message)?;
-        for receiver in self.others(sender)?.as_slice() {
-            if self.receives(*receiver, said, line) {
-                is_allowed = is_allowed && !self.is_past(*receiver, stamp);
-                self.copies.send(message, *receiver)?;
-                self.wires
-                    .put(sender, *receiver, Letter::Message { serial })?;
+        Ok(self.hand_out(message)? && is_allowed)
+    }
+
+    /// A message goes to each of its receivers; whether it is in the past of none of them.
+    fn hand_out(&mut self, message: BookedMessage) -> Result<bool, AllocError> {
+        let mut is_allowed = true;
+        for place in 0..self.members.list.len() {
+            if let Some(member) = self.members.list.get(place).copied() {
+                is_allowed = self.hand_to(member, message)? && is_allowed;
             }
         }
         Ok(is_allowed)
     }
 
-    fn may_send(&self, sender: u32, stamp: u64) -> bool {
-        let clock = self.clock(sender);
-        clock.least_stamp() <= stamp && clock.last_announced <= stamp
-    }
-
-    /// Whether a stamp is in the past of a constrained federate: below what was granted or given to it already.
-    fn is_past(&self, receiver: u32, stamp: Option<u64>) -> bool {
-        let clock = self.clock(receiver);
-        stamp.is_some_and(|stamp| clock.is_constrained() && stamp < clock.bar)
+    /// A message goes to a federate, if that receives it; whether it is not in its past.
+    fn hand_to(
+        &mut self,
+        member: BookedFederate,
+        message: BookedMessage,
+    ) -> Result<bool, AllocError> {
+        let event = message.event;
+        if !member.is_other(event.sender) || !self.receives(member, message.said) {
+            return Ok(true);
+        }
+        self.copies.send(message, member.number)?;
+        self.wires
+            .put(event.sender, member.number, Letter::Message { event })?;
+        Ok(!member.is_past(message.stamp))
     }
 
     /// The stamp with which a message goes in time-stamp order, if it does.
-    pub fn kept_stamp(&self, sender: u32, stamp: Option<u64>) -> Option<u64> {
-        if self.clock(sender).is_regulating() {
+    pub fn kept_stamp(&self, sender: u32, stamp: Option<u64>, is_stamped: bool) -> Option<u64> {
+        if is_stamped && self.members.member(sender).clock.is_regulating() {
             stamp
         } else {
             None
@@ -394,49 +354,60 @@ impl<'a> Books<'a> {
 
     /// Whether an answer names the message that a federate sends next, where that goes in time-stamp order.
     fn names_next(&self, sender: u32, stamp: Option<u64>, answer: &str) -> bool {
-        match (stamp, self.member(sender)) {
-            (Some(_), Some(member)) => handle(answer) == (sender, member.next_serial),
-            _ => answer.is_empty(),
+        let serial = self.members.member(sender).next_serial;
+        match stamp {
+            Some(_) => EventName::of(answer).is(EventName { sender, serial }),
+            None => answer.is_empty(),
         }
     }
 
-    /// An interaction, in the order in which its sender's interactions of the class go now.
-    fn send(
-        &mut self,
-        sender: u32,
-        said: Said<'a>,
-        line: &'a str,
-        answer: &str,
-    ) -> Result<bool, AllocError> {
-        let is_ordered = self
-            .member(sender)
-            .is_some_and(|member| member.sends_in_order(cut(line).0));
-        let stamp = if is_ordered {
-            self.kept_stamp(sender, stamp_of(line))
-        } else {
-            None
-        };
+    /// An interaction, in the order in which its sender's interactions of the class go now: by the FED file only those of `Hit` go
+    /// in time-stamp order.
+    fn send(&mut self, sender: u32, words: &str, answer: &str) -> Result<bool, AllocError> {
+        let path = path_of(cut(words).0);
+        let class = self.texts.keep(path)?;
+        let place = self.texts.keep(words)?;
+        let is_stamped = self
+            .interactions
+            .are_stamped(sender, class, path == path_of("Hit"));
+        let stamp = self.kept_stamp(sender, stamp_of(words), is_stamped);
         let is_named = self.names_next(sender, stamp, answer);
-        Ok(self.post(sender, said, stamp, line)? && is_named)
+        let said = Said::Interaction { class };
+        Ok(self.post(sender, said, stamp, place)? && is_named)
     }
 
     /// An update, cut by the orders of the object's attributes now, the part in receive order first.
-    fn update(&mut self, sender: u32, line: &'a str, answer: &str) -> Result<bool, AllocError> {
-        let object = number(cut(line).0);
-        let stamped = self.stamped(object);
-        let mut is_allowed = true;
-        if has_part(stamped.others(), line) {
-            let part = stamped.others();
-            is_allowed = self.post(sender, Said::Update { object, part }, None, line)?;
-        }
-        if !has_part(stamped, line) {
-            return Ok(is_allowed && answer.is_empty());
-        }
-        let stamp = self.kept_stamp(sender, stamp_of(line));
+    fn update(&mut self, sender: u32, words: &str, answer: &str) -> Result<bool, AllocError> {
+        let object = number(cut(words).0);
+        let given = Attributes::named_in(words, true);
+        let stamped = self.objects.object(object).stamped;
+        let place = self.texts.keep(words)?;
+        let is_allowed = self.post_part(sender, object, stamped.others(), given, None, place)?;
+        let stamp = self.kept_stamp(sender, stamp_of(words), stamped.among(given).are_any());
         let is_named = self.names_next(sender, stamp, answer);
-        let part = stamped;
-        let is_sent = self.post(sender, Said::Update { object, part }, stamp, line)?;
+        let is_sent = self.post_part(sender, object, stamped, given, stamp, place)?;
         Ok(is_allowed && is_named && is_sent)
+    }
+
+    /// A part of an update is sent, where values of it are given.
+    fn post_part(
+        &mut self,
+        sender: u32,
+        object: u32,
+        part: Attributes,
+        given: Attributes,
+        stamp: Option<u64>,
+        words: usize,
+    ) -> Result<bool, AllocError> {
+        if !part.among(given).are_any() {
+            return Ok(true);
+        }
+        let said = Said::Update {
+            object,
+            part,
+            given,
+        };
+        self.post(sender, said, stamp, words)
     }
 }
 
@@ -455,7 +426,10 @@ pub fn read_services(
     script: &str,
     transcript: &str,
 ) -> Result<Option<Tally>, AllocError> {
-    let mut books = Books::new(alloc);
-    let is_by_the_books = books.read(script, transcript)?;
-    Ok(is_by_the_books.then_some(books.tally))
+    let mut books = Books::new(alloc, Tally::new());
+    if books.read(script, transcript)? {
+        Ok(Some(books.tally))
+    } else {
+        Ok(None)
+    }
 }
