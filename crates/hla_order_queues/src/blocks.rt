@@ -5,11 +5,12 @@ ghost use Rattle.std.specs.List.{prefix_len, AllByRecursion};
 ghost use Rattle.hla_base.specs.declared.content.Event.{Event as EventValue};
 ghost use Rattle.hla_order_queues.specs.Queues.{insert_event, find_event, remove_event, handles_of};
 ghost use Rattle.hla_order_queues.specs.Moving.{is_moved};
+ghost use Rattle.hla_order_queues.specs.Places.{IsPlacedAmong};
 ghost use Rattle.hla_order_queues.specs.Kept.{key_of, first_after, separator_after, block_at, without_block, events_of, name_of_key, stamp_of, IsInOrder, IsUnique, AreAfter, AreBelowBlocks, AreSeparatored, AreBlocks, At, IsPlace};
 
 use crate::block::Block;
 use crate::key::EventKey;
-use crate::separators::Separators;
+use crate::separators::{Placed, Separators};
 use hla_base::{Event, EventHandle, Ticks};
 use std::alloc::Global;
 use std::marker::Model;
@@ -85,6 +86,24 @@ impl Blocks {
         ensures below { AreBelowBlocks first.new self.new }
     {
         split_before(first, &mut self.separators, self.alloc)
+    }
+
+    /// Puts an event at its place, unless it comes before all separators. It comes back where it does, or where a growth was
+    /// refused; the events are as they were then. It looks at a logarithm of the blocks, once but where a full one is split, and
+    /// moves fewer events than lie in one.
+    pub fn place(&mut self, event: Event) -> Placed
+        requires { IsUnique (events_of self.old) }
+        ensures placed { IsPlacedAmong event self.old self.new result }
+        ensures below { (xs : List EventValue) → AreBelowBlocks xs self.old
+            → AreBelowBlocks xs self.new }
+    {
+        match self.separators.place(event, FULL) {
+            Placed::Full(event) => match self.insert(event) {
+                Ok(()) => Placed::Put,
+                Err(event) => Placed::Refused(event),
+            },
+            placed => placed,
+        }
     }
 
     /// Puts an event at its place; the event comes back, and the events are as they were, where a growth was refused. It

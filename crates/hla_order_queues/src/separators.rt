@@ -6,8 +6,8 @@ ghost use Rattle.std.specs.List.{prefix_len};
 ghost use Rattle.std.specs.BTreeMap.{insert_entry};
 ghost use Rattle.hla_order_queues.specs.Queues.{insert_event, find_event, remove_event, handles_of};
 ghost use Rattle.hla_order_queues.specs.Moving.{is_moved};
-ghost use Rattle.hla_order_queues.specs.Kept.{key_cmp, block_at, set_block, without_block, events_of, AreAfter, IsInOrder, IsPlace, IsHalved};
-ghost use Rattle.hla_order_queues.specs.Places.{blocks_at, IsPutIn};
+ghost use Rattle.hla_order_queues.specs.Kept.{key_cmp, block_at, set_block, without_block, events_of, AreAfter, IsInOrder, AreBlocks, IsPlace, IsHalved};
+ghost use Rattle.hla_order_queues.specs.Places.{blocks_at, IsPlaced, IsPutIn};
 
 use crate::block::Block;
 use crate::key::EventKey;
@@ -16,6 +16,18 @@ use slab::Slab;
 use std::alloc::Global;
 use std::collections::BTreeMap;
 use std::marker::Model;
+
+/// What became of an event that was to be put into the block in which it belongs.
+#[derive(Debug, Drop)]
+pub(crate) enum Placed {
+    Put,
+    /// It comes before all separators, so it belongs in none of the blocks. It comes back.
+    Before(Event),
+    /// Its block is full. It comes back.
+    Full(Event),
+    /// Memory for it was refused. It comes back.
+    Refused(Event),
+}
 
 /// Blocks, each under a separator. A slab holds just those blocks of which an ordered map has the places, so the map moves none of
 /// them. Contracts see the separators in their order, with the events under each.
@@ -130,6 +142,28 @@ impl Separators {
     {
         let place = self.places.remove(&separator)?;
         self.blocks.try_remove(place)
+    }
+
+    /// Puts an event at its place in the block in which it belongs, if that has fewer than `full`; else it comes back, and all is
+    /// as it was. The block is searched for once.
+    pub fn place(&mut self, event: Event, full: usize) -> Placed
+        requires { AreBlocks self.old }
+        ensures { IsPlaced event full self.old self.new result }
+    {
+        let key = EventKey::of(&event);
+        let Some((_, place)) = self.places.range(..=key).next_back() else {
+            return Placed::Before(event);
+        };
+        let Some(block) = self.blocks.get_mut(*place) else {
+            return Placed::Refused(event);
+        };
+        if block.len() >= full {
+            return Placed::Full(event);
+        }
+        match block.insert(event) {
+            Ok(()) => Placed::Put,
+            Err(event) => Placed::Refused(event),
+        }
     }
 
     /// Puts an event at its place in the block under this separator; the event comes back, and all is as it was, where a growth

@@ -13,9 +13,9 @@ use Rattle.slab.specs.Slab.{Slab, get, Updates, with_value}
 use Rattle.slab.proofs.SlabLemmas.{Updates-with_value}
 use Rattle.hla_base.specs.declared.content.Event.{Event}
 use Rattle.hla_order_queues.specs.declared.key.EventKey.{EventKey}
-use Rattle.hla_order_queues.specs.Kept.{key_cmp, block_at, set_block, without_block, AreAfter, IsPlace}
+use Rattle.hla_order_queues.specs.Kept.{key_of, key_cmp, block_at, set_block, without_block, AreAfter, IsPlace}
 use Rattle.hla_order_queues.specs.Places.{block_in, blocks_at, is_place_named, AreOwnPlaces, AreHeld}
-use Rattle.hla_order_queues.proofs.UnderSeparators.SeparatorLemmas.{placed, none_passes}
+use Rattle.hla_order_queues.proofs.UnderSeparators.SeparatorLemmas.{placed, none_passes, found_place}
 
 -- ---- places
 equal_if : (p q : ℕ) → eqb p q ≡ true → p ≡ q
@@ -272,6 +272,21 @@ there_is {s} {es} {zs} f p h view at =
 
 pub none_there : (s : Slab (List Event)) {es : List (EventKey × ℕ)} {zs : List (EventKey × List Event)} (f : EventKey) → AreHeld s es → blocks_at s es ≡ zs → None ≡ lookup (is_at (key_cmp f)) es → None ≡ block_at f zs
 none_there s {es} {zs} f h view at = ap (option_map (block_in s)) at ∙ sym (lookup_block (is_at (key_cmp f)) s es) ∙ ap (block_at f) view
+
+-- the block to which one search by separators leads
+pub record IsFoundAt (x : Event) (f : EventKey) (p : ℕ) (b : List Event) (es : List (EventKey × ℕ)) (zs : List (EventKey × List Event)) : Type 0 where
+  pub at : Some p ≡ lookup (is_at (key_cmp f)) es
+  pub place : IsPlace (key_of x) f zs
+  pub there : block_at f zs ≡ Some b
+
+pub found_at : (s : Slab (List Event)) (x : Event) (k f : EventKey) (p : ℕ) (b : List Event) (t es : List (EventKey × ℕ)) (zs : List (EventKey × List Event)) → filter (λ y. not (is_lt (key_cmp k y.0))) es ≡ t ++ (f, p) ∷ [] → IsStrictlySortedBy key_cmp (keys_of es) → AreHeld s es → blocks_at s es ≡ zs → k ≡ key_of x → Some b ≡ get s p → IsFoundAt x f p b es zs
+found_at s x k f p b t es zs search sorted h view key got =
+    let at = sym (found_place k f p t es search sorted) in
+    record {
+      at = at;
+      place = subst (λ (q : EventKey). IsPlace q f zs) key (subst (IsPlace k f) view (placed_in s k f p t es search sorted));
+      there = sym (got ∙ there_is f p h view at);
+    }
 
 -- it changes
 pub now_is : {s : Slab (List Event)} {es : List (EventKey × ℕ)} {zs : List (EventKey × List Event)} (f : EventKey) (p : ℕ) (c : List Event) → AreHeld s es → blocks_at s es ≡ zs → Some p ≡ lookup (is_at (key_cmp f)) es → blocks_at (with_value s p c) es ≡ set_block f zs c

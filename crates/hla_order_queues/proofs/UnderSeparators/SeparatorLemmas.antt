@@ -1,12 +1,12 @@
 -- The order of keys, and blocks under their separators
-use Rattle.std.proofs.Common.{◌≡◌, Bool, true, false, cond, eqb, ltb, not, ◌&&◌, ◌||◌, filter, List, [], ◌∷◌, ◌++◌, Some, None, refl, sym, ap, subst, ◌∙◌, arith}
+use Rattle.std.proofs.Common.{◌≡◌, ℕ, Bool, true, false, cond, eqb, ltb, not, ◌&&◌, ◌||◌, filter, List, [], ◌∷◌, ◌++◌, Some, None, refl, sym, ap, subst, ◌∙◌, arith}
 use Rattle.std.proofs.lemmas.Bool.Decides.{nat_tests}
 use Rattle.std.proofs.lemmas.Cmp.{nat_cmp_total, on_total, then_total, tied_itself}
 use Rattle.std.specs.Cmp.{IsTotalOrder}
 use Rattle.std.specs.List.{AllByRecursion}
 use Rattle.std.specs.List.Sorted.{IsStrictlySortedBy}
 use Rattle.std.specs.Map.{keys_of, lookup, set_value, remove_entry}
-use Rattle.std.specs.BTreeMap.{insert_entry}
+use Rattle.std.specs.BTreeMap.{insert_entry, is_at}
 use Rattle.std.specs.declared.cmp.Ordering.{Ordering}
 use Rattle.std.specs.declared.cmp.Ordering.TheVariants.{Less, Equal, Greater}
 use Rattle.std.specs.Ordering.{ordering_then, ordering_reverse, is_eq, is_lt}
@@ -138,3 +138,47 @@ set_is f es a w = ap (λ gs. set_block f gs w) a.whole ∙ set_at f a.before a.b
 
 pub without_is : (f : EventKey) (es : List (EventKey × List Event)) (a : At f es) → without_block f es ≡ a.before ++ a.behind
 without_is f es a = ap (without_block f) a.whole ∙ remove_at f a.before a.block a.behind a.lesser
+
+-- a place that a search by separators ends at is what is found at its separator
+eq_tests : (l1 e1 l2 e2 l3 e3 : Bool) → is_eq (ordering_then (cond l1 Less (cond e1 Equal Greater)) (ordering_then (cond l2 Less (cond e2 Equal Greater)) (cond l3 Less (cond e3 Equal Greater)))) ≡ ((not l1 && e1) && ((not l2 && e2) && (not l3 && e3)))
+eq_tests true e1 l2 e2 l3 e3 = refl
+eq_tests false false l2 e2 l3 e3 = refl
+eq_tests false true true e2 l3 e3 = refl
+eq_tests false true false false l3 e3 = refl
+eq_tests false true false true true e3 = refl
+eq_tests false true false true false true = refl
+eq_tests false true false true false false = refl
+
+apart_key : (e f g : EventKey) → is_less e g ≡ true → is_eq (key_cmp f g) ≡ true → is_eq (key_cmp f e) ≡ false
+apart_key e f g less same =
+    let there = sym (eq_tests (ltb f.stamp g.stamp) (eqb f.stamp g.stamp) (ltb f.sender g.sender) (eqb f.sender g.sender) (ltb f.serial g.serial) (eqb f.serial g.serial)) ∙ same in
+    eq_tests (ltb f.stamp e.stamp) (eqb f.stamp e.stamp) (ltb f.sender e.sender) (eqb f.sender e.sender) (ltb f.serial e.serial) (eqb f.serial e.serial) ∙ grind (arith, nat_tests)
+
+later_at : (f e : EventKey) (p : ℕ) (es : List (EventKey × ℕ)) → lookup (is_at (key_cmp f)) es ≡ Some p → AllByRecursion (λ g. key_cmp e g ≡ Less) (keys_of es) → is_eq (key_cmp f e) ≡ false
+later_at f e p [] at h = absurd (cc)
+later_at f e p (g ∷ gs) at h = later_if (is_eq (key_cmp f g.0)) refl at h.0 (λ there. later_at f e p gs there h.1)
+  where
+    later_if : (b : Bool) → is_eq (key_cmp f g.0) ≡ b → cond b (Some g.1) (lookup (is_at (key_cmp f)) gs) ≡ Some p → key_cmp e g.0 ≡ Less → (lookup (is_at (key_cmp f)) gs ≡ Some p → is_eq (key_cmp f e) ≡ false) → is_eq (key_cmp f e) ≡ false
+    later_if true is there less rest = apart_key e f g.0 (less_cmp e g.0 less) is
+    later_if false is there less rest = rest there
+
+found_later : (f : EventKey) (p : ℕ) (e : EventKey × ℕ) (es : List (EventKey × ℕ)) → IsStrictlySortedBy key_cmp (keys_of (e ∷ es)) → lookup (is_at (key_cmp f)) es ≡ Some p → lookup (is_at (key_cmp f)) (e ∷ es) ≡ Some p
+unfolding IsStrictlySortedBy
+found_later f p e es sorted at = rw (later_at f e.0 p es at sorted.0) at
+
+found_here : (f : EventKey) (p : ℕ) (e : EventKey × ℕ) (es : List (EventKey × ℕ)) → e ≡ (f, p) → lookup (is_at (key_cmp f)) (e ∷ es) ≡ Some p
+found_here f p e es same = rw same (rw (tied_itself key_total f) refl)
+
+rest_sorted : (e : EventKey × ℕ) (es : List (EventKey × ℕ)) → IsStrictlySortedBy key_cmp (keys_of (e ∷ es)) → IsStrictlySortedBy key_cmp (keys_of es)
+unfolding IsStrictlySortedBy
+rest_sorted e es h = h.1
+
+found_if : (b : Bool) (k f : EventKey) (p : ℕ) (t : List (EventKey × ℕ)) (e : EventKey × ℕ) (es : List (EventKey × ℕ)) → cond (not b) (e ∷ filter (λ x. not (is_lt (key_cmp k x.0))) es) (filter (λ x. not (is_lt (key_cmp k x.0))) es) ≡ t ++ (f, p) ∷ [] → IsStrictlySortedBy key_cmp (keys_of (e ∷ es)) → ((u : List (EventKey × ℕ)) → filter (λ x. not (is_lt (key_cmp k x.0))) es ≡ u ++ (f, p) ∷ [] → lookup (is_at (key_cmp f)) es ≡ Some p) → lookup (is_at (key_cmp f)) (e ∷ es) ≡ Some p
+found_if true k f p t e es h sorted rest = found_later f p e es sorted (rest t h)
+found_if false k f p [] e es h sorted rest = found_here f p e es (cc)
+found_if false k f p (u ∷ us) e es h sorted rest = found_later f p e es sorted (rest us (cc))
+
+pub found_place : (k f : EventKey) (p : ℕ) (t es : List (EventKey × ℕ)) → filter (λ x. not (is_lt (key_cmp k x.0))) es ≡ t ++ (f, p) ∷ [] → IsStrictlySortedBy key_cmp (keys_of es) → lookup (is_at (key_cmp f)) es ≡ Some p
+found_place k f p [] [] h sorted = absurd (cc)
+found_place k f p (u ∷ us) [] h sorted = absurd (cc)
+found_place k f p t (e ∷ es) h sorted = found_if (is_lt (key_cmp k e.0)) k f p t e es h sorted (λ u g. found_place k f p u es g (rest_sorted e es sorted))
