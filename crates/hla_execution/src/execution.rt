@@ -2,6 +2,7 @@
 
 ghost use Rattle.std.specs.Prelude.{◌≡◌, Some, IfOk, IfErr, OnOk, OnErr};
 ghost use Rattle.hla_base.specs.declared.fault.Fault.TheVariants.{OutOfMemory};
+ghost use Rattle.hla_machine.specs.declared.step.Outcome.TheVariants as outcome;
 ghost use Rattle.hla_machine.specs.Refusals.{refusal};
 ghost use Rattle.hla_machine.specs.Runs.{is_joined_by_any};
 ghost use Rattle.hla_components.specs.Components.{new_components};
@@ -49,6 +50,8 @@ pub trait Execution: Drop {
     /// One step. Refused, it changes nothing: for want of memory, or with the fault that the definitions give, which is the
     /// step's answer.
     fn step(&mut self, step: &Step) -> Result<Answer, Fault>
+        ensures outcome { IfOk result
+            (λ a. (next (state_of (value self.old)) step.now).outcome ≡ outcome.Done a) }
         ensures state { OnOk result
             (state_of (value self.new) ≡ (next (state_of (value self.old)) step.now).state) }
         ensures refused { IfErr result (λ e. (e ≡ Fault.OutOfMemory → ⊥)

@@ -86,6 +86,11 @@ abbrev pub components_after : Components → Act → Components
 components_after c (act.Step step) = (next c step).state
 components_after c a = c
 
+-- an outcome is how the step of an act ends
+abbrev pub IsEndOfAct : Components → Act → Outcome → Type 0
+IsEndOfAct c (act.Step step) out = out ≡ (next c step).outcome
+IsEndOfAct c a out = ⊥
+
 abbrev pub IsStepAct : Act → Type 0
 IsStepAct (act.Step step) = Unit {0}
 IsStepAct a = ⊥

@@ -2,48 +2,27 @@
 
 ghost use Rattle.std.specs.Prelude.{◌≡◌, ◌<◌, ◌++◌, ◌∷◌, [], IfOk, IfErr, OnOk, OnErr, vec_len, vec_capacity};
 ghost use Rattle.hla_history.specs.Heard.{callback_in};
-ghost use Rattle.hla_history.specs.Hosting.{components_hosted, components_after, heard_of, tags_of, heard_table, heard_then_of, CanDeliver, IsStepAct};
+ghost use Rattle.hla_history.specs.Hosting.{components_hosted, components_after, heard_of, tags_of, heard_table, heard_then_of, CanDeliver, IsEndOfAct, IsStepAct};
 
 use crate::delivering::fails_at;
 use crate::preparing::{advance, copied_callback};
 use crate::writing::{Ended, take_away, write_copy};
-use hla_base::{Fault, Plain};
-use hla_callbacks::{Callback, Ear, FederateAmbassador};
+use hla_base::Fault;
+use hla_callbacks::{Ear, FederateAmbassador};
 use hla_execution::Execution;
 use hla_machine::{Outcome, Record};
 
-/// What goes out of a record: the answer to the caller, and the callback to the ear.
-#[derive(Drop)]
-struct Outgoing {
-    answer: Outcome,
-    callback: Option<Callback>,
-}
-
-/// The copies of what goes out of a record. `OutOfMemory` where a growth was refused.
-fn copied_out(made: &Record) -> Result<Outgoing, Fault>
-    ensures answer { IfOk result (λ x. x.answer ≡ made.now.outcome) }
-    ensures callback { IfOk result (λ x. x.callback ≡ callback_in made.now.outcome) }
-    ensures err { IfErr result (λ e. e ≡ Fault.OutOfMemory) }
-{
-    let answer = made.outcome.copy()?;
-    match copied_callback(&made.outcome) {
-        Ok(callback) => Ok(Outgoing { answer, callback }),
-        Err(fault) => {
-            drop(answer);
-            Err(fault)
-        }
-    }
-}
-
-/// Does the step of a record whose copy is to be written in the transcript, which has room. `OutOfMemory`, and nothing done
-/// or written, where a growth was refused.
+/// Does the step of a record whose copy is to be written in the transcript, which has room: how it ended. `OutOfMemory`, and nothing
+/// done or written, where a growth was refused.
 fn advance_copied<F: Execution>(
     federation: &mut F,
     made: &Record,
     transcript: &mut Vec<Record>,
-) -> Result<(), Fault>
+) -> Result<Outcome, Fault>
     requires act { IsStepAct made.now.act }
     requires room { vec_len transcript.old < vec_capacity transcript.old }
+    ensures outcome { IfOk result
+        (λ out. IsEndOfAct (components_hosted (F.value federation.old)) made.now.act out) }
     ensures state { OnOk result (components_hosted (F.value federation.new)
         ≡ components_after (components_hosted (F.value federation.old)) made.now.act) }
     ensures copied { OnOk result (transcript.new.items ≡ transcript.old.items ++ made.now ∷ []) }
@@ -53,7 +32,7 @@ fn advance_copied<F: Execution>(
 {
     write_copy(made, transcript)?;
     match advance(federation, &made.act) {
-        Ok(()) => Ok(()),
+        Ok(outcome) => Ok(outcome),
         Err(fault) => {
             take_away(transcript);
             Err(fault)
@@ -70,6 +49,8 @@ pub(crate) fn carry_out<B: FederateAmbassador, F: Execution>(
     transcript: &mut Vec<Record>,
 ) -> Result<Ended, Fault>
     requires act { IsStepAct made.now.act }
+    requires foreseen { IsEndOfAct (components_hosted (F.value federation.old)) made.now.act
+        made.now.outcome }
     requires ready { CanDeliver (callback_in made.now.outcome) made.now.act ears.old.items }
     requires room { vec_len transcript.old < vec_capacity transcript.old }
     ensures answer { IfOk result (λ x. x.answer ≡ made.now.outcome) }
@@ -86,14 +67,13 @@ pub(crate) fn carry_out<B: FederateAmbassador, F: Execution>(
     ensures unheard { OnErr result (ears.new.items ≡ ears.old.items) }
     ensures unwritten { OnErr result (transcript.new.items ≡ transcript.old.items) }
 {
-    let Outgoing { answer, callback } = copied_out(made)?;
+    let callback = copied_callback(&made.outcome)?;
     match advance_copied(federation, made, transcript) {
-        Ok(()) => {
+        Ok(answer) => {
             let failed = fails_at(ears, &made.act, callback);
             Ok(Ended { answer, failed })
         }
         Err(fault) => {
-            drop(answer);
             drop(callback);
             Err(fault)
         }

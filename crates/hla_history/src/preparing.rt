@@ -6,7 +6,7 @@
 ghost use Rattle.std.specs.Prelude.{◌≡◌, IfOk, IfErr, OnErr, OnOk};
 ghost use Rattle.hla_components.specs.Next.{next};
 ghost use Rattle.hla_history.specs.Heard.{callback_in};
-ghost use Rattle.hla_history.specs.Hosting.{components_hosted, components_after, IsStepAct};
+ghost use Rattle.hla_history.specs.Hosting.{components_hosted, components_after, IsEndOfAct, IsStepAct};
 ghost use Rattle.hla_machine.specs.declared.step.Act.TheVariants as act;
 ghost use Rattle.hla_machine.specs.declared.step.Choice.TheVariants as choice;
 
@@ -141,9 +141,11 @@ fn foreseen<F: Execution>(
     }
 }
 
-/// Does the step of an act that was foreseen. `OutOfMemory`, and nothing done, where a growth was refused.
-pub(crate) fn advance<F: Execution>(federation: &mut F, act: &Act) -> Result<(), Fault>
+/// Does the step of an act that was foreseen: how it ended. `OutOfMemory`, and nothing done, where a growth was refused.
+pub(crate) fn advance<F: Execution>(federation: &mut F, act: &Act) -> Result<Outcome, Fault>
     requires { IsStepAct act.now }
+    ensures outcome { IfOk result
+        (λ out. IsEndOfAct (components_hosted (F.value federation.old)) act.now out) }
     ensures state { OnOk result (components_hosted (F.value federation.new)
         ≡ components_after (components_hosted (F.value federation.old)) act.now) }
     ensures err { IfErr result (λ e. e ≡ Fault.OutOfMemory) }
@@ -177,7 +179,10 @@ pub(crate) fn take_step<F: Execution>(
 {
     let (record, stepped) = with_copies(foreseen(federation, actor, execution, step)?)?;
     match advance(federation, &record.act) {
-        Ok(()) => Ok((record, stepped)),
+        Ok(outcome) => {
+            drop(outcome);
+            Ok((record, stepped))
+        }
         Err(fault) => {
             drop(record);
             drop(stepped);
@@ -186,21 +191,22 @@ pub(crate) fn take_step<F: Execution>(
     }
 }
 
-/// Does a step whose answer is known. `OutOfMemory`, and nothing done, where a growth was refused; any other fault is that
-/// answer.
-fn do_known<F: Execution>(federation: &mut F, step: &Step) -> Result<(), Fault>
+/// Does a step: how it ended. `OutOfMemory`, and nothing done, where a growth was refused; any other fault is how it ended.
+fn do_known<F: Execution>(federation: &mut F, step: &Step) -> Result<Outcome, Fault>
+    ensures outcome { IfOk result
+        (λ out. out ≡ (next (components_hosted (F.value federation.old)) step.now).outcome) }
     ensures state { OnOk result (components_hosted (F.value federation.new)
         ≡ (next (components_hosted (F.value federation.old)) step.now).state) }
     ensures err { IfErr result (λ e. e ≡ Fault.OutOfMemory) }
     ensures unchanged { OnErr result (F.value federation.new ≡ F.value federation.old) }
 {
     match federation.step(step) {
-        Ok(_) => Ok(()),
+        Ok(answer) => Ok(Outcome::Done(answer)),
         Err(fault) => {
             if fault.number() == 38 {
                 Err(fault)
             } else {
-                Ok(())
+                Ok(Outcome::Refused(fault))
             }
         }
     }

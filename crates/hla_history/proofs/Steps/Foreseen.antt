@@ -1,9 +1,12 @@
 -- What an execution's contracts say of the components under the lock.
-use Rattle.std.proofs.Common.{◌≡◌, ℕ, List, sym, ◌∙◌, ap, Option, Some}
+use Rattle.std.proofs.Common.{◌≡◌, ℕ, List, refl, sym, subst, ◌∙◌, ap, Option, Some}
 use Rattle.hla_base.specs.declared.fault.Fault.{Fault}
 use Rattle.hla_machine.specs.declared.step.Step.{Step}
+use Rattle.hla_machine.specs.declared.step.Act.{Act}
 use Rattle.hla_machine.specs.declared.step.Act.TheVariants as act
+use Rattle.hla_machine.specs.declared.step.Answer.{Answer}
 use Rattle.hla_machine.specs.declared.step.Outcome.{Outcome}
+use Rattle.hla_machine.specs.declared.step.Outcome.TheVariants as outcome
 use Rattle.hla_machine.specs.declared.step.Choice.{Choice}
 use Rattle.hla_machine.specs.declared.step.Record.{Record}
 use Rattle.hla_machine.specs.Refusals.{refusal}
@@ -11,7 +14,7 @@ use Rattle.hla_components.specs.Components.{Components}
 use Rattle.hla_components.specs.Next.{next, components_seen, step_outcome, unless_refused}
 use Rattle.hla_execution.specs.FederationValue.{FederationValue}
 use Rattle.hla_execution.specs.StateOf.{state_of}
-use Rattle.hla_history.specs.Hosting.{components_hosted}
+use Rattle.hla_history.specs.Hosting.{components_hosted, IsEndOfAct}
 
 -- the record of a step that ends as foreseen
 abbrev pub step_record_in : Components → ℕ → List ℕ → Step → Record
@@ -40,3 +43,21 @@ pub foreseen_named : (f : FederationValue) (actor : ℕ) (n name : List ℕ) (st
     → record { actor = actor; execution = n; act = act.Step step; outcome = out; choice = chosen } ≡ step_record_in (components_hosted f) actor name step
 foreseen_named f actor n name step out chosen same ends chooses =
     foreseen_record f actor n step out chosen ends chooses ∙ ap (λ (k : List ℕ). step_record_in (components_hosted f) actor k step) same
+
+-- how a step ends, done or refused
+pub done_ends : (f : FederationValue) (step : Step) (a : Answer) → (next (state_of f) step).outcome ≡ outcome.Done a → outcome.Done a ≡ (next (components_hosted f) step).outcome
+unfolding components_hosted
+done_ends f step a is = sym is
+
+pub refused_ends : (f : FederationValue) (step : Step) (e : Fault) → refusal (components_seen (state_of f)) step ≡ Some e → outcome.Refused e ≡ (next (components_hosted f) step).outcome
+unfolding components_hosted
+refused_ends f step e is = sym (ap (λ (o : Option Fault). (unless_refused o (state_of f) (step_outcome (state_of f) step)).outcome) is)
+
+-- an act's step ends in one way
+pub one_end : (c : Components) (a : Act) (out other : Outcome) → IsEndOfAct c a out → IsEndOfAct c a other → out ≡ other
+one_end c (act.Create catalogue) out other e g = absurd e
+one_end c act.Destroy out other e g = absurd e
+one_end c (act.Step step) out other e g = e ∙ sym g
+
+pub foreseen_end : (f : FederationValue) (actor : ℕ) (name : List ℕ) (step : Step) (made : Record) → made ≡ step_record_in (components_hosted f) actor name step → IsEndOfAct (components_hosted f) made.act made.outcome
+foreseen_end f actor name step made is = subst (λ (r : Record). IsEndOfAct (components_hosted f) r.act r.outcome) (sym is) refl

@@ -1,12 +1,19 @@
+-- A step ends, and leads, as the next-state function says.
 use Rattle.std.proofs.Common.{ap, arith}
 use Rattle.hla_base.specs.Fault.{number_of}
-use Rattle.hla_history.proofs.Steps.Foreseen.{does_step, refused_stays}
+use Rattle.hla_history.proofs.Steps.Foreseen.{does_step, refused_stays, done_ends, refused_ends}
 use Rattle.hla_history.proofs.preparing.do_known.Goals as goal
-use Rattle.hla_history.proofs.preparing.do_known.Goals.{in-Ok, in-Err+then-number-eq38, in-Err+else-number-eq38}
 
-pub returns-clause-state : goal.returns-clause-state
-returns-clause-state g c = elim c.match-step.branch [
-  | in-Ok w ↦ rw w.result-is (does_step (g.F.Execution.value c.args.federation.now) (g.F.Execution.value c.step.new.self) c.args.step.now w.in-Ok.ensures.state)
-  | in-Err+then-number-eq38 w ↦ rw w.result-is tt
-  | in-Err+else-number-eq38 w ↦ rw w.result-is (refused_stays (g.F.Execution.value c.args.federation.now) (g.F.Execution.value c.step.new.self) c.args.step.now w.in-Err.fault w.in-Err.ensures.unchanged (w.in-Err.ensures.refused (λ e. absurd (omega (arith, ap number_of e, w.number.ensures, w.if-number-eq38.false)))))
-]
+pub returns-in-Ok-clause-outcome : goal.returns-in-Ok-clause-outcome
+returns-in-Ok-clause-outcome g c = done_ends (g.F.Execution.value c.args.federation.now) c.args.step.now c.in-Ok.answer c.in-Ok.ensures.outcome
+
+pub returns-in-Ok-clause-state : goal.returns-in-Ok-clause-state
+returns-in-Ok-clause-state g c = does_step (g.F.Execution.value c.args.federation.now) (g.F.Execution.value c.step.new.self) c.args.step.now c.in-Ok.ensures.state
+
+pub returns-else-number-eq38-clause-outcome : goal.returns-else-number-eq38-clause-outcome
+returns-else-number-eq38-clause-outcome g c =
+    refused_ends (g.F.Execution.value c.args.federation.now) c.args.step.now c.in-Err.fault (c.in-Err.ensures.refused (λ e. absurd (omega (arith, ap number_of e, c.number.ensures, c.if-number-eq38.false))))
+
+pub returns-else-number-eq38-clause-state : goal.returns-else-number-eq38-clause-state
+returns-else-number-eq38-clause-state g c =
+    refused_stays (g.F.Execution.value c.args.federation.now) (g.F.Execution.value c.step.new.self) c.args.step.now c.in-Err.fault c.in-Err.ensures.unchanged (c.in-Err.ensures.refused (λ e. absurd (omega (arith, ap number_of e, c.number.ensures, c.if-number-eq38.false))))

@@ -7,6 +7,7 @@ use Rattle.hla_history.specs.Hosting.{HostedValue, components_hosted, heard_of}
 use Rattle.hla_history.specs.Writing.{step_record}
 use Rattle.hla_history.proofs.Heard.Hosting.{ambassadors_ready, delivers, len_fits, given_fits, host_steps}
 use Rattle.hla_history.proofs.Records.Written.{last_is}
+use Rattle.hla_history.proofs.Steps.Foreseen.{foreseen_end}
 use Rattle.hla_history.proofs.host.Hosted.step_into.Goals as goal
 use Rattle.hla_history.proofs.host.Hosted.step_into.Goals.{in-Ok, in-Err-carry_out}
 
@@ -20,6 +21,15 @@ carry_out-requires-clause-ready g c =
     delivers c.make_ready.new.ears.items (components_hosted (g.F.Execution.value c.self.inside.federation)) c.args.step c.index-made.result.now.act (callback_in c.index-made.result.now.outcome)
     (ambassadors_ready _ _ c.make_ready.new.ears.items c.self.view_is c.requires.ambassadors c.in_default.ensures.heard)
     c.in_default.ensures.ready (ap (λ (r : Record). r.act) made) (ap (λ (r : Record). callback_in r.outcome) made)
+
+pub carry_out-requires-clause-foreseen : goal.carry_out-requires-clause-foreseen
+carry_out-requires-clause-foreseen g c =
+    let foreseen : Record = step_record c.args.actor c.self.inside.name c.args.step
+    (next (components_hosted (g.F.Execution.value c.self.inside.federation)) c.args.step).outcome (next (components_hosted (g.F.Execution.value c.self.inside.federation)) c.args.step).choice in
+    let made : c.index-made.result.now ≡ foreseen =
+    last_is c.write_foreseen.new.history.items c.args.history.now.items foreseen c.index-made.result.now c.len.result c.in_ok-write_foreseen.ensures.written
+    (omega (arith, c.len.ensures, c.write_foreseen.new.history.ok.0)) c.index-made.ensures in
+    foreseen_end (g.F.Execution.value c.self.inside.federation) c.args.actor c.self.inside.name c.args.step c.index-made.result.now made
 
 pub invariant_of-self-2 : goal.invariant_of-self-2
 invariant_of-self-2 g c =
