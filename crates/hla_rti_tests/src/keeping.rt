@@ -1,29 +1,27 @@
 //! Boards that keep records back, beside boards that show each at once.
+//! Both tell the same at each place of the seven records, and so do
+//! their monitors.
 
-ghost use Rattle.std.specs.Prelude.{◌≡◌};
-
-use crate::board::records;
-use hla_base::Fault;
-use hla_machine::Record;
-use hla_monitor::{Board, Monitor, Naming, Opened, Publisher, Status, open_board};
+use crate::board::{Asked, records, seen_at_a_brand};
+use crate::callers::{check, keep};
+use hla_monitor::{Board, Monitor, Naming, Publisher, Status};
 use std::alloc::Global;
-use std::marker::Brand;
 use std::process::Abort;
 use std::sync::Wait;
-use std::test::Fail;
 
 /// How a board gets its records.
-#[derive(Clone, Copy, Debug, PartialEq, Eq)]
-enum Way {
+#[derive(Clone, Copy)]
+pub enum Way {
     /// It shows each at once.
     Noted,
     /// It keeps them, and catches up before it tells anything, as the lock of the infrastructure has it do.
     Kept,
 }
 
-/// When a board is asked, each after so many records.
-#[derive(Clone, Copy, Debug, PartialEq, Eq)]
-struct Plan {
+/// How a board gets its records, and when it is asked, each after so many of them.
+#[derive(Clone, Copy)]
+pub struct Plan {
+    way: Way,
     /// It tells what it shows.
     told: usize,
     /// It hands a monitor out,
@@ -32,145 +30,132 @@ struct Plan {
     stays: bool,
 }
 
-/// Gives a board its next record.
-fn show<J: Naming, W: Publisher<J>>(
-    board: &mut Board<J, W>,
-    way: Way,
-    entry: &Record,
-) -> Result<(), Fault> {
+/// A board that keeps its records back catches up.
+fn catch_up<J: Naming, W: Publisher<J>>(rt: &impl Abort, board: &mut Board<J, W>, way: Way) {
     match way {
-        Way::Noted => board.note(entry),
-        Way::Kept => board.keep(entry),
+        Way::Noted => {}
+        Way::Kept => board.catch_up().expect(rt, "room"),
     }
 }
 
 /// What a board tells.
-fn told<J: Naming, W: Publisher<J>>(board: &mut Board<J, W>, way: Way) -> Result<Status, Fault> {
-    if way == Way::Kept {
-        board.catch_up()?;
-    }
+fn told<J: Naming, W: Publisher<J>>(rt: &impl Abort, board: &mut Board<J, W>, way: Way) -> Status {
+    catch_up(rt, board, way);
     let told = board.tell();
     let status = told.status();
     drop(told);
-    Ok(status)
+    status
 }
 
 /// A monitor of a board.
 fn handed<J: Naming, W: Publisher<J>>(
+    rt: &impl Abort,
     board: &mut Board<J, W>,
     way: Way,
-) -> Result<Monitor<J>, Fault> {
-    if way == Way::Kept {
-        board.catch_up()?;
-    }
-    board.monitor()
+) -> Monitor<J> {
+    catch_up(rt, board, way);
+    board.monitor().expect(rt, "a monitor")
 }
 
 /// What a new monitor reads, which is let go then.
 fn read_once<J: Naming, W: Publisher<J>>(
+    rt: &impl Abort,
     board: &mut Board<J, W>,
     way: Way,
-) -> Result<Status, Fault> {
-    let mut monitor = handed(board, way)?;
+) -> Status {
+    let mut monitor = handed(rt, board, way);
     let status = monitor.read();
     drop(monitor);
-    Ok(status)
+    status
 }
 
-/// Asks a board, after so many records, what the plan says.
+/// Asks a board, after so many records, what the plan says. What it tells counts just the records that there were.
 fn ask<J: Naming, W: Publisher<J>>(
+    rt: &impl Abort,
     board: &mut Board<J, W>,
-    way: Way,
     plan: Plan,
     count: usize,
     monitor: &mut Option<Monitor<J>>,
     seen: &mut Vec<Status>,
-) -> Result<(), Fail> {
+) {
     if count == plan.told {
-        seen.push(told(board, way)?)?;
+        let status = told(rt, board, plan.way);
+        check(
+            rt,
+            status.steps == count as u64,
+            "what is told counts the records",
+        );
+        keep(rt, seen, status);
     }
     if count == plan.handed && !plan.stays {
-        seen.push(read_once(board, way)?)?;
+        keep(rt, seen, read_once(rt, board, plan.way));
     }
     if count == plan.handed && plan.stays {
-        *monitor = Some(handed(board, way)?);
+        *monitor = Some(handed(rt, board, plan.way));
     }
     if let Some(monitor) = monitor {
-        seen.push(monitor.read())?;
+        keep(rt, seen, monitor.read());
     }
-    Ok(())
 }
 
 /// What is seen of a board, at each place of the plan, and at the end by a last monitor and by what is told.
-fn seen_of<J: Naming, W: Publisher<J>>(
+pub fn shown_by<J: Naming, W: Publisher<J>>(
+    rt: &impl Abort,
     alloc: Global,
-    board: &mut Board<J, W>,
-    way: Way,
+    mut board: Board<J, W>,
     plan: Plan,
-) -> Result<Vec<Status>, Fail> {
-    let records = records(alloc)?;
+) -> Vec<Status> {
+    let records = records(rt, alloc);
     let mut seen = Vec::new(alloc);
     let mut monitor = None;
     for (count, entry) in records.iter().enumerate() {
-        ask(board, way, plan, count, &mut monitor, &mut seen)?;
-        show(board, way, entry)?;
+        ask(rt, &mut board, plan, count, &mut monitor, &mut seen);
+        let shown = match plan.way {
+            Way::Noted => board.note(entry),
+            Way::Kept => board.keep(entry),
+        };
+        shown.expect(rt, "a record");
     }
-    ask(board, way, plan, records.len(), &mut monitor, &mut seen)?;
-    seen.push(read_once(board, way)?)?;
-    seen.push(told(board, way)?)?;
-    Ok(seen)
-}
-
-/// What is seen of a new board.
-fn seen_of_new<J: Naming, R: Wait + Abort + Drop>(
-    rt: R,
-    alloc: Global,
-    opened: Opened,
-    way: Way,
-    plan: Plan,
-) -> Result<Vec<Status>, Fail>
-    requires { opened.seen.book ≡ J.book }
-{
-    let mut board = open_board::<J, R>(alloc, rt, opened)?;
-    let seen = seen_of(alloc, &mut board, way, plan);
+    ask(rt, &mut board, plan, records.len(), &mut monitor, &mut seen);
+    keep(rt, &mut seen, read_once(rt, &mut board, plan.way));
+    keep(rt, &mut seen, told(rt, &mut board, plan.way));
+    drop(monitor);
+    drop(records);
     drop(board);
     seen
 }
 
-fn seen_at_a_brand<R: Wait + Abort + Drop>(
-    rt: R,
-    alloc: Global,
-    way: Way,
-    plan: Plan,
-) -> Result<Vec<Status>, Fail> {
-    seen_of_new::<Brand, R>(rt, alloc, Opened::new(), way, plan)
-}
-
-/// Both boards show the same by a plan, and what is told first counts just the records that there were.
-fn shows_the_same<R: Wait + Abort + Drop + Copy>(
-    rt: R,
-    alloc: Global,
-    plan: Plan,
-) -> Result<bool, Fail> {
-    let noted = seen_at_a_brand(rt, alloc, Way::Noted, plan)?;
-    let kept = seen_at_a_brand(rt, alloc, Way::Kept, plan)?;
-    let counts_told = noted.iter().any(|s| s.steps == plan.told as u64);
-    Ok(counts_told && noted.as_slice() == kept.as_slice())
+/// Both boards show the same by a plan.
+fn check_plan(rt: &(impl Wait + Abort), alloc: Global, told: usize, handed: usize, stays: bool) {
+    let noted = Plan {
+        way: Way::Noted,
+        told,
+        handed,
+        stays,
+    };
+    let kept = Plan {
+        way: Way::Kept,
+        told,
+        handed,
+        stays,
+    };
+    let noted = seen_at_a_brand(rt, alloc, Asked::Shown(noted));
+    let kept = seen_at_a_brand(rt, alloc, Asked::Shown(kept));
+    let are_same = noted.as_slice() == kept.as_slice();
+    drop(noted);
+    drop(kept);
+    assert!(rt;
+        are_same,
+        "told after {told}, handed after {handed}, stays: {stays}"
+    );
 }
 
 #[test]
-fn kept_records_are_shown_as_noted_ones(rt: HostRuntime) -> Result<(), Fail> {
+fn kept_records_are_shown_as_noted_ones(rt: HostRuntime) {
     for told in 0..=7 {
         for handed in 0..=8 {
-            for stays in [false, true] {
-                let plan = Plan {
-                    told,
-                    handed,
-                    stays,
-                };
-                assert!(rt; shows_the_same(&rt, rt.alloc(), plan)?, "by {plan:?}");
-            }
+            check_plan(&rt, rt.alloc(), told, handed, false);
+            check_plan(&rt, rt.alloc(), told, handed, true);
         }
     }
-    Ok(())
 }

@@ -5,6 +5,8 @@
 #[cfg(test)]
 mod board;
 #[cfg(test)]
+mod callers;
+#[cfg(test)]
 mod keeping;
 #[cfg(test)]
 mod monitor;
@@ -12,6 +14,8 @@ mod monitor;
 mod random;
 #[cfg(test)]
 mod runs;
+#[cfg(test)]
+mod scenes;
 #[cfg(test)]
 mod stepping;
 #[cfg(test)]

@@ -1,17 +1,14 @@
-ghost use Rattle.std.specs.Prelude.{◌≡◌};
-ghost use Rattle.hla_base.specs.Limits.{ledger_parts};
+//! Monitors that are read beside callers.
 
-use crate::runs::{courier_of, created_from, joined_as, keep};
-use hla_base::{ExecutionName, Fault, LEDGER_PARTS, List};
+use crate::callers::{check, created, joined, keep};
+use hla_base::List;
 use hla_callbacks::Recorder;
-use hla_monitor::{Monitor, Naming, Opened, Publisher, Status};
-use hla_rti::{Courier, Federate, Rti, open_rti};
+use hla_monitor::{Monitor, Naming, Publisher, Status};
+use hla_rti::{Federate, Rti};
 use std::alloc::Global;
-use std::marker::Brand;
 use std::process::Abort;
 use std::sync::Wait;
-use std::sync::ledger::{Blank, Ledger};
-use std::test::Fail;
+use std::sync::ledger::Ledger;
 use std::thread;
 use std::thread::Threads;
 
@@ -34,127 +31,54 @@ const STEPS: u64 = 3 + 2 * 3 * ROUNDS;
 /// How often a reader reads at most.
 const READS: u32 = 100_000;
 
-/// A monitor; it must not be refused.
-fn monitor_of<L: Ledger + Naming, W: Publisher<L>>(
-    rt: &(impl Wait + Abort),
-    rti: &mut Rti<L, Recorder, W>,
-) -> Monitor<L> {
-    match rti.monitor(rt) {
-        Ok(monitor) => monitor,
-        Err(fault) => panic!(rt; "no monitor: {fault}"),
-    }
-}
+/// What is counted of the eight steps.
+const EIGHT: Status = Status {
+    steps: 8,
+    executions: 1,
+    joined: 2,
+    callbacks: 1,
+    grants: 0,
+};
 
-/// Ticks, whatever it gives.
-fn tick<L: Ledger + Naming, W: Publisher<L>>(
-    rt: &impl Wait,
-    federate: &mut Federate<L, Recorder, W>,
-) -> Result<(), Fault> {
-    match federate.tick(rt) {
-        Ok(told) => {
-            drop(told);
-            Ok(())
-        }
-        Err(fault) => Err(fault),
-    }
-}
-
-/// The first federate sends an interaction in receive order, and a courier carries it to the second, which is told of it.
-fn send_hit<L: Ledger + Naming, W: Publisher<L>>(
-    rt: &impl Wait,
-    alloc: Global,
-    play: ExecutionName,
-    a: &mut Federate<L, Recorder, W>,
-    b: &mut Federate<L, Recorder, W>,
-    courier: &mut Courier<L, Recorder, W>,
-) -> Result<(), Fault> {
-    a.publish_interaction_class(rt, 2)?;
-    b.subscribe_interaction_class(rt, 2)?;
-    a.send_interaction(rt, 2, List::new(alloc), None)?;
-    courier.carry(rt, play, a.number(), b.number())?;
-    tick(rt, b)
-}
-
-/// One interaction in receive order, from the first federate to the second.
+/// One interaction in receive order: a federate sends it, and a courier carries it to another, which is told of it.
 fn hit_once<L: Ledger + Naming, W: Publisher<L>>(
     rt: &(impl Wait + Abort),
     alloc: Global,
     rti: &mut Rti<L, Recorder, W>,
 ) {
-    let play = created_from(rt, rti, FED);
-    let mut a = joined_as(rt, alloc, rti, play, b'A');
-    let mut b = joined_as(rt, alloc, rti, play, b'B');
-    let mut courier = courier_of(rt, rti);
-    assert!(rt; send_hit(rt, alloc, play, &mut a, &mut b, &mut courier) == Ok(()));
+    let play = created(rt, rti, FED);
+    let mut a = joined(rt, alloc, rti, play, b'A');
+    let mut b = joined(rt, alloc, rti, play, b'B');
+    let mut courier = rti.courier().expect(rt, "a courier");
+    a.publish_interaction_class(rt, 2).expect(rt, "a class");
+    b.subscribe_interaction_class(rt, 2).expect(rt, "a class");
+    a.send_interaction(rt, 2, List::new(alloc), None)
+        .expect(rt, "an interaction");
+    courier
+        .carry(rt, play, a.number(), b.number())
+        .expect(rt, "a message");
+    drop(b.tick(rt).expect(rt, "a tick"));
     drop(a);
     drop(b);
     drop(courier);
 }
 
-/// A monitor learns what is told now.
-fn learn<L: Ledger + Naming, W: Publisher<L>>(
-    rt: &impl Wait,
-    rti: &mut Rti<L, Recorder, W>,
-    monitor: &mut Monitor<L>,
-) {
-    let told = rti.tell(rt);
-    monitor.learn(&told);
-    drop(told);
-}
-
-/// What a monitor reads that learnt what was told after a run of eight steps, and what it reads once the infrastructure is
-/// gone.
-fn counted_run<L: Ledger + Naming, W: Publisher<L>>(
+/// A monitor that learnt what was told after a run of eight steps counts these, also once the infrastructure is gone.
+pub fn eight_steps<L: Ledger + Naming, W: Publisher<L>>(
     rt: &(impl Wait + Abort),
     alloc: Global,
     mut rti: Rti<L, Recorder, W>,
-) -> (Status, Status) {
-    let mut monitor = monitor_of(rt, &mut rti);
+) {
+    let mut monitor = rti.monitor(rt).expect(rt, "a monitor");
     hit_once(rt, alloc, &mut rti);
-    learn(rt, &mut rti, &mut monitor);
+    let told = rti.tell(rt);
+    monitor.learn(&told);
+    drop(told);
     let read = monitor.read();
     drop(rti);
     let later = monitor.read();
     drop(monitor);
-    (read, later)
-}
-
-/// A run of eight steps that is watched.
-fn eight_steps<L: Ledger + Naming, R: Wait + Abort>(
-    rt: &R,
-    alloc: Global,
-    blank: Blank,
-    opened: Opened,
-) -> Result<(Status, Status), Fail>
-    requires name { blank.name ≡ L.name }
-    requires parts { blank.parts ≡ L.parts }
-    requires all { blank.parts ≡ ledger_parts }
-    requires book { opened.seen.book ≡ L.book }
-{
-    let rti = open_rti::<L, Recorder, &R>(alloc, rt, blank, opened, 100)?;
-    Ok(counted_run(rt, alloc, rti))
-}
-
-fn eight_steps_at_a_brand<R: Wait + Abort>(
-    rt: &R,
-    alloc: Global,
-) -> Result<(Status, Status), Fail> {
-    eight_steps::<Brand, R>(rt, alloc, Blank::new(LEDGER_PARTS), Opened::new())
-}
-
-#[test]
-fn each_count_of_a_run(rt: HostRuntime) -> Result<(), Fail> {
-    let (read, later) = eight_steps_at_a_brand(&rt, rt.alloc())?;
-    let all = Status {
-        steps: 8,
-        executions: 1,
-        joined: 2,
-        callbacks: 1,
-        grants: 0,
-    };
-    assert_eq!(rt; read, all);
-    assert_eq!(rt; later, all);
-    Ok(())
+    check(rt, [read, later] == [EIGHT; 2], "each count of eight steps");
 }
 
 /// The steps that are told, which are all that were recorded.
@@ -173,13 +97,13 @@ fn steps_read<L: Ledger + Naming, W: Publisher<L>>(
     rt: &(impl Wait + Abort),
     rti: &mut Rti<L, Recorder, W>,
 ) -> u64 {
-    let mut monitor = monitor_of(rt, rti);
+    let mut monitor = rti.monitor(rt).expect(rt, "a monitor");
     let steps = monitor.read().steps;
     drop(monitor);
     steps
 }
 
-/// What a monitor reads that is handed out after so many records, where it is this many.
+/// A monitor that is handed out after so many records reads all of them, where it is this many.
 fn read_after<L: Ledger + Naming, W: Publisher<L>>(
     rt: &(impl Wait + Abort),
     rti: &mut Rti<L, Recorder, W>,
@@ -187,25 +111,30 @@ fn read_after<L: Ledger + Naming, W: Publisher<L>>(
     records: u64,
 ) {
     if handed == records {
-        assert_eq!(rt; steps_read(rt, rti), records);
+        check(
+            rt,
+            steps_read(rt, rti) == records,
+            "a monitor reads all records",
+        );
     }
 }
 
-/// What is told of a creation and two joinings, and what a new monitor reads then, where another was handed out after so many
-/// records. What is told is asked for first, or last.
-fn three_steps_seen<L: Ledger + Naming, W: Publisher<L>>(
+/// All of a creation and two joinings are told, and read by a new monitor, where another was handed out after so many records. What
+/// is told is asked for first, or last.
+pub fn three_steps<L: Ledger + Naming, W: Publisher<L>>(
     rt: &(impl Wait + Abort),
     alloc: Global,
     mut rti: Rti<L, Recorder, W>,
     handed: u64,
     is_told_first: bool,
-) -> (u64, u64) {
+    name: &str,
+) {
     read_after(rt, &mut rti, handed, 0);
-    let play = created_from(rt, &mut rti, FED);
+    let play = created(rt, &mut rti, FED);
     read_after(rt, &mut rti, handed, 1);
-    let a = joined_as(rt, alloc, &mut rti, play, b'A');
+    let a = joined(rt, alloc, &mut rti, play, b'A');
     read_after(rt, &mut rti, handed, 2);
-    let b = joined_as(rt, alloc, &mut rti, play, b'B');
+    let b = joined(rt, alloc, &mut rti, play, b'B');
     read_after(rt, &mut rti, handed, 3);
     let seen = if is_told_first {
         let told = told_steps(rt, &mut rti);
@@ -217,46 +146,7 @@ fn three_steps_seen<L: Ledger + Naming, W: Publisher<L>>(
     drop(a);
     drop(b);
     drop(rti);
-    seen
-}
-
-/// The same of an infrastructure of its own.
-fn three_steps<L: Ledger + Naming, R: Wait + Abort>(
-    rt: &R,
-    alloc: Global,
-    blank: Blank,
-    opened: Opened,
-    handed: u64,
-    is_told_first: bool,
-) -> Result<(u64, u64), Fail>
-    requires name { blank.name ≡ L.name }
-    requires parts { blank.parts ≡ L.parts }
-    requires all { blank.parts ≡ ledger_parts }
-    requires book { opened.seen.book ≡ L.book }
-{
-    let rti = open_rti::<L, Recorder, &R>(alloc, rt, blank, opened, 100)?;
-    Ok(three_steps_seen(rt, alloc, rti, handed, is_told_first))
-}
-
-fn three_steps_at_a_brand<R: Wait + Abort>(
-    rt: &R,
-    alloc: Global,
-    handed: u64,
-    is_told_first: bool,
-) -> Result<(u64, u64), Fail> {
-    let (blank, opened) = (Blank::new(LEDGER_PARTS), Opened::new());
-    three_steps::<Brand, R>(rt, alloc, blank, opened, handed, is_told_first)
-}
-
-#[test]
-fn all_steps_are_told(rt: HostRuntime) -> Result<(), Fail> {
-    for handed in 0..=4 {
-        for is_told_first in [false, true] {
-            let seen = three_steps_at_a_brand(&rt, rt.alloc(), handed, is_told_first)?;
-            assert_eq!(rt; seen, (3, 3), "a monitor handed out after {handed} records");
-        }
-    }
-    Ok(())
+    check(rt, seen == (3, 3), name);
 }
 
 /// What a thread has: a caller, or a monitor.
@@ -266,157 +156,59 @@ enum Party<L: Ledger + Naming, W: Publisher<L>> {
     Watcher(Monitor<L>),
 }
 
-/// How a thread ended.
-#[derive(Clone, Copy, Debug, PartialEq, Eq)]
-enum Ended {
-    Refused,
-    Called,
-    /// The count of steps fell from one read to the next.
-    Fell,
-    /// The last count of steps.
-    Watched(u64),
-}
-
-/// One advance of a federate.
+/// All advances of a federate; none of its calls is refused.
 fn advance<L: Ledger + Naming, W: Publisher<L>>(
-    rt: &impl Wait,
+    rt: &(impl Wait + Abort),
     federate: &mut Federate<L, Recorder, W>,
-    time: u64,
-) -> Result<(), Fault> {
-    federate.time_advance_request(rt, time)?;
-    tick(rt, federate)?;
-    federate.query_federate_time(rt)?;
-    Ok(())
-}
-
-/// All advances of a federate.
-fn called<L: Ledger + Naming, W: Publisher<L>>(
-    rt: &impl Wait,
-    federate: &mut Federate<L, Recorder, W>,
-) -> Ended {
+) {
     for time in 1..=ROUNDS {
-        if advance(rt, federate, time).is_err() {
-            return Ended::Refused;
-        }
+        federate
+            .time_advance_request(rt, time)
+            .expect(rt, "a request");
+        drop(federate.tick(rt).expect(rt, "a tick"));
+        federate.query_federate_time(rt).expect(rt, "a time");
     }
-    Ended::Called
 }
 
-/// Reads until all steps are there.
-fn watched<L: Naming>(monitor: &mut Monitor<L>) -> Ended {
+/// Reads until all steps are there; the count of steps never falls from one read to the next.
+fn watch<L: Naming>(rt: &impl Abort, monitor: &mut Monitor<L>) {
     let mut steps = 0;
     for _ in 0..READS {
         let now = monitor.read().steps;
-        if now < steps {
-            return Ended::Fell;
-        }
+        check(rt, now >= steps, "no count falls");
         steps = now;
         if steps == STEPS {
-            return Ended::Watched(steps);
+            return;
         }
         thread::yield_now();
     }
-    Ended::Watched(steps)
 }
 
-fn lived<L: Ledger + Naming, W: Publisher<L>>(rt: &impl Wait, mut party: Party<L, W>) -> Ended {
-    let ended = match &mut party {
-        Party::Caller(federate) => called(rt, federate),
-        Party::Watcher(monitor) => watched(monitor),
-    };
+fn live<L: Ledger + Naming, W: Publisher<L>>(rt: &(impl Wait + Abort), mut party: Party<L, W>) {
+    match &mut party {
+        Party::Caller(federate) => advance(rt, federate),
+        Party::Watcher(monitor) => watch(rt, monitor),
+    }
     drop(party);
-    ended
 }
 
-/// The threads' parties: two callers and a monitor.
-fn parties<L: Ledger + Naming, W: Publisher<L>>(
-    rt: &(impl Wait + Abort),
-    alloc: Global,
-    rti: &mut Rti<L, Recorder, W>,
-) -> Vec<Party<L, W>> {
-    let play = created_from(rt, rti, FED);
+/// A monitor and two callers, on a thread each; then a second monitor reads all that was shown.
+pub fn beside_two<
+    L: Ledger + Naming + Send + Sync,
+    W: Publisher<L> + Send,
+    R: Threads + Wait + Abort + Sync,
+>(rt: &R, alloc: Global, mut rti: Rti<L, Recorder, W>) {
+    let play = created(rt, &mut rti, FED);
     let mut parties = Vec::new(alloc);
-    keep(rt, &mut parties, Party::Watcher(monitor_of(rt, rti)));
-    keep(
-        rt,
-        &mut parties,
-        Party::Caller(joined_as(rt, alloc, rti, play, b'A')),
-    );
-    keep(
-        rt,
-        &mut parties,
-        Party::Caller(joined_as(rt, alloc, rti, play, b'B')),
-    );
-    parties
-}
-
-/// Each party on a thread of its own.
-fn all_lived<L: Ledger + Naming + Send + Sync, W: Publisher<L> + Send, R: Threads + Wait + Sync>(
-    rt: &R,
-    parties: Vec<Party<L, W>>,
-) -> Result<Vec<Ended>, Fault> {
-    let Ok(all) = thread::map_vec(rt, parties, &|party| lived(rt, party)) else {
-        return Err(Fault::OutOfMemory);
-    };
-    Ok(all)
-}
-
-/// Whether the monitor, which stands first, saw no count fall, and both callers made all their calls.
-fn are_ended_well(all: &[Ended]) -> bool {
-    matches!(all, [Ended::Watched(_), Ended::Called, Ended::Called])
-}
-
-/// Whether all parties ended well, and what a monitor of later reads.
-fn parties_lived<
-    L: Ledger + Naming + Send + Sync,
-    W: Publisher<L> + Send,
-    R: Threads + Wait + Abort + Sync,
->(rt: &R, alloc: Global, rti: &mut Rti<L, Recorder, W>) -> Result<(bool, u64), Fail> {
-    let all = all_lived(rt, parties(rt, alloc, rti))?;
-    let mut last = monitor_of(rt, rti);
-    let steps = last.read().steps;
-    drop(last);
-    Ok((are_ended_well(&all), steps))
-}
-
-/// How the parties lived in an infrastructure that is let go then: here its publisher has no lifetime, so `drop` takes it.
-fn lived_in<
-    L: Ledger + Naming + Send + Sync,
-    W: Publisher<L> + Send,
-    R: Threads + Wait + Abort + Sync,
->(rt: &R, alloc: Global, mut rti: Rti<L, Recorder, W>) -> Result<(bool, u64), Fail> {
-    let lived = parties_lived(rt, alloc, &mut rti);
+    let watcher = rti.monitor(rt).expect(rt, "a monitor");
+    keep(rt, &mut parties, Party::Watcher(watcher));
+    let a = joined(rt, alloc, &mut rti, play, b'A');
+    keep(rt, &mut parties, Party::Caller(a));
+    let b = joined(rt, alloc, &mut rti, play, b'B');
+    keep(rt, &mut parties, Party::Caller(b));
+    let lived = thread::map_vec(rt, parties, &|party| live(rt, party));
+    drop(lived.expect(rt, "room"));
+    let last = steps_read(rt, &mut rti);
     drop(rti);
-    lived
-}
-
-/// Two callers on a thread each, and a monitor on a third; then what a second monitor reads that knows what was shown.
-fn beside_two<L: Ledger + Naming + Send + Sync, R: Threads + Wait + Abort + Sync>(
-    rt: &R,
-    alloc: Global,
-    blank: Blank,
-    opened: Opened,
-) -> Result<(bool, u64), Fail>
-    requires name { blank.name ≡ L.name }
-    requires parts { blank.parts ≡ L.parts }
-    requires all { blank.parts ≡ ledger_parts }
-    requires book { opened.seen.book ≡ L.book }
-{
-    let rti = open_rti::<L, Recorder, &R>(alloc, rt, blank, opened, 1_000)?;
-    lived_in(rt, alloc, rti)
-}
-
-fn beside_two_at_a_brand<R: Threads + Wait + Abort + Sync>(
-    rt: &R,
-    alloc: Global,
-) -> Result<(bool, u64), Fail> {
-    beside_two::<Brand, R>(rt, alloc, Blank::new(LEDGER_PARTS), Opened::new())
-}
-
-#[test]
-fn no_count_falls_beside_two_callers(rt: HostRuntime) -> Result<(), Fail> {
-    let (is_well, last) = beside_two_at_a_brand(&rt, rt.alloc())?;
-    assert!(rt; is_well);
-    assert_eq!(rt; last, STEPS);
-    Ok(())
+    check(rt, last == STEPS, "a second monitor reads all steps");
 }

@@ -1,14 +1,15 @@
 //! Steps without order, no joining and no resigning among them.
 
-ghost use Rattle.std.specs.Prelude.{ℕ, IfOk};
+ghost use Rattle.std.specs.Prelude.{ℕ};
 ghost use Rattle.hla_history.specs.Hosts.{IsPlain};
 ghost use Rattle.hla_machine.specs.declared.step.Step.TheVariants as step;
 
 use crate::random::Random;
-use hla_base::{EventHandle, Fault, HandleValuePair, List, Value};
+use hla_base::{EventHandle, HandleValuePair, List, Value};
 use hla_catalogue::Order;
 use hla_machine::{Service, Step};
 use std::alloc::Global;
+use std::process::Abort;
 
 /// A service of time management.
 fn time_service(random: &mut Random) -> Service
@@ -48,53 +49,60 @@ fn time_service(random: &mut Random) -> Service
 }
 
 /// One number.
-fn numbers(alloc: Global, number: u32) -> Result<List<u32>, Fault> {
-    let mut numbers = List::with_room(alloc, 1)?;
-    numbers.push(number)?;
-    Ok(numbers)
+fn numbers(rt: &impl Abort, alloc: Global, number: u32) -> List<u32> {
+    let mut numbers = List::new(alloc);
+    numbers.push(number).expect(rt, "room");
+    numbers
 }
 
 /// One value of a number.
-fn values(alloc: Global, handle: u32, random: &mut Random) -> Result<List<HandleValuePair>, Fault> {
-    let value = Value::new(alloc, &random.next().to_be_bytes())?;
-    let mut values = List::with_room(alloc, 1)?;
-    values.push(HandleValuePair { handle, value })?;
-    Ok(values)
+fn values(
+    rt: &impl Abort,
+    alloc: Global,
+    handle: u32,
+    random: &mut Random,
+) -> List<HandleValuePair> {
+    let value = Value::new(alloc, &random.next().to_be_bytes()).expect(rt, "room");
+    let mut values = List::new(alloc);
+    values
+        .push(HandleValuePair { handle, value })
+        .expect(rt, "room");
+    values
 }
 
 /// A service of declaration management.
-fn declaration(alloc: Global, random: &mut Random) -> Result<Service, Fault>
-    ensures { IfOk result (λ s. (f : ℕ) → IsPlain (step.Call f s)) }
+fn declaration(rt: &impl Abort, alloc: Global, random: &mut Random) -> Service
+    ensures { (f : ℕ) → IsPlain (step.Call f result) }
 {
     let class = random.below(4);
-    Ok(match random.below(6) {
+    match random.below(6) {
         0 => Service::PublishInteractionClass { class },
         1 => Service::SubscribeInteractionClass { class },
         2 => Service::UnsubscribeInteractionClass { class },
         3 => {
-            let attributes = numbers(alloc, random.below(4))?;
+            let attributes = numbers(rt, alloc, random.below(4));
             Service::PublishObjectClass { class, attributes }
         }
         4 => {
-            let attributes = numbers(alloc, random.below(4))?;
+            let attributes = numbers(rt, alloc, random.below(4));
             Service::SubscribeObjectClassAttributes { class, attributes }
         }
         _ => Service::UnpublishObjectClass { class },
-    })
+    }
 }
 
 /// A service of object management.
-fn object_service(alloc: Global, random: &mut Random) -> Result<Service, Fault>
-    ensures { IfOk result (λ s. (f : ℕ) → IsPlain (step.Call f s)) }
+fn object_service(rt: &impl Abort, alloc: Global, random: &mut Random) -> Service
+    ensures { (f : ℕ) → IsPlain (step.Call f result) }
 {
     let (number, stamp) = (random.below(4), random.stamp());
-    Ok(match random.below(6) {
+    match random.below(6) {
         0 => Service::RegisterObjectInstance {
             class: number,
             name: None,
         },
         1 => {
-            let values = values(alloc, random.below(4), random)?;
+            let values = values(rt, alloc, random.below(4), random);
             Service::UpdateAttributeValues {
                 object: number,
                 values,
@@ -102,7 +110,7 @@ fn object_service(alloc: Global, random: &mut Random) -> Result<Service, Fault>
             }
         }
         2 | 3 => {
-            let values = values(alloc, random.below(4), random)?;
+            let values = values(rt, alloc, random.below(4), random);
             Service::SendInteraction {
                 class: number,
                 values,
@@ -119,12 +127,12 @@ fn object_service(alloc: Global, random: &mut Random) -> Result<Service, Fault>
                 serial: random.time(),
             },
         },
-    })
+    }
 }
 
 /// A change of the order in which messages go.
-fn order_change(alloc: Global, random: &mut Random) -> Result<Service, Fault>
-    ensures { IfOk result (λ s. (f : ℕ) → IsPlain (step.Call f s)) }
+fn order_change(rt: &impl Abort, alloc: Global, random: &mut Random) -> Service
+    ensures { (f : ℕ) → IsPlain (step.Call f result) }
 {
     let number = random.below(4);
     let order = if random.below(2) == 0 {
@@ -133,60 +141,61 @@ fn order_change(alloc: Global, random: &mut Random) -> Result<Service, Fault>
         Order::Timestamp
     };
     if random.below(2) == 0 {
-        return Ok(Service::ChangeInteractionOrderType {
+        return Service::ChangeInteractionOrderType {
             class: number,
             order,
-        });
+        };
     }
-    let attributes = numbers(alloc, random.below(4))?;
-    Ok(Service::ChangeAttributeOrderType {
+    let attributes = numbers(rt, alloc, random.below(4));
+    Service::ChangeAttributeOrderType {
         object: number,
         attributes,
         order,
-    })
+    }
 }
 
 /// A service about a synchronization point of one of two labels.
-fn synchronization_service(alloc: Global, random: &mut Random) -> Result<Service, Fault>
-    ensures { IfOk result (λ s. (f : ℕ) → IsPlain (step.Call f s)) }
+fn synchronization_service(rt: &impl Abort, alloc: Global, random: &mut Random) -> Service
+    ensures { (f : ℕ) → IsPlain (step.Call f result) }
 {
     let mut label = List::new(alloc);
-    label.push(b'p'.wrapping_add(random.below(2).to_le_bytes()[0]))?;
+    let letter = b'p'.wrapping_add(random.below(2).to_le_bytes()[0]);
+    label.push(letter).expect(rt, "room");
     if random.below(3) == 0 {
-        Ok(Service::RegisterFederationSynchronizationPoint { label })
+        Service::RegisterFederationSynchronizationPoint { label }
     } else {
-        Ok(Service::SynchronizationPointAchieved { label })
+        Service::SynchronizationPointAchieved { label }
     }
 }
 
 /// A service.
-fn made_service(alloc: Global, random: &mut Random) -> Result<Service, Fault>
-    ensures { IfOk result (λ s. (f : ℕ) → IsPlain (step.Call f s)) }
+fn made_service(rt: &impl Abort, alloc: Global, random: &mut Random) -> Service
+    ensures { (f : ℕ) → IsPlain (step.Call f result) }
 {
     match random.below(6) {
-        0 => declaration(alloc, random),
-        1 => Ok(time_service(random)),
-        2 => order_change(alloc, random),
-        3 => synchronization_service(alloc, random),
-        _ => object_service(alloc, random),
+        0 => declaration(rt, alloc, random),
+        1 => time_service(random),
+        2 => order_change(rt, alloc, random),
+        3 => synchronization_service(rt, alloc, random),
+        _ => object_service(rt, alloc, random),
     }
 }
 
 /// A step, of a federate that joined or of one that did not.
-pub fn made_step(alloc: Global, random: &mut Random) -> Result<Step, Fault>
-    ensures { IfOk result (λ s. IsPlain s) }
+pub fn made_step(rt: &impl Abort, alloc: Global, random: &mut Random) -> Step
+    ensures { IsPlain result }
 {
     let federate = random.below(5);
     match random.below(8) {
-        0 | 1 => Ok(Step::Carry {
+        0 | 1 => Step::Carry {
             from: federate,
             to: random.below(5),
-        }),
-        2 => Ok(Step::Announce { federate }),
-        3 | 4 => Ok(Step::Tick { federate }),
+        },
+        2 => Step::Announce { federate },
+        3 | 4 => Step::Tick { federate },
         _ => {
-            let service = made_service(alloc, random)?;
-            Ok(Step::Call { federate, service })
+            let service = made_service(rt, alloc, random);
+            Step::Call { federate, service }
         }
     }
 }

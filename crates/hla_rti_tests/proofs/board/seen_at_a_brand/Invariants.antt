@@ -1,4 +1,4 @@
-use Rattle.hla_rti_tests.proofs.keeping.seen_at_a_brand.Given as goal
+use Rattle.hla_rti_tests.proofs.board.seen_at_a_brand.Given as goal
 
 -- the history that was just opened
 abbrev pub ghosts-seen_of_new : goal.ghosts-seen_of_new
