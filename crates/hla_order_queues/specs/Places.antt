@@ -1,5 +1,5 @@
 -- How blocks lie under their separators: in a slab, at the places that an ordered map has for the separators
-use Rattle.std.specs.Prelude.{◌≡◌, ◌≤◌, ◌<◌, ℕ, eqb, ◌||◌, Bool, true, false, List, [], ◌∷◌, length, Some, is_some, Result}
+use Rattle.std.specs.Prelude.{◌≡◌, ◌≤◌, ◌<◌, ℕ, eqb, ◌||◌, Bool, false, List, [], ◌∷◌, length, Some, is_some, Result}
 use Rattle.std.specs.Option.{unwrap_or}
 use Rattle.std.specs.Result.{OnOk, OnErr}
 use Rattle.slab.specs.Slab.{Slab, get}
@@ -8,7 +8,7 @@ use Rattle.hla_order_queues.specs.declared.key.EventKey.{EventKey}
 use Rattle.hla_order_queues.specs.Queues.{insert_event}
 use Rattle.hla_order_queues.specs.declared.separators.Placed.{Placed}
 use Rattle.hla_order_queues.specs.declared.separators.Placed.TheVariants.{Put, Before, Full, Refused}
-use Rattle.hla_order_queues.specs.Kept.{key_of, first_after, separator_after, block_at, set_block, events_of, AreAfter, IsPlace}
+use Rattle.hla_order_queues.specs.Kept.{key_of, block_at, set_block, AreAfter, IsPlace}
 
 -- the events of the block at a place
 abbrev pub block_in : Slab (List Event) → ℕ → List Event
@@ -65,23 +65,3 @@ IsPlaced x full old new Put = IsPutInPlace x full old new
 IsPlaced x full old new (Before y) = IsGivenBack x y old new × AreAfter (key_of x) old
 IsPlaced x full old new (Full y) = IsGivenBack x y old new × (b : Belongs x old) × (full ≤ length b.block)
 IsPlaced x full old new (Refused y) = IsGivenBack x y old new
-
--- an event was put among the others of the blocks, and not before all separators
-pub record IsPutAmong (x : Event) (old new : List (EventKey × List Event)) : Type 0 where
-  pub events : events_of new ≡ insert_event x (events_of old)
-  pub within : separator_after (key_of x) old ≡ false
-  pub some : 0 < length (events_of old)
-
--- an event came back, as it comes before all separators, and all events
-pub record IsBeforeAll (x y : Event) (old new : List (EventKey × List Event)) : Type 0 where
-  pub back : IsGivenBack x y old new
-  pub separators : AreAfter (key_of x) old
-  pub events : first_after (key_of x) (events_of old) ≡ true
-
--- an event was put among the others of the blocks, of which a full one is split; or it came back, as it comes before all of them or
--- as memory was refused
-abbrev pub IsPlacedAmong : Event → List (EventKey × List Event) → List (EventKey × List Event) → Placed → Type 0
-IsPlacedAmong x old new Put = IsPutAmong x old new
-IsPlacedAmong x old new (Before y) = IsBeforeAll x y old new
-IsPlacedAmong x old new (Full y) = ⊥
-IsPlacedAmong x old new (Refused y) = (y ≡ x) × (events_of new ≡ events_of old)

@@ -5,7 +5,6 @@ ghost use Rattle.std.specs.List.{prefix_len, AllByRecursion};
 ghost use Rattle.hla_base.specs.declared.content.Event.{Event as EventValue};
 ghost use Rattle.hla_order_queues.specs.Queues.{insert_event, find_event, remove_event, handles_of};
 ghost use Rattle.hla_order_queues.specs.Moving.{is_moved};
-ghost use Rattle.hla_order_queues.specs.Places.{IsPlacedAmong};
 ghost use Rattle.hla_order_queues.specs.Kept.{key_of, first_after, separator_after, block_at, without_block, events_of, name_of_key, stamp_of, IsInOrder, IsUnique, AreAfter, AreBelowBlocks, AreSeparatored, AreBlocks, At, IsPlace};
 
 use crate::block::Block;
@@ -88,27 +87,25 @@ impl Blocks {
         split_before(first, &mut self.separators, self.alloc)
     }
 
-    /// Puts an event at its place, unless it comes before all separators. It comes back where it does, or where a growth was
-    /// refused; the events are as they were then. It looks at a logarithm of the blocks, once but where a full one is split, and
-    /// moves fewer events than lie in one.
-    pub fn place(&mut self, event: Event) -> Placed
+    /// Puts an event at its place; the event comes back, and the events are as they were, where a growth was refused. It
+    /// looks at a logarithm of the blocks, once but where a full one is split, and moves fewer events than lie in one.
+    pub fn insert(&mut self, event: Event) -> Result<(), Event>
         requires { IsUnique (events_of self.old) }
-        ensures placed { IsPlacedAmong event self.old self.new result }
+        ensures ok { OnOk result (events_of self.new ≡ insert_event event (events_of self.old)) }
+        ensures err { IfErr result (λ e. e ≡ event) }
+        ensures unchanged { OnErr result (events_of self.new ≡ events_of self.old) }
         ensures below { (xs : List EventValue) → AreBelowBlocks xs self.old
             → AreBelowBlocks xs self.new }
     {
         match self.separators.place(event, FULL) {
-            Placed::Full(event) => match self.insert(event) {
-                Ok(()) => Placed::Put,
-                Err(event) => Placed::Refused(event),
-            },
-            placed => placed,
+            Placed::Put => Ok(()),
+            Placed::Full(event) => self.insert_splitting(event),
+            Placed::Before(event) | Placed::Refused(event) => Err(event),
         }
     }
 
-    /// Puts an event at its place; the event comes back, and the events are as they were, where a growth was refused. It
-    /// looks at a logarithm of the blocks, and moves fewer events than lie in one, but for one that is split.
-    pub fn insert(&mut self, event: Event) -> Result<(), Event>
+    /// The same where its block is full, which is split.
+    fn insert_splitting(&mut self, event: Event) -> Result<(), Event>
         requires { IsUnique (events_of self.old) }
         ensures ok { OnOk result (events_of self.new ≡ insert_event event (events_of self.old)) }
         ensures err { IfErr result (λ e. e ≡ event) }

@@ -9,7 +9,6 @@ ghost use Rattle.hla_order_queues.specs.Kept.{events_of, name_of_key, stamp_of, 
 use crate::block::Block;
 use crate::blocks::{Blocks, FULL};
 use crate::key::EventKey;
-use crate::separators::Placed;
 use hla_base::{Event, EventHandle, Ticks};
 use std::alloc::Global;
 use std::marker::Model;
@@ -162,32 +161,9 @@ impl Ordered {
     }
 }
 
-/// Puts an event at its place; the event comes back, and all is as it was, where a growth was refused. The later blocks are searched
-/// once, but where a full block is split.
+/// Puts an event at its place, behind all of the first block only where no later separator is at most its key; the event comes
+/// back, and all is as it was, where a growth was refused.
 fn put(first: &mut Block, later: &mut Blocks, event: Event) -> Result<(), Event>
-    requires ordered { IsInOrder (first.old ++ events_of later.old) }
-    requires unique { IsUnique (first.old ++ events_of later.old) }
-    requires below { AreBelowBlocks first.old later.old }
-    ensures ok { OnOk result
-        (first.new ++ events_of later.new ≡ insert_event event (first.old ++ events_of later.old)) }
-    ensures err { IfErr result (λ e. e ≡ event) }
-    ensures unchanged { OnErr result
-        (first.new ++ events_of later.new ≡ first.old ++ events_of later.old) }
-    ensures below { AreBelowBlocks first.new later.new }
-    ensures filled { (first.old ≡ [] → events_of later.old ≡ []) → first.new ≡ []
-        → events_of later.new ≡ [] }
-{
-    match later.place(event) {
-        Placed::Put => Ok(()),
-        Placed::Before(event) if first.len() < FULL => first.insert(event),
-        Placed::Before(event) => put_splitting(first, later, event),
-        Placed::Full(event) | Placed::Refused(event) => Err(event),
-    }
-}
-
-/// Puts an event at its place, where the first block is split if it is full and the event belongs there; the event comes back, and
-/// all is as it was, where a growth was refused.
-fn put_splitting(first: &mut Block, later: &mut Blocks, event: Event) -> Result<(), Event>
     requires ordered { IsInOrder (first.old ++ events_of later.old) }
     requires unique { IsUnique (first.old ++ events_of later.old) }
     requires below { AreBelowBlocks first.old later.old }

@@ -175,7 +175,7 @@ some_first : (b zs : List Event) → 0 < length b → 0 < length (b ++ zs)
 some_first [] zs h = absurd (omega arith)
 some_first (x ∷ xs) zs h = omega arith
 
-pub some_events : (k : EventKey) (es : List (EventKey × List Event)) → AllByRecursion (λ e. 0 < length e.1) es → separator_after k es ≡ false → 0 < length (events_of es)
+some_events : (k : EventKey) (es : List (EventKey × List Event)) → AllByRecursion (λ e. 0 < length e.1) es → separator_after k es ≡ false → 0 < length (events_of es)
 unfolding joined
 some_events k [] h e = absurd (cc)
 some_events k (x ∷ es) h e = some_first x.1 (events_of es) h.0

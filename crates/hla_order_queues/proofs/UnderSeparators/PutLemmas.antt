@@ -1,6 +1,5 @@
 -- What an insertion into a block, a removal from one, and its split leave of the blocks
 use Rattle.std.proofs.Common.{◌≡◌, ◌<◌, ◌≤◌, ℕ, true, false, List, [], ◌∷◌, ◌++◌, length, Option, Some, None, Result, Ok, Err, refl, sym, ap, subst, ◌∙◌, arith}
-use Rattle.std.proofs.lemmas.Bool.Decides.{nat_tests}
 use Rattle.std.specs.List.{AllByRecursion}
 use Rattle.std.specs.Option.{MatchOption}
 use Rattle.std.specs.Bool.{⊤}
@@ -9,11 +8,9 @@ use Rattle.hla_base.specs.declared.content.Event.{Event}
 use Rattle.hla_order_queues.specs.declared.key.EventKey.{EventKey}
 use Rattle.hla_order_queues.specs.Queues.{insert_event, find_event, remove_event}
 use Rattle.hla_order_queues.specs.Kept.{key_of, is_less, separator_after, IsInOrder, joined, events_of, block_at, set_block, without_block, AreAfter, AreBelowBlocks, AreSeparatored, AreBlocks, At, IsPlace}
-use Rattle.hla_order_queues.specs.declared.separators.Placed.{Placed}
-use Rattle.hla_order_queues.specs.declared.separators.Placed.TheVariants.{Put, Before, Full, Refused}
-use Rattle.hla_order_queues.specs.Places.{IsPutIn, Belongs, IsPutInPlace, IsGivenBack, IsPlaced, IsPutAmong, IsBeforeAll, IsPlacedAmong}
+use Rattle.hla_order_queues.specs.Places.{IsPutIn, IsPutInPlace}
 use Rattle.hla_order_queues.proofs.UnderSeparators.SeparatorLemmas.{block_is, set_is, without_is}
-use Rattle.hla_order_queues.proofs.UnderSeparators.JoinedLemmas.{some_events, events_at, inserted_events, blocks_inserted, below_set, separatored_at, separatored_set, after_all, All_behind}
+use Rattle.hla_order_queues.proofs.UnderSeparators.JoinedLemmas.{events_at, inserted_events, blocks_inserted, below_set, separatored_at, separatored_set, after_all, All_behind}
 use Rattle.hla_order_queues.proofs.Events.OrderLemmas.{All-implies, parts_of}
 use Rattle.hla_order_queues.proofs.Events.RemovalLemmas.{find_event_before, remove_event_before, remove_event_behind, All-remove_event}
 use Rattle.hla_order_queues.proofs.ByName.StampLemmas.{HasKey}
@@ -63,42 +60,9 @@ put_under x es new f r p h told =
     let k = rw there at told in
     put_in x es new f p.at.block k.block r p h there k.now k.ok k.refused
 
--- what is said of an event that was put into its block, or came back
-within_if : (k f : EventKey) (before : List (EventKey × List Event)) (b : List Event) (behind : List (EventKey × List Event)) → AllByRecursion (λ e. is_less e.0 f ≡ true) before → is_less k f ≡ false → separator_after k (before ++ (f, b) ∷ behind) ≡ false
-within_if k f [] b behind lesser low = low
-within_if k f (e ∷ es) b behind lesser low = grind (arith, nat_tests, lesser.0)
-
-pub is_within : (k f : EventKey) (es : List (EventKey × List Event)) → IsPlace k f es → separator_after k es ≡ false
-is_within k f es p = ap (separator_after k) p.at.whole ∙ within_if k f p.at.before p.at.block p.at.behind p.at.lesser p.low
-
+-- an event was put into its block, or came back
 pub put_home : (x : Event) (full : ℕ) (es new : List (EventKey × List Event)) → AreBlocks es → IsPutInPlace x full es new → IsPut x es new (Ok tt)
 put_home x full es new h p = put_in x es new p.home.separator p.home.block (insert_event x p.home.block) (Ok tt) p.home.place h p.home.there p.now refl tt
-
-pub put_among : (x : Event) (es new : List (EventKey × List Event)) → AreBlocks es → Belongs x es → events_of new ≡ insert_event x (events_of es) → IsPutAmong x es new
-put_among x es new h b e =
-    let within = is_within (key_of x) b.separator es b.place in
-    record { events = e; within = within; some = some_events (key_of x) es h.filled within }
-
-pub before_all : (x y : Event) (es new : List (EventKey × List Event)) → AreBlocks es → IsGivenBack x y es new → AreAfter (key_of x) es → IsBeforeAll x y es new
-before_all x y es new h back after = record { back = back; separators = after; events = after_all (key_of x) es h.filled h.separatored after }
-
-pub record IsPlacedBelow (x : Event) (es new : List (EventKey × List Event)) (r : Placed) : Type 0 where
-  pub placed : IsPlacedAmong x es new r
-  pub blocks : AreBlocks new
-  pub below : (xs : List Event) → AreBelowBlocks xs es → AreBelowBlocks xs new
-
-nothing_changed : (x y : Event) (es new : List (EventKey × List Event)) (r : Placed) → AreBlocks es → IsGivenBack x y es new → IsPlacedAmong x es new r → IsPlacedBelow x es new r
-nothing_changed x y es new r h back placed = record {
-  placed = placed;
-  blocks = subst AreBlocks (sym back.unchanged) h;
-  below = λ xs q. subst (AreBelowBlocks xs) (sym back.unchanged) q;
-}
-
-pub placed_below : (x : Event) (full : ℕ) (es new : List (EventKey × List Event)) (r : Placed) → AreBlocks es → IsPlaced x full es new r → ((y : Event) → r ≡ Full y → ⊥) → IsPlacedBelow x es new r
-placed_below x full es new Put h p not_full = let put = put_home x full es new h p in record { placed = put_among x es new h p.home put.ok; blocks = put.blocks; below = put.below }
-placed_below x full es new (Before y) h p not_full = nothing_changed x y es new (Before y) h p.0 (before_all x y es new h p.0 p.1)
-placed_below x full es new (Full y) h p not_full = absurd (not_full y refl)
-placed_below x full es new (Refused y) h p not_full = nothing_changed x y es new (Refused y) h p (p.event, ap events_of p.unchanged)
 
 pub block_ordered : (f : EventKey) (es : List (EventKey × List Event)) (b : List Event) → At f es → AreBlocks es → block_at f es ≡ Some b → IsInOrder b
 block_ordered f es b a h at =

@@ -1,35 +1,22 @@
--- The event goes into the block of its place.
-use Rattle.std.proofs.Common.{◌≡◌, List, ap, subst, sym, ◌∙◌}
-use Rattle.std.specs.Result.{OnOk, OnErr}
+-- The event goes into its block, unless that is full.
+use Rattle.std.proofs.Common.{◌≡◌, List, Ok, sym, subst}
 use Rattle.hla_base.specs.declared.content.Event.{Event}
 use Rattle.hla_order_queues.specs.Queues.{insert_event}
 use Rattle.hla_order_queues.specs.declared.key.EventKey.{EventKey}
-use Rattle.hla_order_queues.specs.Kept.{events_of, AreBelowBlocks, IsPlace}
-use Rattle.hla_order_queues.proofs.UnderSeparators.PutLemmas.{IsPut, put_under, ordered_under}
+use Rattle.hla_order_queues.specs.Kept.{events_of, AreBelowBlocks}
+use Rattle.hla_order_queues.proofs.UnderSeparators.PutLemmas.{IsPut, put_home}
 use Rattle.hla_order_queues.proofs.blocks.Blocks.insert.Goals as goal
-use Rattle.hla_order_queues.proofs.blocks.Blocks.insert.Goals.{After-insert_event}
+use Rattle.hla_order_queues.proofs.blocks.Blocks.insert.Goals.{In-Put}
 
-pub insert_event-requires : goal.insert_event-requires
-insert_event-requires c = ordered_under c.in-Some.separator c.roomy_separator.new.separators c.in-Some.ensures.place.at c.in-Some.ensures.blocks
+put : (c : In-Put) → IsPut c.args.event c.self.inside.separators c.place.new.self (Ok tt)
+put c = put_home c.args.event 64 c.self.inside.separators c.place.new.self c.self.invariant c.in-Put.ensures
 
-put : (c : After-insert_event) → IsPut c.args.event c.roomy_separator.new.separators c.insert_event.new.self c.insert_event.result
-put c =
-    let place = subst (λ (k : EventKey). IsPlace k c.in-Some.separator c.roomy_separator.new.separators) c.of.ensures c.in-Some.ensures.place in
-    put_under c.args.event c.roomy_separator.new.separators c.insert_event.new.self c.in-Some.separator c.insert_event.result place c.in-Some.ensures.blocks c.insert_event.ensures.put
+pub invariant_of-self : goal.invariant_of-self
+invariant_of-self c = (put_home c.args.event 64 c.self.inside.separators c.place.new.self c.self.invariant c.in-Put.ensures).blocks
 
-same : (c : After-insert_event) → events_of c.roomy_separator.new.separators ≡ events_of c.args.self.now
-same c = c.in-Some.ensures.same ∙ ap events_of c.self.view_is
+pub returns-in-Put-clause-ok : goal.returns-in-Put-clause-ok
+returns-in-Put-clause-ok c =
+    subst (λ (es : List (EventKey × List Event)). events_of c.place.new.self ≡ insert_event c.args.event (events_of es)) c.self.view_is (put c).ok
 
-pub invariant_of-self-2 : goal.invariant_of-self-2
-invariant_of-self-2 c = (put c).blocks
-
-pub returns-clause-ok : goal.returns-clause-ok
-returns-clause-ok c =
-    subst (λ (zs : List Event). OnOk c.insert_event.result (events_of c.insert_event.new.self ≡ insert_event c.args.event zs)) (same c) (put c).ok
-
-pub returns-clause-unchanged : goal.returns-clause-unchanged
-returns-clause-unchanged c =
-    subst (λ (zs : List Event). OnErr c.insert_event.result (events_of c.insert_event.new.self ≡ zs)) (same c) (put c).unchanged
-
-pub returns-clause-below : goal.returns-clause-below
-returns-clause-below c = λ xs q. (put c).below xs (c.in-Some.ensures.below xs (subst (AreBelowBlocks xs) (sym c.self.view_is) q))
+pub returns-in-Put-clause-below : goal.returns-in-Put-clause-below
+returns-in-Put-clause-below c = λ xs q. (put c).below xs (subst (AreBelowBlocks xs) (sym c.self.view_is) q)
