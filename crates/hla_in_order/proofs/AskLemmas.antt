@@ -10,7 +10,7 @@ use Rattle.hla_requests.specs.declared.members.NamedFederate.{NamedFederate}
 use Rattle.hla_requests.specs.declared.steps.Request.{Request}
 use Rattle.hla_requests.specs.declared.steps.Request.TheVariants as request
 use Rattle.hla_requests.specs.Requests.{ask_then, request_of, known_federate, joined_federate, service_of, step_by}
-use Rattle.hla_players.specs.Joining.{joins_by, request_joins}
+use Rattle.hla_outcomes.specs.Joining.{joins_by, request_joins}
 
 -- what is asked next is asked
 asked_then : {X Y : Type 0} (x : Result X Fault) (next : X → Result Y Fault) (y : Y) → ask_then x next ≡ Ok y → (v : X) × (next v ≡ Ok y)

@@ -29,7 +29,7 @@ use Rattle.hla_requests.specs.declared.lookups.AskFault.{AskFault}
 use Rattle.hla_requests.specs.declared.lookups.AskFault.TheVariants as stop
 use Rattle.hla_rti.specs.Callers.{Caller, FederateCaller, Leaver, Office, HasActed, HasNotActed, HasAnswered, answer_given, new_caller}
 use Rattle.hla_in_order.specs.InOrder.{WithoutStep, Asked, Unrecorded, IsCaller, Does, IsRunInOrder, act_asked, number_joined, entrants, callers}
-use Rattle.hla_players.specs.Running.{told_text}
+use Rattle.hla_outcomes.specs.Running.{told_text}
 use Rattle.hla_rti.specs.Close.{AllAgree}
 use Rattle.hla_in_order.specs.Players.{Stand, IsBook}
 use Rattle.std.specs.Io.KnownBytes.{Appends}

@@ -8,10 +8,10 @@ use Rattle.hla_fed_file.specs.Grammar.{Describes}
 use Rattle.hla_machine.specs.declared.step.Outcome.{Outcome}
 use Rattle.hla_rti.specs.Callers.{Leaver, Office}
 use Rattle.hla_in_order.specs.InOrder.{IsDoneInOrder, StopsInOrder}
-use Rattle.hla_players.specs.Running.{IsCutText, StopsText, told_text}
+use Rattle.hla_outcomes.specs.Running.{IsCutText, StopsText, told_text}
 use Rattle.hla_in_order.specs.Turns.{AreDoneAs, HaveEnded, StopsDoing}
-use Rattle.hla_players.specs.declared.fault.RunFault.{RunFault}
-use Rattle.hla_players.specs.declared.fault.RunFault.TheVariants as stop
+use Rattle.hla_outcomes.specs.declared.fault.RunFault.{RunFault}
+use Rattle.hla_outcomes.specs.declared.fault.RunFault.TheVariants as stop
 use Rattle.hla_in_order.proofs.LeadLemmas.{runs_done}
 
 -- what was told of them

@@ -9,9 +9,9 @@ use Rattle.hla_commands.specs.declared.lines.Command.{Command}
 use Rattle.hla_commands.specs.declared.lines.Line.{Line}
 use Rattle.hla_commands.specs.Script.{script_of}
 use Rattle.hla_fed_file.specs.Grammar.{Describes}
-use Rattle.hla_players.specs.Running.{told_text, IsCutText, IsUnread}
-use Rattle.hla_players.specs.declared.fault.RunFault.{RunFault}
-use Rattle.hla_players.specs.declared.fault.RunFault.TheVariants as stop
+use Rattle.hla_outcomes.specs.Running.{told_text, IsCutText, IsUnread}
+use Rattle.hla_outcomes.specs.declared.fault.RunFault.{RunFault}
+use Rattle.hla_outcomes.specs.declared.fault.RunFault.TheVariants as stop
 use Rattle.hla_machine.specs.declared.step.Act.{Act}
 use Rattle.hla_machine.specs.declared.step.Act.TheVariants as act
 use Rattle.hla_machine.specs.declared.step.Answer.TheVariants as answer

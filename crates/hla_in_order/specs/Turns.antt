@@ -14,15 +14,15 @@ use Rattle.hla_requests.specs.declared.steps.Request.{Request}
 use Rattle.hla_requests.specs.declared.steps.Request.TheVariants as request
 use Rattle.hla_requests.specs.Members.{members, with_change, with_create, change_of}
 use Rattle.hla_in_order.specs.InOrder.{RequestEnds, LineComesOut, Does, callers, HasJust}
-use Rattle.hla_players.specs.Running.{told_text, IsCutText}
+use Rattle.hla_outcomes.specs.Running.{told_text, IsCutText}
 use Rattle.hla_in_order.specs.declared.in_order.Cast.{Cast}
 use Rattle.hla_in_order.specs.Players.{Stand, IsBook}
 use Rattle.hla_players.specs.Deeds.{DoesDeed}
 use Rattle.hla_players.specs.declared.player.Player.{Player}
 use Rattle.hla_players.specs.declared.player.Player.TheVariants as player
 use Rattle.hla_players.specs.declared.player.Deed.{Deed}
-use Rattle.hla_players.specs.declared.fault.RunFault.{RunFault}
-use Rattle.hla_players.specs.declared.fault.RunFault.TheVariants as stop
+use Rattle.hla_outcomes.specs.declared.fault.RunFault.{RunFault}
+use Rattle.hla_outcomes.specs.declared.fault.RunFault.TheVariants as stop
 
 -- ---- a federate among those of a script
 -- the federate of a number is here, joined

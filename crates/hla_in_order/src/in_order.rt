@@ -6,14 +6,14 @@
 ghost use Rattle.std.specs.Prelude.{◌≡◌, ◌||◌, ◌<◌, ◌≤◌, ℕ, List, [], drop, length, OnOk, IfOk, IfErr, codes, vec_len, vec_capacity};
 ghost use Rattle.std.specs.List.{All};
 ghost use Rattle.hla_base.specs.Limits.{ledger_parts, max_history_limit};
-ghost use Rattle.hla_players.specs.Joining.{joins, joins_by, script_joins, step_joins};
+ghost use Rattle.hla_outcomes.specs.Joining.{joins, joins_by, script_joins, step_joins};
 ghost use Rattle.hla_machine.specs.declared.step.Record.{Record};
 ghost use Rattle.hla_machine.specs.declared.step.Step.TheVariants as step;
 ghost use Rattle.hla_requests.specs.Members.{change_of, with_change, with_create};
 ghost use Rattle.hla_requests.specs.declared.steps.Request.TheVariants as request;
 ghost use Rattle.hla_rti.specs.Callers.{Office, new_caller};
 ghost use Rattle.hla_in_order.specs.InOrder.{IsRunInOrder, StopsInOrder, callers};
-ghost use Rattle.hla_players.specs.Running.{IsSeen, is_unwritten_run};
+ghost use Rattle.hla_outcomes.specs.Running.{IsSeen, is_unwritten_run};
 ghost use Rattle.hla_in_order.specs.Turns.{AreDone, StopsDoing, HaveEnded, HaveLed, HaveLeft, IsSet, RequestLeads, LineLeads};
 
 use crate::acting::act;

@@ -4,22 +4,29 @@ ghost use Rattle.std.specs.Prelude.{◌≡◌, ◌||◌, IfOk, OnOk, IfErr, is_s
 ghost use Rattle.hla_base.specs.Limits.{ledger_parts};
 ghost use Rattle.std.specs.Io.KnownBytes.{Appends};
 ghost use Rattle.hla_rti.specs.Close.{AllAgree};
-ghost use Rattle.hla_players.specs.Running.{IsSeen, StopsText, told_text, is_unwritten_run};
+ghost use Rattle.hla_outcomes.specs.Running.{IsSeen, StopsText, told_text, is_unwritten_run};
 
-use crate::fault::{RunFault, close_fault};
-use crate::outcomes::Outcomes;
-use crate::texts::write_outcomes;
 use crate::watching::{Ran, is_seen};
 use hla_callbacks::FederateAmbassador;
 use hla_catalogue::Catalogue;
 use hla_commands::Line;
 use hla_monitor::{Naming, Publisher, Status};
-use hla_rti::{Closed, Left, Rti};
+use hla_outcomes::{Outcomes, RunFault, write_outcomes};
+use hla_rti::{Closed, Left, NotClosed, Rti};
 use hla_transcript::Watched;
 use std::alloc::Global;
 use std::io::Write;
 use std::sync::Wait;
 use std::sync::ledger::Ledger;
+
+/// Why a run did not close. What came back is let go.
+fn close_fault<L: Ledger + Naming, B: FederateAmbassador, P: Publisher<L>>(
+    not_closed: NotClosed<L, B, P>,
+) -> RunFault
+    ensures { result ≡ RunFault.Close not_closed.fault }
+{
+    RunFault::Close(not_closed.fault)
+}
 
 /// Writes how those lines came out that were done, and closes. `Memory` where a growth was refused for the text; `Write` only
 /// where the writer has failed, and then a beginning of the text is written; `Close` where the infrastructure does not close.

@@ -5,13 +5,13 @@ ghost use Rattle.hla_machine.specs.declared.service.Service.TheVariants as servi
 ghost use Rattle.hla_players.specs.Deeds.{DoesDeed, IsDeedOf, caller_of};
 ghost use Rattle.hla_players.specs.declared.player.Deed.TheVariants as deed;
 
-use crate::outcomes::{outcome_of, outcome_of_tick};
 use hla_base::Fault;
 use hla_callbacks::FederateAmbassador;
 use hla_catalogue::Catalogue;
 use hla_commands::Call;
 use hla_machine::{Answer, Outcome, ResignAction, Service};
 use hla_monitor::{Naming, Publisher};
+use hla_outcomes::{outcome_of, outcome_of_tick};
 use hla_requests::{AskFault, service_of};
 use hla_rti::{Federate, Left};
 use std::alloc::Global;

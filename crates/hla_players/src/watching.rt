@@ -1,13 +1,13 @@
 //! A monitor beside a run of a script.
 
 ghost use Rattle.std.specs.Prelude.{◌≡◌, IfOk, IsTrue, is_some};
-ghost use Rattle.hla_players.specs.Running.{CountsBeginning, IsSeen};
+ghost use Rattle.hla_outcomes.specs.Running.{CountsBeginning, IsSeen};
 
-use crate::fault::RunFault;
 use hla_base::Fault;
 use hla_callbacks::FederateAmbassador;
 use hla_machine::Record;
 use hla_monitor::{Monitor, Naming, Publisher, Status};
+use hla_outcomes::RunFault;
 use hla_rti::{Closed, Rti};
 use std::sync::Wait;
 use std::sync::ledger::Ledger;

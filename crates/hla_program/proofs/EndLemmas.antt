@@ -12,9 +12,9 @@ use Rattle.hla_script.specs.declared.player.PlayFault.TheVariants as unplayed
 use Rattle.hla_script.specs.Playing.{IsPlayedFrom, StopsBy, is_failed_transcript}
 use Rattle.hla_script.proofs.BreakLemmas.{broken_behind}
 use Rattle.hla_transcript.specs.Watching.{Stream}
-use Rattle.hla_players.specs.Running.{StopsRun, is_failed_text}
-use Rattle.hla_players.specs.declared.fault.RunFault.{RunFault}
-use Rattle.hla_players.specs.declared.fault.RunFault.TheVariants as unran
+use Rattle.hla_outcomes.specs.Running.{StopsRun, is_failed_text}
+use Rattle.hla_outcomes.specs.declared.fault.RunFault.{RunFault}
+use Rattle.hla_outcomes.specs.declared.fault.RunFault.TheVariants as unran
 use Rattle.hla_program.specs.Program.{WritesLine, Whole, Cut, Complains, PlayCause, RunCause, ListCause, memory_line}
 
 pub or-false : (b : Bool) → (b || false) ≡ b

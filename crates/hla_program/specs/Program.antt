@@ -15,11 +15,11 @@ use Rattle.hla_transcript.specs.declared.listing.ListFault.{ListFault}
 use Rattle.hla_transcript.specs.declared.listing.ListFault.TheVariants as unlisted
 use Rattle.hla_script.specs.declared.player.PlayFault.{PlayFault}
 use Rattle.hla_script.specs.declared.player.PlayFault.TheVariants as unplayed
-use Rattle.hla_players.specs.Joining.{script_joins}
+use Rattle.hla_outcomes.specs.Joining.{script_joins}
 use Rattle.hla_run.specs.Recorded.{IsRunRecorded}
-use Rattle.hla_players.specs.Running.{IsRunFrom, IsSeen, StopsRun}
-use Rattle.hla_players.specs.declared.fault.RunFault.{RunFault}
-use Rattle.hla_players.specs.declared.fault.RunFault.TheVariants as unran
+use Rattle.hla_outcomes.specs.Running.{IsRunFrom, IsSeen, StopsRun}
+use Rattle.hla_outcomes.specs.declared.fault.RunFault.{RunFault}
+use Rattle.hla_outcomes.specs.declared.fault.RunFault.TheVariants as unran
 use Rattle.hla_tasks.specs.Tasks.{NamedTask, Play, Check, Running, Listing}
 use Rattle.hla_program.specs.declared.finding.Finding.{Finding}
 use Rattle.hla_program.specs.declared.finding.Finding.TheVariants.{Run, Differs}

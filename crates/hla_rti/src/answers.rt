@@ -6,7 +6,7 @@
 ghost use Rattle.std.specs.Prelude.{◌≡◌, IfOk};
 ghost use Rattle.hla_machine.specs.declared.step.Answer.TheVariants as answer;
 ghost use Rattle.hla_history.specs.Forms.{NoAnswer, ARegistration, AHandle, AName, AnEvent, ATime, ACallback, ACarriage, AnAnnouncement, IsOfForm};
-ghost use Rattle.hla_rti.specs.Callers.{said, nothing};
+ghost use Rattle.hla_callers.specs.Callers.{said, nothing};
 
 use hla_base::{EventHandle, Fault, List, ObjectNo, Ticks};
 use hla_callbacks::Callback;

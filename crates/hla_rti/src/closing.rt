@@ -1,69 +1,15 @@
 //! Closing: all callers come back, and the records go out.
 
-ghost use Rattle.std.specs.Prelude.{◌≡◌, ◌≢◌, ◌+◌, ◌≤◌, ◌↔◌, ◌==◌, vec_len, IsTrue, IfOk, IfErr, OnOk, OnErr, IfSome, IfNone};
-ghost use Rattle.hla_base.specs.Limits.{ledger_parts, max_callers};
-ghost use Rattle.std.specs.List.{list_any};
-ghost use Rattle.hla_history.specs.Closing.{Replays};
-ghost use Rattle.hla_machine.specs.Histories.{AreDiscoveredInTurn, AreLawful};
-ghost use Rattle.hla_machine.specs.Runs.{Executions, no_executions, AreRun};
-ghost use Rattle.hla_rti.specs.Callers.{Leaver};
-ghost use Rattle.hla_rti.specs.Close.{AllHere, AllAgree, AreOfCallers, DiffersFirst, transcripts_length};
+ghost use Rattle.std.specs.Prelude.{◌≡◌, ◌≢◌, IfOk, IfErr, OnOk};
+ghost use Rattle.hla_base.specs.Limits.{ledger_parts};
+ghost use Rattle.hla_callers.specs.Close.{AllHere, AllAgree, AreOfCallers};
 
-use crate::comparing::first_differing;
 use crate::rti::Rti;
-use crate::seat::{Left, Seat};
 use hla_callbacks::FederateAmbassador;
-use hla_federation::Federation;
-use hla_history::Shared;
-use hla_machine::Record;
+use hla_callers::{CloseFault, Closed, Left, Unsettled, all_here};
 use hla_monitor::{Naming, Publisher};
-use std::marker::Model;
 use std::sync::Wait;
-use std::sync::ledger::{Ledger, Share};
-
-/// The records of a whole history, in order. They replay: from no executions the outcome and the choice of each are those
-/// of the definitions' next-state function; so they are a run of the central machine. Contracts see the records.
-#[derive(Drop)]
-pub struct Closed {
-    records: Vec<Record>,
-}
-
-impl Model for Closed {
-    ghost use Rattle.std.specs.Prelude.{List};
-    ghost use Rattle.hla_machine.specs.declared.step.Record.{Record};
-    ghost use Rattle.hla_history.specs.Closing.{Replays};
-
-    ghost Value = { List Record };
-
-    ghost view = { λ c. c.records.items };
-
-    ghost invariant = { λ c. Replays c.records.items };
-}
-
-impl Closed {
-    /// The records. Behind each of them, of each execution that is there, each law of the machine holds from its creation on, as a
-    /// named field of `IsLawful`; and each federate is given the discovery of an object before anything is said of it, and once.
-    #[tactic(auto, using(crate::proofs::RunLaws::replayed_run))]
-    pub fn records(&self) -> &[Record]
-        ensures records { result.now ≡ self.now }
-        ensures replays { Replays self.now }
-        ensures run { (y : Executions) × AreRun no_executions self.now y }
-        ensures laws { AreLawful self.now }
-        ensures discoveries { AreDiscoveredInTurn self.now }
-    {
-        self.records.as_slice()
-    }
-}
-
-/// Why the infrastructure is not closed.
-#[derive(Clone, Copy, Debug, PartialEq, Eq)]
-pub enum CloseFault {
-    /// A caller that was handed out is not in the list.
-    Missing,
-    /// The transcript of the caller at this place of the list is not its records of the history; at the list's length that
-    /// of the infrastructure itself.
-    Transcript(usize),
-}
+use std::sync::ledger::Ledger;
 
 /// What `close` gives back where it does not close.
 #[derive(Drop)]
@@ -71,83 +17,6 @@ pub struct NotClosed<L: Ledger + Naming, B: FederateAmbassador, W: Publisher<L>>
     pub rti: Rti<L, B, W>,
     pub lefts: Vec<Left<L, B>>,
     pub fault: CloseFault,
-}
-
-/// Whether the caller of this number is in the list.
-fn holds<L: Ledger, B: FederateAmbassador>(lefts: &[Left<L, B>], number: u32) -> bool
-    ensures { result ≡ list_any (λ (l : Leaver). l.caller.number == number) lefts.now }
-{
-    lefts.iter().any(|l| l.is_of(number))
-}
-
-/// Whether each caller that was handed out is in the list.
-fn all_here<L: Ledger, B: FederateAmbassador>(handed: u32, lefts: &[Left<L, B>]) -> bool
-    requires { handed ≤ max_callers }
-    ensures { IsTrue result ↔ AllHere handed lefts.now }
-{
-    for n in 0..handed {
-        if !holds(lefts, n + 1) {
-            return false;
-        }
-    }
-    true
-}
-
-/// The shares of all, put together.
-#[tactic(auto, using(crate::proofs::Whole::transcripts_appended))]
-fn merged<L: Ledger, B: FederateAmbassador>(mut all: Share<L>, lefts: Vec<Left<L, B>>) -> Share<L>
-    ensures parts { result.parts ≡ all.parts + vec_len lefts }
-    ensures bound { all.parts ≤ L.parts → result.parts ≤ L.parts }
-    ensures amount { result.amount ≡ all.amount + transcripts_length lefts.items }
-{
-    for left in lefts {
-        all.merge(left.into_share());
-    }
-    all
-}
-
-/// What settling gives back where a transcript differs.
-#[derive(Drop)]
-pub struct Unsettled<L: Ledger, B: FederateAmbassador> {
-    pub place: usize,
-    pub seat: Seat<L>,
-    pub rest: Share<L>,
-    pub lefts: Vec<Left<L, B>>,
-}
-
-/// Lent what is under the lock: compares all transcripts with the history, and takes the records out where they agree. Else
-/// `Unsettled` with the place of the first that differs; then all comes back, and nothing has changed.
-pub fn settle<L: Ledger, B: FederateAmbassador>(
-    shared: &mut Shared<L, B, Federation>,
-    seat: Seat<L>,
-    rest: Share<L>,
-    lefts: Vec<Left<L, B>>,
-    handed: u32,
-) -> Result<Closed, Unsettled<L, B>>
-    requires parts { L.parts ≡ ledger_parts }
-    requires rest { rest.parts + handed ≡ max_callers }
-    requires here { AllHere handed lefts.items }
-    ensures records { IfOk result (λ c. c ≡ shared.old.history) }
-    ensures agree { OnOk result (AllAgree shared.old.history lefts.items seat) }
-    ensures theirs { rest.amount ≡ 0 → seat.number ≡ 0 → IfOk result (AreOfCallers handed) }
-    ensures differs { IfErr result (λ u. DiffersFirst shared.old.history lefts.items seat u.place) }
-    ensures back { IfErr result (λ u. (u.seat ≡ seat) × (u.rest ≡ rest) × (u.lefts ≡ lefts)) }
-    ensures same { OnErr result (shared.new ≡ shared.old) }
-{
-    let alloc = *lefts.allocator();
-    if let Some(place) = first_differing(alloc, shared, lefts.as_slice(), &seat) {
-        return Err(Unsettled {
-            place,
-            seat,
-            rest,
-            lefts,
-        });
-    }
-    let mut share = seat.into_share();
-    share.merge(rest);
-    let mut all = merged(share, lefts);
-    let records = shared.take_records(&mut all);
-    Ok(Closed { records })
 }
 
 impl<L: Ledger + Naming, B: FederateAmbassador, W: Publisher<L>> Rti<L, B, W> {

@@ -4,13 +4,13 @@ ghost use Rattle.std.specs.Prelude.{◌≡◌, None};
 ghost use Rattle.hla_machine.specs.declared.step.Act.TheVariants as act;
 ghost use Rattle.hla_machine.specs.declared.step.Answer.TheVariants as answer;
 ghost use Rattle.hla_machine.specs.declared.step.Step.TheVariants as step;
-ghost use Rattle.hla_rti.specs.Callers.{HasAnswered, said};
+ghost use Rattle.hla_callers.specs.Callers.{HasAnswered, said};
 
 use crate::answers::{announced_in, carried_in};
-use crate::locked::Locked;
-use crate::seat::{Left, Seat};
 use hla_base::{ExecutionName, Fault, FederateNo, Ticks};
 use hla_callbacks::FederateAmbassador;
+use hla_callers::{Left, Locked, Seat};
+use hla_federation::Federation;
 use hla_machine::{Carried, Step};
 use hla_monitor::{Naming, Publisher};
 use std::alloc::Global;
@@ -23,11 +23,11 @@ use std::sync::{Arc, Mutex, Wait};
 #[derive(Drop)]
 pub struct Courier<L: Ledger + Naming, B: FederateAmbassador, W: Publisher<L>> {
     pub(crate) seat: Seat<L>,
-    pub(crate) shared: Arc<Mutex<Locked<L, B, W>>, Global>,
+    pub(crate) shared: Arc<Mutex<Locked<L, B, W, Federation>>, Global>,
 }
 
 impl<L: Ledger + Naming, B: FederateAmbassador, W: Publisher<L>> Model for Courier<L, B, W> {
-    ghost use Rattle.hla_rti.specs.Callers.{Caller};
+    ghost use Rattle.hla_callers.specs.Callers.{Caller};
 
     ghost Value = { Caller };
 
@@ -78,9 +78,6 @@ impl<L: Ledger + Naming, B: FederateAmbassador, W: Publisher<L>> Courier<L, B, W
     pub fn leave(self) -> Left<L, B>
         ensures { result ≡ record { caller = self; heard = None } }
     {
-        Left {
-            seat: self.seat,
-            ambassador: None,
-        }
+        Left::new(self.seat, None)
     }
 }

@@ -7,15 +7,15 @@ ghost use Rattle.hla_machine.specs.declared.step.Answer.TheVariants as answer;
 ghost use Rattle.hla_machine.specs.declared.step.Step.TheVariants as step;
 ghost use Rattle.hla_history.specs.Forms.{NoAnswer, ARegistration, AHandle, AName, AnEvent, ATime, IsOfForm, service_form};
 ghost use Rattle.hla_history.specs.Hosts.{IsPlain};
-ghost use Rattle.hla_rti.specs.Callers.{HasAnswered, HasResigned, IsServed, said, nothing};
+ghost use Rattle.hla_callers.specs.Callers.{HasAnswered, HasResigned, IsServed, said, nothing};
 
 use crate::answers::{
     Registration, callback_in, done_in, event_in, handle_in, name_in, registration_in, time_in,
 };
-use crate::locked::Locked;
-use crate::seat::{Left, Seat};
 use hla_base::{EventHandle, ExecutionName, Fault, FederateNo, List, Ticks};
 use hla_callbacks::{Callback, FederateAmbassador};
+use hla_callers::{Left, Locked, Seat};
+use hla_federation::Federation;
 use hla_machine::{Answer, ResignAction, Service, Step};
 use hla_monitor::{Naming, Publisher};
 use std::alloc::Global;
@@ -28,13 +28,13 @@ use std::sync::{Arc, Mutex, Wait};
 #[derive(Drop)]
 pub struct Federate<L: Ledger + Naming, B: FederateAmbassador, W: Publisher<L>> {
     pub(crate) seat: Seat<L>,
-    pub(crate) shared: Arc<Mutex<Locked<L, B, W>>, Global>,
+    pub(crate) shared: Arc<Mutex<Locked<L, B, W, Federation>>, Global>,
     pub(crate) execution: ExecutionName,
     pub(crate) federate: FederateNo,
 }
 
 impl<L: Ledger + Naming, B: FederateAmbassador, W: Publisher<L>> Model for Federate<L, B, W> {
-    ghost use Rattle.hla_rti.specs.Callers.{FederateCaller};
+    ghost use Rattle.hla_callers.specs.Callers.{FederateCaller};
 
     ghost Value = { FederateCaller };
 
@@ -162,10 +162,7 @@ impl<L: Ledger + Naming, B: FederateAmbassador, W: Publisher<L>> Federate<L, B, 
             .seat
             .resign(rt, &self.shared, self.execution, self.federate, action)
         {
-            Ok(inner) => Ok(Left {
-                seat: self.seat,
-                ambassador: Some(inner),
-            }),
+            Ok(inner) => Ok(Left::new(self.seat, Some(inner))),
             Err(fault) => Err((fault, self)),
         }
     }
@@ -181,9 +178,6 @@ impl<L: Ledger + Naming, B: FederateAmbassador, W: Publisher<L>> Federate<L, B, 
     pub fn leave(self) -> Left<L, B>
         ensures { result ≡ record { caller = self.caller; heard = None } }
     {
-        Left {
-            seat: self.seat,
-            ambassador: None,
-        }
+        Left::new(self.seat, None)
     }
 }

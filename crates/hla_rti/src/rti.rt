@@ -7,16 +7,15 @@ ghost use Rattle.hla_machine.specs.declared.step.Answer.TheVariants as answer;
 ghost use Rattle.hla_machine.specs.declared.step.Outcome.TheVariants as outcome;
 ghost use Rattle.hla_machine.specs.declared.step.Step.TheVariants as step;
 ghost use Rattle.hla_history.specs.Creating.{catalogue_from};
-ghost use Rattle.hla_rti.specs.Callers.{Caller, new_caller, HasActed, HasNotActed, HasAnswered, said, nothing};
+ghost use Rattle.hla_callers.specs.Callers.{Caller, new_caller, HasActed, HasNotActed, HasAnswered, said, nothing};
 
 use crate::answers::done_in;
 use crate::courier::Courier;
 use crate::federate::Federate;
-use crate::locked::Locked;
-use crate::patience::Patience;
-use crate::seat::Seat;
 use hla_base::{ExecutionName, Fault, List, MAX_CALLERS, MAX_COURIERS, MAX_HISTORY_LIMIT};
 use hla_callbacks::FederateAmbassador;
+use hla_callers::{Locked, Seat};
+use hla_federation::Federation;
 use hla_history::Shared;
 use hla_monitor::{Board, Monitor, Naming, Opened, Published, Publisher, Told, open_board};
 use std::alloc::Global;
@@ -33,14 +32,14 @@ pub struct Rti<L: Ledger + Naming, B: FederateAmbassador, W: Publisher<L>> {
     pub(crate) rest: Share<L>,
     pub(crate) handed: u32,
     pub(crate) couriers: u32,
-    pub(crate) shared: Arc<Mutex<Locked<L, B, W>>, Global>,
+    pub(crate) shared: Arc<Mutex<Locked<L, B, W, Federation>>, Global>,
     pub(crate) alloc: Global,
 }
 
 impl<L: Ledger + Naming, B: FederateAmbassador, W: Publisher<L>> Model for Rti<L, B, W> {
     ghost use Rattle.std.specs.Prelude.{◌≡◌, ◌+◌};
     ghost use Rattle.hla_base.specs.Limits.{max_callers};
-    ghost use Rattle.hla_rti.specs.Callers.{Office};
+    ghost use Rattle.hla_callers.specs.Callers.{Office};
 
     ghost Value = { Office };
 
@@ -84,12 +83,7 @@ impl<L: Ledger + Naming, B: FederateAmbassador, W: Publisher<L>> Rti<L, B, W> {
         let Ok(shared) = Arc::new(alloc, Mutex::new(Locked::new(shared, board))) else {
             return Err(Fault::OutOfMemory);
         };
-        let seat = Seat {
-            number: 0,
-            transcript: Vec::new(alloc),
-            share,
-            patience: Patience::new(),
-        };
+        let seat = Seat::new(alloc, 0, share);
         Ok(Rti {
             seat,
             rest,
@@ -148,12 +142,7 @@ impl<L: Ledger + Naming, B: FederateAmbassador, W: Publisher<L>> Rti<L, B, W> {
         let share = self.rest.split_off(1, 0);
         self.couriers += 1;
         self.handed += 1;
-        let seat = Seat {
-            number: self.handed,
-            transcript: Vec::new(self.alloc),
-            share,
-            patience: Patience::new(),
-        };
+        let seat = Seat::new(self.alloc, self.handed, share);
         Ok(Courier { seat, shared })
     }
 
@@ -220,12 +209,7 @@ impl<L: Ledger + Naming, B: FederateAmbassador, W: Publisher<L>> Rti<L, B, W> {
             Ok(federate) => {
                 let share = self.rest.split_off(1, 0);
                 self.handed += 1;
-                let seat = Seat {
-                    number: self.handed,
-                    transcript: Vec::new(self.alloc),
-                    share,
-                    patience: Patience::new(),
-                };
+                let seat = Seat::new(self.alloc, self.handed, share);
                 Ok(Federate {
                     seat,
                     shared,

@@ -2,7 +2,7 @@
 
 ghost use Rattle.hla_machine.specs.declared.service.Service.TheVariants as service;
 ghost use Rattle.hla_machine.specs.declared.step.Answer.TheVariants as answer;
-ghost use Rattle.hla_rti.specs.Callers.{IsServed, said};
+ghost use Rattle.hla_callers.specs.Callers.{IsServed, said};
 
 use crate::federate::Federate;
 use hla_base::{AttributeNo, ClassNo, Fault, List, ObjectNo, ParameterNo};

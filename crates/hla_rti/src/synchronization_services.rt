@@ -1,7 +1,7 @@
 //! Synchronization points of a federate's execution.
 
 ghost use Rattle.hla_machine.specs.declared.service.Service.TheVariants as service;
-ghost use Rattle.hla_rti.specs.Callers.{IsServed, nothing, said};
+ghost use Rattle.hla_callers.specs.Callers.{IsServed, nothing, said};
 
 use crate::federate::Federate;
 use hla_base::{Fault, List};

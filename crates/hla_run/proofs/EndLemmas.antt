@@ -5,9 +5,9 @@ use Rattle.hla_commands.specs.Script.{script_of}
 use Rattle.hla_commands.specs.declared.lines.Line.{Line}
 use Rattle.hla_fed_file.specs.Grammar.{Describes}
 use Rattle.hla_machine.specs.declared.step.Outcome.{Outcome}
-use Rattle.hla_players.specs.Running.{AreAllDone, AreTold, IsRunFrom, StopsRun, StopsTelling, StopsText, told_text}
-use Rattle.hla_players.specs.declared.fault.RunFault.{RunFault}
-use Rattle.hla_players.specs.declared.fault.RunFault.TheVariants as stop
+use Rattle.hla_outcomes.specs.Running.{AreAllDone, AreTold, IsRunFrom, StopsRun, StopsTelling, StopsText, told_text}
+use Rattle.hla_outcomes.specs.declared.fault.RunFault.{RunFault}
+use Rattle.hla_outcomes.specs.declared.fault.RunFault.TheVariants as stop
 
 -- what was read, and how its lines are told
 pub run_told : (fed script : List ℕ) (c : CatalogueValue) (lines : List Line) (old new : Option (List ℕ)) → Describes fed c → script_of script ≡ Ok lines → AreTold c lines old new → IsRunFrom fed script old new

@@ -29,10 +29,10 @@ use Rattle.hla_rti.specs.Callers.{Caller, FederateCaller, Leaver, HasActed, HasA
 use Rattle.hla_rti.specs.Close.{Agrees, AllAgree}
 use Rattle.hla_players.specs.Deeds.{HasTold, DoesDeed, IsDeedOf, StaysAs, caller_of}
 use Rattle.hla_run.specs.Recorded.{act_of_call, HasAnswerOf, HasJoined, IsOfficeRecorded, IsJoiningRecorded, IsActRecorded, IsCallRecorded, IsNamedCallRecorded, IsUnmade, IsLineRecorded, IsTellingRecorded, AreTellingsRecorded, IsOwnTelling, AreOwnTellings, AreOutcomesRecorded, HasExtended, IsTranscriptIn, AreTranscriptsIn, IsCallAt, IsFresh, AreFresh, AreJoined, IsLifeOf, IsLifeRecorded, IsPlayerAs, NeedsNoRecord, KeepsRecorded, KeepsOffice, IsOfficeLine, LeavesBehind, GathersRecorded, RecordsTold, IsToldRecorded, IsRunRecorded}
-use Rattle.hla_players.specs.Running.{AreAllDone, told_text, with_line_noted, with_lines_noted}
-use Rattle.hla_players.specs.declared.fault.RunFault.{RunFault}
+use Rattle.hla_outcomes.specs.Running.{AreAllDone, told_text, with_line_noted, with_lines_noted}
+use Rattle.hla_outcomes.specs.declared.fault.RunFault.{RunFault}
 use Rattle.hla_run.specs.declared.life.Life.{Life}
-use Rattle.hla_players.specs.declared.outcomes.LineOutcome.{LineOutcome}
+use Rattle.hla_outcomes.specs.declared.outcomes.LineOutcome.{LineOutcome}
 use Rattle.hla_players.specs.declared.player.Deed.{Deed}
 use Rattle.hla_players.specs.declared.player.Deed.TheVariants as deed
 use Rattle.hla_players.specs.declared.player.Player.{Player}

@@ -20,9 +20,9 @@ use Rattle.hla_machine.specs.declared.step.Step.TheVariants as step
 use Rattle.hla_requests.specs.Requests.{service_of}
 use Rattle.hla_rti.specs.Callers.{Caller, Leaver, answer_given}
 use Rattle.hla_players.specs.Deeds.{caller_of}
-use Rattle.hla_players.specs.Running.{AreTold, IsRunFrom}
+use Rattle.hla_outcomes.specs.Running.{AreTold, IsRunFrom}
 use Rattle.hla_run.specs.declared.life.Life.{Life}
-use Rattle.hla_players.specs.declared.outcomes.LineOutcome.{LineOutcome}
+use Rattle.hla_outcomes.specs.declared.outcomes.LineOutcome.{LineOutcome}
 use Rattle.hla_players.specs.declared.player.Player.{Player}
 use Rattle.hla_players.specs.declared.player.Player.TheVariants as player
 

@@ -6,8 +6,6 @@ ghost use Rattle.hla_machine.specs.declared.step.Step.TheVariants as step;
 ghost use Rattle.hla_players.specs.Deeds.{caller_of};
 ghost use Rattle.hla_run.specs.Recorded.{HasExtended, IsActRecorded, IsCallAt, IsCallRecorded, IsLifeOf, IsLifeRecorded, IsPlayerAs};
 
-use crate::gate::Gate;
-use crate::resting::{LineWait, Rested, RestingRoom};
 use hla_base::{ExecutionName, Fault, FederateNo, List};
 use hla_callbacks::FederateAmbassador;
 use hla_catalogue::Catalogue;
@@ -15,6 +13,7 @@ use hla_commands::{Call, Command, Line};
 use hla_machine::{Answer, Carried, Outcome};
 use hla_monitor::{Naming, Publisher};
 use hla_players::{Acted, Deed, LineOutcome, Player, do_deed, outcome_of_tick};
+use hla_resting::{Gate, LineWait, Rested, RestingRoom};
 use hla_rti::{Courier, Federate};
 use std::alloc::Global;
 use std::sync::Wait;

@@ -1,7 +1,7 @@
 //! What is done before the federates' threads begin, and after they have ended.
 
 ghost use Rattle.std.specs.Prelude.{◌≡◌, ◌<◌, ◌≤◌, drop, length, IfOk, IfSome, OnOk};
-ghost use Rattle.hla_players.specs.Joining.{joins, joins_by};
+ghost use Rattle.hla_outcomes.specs.Joining.{joins, joins_by};
 ghost use Rattle.hla_run.specs.Recorded.{AreFresh, AreJoined, HasExtended, IsJoiningRecorded, IsOfficeLine, KeepsOffice, KeepsRecorded};
 
 use crate::life::Life;

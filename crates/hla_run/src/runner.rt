@@ -7,14 +7,12 @@ ghost use Rattle.std.specs.Prelude.{◌≡◌, ◌||◌, ◌≤◌, ℕ, [], IfO
 ghost use Rattle.std.specs.List.{All};
 ghost use Rattle.hla_base.specs.Limits.{ledger_parts};
 ghost use Rattle.hla_players.specs.Deeds.{caller_of};
-ghost use Rattle.hla_players.specs.Joining.{joins, script_joins};
+ghost use Rattle.hla_outcomes.specs.Joining.{joins, script_joins};
 ghost use Rattle.hla_run.specs.Recorded.{GathersRecorded, IsLifeOf, IsLifeRecorded, IsRunRecorded, IsToldRecorded, LeavesBehind, RecordsTold};
-ghost use Rattle.hla_players.specs.Running.{AreAllDone, AreTold, IsRunFrom, IsSeen, StopsRun, StopsTelling, is_unwritten_run, with_lines_noted};
+ghost use Rattle.hla_outcomes.specs.Running.{AreAllDone, AreTold, IsRunFrom, IsSeen, StopsRun, StopsTelling, is_unwritten_run, with_lines_noted};
 
-use crate::gate::Gate;
 use crate::life::{Life, Stage, live};
 use crate::opening::{destroy, open, refuse_strangers};
-use crate::resting::RestingRoom;
 use hla_base::{ExecutionName, Fault, MAX_HISTORY};
 use hla_callbacks::FederateAmbassador;
 use hla_catalogue::Catalogue;
@@ -23,6 +21,7 @@ use hla_monitor::{Naming, Opened, Publisher};
 use hla_players::{
     Ambassadors, Outcomes, Ran, RunFault, Texts, close_seen, last_read, read_texts, watcher,
 };
+use hla_resting::{Gate, RestingRoom};
 use hla_rti::{Left, Rti, open_rti};
 use hla_transcript::Watched;
 use std::alloc::Global;

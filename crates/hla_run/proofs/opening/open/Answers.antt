@@ -1,10 +1,10 @@
 use Rattle.std.specs.Prelude.{IfSome}
 use Rattle.std.proofs.Common.{◌≡◌, ◌-◌, List, Option, length, ap, subst, ◌∙◌, arith, length-drop}
 use Rattle.hla_machine.specs.declared.step.Outcome.{Outcome}
-use Rattle.hla_players.specs.Joining.{joins_by}
+use Rattle.hla_outcomes.specs.Joining.{joins_by}
 use Rattle.hla_run.specs.Recorded.{IsOfficeLine}
-use Rattle.hla_players.specs.declared.outcomes.LineOutcome.{LineOutcome}
-use Rattle.hla_players.proofs.JoinLemmas.{joins_more}
+use Rattle.hla_outcomes.specs.declared.outcomes.LineOutcome.{LineOutcome}
+use Rattle.hla_outcomes.proofs.JoinLemmas.{joins_more}
 use Rattle.hla_run.proofs.RecordLemmas.{line_at, office_noted, office_same}
 use Rattle.hla_run.proofs.opening.open.Goals.{in-Some, in_default}
 use Rattle.hla_run.proofs.opening.open.Goals as goal

@@ -1,5 +1,5 @@
 use Rattle.std.proofs.Common.{◌≡◌, ◌≤◌, length, drop}
-use Rattle.hla_players.specs.Joining.{joins}
+use Rattle.hla_outcomes.specs.Joining.{joins}
 use Rattle.hla_run.specs.Recorded.{AreFresh, AreJoined, KeepsOffice}
 use Rattle.hla_run.proofs.opening.open.Given as goal
 

@@ -2,7 +2,7 @@ use Rattle.std.proofs.Common.{List, Option, length, ap, ◌∙◌}
 use Rattle.hla_base.specs.declared.fault.Fault.TheVariants.{FederateNotExecutionMember}
 use Rattle.hla_machine.specs.declared.step.Outcome.{Outcome}
 use Rattle.hla_machine.specs.declared.step.Outcome.TheVariants as outcome
-use Rattle.hla_players.specs.declared.outcomes.LineOutcome.{LineOutcome}
+use Rattle.hla_outcomes.specs.declared.outcomes.LineOutcome.{LineOutcome}
 use Rattle.hla_run.proofs.RecordLemmas.{kept_noted, kept_same, line_at, stranger_aside, telling_aside}
 use Rattle.hla_run.proofs.opening.refuse_strangers.Goals.{in-Federate+then-not-has_joined, in-Federate+else-not-has_joined, in_default}
 use Rattle.hla_run.proofs.opening.refuse_strangers.Goals as goal

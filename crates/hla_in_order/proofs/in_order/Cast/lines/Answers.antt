@@ -1,6 +1,6 @@
 use Rattle.std.proofs.Common.{◌≡◌, ◌-◌, List, [], length, ap, ◌∙◌, arith, length-drop}
-use Rattle.hla_players.specs.Joining.{joins_by}
-use Rattle.hla_players.proofs.JoinLemmas.{joins_more}
+use Rattle.hla_outcomes.specs.Joining.{joins_by}
+use Rattle.hla_outcomes.proofs.JoinLemmas.{joins_more}
 use Rattle.hla_in_order.proofs.LeadLemmas.{led_first, led_more}
 use Rattle.hla_in_order.proofs.in_order.Cast.lines.Goals as goal
 

@@ -1,5 +1,5 @@
 use Rattle.std.proofs.Common.{◌≤◌, length, take, drop}
-use Rattle.hla_players.specs.Joining.{joins}
+use Rattle.hla_outcomes.specs.Joining.{joins}
 use Rattle.hla_in_order.specs.Turns.{HaveLed}
 use Rattle.hla_in_order.proofs.in_order.Cast.lines.Given as goal
 

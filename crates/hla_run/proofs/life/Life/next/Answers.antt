@@ -4,7 +4,7 @@ use Rattle.std.proofs.lemmas.Bool.{cases_Bool, cond-true, cond-false}
 use Rattle.std.proofs.lemmas.List.Elements.{All-push}
 use Rattle.hla_players.specs.Deeds.{caller_of}
 use Rattle.hla_run.specs.Recorded.{AreOwnTellings, IsOwnTelling}
-use Rattle.hla_players.specs.declared.outcomes.LineOutcome.{LineOutcome}
+use Rattle.hla_outcomes.specs.declared.outcomes.LineOutcome.{LineOutcome}
 use Rattle.hla_run.proofs.RecordLemmas.{grown_within, own_tellings_in}
 use Rattle.hla_run.proofs.life.Life.next.Goals as goal
 

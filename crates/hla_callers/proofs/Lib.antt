@@ -1,0 +1,10 @@
+-- What each call does
+pub mod Calls
+-- As many callers as were handed out
+pub mod Counting
+-- A history that has as many records as all transcripts has no others
+pub mod Whole
+-- Records that replay are a run of the central machine
+pub mod RunLaws
+-- and tell each federate of each object in turn
+pub mod TurnLaws

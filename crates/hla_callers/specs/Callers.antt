@@ -1,0 +1,87 @@
+-- What is seen of the callers of one run-time infrastructure
+use Rattle.std.specs.Prelude.{◌≡◌, ℕ, ◌+◌, ◌⊎◌, Option, List, [], ◌∷◌, ◌++◌, Result, Ok, Err}
+use Rattle.hla_base.specs.declared.fault.Fault.{Fault}
+use Rattle.hla_base.specs.declared.fault.Fault.TheVariants as fault
+use Rattle.hla_callbacks.specs.declared.callback.Callback.{Callback}
+use Rattle.hla_machine.specs.declared.service.Service.{Service}
+use Rattle.hla_machine.specs.declared.step.Step.TheVariants.{Call}
+use Rattle.hla_machine.specs.declared.step.Act.{Act}
+use Rattle.hla_machine.specs.declared.step.Act.TheVariants as act
+use Rattle.hla_machine.specs.declared.step.Answer.{Answer}
+use Rattle.hla_machine.specs.declared.step.Answer.TheVariants as answer
+use Rattle.hla_machine.specs.declared.step.Outcome.{Outcome}
+use Rattle.hla_machine.specs.declared.step.Outcome.TheVariants as outcome
+use Rattle.hla_machine.specs.declared.step.Choice.{Choice}
+use Rattle.hla_machine.specs.declared.step.Record.{Record}
+
+-- a caller's number, the records of its own acts in order, and its share of the ledger
+pub record Caller : Type 0 where
+  pub number : ℕ
+  pub transcript : List Record
+  pub share : ℕ
+
+-- a caller that has done nothing yet
+abbrev pub new_caller : ℕ → Caller
+new_caller number = record { number = number; transcript = []; share = 0 }
+
+-- a caller with one more record of its own
+abbrev pub with_own : Caller → Record → Caller
+with_own c r = record { number = c.number; transcript = c.transcript ++ r ∷ []; share = c.share + 1 }
+
+-- the caller's act ended so: its transcript has grown by the record, and its share by one
+abbrev pub HasActed : Caller → List ℕ → Act → Outcome → Caller → Type 0
+HasActed old name a out new =
+    (chosen : Choice) × (new ≡ with_own old (record { actor = old.number; execution = name; act = a; outcome = out; choice = chosen }))
+
+-- no act was recorded, as the history is full or memory ran out, and the caller is as before
+abbrev pub HasNotActed : Caller → Fault → Caller → Type 0
+HasNotActed old e new = ((e ≡ fault.HistoryFull) ⊎ (e ≡ fault.OutOfMemory)) × (new ≡ old)
+
+-- what an outcome answers the caller
+abbrev pub answer_given : Outcome → Result Answer Fault
+answer_given (outcome.Done a) = Ok a
+answer_given (outcome.Refused e) = Err e
+answer_given (outcome.Failed k) = Err fault.FederateInternalError
+
+-- a call's own answer, as its record says it
+abbrev pub said : {T : Type 0} → (T → Answer) → Result T Fault → Result Answer Fault
+said answer_of (Ok x) = Ok (answer_of x)
+said answer_of (Err e) = Err e
+
+-- a call that answers nothing
+abbrev pub nothing : Unit {0} → Answer
+nothing _ = answer.Done
+
+-- a caller's act answers what its record says; or nothing was recorded, and it answers why
+abbrev pub HasAnswered : Caller → List ℕ → Act → Result Answer Fault → Caller → Type 0
+HasAnswered old name a result new =
+    ((out : Outcome) × (result ≡ answer_given out) × HasActed old name a out new)
+    ⊎ ((e : Fault) × (result ≡ Err e) × HasNotActed old e new)
+
+-- a resigning was done
+abbrev pub HasResigned : Caller → List ℕ → Act → Caller → Type 0
+HasResigned old name a new = HasActed old name a (outcome.Done answer.Done) new
+
+-- a federate of an execution, as a caller
+pub record FederateCaller : Type 0 where
+  pub execution : List ℕ
+  pub federate : ℕ
+  pub caller : Caller
+
+-- a federate's call of a service
+unfoldable pub IsServed : FederateCaller → Service → Result Answer Fault → FederateCaller → Type 0
+IsServed old service result new =
+    (new.execution ≡ old.execution)
+    × (new.federate ≡ old.federate)
+    × HasAnswered old.caller old.execution (act.Step (Call old.federate service)) result new.caller
+
+-- what a caller leaves behind: itself, and what the ambassador that goes out with it has heard, if one does
+pub record Leaver : Type 0 where
+  pub caller : Caller
+  pub heard : Option (List Callback)
+
+-- what is seen of the infrastructure: how many callers it has handed out, how many of them are couriers, and itself as a caller
+pub record Office : Type 0 where
+  pub handed : ℕ
+  pub couriers : ℕ
+  pub own : Caller

@@ -1,0 +1,311 @@
+//! What lies under the lock: the history with its executions, and the board beside it.
+
+ghost use Rattle.std.specs.Prelude.{◌≡◌, ◌+◌, ◌<◌, ◌↔◌, ◌++◌, ◌∷◌, [], List, true, false, None, Some, is_some, Err, IfOk, IfErr, IfSome, OnOk, OnErr, MatchResult, if◌then◌else◌, vec_len, vec_capacity};
+ghost use Rattle.hla_base.specs.Limits.{ledger_parts, max_callers, max_monitors};
+ghost use mathlib.Core.List.{IsPrefix};
+ghost use Rattle.hla_machine.specs.declared.service.Service.TheVariants as service;
+ghost use Rattle.hla_machine.specs.declared.step.Act.TheVariants as act;
+ghost use Rattle.hla_machine.specs.declared.step.Record.{Record as Entry};
+ghost use Rattle.hla_machine.specs.declared.step.Step.TheVariants as step;
+ghost use Rattle.hla_history.specs.Creating.{catalogue_from, is_accepted, heard_from};
+ghost use Rattle.hla_history.specs.Forms.{NoAnswer, AFederate, EndsInForm, step_form};
+ghost use Rattle.hla_history.specs.Hosts.{IsPlain};
+ghost use Rattle.hla_history.specs.Hosting.{held_of};
+ghost use Rattle.hla_history.specs.Writing.{step_record};
+ghost use Rattle.hla_callers.specs.Close.{AllHere, AllAgree, AreOfCallers, DiffersFirst};
+ghost use Rattle.hla_callers.specs.Waiting.{vain_steps_then, Learns};
+ghost use Rattle.hla_callers.specs.Locked.{choiceless_record, own_record, IsFull, IsPosted, IsRecorded, IsNotRecorded, CountsRecord};
+
+use crate::closing::{Closed, Unsettled, settle};
+use crate::patience::{Patience, vain_steps_after};
+use crate::seat::{Left, Seat};
+use hla_base::{ExecutionName, Fault, FederateNo, List};
+use hla_callbacks::FederateAmbassador;
+use hla_execution::Execution;
+use hla_history::{Shared, Stepped};
+use hla_machine::{Outcome, Record, ResignAction, Step};
+use hla_monitor::{Board, Monitor, Naming, Publisher, Told};
+use std::marker::Model;
+use std::sync::ledger::{Ledger, Share};
+
+/// The history with its executions, and the board that shows it to monitors: each record is kept there before the lock is
+/// given back. Contracts see both, and whether the records have gone out, as closing does.
+#[derive(Drop)]
+pub struct Locked<L: Ledger + Naming, B: FederateAmbassador, W: Publisher<L>, F: Execution> {
+    shared: Shared<L, B, F>,
+    board: Board<L, W>,
+    ended: bool,
+    /// How many steps were in vain: by these callers know whether anybody waits.
+    vain_steps: u64,
+}
+
+impl<L: Ledger + Naming, B: FederateAmbassador, W: Publisher<L>, F: Execution> Model
+    for Locked<L, B, W, F> {
+    ghost use Rattle.hla_callers.specs.Locked.{LockedValue, IsPostedWhile};
+
+    ghost Value = { LockedValue };
+
+    ghost view = { λ l. record {
+      held = l.shared;
+      posted = l.board;
+      ended = l.ended;
+      vain_steps = l.vain_steps;
+    } };
+
+    ghost invariant = { λ l. IsPostedWhile l.ended l.shared.history l.board };
+}
+
+/// Keeps a record of the history on the board. Where memory is refused its counts wait, and no answer changes.
+fn note_record<L: Naming, W: Publisher<L>>(board: &mut Board<L, W>, entry: &Record)
+    ensures { (h : List Entry) → IsPosted h board.old → IsPosted (h ++ entry.now ∷ []) board.new }
+{
+    let _ = board.keep(entry);
+}
+
+/// Keeps the last record of a transcript on the board.
+fn note_last<L: Naming, W: Publisher<L>>(board: &mut Board<L, W>, transcript: &[Record])
+    ensures { (h ts : List Entry) (r : Entry) → transcript.now ≡ ts ++ r ∷ [] → IsPosted h board.old
+        → IsPosted (h ++ r ∷ []) board.new }
+{
+    if let Some(entry) = transcript.last() {
+        note_record(board, entry);
+    }
+}
+
+/// Publishes the records that wait, which no monitor could read before. `OutOfMemory` where a growth was refused; then they
+/// wait on.
+fn catch_up_board<L: Naming, W: Publisher<L>>(board: &mut Board<L, W>) -> Result<(), Fault>
+    ensures published { OnOk result (board.new.published ≡ board.new.shown) }
+    ensures posted { (h : List Entry) → IsPosted h board.old → IsPosted h board.new }
+    ensures monitors { board.new.monitors ≡ board.old.monitors }
+{
+    board.catch_up()
+}
+
+impl<L: Ledger + Naming, B: FederateAmbassador, W: Publisher<L>, F: Execution> Locked<L, B, W, F> {
+    /// A history that is empty, and its board.
+    pub fn new(shared: Shared<L, B, F>, board: Board<L, W>) -> Self
+        requires history { shared.history ≡ [] }
+        requires board { board ≡ record { whole = true; shown = []; published = []; monitors = 0 } }
+        ensures { result ≡ record { held = shared; posted = board; ended = false; vain_steps = 0 } }
+    {
+        Locked {
+            shared,
+            board,
+            ended: false,
+            vain_steps: 0,
+        }
+    }
+
+    /// Does a step that is no joining and no resigning, gives its callback to the ambassador of the federate that ticks, records
+    /// it, and writes the caller's copy of the record at the end of its transcript, which has room. The caller's patience learns
+    /// how many steps have been in vain. `HistoryFull` where the history holds its limit, and `OutOfMemory` where a growth was
+    /// refused; then nothing has changed. Any other fault is the step's answer, and is recorded.
+    pub(crate) fn step(
+        &mut self,
+        actor: u32,
+        execution: &ExecutionName,
+        step: Step,
+        mine: &mut Share<L>,
+        transcript: &mut Vec<Record>,
+        patience: &mut Patience,
+    ) -> Result<Outcome, Fault>
+        requires part { 0 < mine.old.parts }
+        requires plain { IsPlain step }
+        requires room { vec_len transcript.old < vec_capacity transcript.old }
+        ensures asked { IfOk result (λ out. transcript.new.items
+            ≡ transcript.old.items ++ own_record self.old actor execution.now step out ∷ []) }
+        ensures form { IfOk result (λ out. EndsInForm (step_form step) out) }
+        ensures recorded { IfOk result (λ out. IsRecorded self.old
+            (own_record self.old actor execution.now step out) self.new) }
+        ensures full { result ≡ Err Fault.HistoryFull ↔ IsFull self.old }
+        ensures refused { IfErr result (λ e. IsNotRecorded self.old e self.new) }
+        ensures unwritten { OnErr result (transcript.new.items ≡ transcript.old.items) }
+        ensures share { CountsRecord result mine.old.amount mine.new.amount }
+        ensures vain { IfOk result
+            (λ out. self.new.vain_steps ≡ vain_steps_then self.old.vain_steps out) }
+        ensures learnt { OnOk result (Learns patience.old self.new.vain_steps patience.new) }
+        ensures unlearnt { OnErr result (patience.new ≡ patience.old) }
+        ensures parts { mine.new.parts ≡ mine.old.parts }
+    {
+        let answer = self
+            .shared
+            .step_into(actor, execution, step, mine, transcript)?;
+        note_last(&mut self.board, transcript.as_slice());
+        self.vain_steps = vain_steps_after(self.vain_steps, &answer);
+        patience.learn(self.vain_steps);
+        Ok(answer)
+    }
+
+    /// Create Federation Execution (HLA 1.3, federation management), with the text of its FED file, and records it.
+    /// `HistoryFull` where the history holds its limit, and `OutOfMemory` where a growth was refused; then nothing has
+    /// changed. Any other fault is the act's answer, and is recorded.
+    pub(crate) fn create(
+        &mut self,
+        actor: u32,
+        name: ExecutionName,
+        fed: &[u8],
+        mine: &mut Share<L>,
+    ) -> Result<Stepped, Fault>
+        requires { 0 < mine.old.parts }
+        ensures asked { IfOk result (λ s. s.own
+            ≡ choiceless_record actor name (act.Create (catalogue_from fed.now)) s.answer) }
+        ensures form { IfOk result (λ s. EndsInForm NoAnswer s.answer) }
+        ensures recorded { IfOk result (λ s. IsRecorded self.old s.own self.new) }
+        ensures full { result ≡ Err Fault.HistoryFull ↔ IsFull self.old }
+        ensures refused { IfErr result (λ e. IsNotRecorded self.old e self.new) }
+        ensures share { CountsRecord result mine.old.amount mine.new.amount }
+        ensures parts { mine.new.parts ≡ mine.old.parts }
+    {
+        let stepped = self.shared.create(actor, name, fed, mine)?;
+        note_record(&mut self.board, &stepped.own);
+        Ok(stepped)
+    }
+
+    /// Destroy Federation Execution (HLA 1.3, federation management), and records it. `HistoryFull` where the history holds
+    /// its limit, and `OutOfMemory` where a growth was refused; then nothing has changed. Any other fault is the act's
+    /// answer, and is recorded.
+    pub(crate) fn destroy(
+        &mut self,
+        actor: u32,
+        name: ExecutionName,
+        mine: &mut Share<L>,
+    ) -> Result<Stepped, Fault>
+        requires { 0 < mine.old.parts }
+        ensures asked { IfOk result
+            (λ s. s.own ≡ choiceless_record actor name act.Destroy s.answer) }
+        ensures form { IfOk result (λ s. EndsInForm NoAnswer s.answer) }
+        ensures recorded { IfOk result (λ s. IsRecorded self.old s.own self.new) }
+        ensures full { result ≡ Err Fault.HistoryFull ↔ IsFull self.old }
+        ensures refused { IfErr result (λ e. IsNotRecorded self.old e self.new) }
+        ensures share { CountsRecord result mine.old.amount mine.new.amount }
+        ensures parts { mine.new.parts ≡ mine.old.parts }
+    {
+        let stepped = self.shared.destroy(actor, name, mine)?;
+        note_record(&mut self.board, &stepped.own);
+        Ok(stepped)
+    }
+
+    /// Join Federation Execution (HLA 1.3, federation management), with an ambassador that has heard nothing, and records it.
+    /// The ambassador comes back beside the answer where the federate is refused. `HistoryFull` where the history holds its
+    /// limit, and `OutOfMemory` where a growth was refused; then nothing has changed, and the ambassador comes back. Any
+    /// other fault is the step's answer, and is recorded.
+    pub(crate) fn join(
+        &mut self,
+        actor: u32,
+        execution: ExecutionName,
+        name: List<u8>,
+        inner: B,
+        mine: &mut Share<L>,
+    ) -> Result<(Stepped, Option<B>), (Fault, B)>
+        requires part { 0 < mine.old.parts }
+        requires fresh { B.heard inner ≡ [] }
+        ensures asked { IfOk result (λ p. p.0.own
+            ≡ step_record actor execution (step.Join name) p.0.answer p.0.own.choice) }
+        ensures recorded { IfOk result (λ p. IsRecorded self.old p.0.own self.new) }
+        ensures form { IfOk result (λ p. EndsInForm AFederate p.0.answer) }
+        ensures back { IfOk result
+            (λ p. p.1 ≡ (if is_accepted p.0.answer then None else Some inner)) }
+        ensures full { result ≡ Err (Fault.HistoryFull, inner) ↔ IsFull self.old }
+        ensures refused { IfErr result (λ e. IsNotRecorded self.old e.0 self.new) }
+        ensures returned { IfErr result (λ e. e.1 ≡ inner) }
+        ensures share { CountsRecord result mine.old.amount mine.new.amount }
+        ensures parts { mine.new.parts ≡ mine.old.parts }
+    {
+        match self.shared.join(actor, execution, name, inner, mine) {
+            Ok(joined) => {
+                note_record(&mut self.board, &joined.0.own);
+                Ok(joined)
+            }
+            Err(refused) => Err(refused),
+        }
+    }
+
+    /// Resign Federation Execution (HLA 1.3, federation management), and records it. Where the federate resigned, its
+    /// ambassador comes out beside the answer. `HistoryFull` where the history holds its limit, and `OutOfMemory` where a
+    /// growth was refused; then nothing has changed. Any other fault is the step's answer, and is recorded.
+    pub(crate) fn resign(
+        &mut self,
+        actor: u32,
+        execution: ExecutionName,
+        federate: FederateNo,
+        action: ResignAction,
+        mine: &mut Share<L>,
+    ) -> Result<(Stepped, Option<B>), Fault>
+        requires { 0 < mine.old.parts }
+        ensures asked { IfOk result (λ p. p.0.own
+            ≡ step_record actor execution (step.Call federate (service.Resign action)) p.0.answer
+            p.0.own.choice) }
+        ensures form { IfOk result (λ p. EndsInForm NoAnswer p.0.answer) }
+        ensures back { IfOk result (λ p. is_some p.1 ≡ is_accepted p.0.answer) }
+        ensures heard { IfOk result (λ p. IfSome p.1 (λ b.
+            heard_from ((held_of self.old.held).hosts.host execution) federate
+            ≡ Some (B.heard b))) }
+        ensures recorded { IfOk result (λ p. IsRecorded self.old p.0.own self.new) }
+        ensures full { result ≡ Err Fault.HistoryFull ↔ IsFull self.old }
+        ensures refused { IfErr result (λ e. IsNotRecorded self.old e self.new) }
+        ensures share { CountsRecord result mine.old.amount mine.new.amount }
+        ensures parts { mine.new.parts ≡ mine.old.parts }
+    {
+        let resigned = self
+            .shared
+            .resign(actor, execution, federate, action, mine)?;
+        note_record(&mut self.board, &resigned.0.own);
+        Ok(resigned)
+    }
+
+    /// The beginning of the history that monitors are shown. What waits is published first.
+    pub fn tell(&mut self) -> Told<L>
+        ensures told { result ≡ self.new.posted.published }
+        ensures begins { self.old.ended ≡ false → IsPrefix result self.new.held.history }
+        ensures held { self.new.held ≡ self.old.held }
+        ensures ended { self.new.ended ≡ self.old.ended }
+    {
+        let _ = catch_up_board(&mut self.board);
+        self.board.tell()
+    }
+
+    /// A monitor, which knows what is shown. What waits is published first. `LimitReached` where `MAX_MONITORS` were handed
+    /// out, or there is no reader for it.
+    pub fn monitor(&mut self) -> Result<Monitor<L>, Fault>
+        ensures knows { IfOk result (λ m. m ≡ self.new.posted.published) }
+        ensures below { OnOk result (self.old.posted.monitors < max_monitors) }
+        ensures err { IfErr result (λ e. e ≡ Fault.LimitReached) }
+        ensures counted { MatchResult result
+            (λ _. self.new.posted.monitors ≡ self.old.posted.monitors + 1)
+            (λ _. self.new.posted.monitors ≡ self.old.posted.monitors) }
+        ensures held { self.new.held ≡ self.old.held }
+        ensures ended { self.new.ended ≡ self.old.ended }
+    {
+        let _ = catch_up_board(&mut self.board);
+        self.board.monitor()
+    }
+
+    /// Compares all transcripts with the history, and takes the records out where they agree; then it has ended. Else
+    /// `Unsettled` with the place of the first that differs; then all comes back, and nothing has changed.
+    pub fn settle(
+        &mut self,
+        seat: Seat<L>,
+        rest: Share<L>,
+        lefts: Vec<Left<L, B>>,
+        handed: u32,
+    ) -> Result<Closed, Unsettled<L, B>>
+        requires parts { L.parts ≡ ledger_parts }
+        requires rest { rest.parts + handed ≡ max_callers }
+        requires here { AllHere handed lefts.items }
+        ensures records { IfOk result (λ c. c ≡ self.old.held.history) }
+        ensures agree { OnOk result (AllAgree self.old.held.history lefts.items seat) }
+        ensures theirs { rest.amount ≡ 0 → seat.number ≡ 0 → IfOk result (AreOfCallers handed) }
+        ensures differs { IfErr result
+            (λ u. DiffersFirst self.old.held.history lefts.items seat u.place) }
+        ensures back { IfErr result (λ u. (u.seat ≡ seat) × (u.rest ≡ rest) × (u.lefts ≡ lefts)) }
+        ensures same { OnErr result (self.new ≡ self.old) }
+        ensures ended { OnOk result (self.new.ended ≡ true) }
+    {
+        let settled = settle(&mut self.shared, seat, rest, lefts, handed);
+        if settled.is_ok() {
+            self.ended = true;
+        }
+        settled
+    }
+}

@@ -1,5 +1,0 @@
-use Rattle.hla_rti.specs.Close.{AllHere}
-use Rattle.hla_rti.proofs.closing.all_here.Given as goal
-
-abbrev pub invariant-loop-n : goal.invariant-loop-n
-invariant-loop-n g l = AllHere l.n l.lefts

@@ -1,5 +1,0 @@
-use Rattle.hla_rti.specs.Close.{AgreeBefore}
-use Rattle.hla_rti.proofs.comparing.first_unmatched.Given as goal
-
-abbrev pub invariant-loop-k : goal.invariant-loop-k
-invariant-loop-k g l = AgreeBefore l.shared.history l.lefts l.k
