@@ -3,6 +3,7 @@
 ghost use Rattle.std.specs.Prelude.{◌≡◌, IsTrue, ◌↔◌};
 ghost use Rattle.hla_base.specs.Fault.{number_of, name_of};
 
+use std::fmt;
 use thiserror::Error;
 
 /// Why a call was refused. The names are those of the exceptions of HLA 1.3; `LimitReached`, `HistoryFull` and
@@ -10,88 +11,48 @@ use thiserror::Error;
 /// except that after `FederateInternalError` the callback counts as given.
 #[derive(Clone, Copy, Debug, PartialEq, Eq, Error)]
 pub enum Fault {
-    #[error("FederationExecutionAlreadyExists")]
     FederationExecutionAlreadyExists,
-    #[error("FederationExecutionDoesNotExist")]
     FederationExecutionDoesNotExist,
-    #[error("FederatesCurrentlyJoined")]
     FederatesCurrentlyJoined,
-    #[error("ErrorReadingFED")]
     ErrorReadingFED,
-    #[error("FederateAlreadyExecutionMember")]
     FederateAlreadyExecutionMember,
-    #[error("FederateNotExecutionMember")]
     FederateNotExecutionMember,
-    #[error("FederateOwnsAttributes")]
     FederateOwnsAttributes,
-    #[error("ObjectClassNotDefined")]
     ObjectClassNotDefined,
-    #[error("AttributeNotDefined")]
     AttributeNotDefined,
-    #[error("ObjectClassNotPublished")]
     ObjectClassNotPublished,
-    #[error("AttributeNotPublished")]
     AttributeNotPublished,
-    #[error("ObjectClassNotSubscribed")]
     ObjectClassNotSubscribed,
-    #[error("InteractionClassNotDefined")]
     InteractionClassNotDefined,
-    #[error("InteractionParameterNotDefined")]
     InteractionParameterNotDefined,
-    #[error("InteractionClassNotPublished")]
     InteractionClassNotPublished,
-    #[error("InteractionClassNotSubscribed")]
     InteractionClassNotSubscribed,
-    #[error("ObjectAlreadyRegistered")]
     ObjectAlreadyRegistered,
-    #[error("ObjectNotKnown")]
     ObjectNotKnown,
-    #[error("AttributeNotOwned")]
     AttributeNotOwned,
-    #[error("DeletePrivilegeNotHeld")]
     DeletePrivilegeNotHeld,
-    #[error("InvalidFederationTime")]
     InvalidFederationTime,
-    #[error("InvalidLookahead")]
     InvalidLookahead,
-    #[error("FederationTimeAlreadyPassed")]
     FederationTimeAlreadyPassed,
-    #[error("TimeAdvanceAlreadyInProgress")]
     TimeAdvanceAlreadyInProgress,
-    #[error("TimeRegulationAlreadyEnabled")]
     TimeRegulationAlreadyEnabled,
-    #[error("EnableTimeRegulationPending")]
     EnableTimeRegulationPending,
-    #[error("TimeRegulationWasNotEnabled")]
     TimeRegulationWasNotEnabled,
-    #[error("TimeConstrainedAlreadyEnabled")]
     TimeConstrainedAlreadyEnabled,
-    #[error("EnableTimeConstrainedPending")]
     EnableTimeConstrainedPending,
-    #[error("TimeConstrainedWasNotEnabled")]
     TimeConstrainedWasNotEnabled,
-    #[error("AsynchronousDeliveryAlreadyEnabled")]
     AsynchronousDeliveryAlreadyEnabled,
-    #[error("AsynchronousDeliveryAlreadyDisabled")]
     AsynchronousDeliveryAlreadyDisabled,
-    #[error("InvalidRetractionHandle")]
     InvalidRetractionHandle,
-    #[error("NameNotFound")]
     NameNotFound,
-    #[error("FederateInternalError")]
     FederateInternalError,
     /// A limit of this profile would be passed.
-    #[error("LimitReached")]
     LimitReached,
     /// The history holds as many records as it may.
-    #[error("HistoryFull")]
     HistoryFull,
     /// A growth was refused for want of memory.
-    #[error("OutOfMemory")]
     OutOfMemory,
-    #[error("InvalidResignAction")]
     InvalidResignAction,
-    #[error("SynchronizationPointLabelWasNotAnnounced")]
     SynchronizationPointLabelWasNotAnnounced,
 }
 
@@ -192,5 +153,12 @@ impl Fault {
                 "SynchronizationPointLabelWasNotAnnounced"
             }
         }
+    }
+}
+
+/// The name of the fault.
+impl fmt::Display for Fault {
+    fn fmt<W: fmt::Write>(&self, f: &mut fmt::Formatter<W>) -> fmt::Result {
+        f.write_str(self.name())
     }
 }

@@ -105,12 +105,14 @@ fn run_command<'a>(alloc: Global) -> Result<Command<'a>, AllocError>
     ensures app { IfOk result (λ command. app_of command ≡ run_subcommand) }
     ensures local { IfOk result IsLocal }
 {
-    script_command(
+    let Ok(command) = script_command(
         alloc,
         "run",
         "Runs a script over a FED file, a thread for each federate; - is the standard input",
-    )?
-    .arg(watching(alloc))
+    ) else {
+        return Err(AllocError);
+    };
+    command.arg(watching(alloc))
 }
 
 /// The subcommand for a FED file that is listed. Fails only for want of memory.
@@ -132,20 +134,29 @@ fn command<'a>(alloc: Global) -> Result<Command<'a>, AllocError>
         "play",
         "Plays a script over a FED file; - is the standard input",
     )?;
-    let check = script_command(
+    let command = Command::new(alloc, "hlaplay")
+        .about("Plays and runs scripts over FED files; without arguments as play - -")
+        .subcommand_required(true)
+        .subcommand(play)?;
+    let Ok(check) = script_command(
         alloc,
         "check",
         "Plays a script over a FED file and judges its records; - is the standard input",
-    )?;
-    let run = run_command(alloc)?;
-    let fed = fed_command(alloc)?;
-    Command::new(alloc, "hlaplay")
-        .about("Plays and runs scripts over FED files; without arguments as play - -")
-        .subcommand_required(true)
-        .subcommand(play)?
-        .subcommand(check)?
-        .subcommand(run)?
-        .subcommand(fed)
+    ) else {
+        drop(command);
+        return Err(AllocError);
+    };
+    let command = command.subcommand(check)?;
+    let Ok(run) = run_command(alloc) else {
+        drop(command);
+        return Err(AllocError);
+    };
+    let command = command.subcommand(run)?;
+    let Ok(fed) = fed_command(alloc) else {
+        drop(command);
+        return Err(AllocError);
+    };
+    command.subcommand(fed)
 }
 
 /// Whether a flag with this value was given.
