@@ -13,21 +13,31 @@ use std::mem;
 /// Whether the checker tells of the record at a place, counted from 0, once another one stands there.
 fn tells(alloc: Global, records: &mut [Record], place: usize, forged: Record) -> bool {
     let Some(record) = records.get_mut(place) else {
+        drop(forged);
         return false;
     };
-    let kept = mem::replace(record, forged);
+    let mut other = forged;
+    mem::swap(record, &mut other);
     let told = check_run(alloc, records);
     if let Some(record) = records.get_mut(place) {
-        *record = kept;
+        mem::swap(record, &mut other);
     }
+    drop(other);
     told == Err(CheckFault::Place(place))
 }
 
 /// The record with another outcome. `OutOfMemory` where a growth was refused.
 fn ending(record: &Record, outcome: Outcome) -> Result<Record, Fault> {
-    let mut forged = record.copy()?;
-    forged.outcome = outcome;
-    Ok(forged)
+    match record.copy() {
+        Ok(mut forged) => {
+            drop(mem::replace(&mut forged.outcome, outcome));
+            Ok(forged)
+        }
+        Err(fault) => {
+            drop(outcome);
+            Err(fault)
+        }
+    }
 }
 
 /// The record of a tick that gave another callback. `OutOfMemory` where a growth was refused.

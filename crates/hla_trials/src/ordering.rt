@@ -47,6 +47,15 @@ fn tells_exchange(alloc: Global, records: &mut [Record], place: usize) -> bool {
     told == Err(CheckFault::Place(place))
 }
 
+/// Puts a record back at its place; not where there is no such place, or no room.
+fn put_back(records: &mut Vec<Record>, place: usize, record: Record) -> bool {
+    if place > records.len() {
+        drop(record);
+        return false;
+    }
+    records.insert(place, record).is_ok()
+}
+
 /// Whether the checker tells of the record behind the one at a place once that one is left out.
 fn tells_gap(alloc: Global, records: &mut Vec<Record>, place: usize) -> bool {
     if place >= records.len() {
@@ -54,10 +63,7 @@ fn tells_gap(alloc: Global, records: &mut Vec<Record>, place: usize) -> bool {
     }
     let left_out = records.remove(place);
     let told = check_run(alloc, records.as_slice());
-    if place > records.len() || records.insert(place, left_out).is_err() {
-        return false;
-    }
-    told == Err(CheckFault::Place(place))
+    put_back(records, place, left_out) && told == Err(CheckFault::Place(place))
 }
 
 /// Whether the checker tells of the record at a place, if its stamp fixes that it comes before the one behind it: once they are
